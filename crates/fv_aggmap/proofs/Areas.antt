@@ -9,7 +9,7 @@ use Rattle.fv_bits.specs.Members.{is_member, IsFirstPast, TakesBlock}
 use Rattle.fv_bits.proofs.Laws.{is_member_past}
 use Rattle.fv_image.specs.Layout.{area_blocks, area_place}
 use Rattle.fv_image.specs.NewerRoot.{Taken}
-use Rattle.fv_image.specs.MachineOf.{area_bits, map_bit}
+use Rattle.fv_image.specs.Maps.{area_bits, map_bit}
 use Rattle.fv_root.specs.declared.find.Found.{Found}
 use Rattle.fv_root.specs.Finding.{root_found}
 use Rattle.fv_aggmap.specs.Loading.{HasRead, IsLoaded, IsPastMap}

@@ -6,7 +6,7 @@ use Rattle.fv_bits.specs.Members.{is_member}
 use Rattle.fv_bits.proofs.Counts.{passing, passing_same}
 use Rattle.fv_model.specs.Machines.{first_block}
 use Rattle.fv_image.specs.Held.{Layout, layout_at, view_at}
-use Rattle.fv_image.specs.Sound.{overheads, leaves_room}
+use Rattle.fv_image.specs.Views.{overheads, leaves_room}
 use Rattle.fv_image.specs.Soundness.{IsSound}
 use Rattle.fv_image.proofs.Counted.{HasHeads, image_has_heads}
 use Rattle.fv_image.proofs.Room.{clear_count, clear_room, sound_room}

@@ -5,7 +5,7 @@ use Rattle.fv_disk.specs.declared.fault.BlockFault.{BlockFault}
 use Rattle.fv_disk.specs.declared.fault.BlockFault.TheVariants.{DiskFault, Damaged, Memory}
 use Rattle.fv_bits.specs.Members.{is_member}
 use Rattle.fv_image.specs.Layout.{block_bits, area_place}
-use Rattle.fv_image.specs.MachineOf.{map_bit}
+use Rattle.fv_image.specs.Maps.{map_bit}
 use Rattle.fv_root.specs.declared.find.Found.{Found}
 use Rattle.fv_root.specs.Finding.{root_found}
 use Rattle.fv_aggmap.specs.Space.{Space}

@@ -1,8 +1,10 @@
 -- A session with a new volume.
-use Rattle.std.proofs.Common.{◌≡◌, ◌≤◌, ◌+◌, ◌*◌, ℕ, cond, List, length, Option, Some, None, refl, sym, ap, subst, ◌∙◌, true≢false, arith, Result, Ok, Err}
+use Rattle.std.proofs.Common.{◌≡◌, ◌≤◌, ◌<◌, ◌+◌, ◌*◌, inl, inr, ⊎_elim, ℕ, cond, List, length, Option, Some, None, refl, sym, ap, subst, ◌∙◌, true≢false, arith, Result, Ok, Err}
 use Rattle.std.specs.Prelude.{IfOk, IsNone, IsTrue, max}
 use Rattle.std.specs.Option.{is_some}
 use Rattle.fv_disk.specs.Shown.{IsDisk, Shown}
+use Rattle.fv_disk.specs.DiskCalls.{OnlyReads}
+use Rattle.std.proofs.lemmas.Bool.{cases_lt}
 use Rattle.fv_model.specs.declared.answers.Refusal.{Refusal}
 use Rattle.fv_model.specs.declared.answers.Reply.{Reply}
 use Rattle.fv_model.specs.declared.answers.Reply.TheVariants.{Done, Refused}
@@ -14,12 +16,12 @@ use Rattle.fv_model.specs.Effects.{effect}
 use Rattle.fv_model.specs.Refusals.{next, refusal}
 use Rattle.fv_model.specs.Replies.{Allows, AllowsBy, answer}
 use Rattle.fv_image.specs.Held.{view_at}
-use Rattle.fv_image.specs.Sound.{overheads}
+use Rattle.fv_image.specs.Views.{overheads}
 use Rattle.fv_root.specs.Finding.{root_found}
 use Rattle.fv_container.specs.Chains.{container_at}
 use Rattle.fv_volume.specs.declared.pool.Pool.{Pool}
 use Rattle.fv_store.specs.Held.{StandsOn}
-use Rattle.fv_volume.specs.Creating.{Admits, IsNew, Refuses, with_holes}
+use Rattle.fv_volumes.specs.Creating.{Admits, IsNew, Refuses, with_holes}
 use Rattle.fv_volume.specs.States.{state_at}
 use Rattle.fv_aggregate.specs.declared.fault.Fault.{Fault}
 use Rattle.fv_aggregate.specs.declared.session.Session.{Session}
@@ -161,6 +163,21 @@ module _ (before : Shown) (old : Session) (mid : Shown) (session : Session) (nam
         still = λ fresh. tt;
         whole = tt;
       }
+
+  -- room was made, and then memory lacked for the volume
+  pub wanting_goes : Goes {T = Unit {0}} room before old mid session (Ok tt) → (old.pending + room ≤ 256 → OnlyReads before mid) → Goes {T = Reply} room before old mid session (Err Memory)
+  wanting_goes goes calm = record {
+    ends = goes.ends;
+    stands = goes.stands;
+    done = tt;
+    fault = record {
+      reason = goes.done.was;
+      counts = goes.done.counts;
+      session = goes.done.goes_on;
+      disk = ⊎_elim (λ (past : 256 < old.pending + room). inr past) (λ (low : old.pending + room ≤ 256). inl (calm low)) (cases_lt 256 (old.pending + room));
+    };
+    pending = goes.pending;
+  }
 
   -- memory ran out
   pub wanting_for : (last m : Machine) → GoesFor {T = Unit {0}} before last m m mid session (Ok tt) → GoesFor {T = Reply} before last m (next m (VolCreate name size kind)) mid session (Err Memory)

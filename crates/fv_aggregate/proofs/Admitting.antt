@@ -17,12 +17,12 @@ use Rattle.fv_model.specs.Refusals.{conditions, has_all_volumes, is_aggregate_fu
 use Rattle.fv_laws.proofs.Commits.{commits_new}
 use Rattle.fv_volume.specs.declared.pool.Pool.{Pool}
 use Rattle.fv_volume.specs.declared.state.VolumeState.{VolumeState}
-use Rattle.fv_volume.specs.Creating.{Admits, Refuses, new_ledger_of}
+use Rattle.fv_volumes.specs.Creating.{Admits, Refuses, new_ledger_of}
 use Rattle.fv_volume.specs.OneVolume.{volume_for}
 use Rattle.fv_volume.specs.Slots.{HasName, IsFirstFree, IsFull, NoneHasName, sum_of}
 use Rattle.fv_volume.specs.States.{States, ledger_of_empty}
-use Rattle.fv_volume.proofs.Made.{ledger_new}
-use Rattle.fv_volume.proofs.Told.{all_named, counted, fewer_named, ledger_commit, named_from, some_named}
+use Rattle.fv_volumes.proofs.Made.{ledger_new}
+use Rattle.fv_volumes.proofs.Told.{all_named, counted, fewer_named, ledger_commit, named_from, some_named}
 use Rattle.fv_cp.specs.Held.{machine_held, IsHeld}
 use Rattle.fv_aggregate.proofs.HeldMachine.{at_name, blocks_are, commits_are, distinct, not_there, volumes_by_name}
 

@@ -123,7 +123,7 @@ list_built : (X : Type 0) (command : Command) → command ≡ VolList → is_bui
 unfolding is_built
 list_built X command is none = absurd (true≢false (ap is_built (sym is) ∙ none))
 
-list_no_point : (X : Type 0) (command : Command) → command ≡ VolList → command ≡ Cp → X
+pub list_no_point : (X : Type 0) (command : Command) → command ≡ VolList → command ≡ Cp → X
 list_no_point X command is cp = absurd (apart (sym is ∙ cp))
   where
     apart : VolList ≡ Cp → ⊥

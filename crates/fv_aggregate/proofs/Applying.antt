@@ -57,6 +57,10 @@ pub pointed_same : {T : Type 0} (disk : Shown) (old new : Session) (r : Result T
 pointed_same disk old new (Ok x) left tells = left.same tells
 pointed_same disk old new (Err f) left tells = tt
 
+pub pointed_files : {T : Type 0} (disk : Shown) (old new : Session) (r : Result T Fault) → OnOk r (IsPointed disk old new) → IsTrue disk.tells → OnOk r (IsWithoutFiles new)
+pointed_files disk old new (Ok x) left tells = left.files tells
+pointed_files disk old new (Err f) left tells = tt
+
 -- no step was made
 pub no_step : (r : Result Reply Fault) (steps : ℕ) → OnOk r (steps ≡ steps)
 no_step (Ok y) steps = refl

@@ -33,7 +33,7 @@ use Rattle.fv_aggregate.specs.declared.fault.Fault.TheVariants.{DiskFault, Damag
 use Rattle.fv_aggregate.specs.declared.session.Session.{Session}
 use Rattle.fv_aggregate.specs.Calls.{HasDamage, WasRead}
 use Rattle.fv_aggregate.specs.Commands.{has_range, snapshot_asked, volume_asked}
-use Rattle.fv_aggregate.specs.Looking.{AsksSlot, AsksState, Faults, IsAsked, Looks, Replied}
+use Rattle.fv_aggregate.specs.Looking.{AsksState, Faults, IsAsked, Looks, Replied}
 use Rattle.fv_aggregate.specs.Standing.{Stands, StandsFor}
 use Rattle.fv_aggregate.proofs.Holes.{kept_entries}
 use Rattle.fv_aggregate.proofs.HeldMachine.{is_there, not_there, one}
@@ -176,9 +176,6 @@ module _ (d : Shown) (s : Session) (long : length s.volumes ≡ 64) (slot : ℕ)
 disk_damage : (at want found : ℕ) → block.DiskFault ≡ block.Damaged at want found → ⊥
 disk_damage at want found e = cc
 
-memory_damage : (at want found : ℕ) → block.Memory ≡ block.Damaged at want found → ⊥
-memory_damage at want found e = cc
-
 -- what the disk counted in a call that failed
 pub rose_by : (told : Type 0) (x : Standing) (old : Lent) (faults : ℕ) → TableFails told x old faults block.DiskFault → Rose old.disk.faults faults
 rose_by told x old faults (inl fails) = fails
@@ -240,12 +237,6 @@ module _ (d e : Shown) (laws : IsDisk d) (s : Session) (q : Pool) (c : Command) 
       by (Err volume.DiskFault) is asks = fault_in volume.DiskFault is
       by (Err (volume.Damaged a w f)) is asks = fault_in (volume.Damaged a w f) is
       by (Err volume.Memory) is asks = fault_in volume.Memory is
-
--- ---- the volume of a slot
-
-pub slot_asked : (d e : Shown) (p q : Pool) (states : States) (slot : ℕ) (x : VolumeState) → state_at states slot ≡ Some x → (c : Command) (start steps : ℕ) (r : Result Reply VolumeFault)
-    → AsksSlot d p (state_at states slot) c start e q steps r → AsksState d p x c start e q steps r
-slot_asked d e p q states slot x there c start steps r is = subst (λ (o : Option VolumeState). AsksSlot d p o c start e q steps r) there is
 
 -- the command asks for files of the volume that its name finds
 pub asked_at : (states : States) (slot : ℕ) (name : List ℕ) (c : Command) → slot < 64 → is_named (state_at states slot) name ≡ true → volume_asked c ≡ Some name → IsAsked states slot c

@@ -9,8 +9,7 @@ use Rattle.fv_model.specs.declared.commands.Kind.{Kind}
 use Rattle.fv_model.specs.Space.{overhead, span_of}
 use Rattle.fv_image.specs.Layout.{root_place}
 use Rattle.fv_image.specs.Held.{view_at}
-use Rattle.fv_image.specs.Sound.{overheads}
-use Rattle.fv_image.specs.Views.{Head}
+use Rattle.fv_image.specs.Views.{Head, overheads}
 use Rattle.fv_image.proofs.Counts.{none_sum}
 use Rattle.fv_root.specs.declared.find.Found.{Found}
 use Rattle.fv_root.specs.Finding.{root_found}
@@ -18,7 +17,7 @@ use Rattle.fv_aggmap.specs.Space.{free_blocks}
 use Rattle.fv_container.specs.Mapped.{Mapped}
 use Rattle.fv_volume.specs.declared.pool.Pool.{Pool}
 use Rattle.fv_volume.specs.declared.state.VolumeState.{VolumeState}
-use Rattle.fv_volume.specs.Creating.{IsMade, IsNew}
+use Rattle.fv_volumes.specs.Creating.{IsMade, IsNew}
 use Rattle.fv_volume.specs.Files.{IsLabelled}
 use Rattle.fv_volume.specs.Slots.{IsFirstFree}
 use Rattle.fv_volume.specs.States.{States, state_at, view_over}

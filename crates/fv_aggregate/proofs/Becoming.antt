@@ -16,7 +16,7 @@ use Rattle.fv_volume.specs.Calls.{Reads}
 use Rattle.fv_volume.specs.OneVolume.{volume_for}
 use Rattle.fv_volume.specs.States.{States, state_at, with_state}
 use Rattle.fv_volume.proofs.OneVolumes.{still_volume}
-use Rattle.fv_volume.proofs.Told.{is_inside, named_from, same_named}
+use Rattle.fv_volumes.proofs.Told.{is_inside, named_from, same_named}
 use Rattle.fv_cp.specs.Held.{machine_held, IsHeld}
 use Rattle.fv_aggregate.proofs.HeldMachine.{at_name, is_there}
 

@@ -37,27 +37,27 @@ use Rattle.fv_volmap.specs.Slots.{Volume as MapSlots, active_of}
 use Rattle.fv_volume.specs.declared.pool.Pool.{Pool}
 use Rattle.fv_volume.specs.declared.state.VolumeState.{VolumeState}
 use Rattle.fv_volume.specs.BlocksOver.{entries_in}
-use Rattle.fv_volume.specs.Creating.{Admits, IsMade, IsNew, new_ledger_of, with_holes}
+use Rattle.fv_volumes.specs.Creating.{Admits, IsMade, IsNew, new_ledger_of, with_holes}
 use Rattle.fv_volume.specs.Files.{AreNamed, IsLabelled, IsOneMap}
 use Rattle.fv_volume.proofs.MapSlots.{one_empty}
 use Rattle.fv_volume.proofs.StayingMaps.{moves_alone}
-use Rattle.fv_volume.specs.Housed.{AreHoused}
+use Rattle.fv_volumes.specs.Housed.{AreHoused}
 use Rattle.fv_volume.specs.OneVolume.{shows, volume_for, IsReady}
 use Rattle.fv_volume.specs.Placing.{AreLedBy, IsLedTo}
 use Rattle.fv_volume.specs.Slots.{committed_by, is_named, sum_of, IsFirstFree}
 use Rattle.fv_volume.specs.States.{States, empty_head, head_in, parent_in, state_at, with_state}
 use Rattle.fv_volume.specs.Stored.{AreSpacedIn, has_block, has_stored_map, is_of, leads, place_in}
-use Rattle.fv_volume.proofs.Housing.{housed_with}
-use Rattle.fv_volume.proofs.Made.{from_pairs, to_pair}
-use Rattle.fv_volume.proofs.NewStanding.{made_standing, made_volume, made_well}
-use Rattle.fv_volume.proofs.Others.{entries_led, entries_standing, entries_volume, entries_well}
+use Rattle.fv_volumes.proofs.Housing.{housed_with}
+use Rattle.fv_volumes.proofs.Made.{from_pairs, to_pair}
+use Rattle.fv_volumes.proofs.NewStanding.{made_standing, made_volume, made_well}
+use Rattle.fv_volumes.proofs.Others.{entries_led, entries_standing, entries_volume, entries_well}
 use Rattle.fv_container.proofs.Leading.{any_in_range}
 use Rattle.fv_container.proofs.Named.{at_none}
-use Rattle.fv_volume.proofs.Told.{find_set, is_inside, named_from, none_named as none_found, same_named}
+use Rattle.fv_volumes.proofs.Told.{find_set, is_inside, named_from, none_named as none_found, same_named}
 use Rattle.fv_cp.specs.Held.{machine_held, IsHeld, IsHeldIn}
 use Rattle.fv_cp.specs.Lent.{FitTogether, IsLentAt, IsLentSlot}
 use Rattle.fv_cp.specs.Placing.{AreReady, HaveNoFiles, IsReadyIn}
-use Rattle.fv_volume.proofs.PlacedIn.{alone_by}
+use Rattle.fv_volumes.proofs.Alone.{alone_by}
 use Rattle.fv_aggregate.proofs.Admitting.{accepted_held}
 use Rattle.fv_aggregate.proofs.HeldMachine.{at_name, one}
 

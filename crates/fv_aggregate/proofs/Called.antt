@@ -23,12 +23,12 @@ use Rattle.fv_volume.specs.Placing.{IsLedTo, IsStoredWell}
 use Rattle.fv_volume.specs.Slots.{sum_of}
 use Rattle.fv_volume.specs.States.{States, state_at, with_state}
 use Rattle.fv_volume.specs.Stored.{AreApartIn, AreSpacedIn, has_block, is_of}
-use Rattle.fv_volume.specs.UnderRoot.{IsLentAt, IsMapOf}
-use Rattle.fv_volume.proofs.Made.{from_pairs, to_pair}
+use Rattle.fv_volumes.specs.UnderRoot.{IsLentAt, IsMapOf}
+use Rattle.fv_volumes.proofs.Made.{from_pairs, to_pair}
 use Rattle.fv_volume.proofs.OneVolumes.{still_ready, still_standing}
-use Rattle.fv_volume.proofs.StandingMaps.{maps_still}
-use Rattle.fv_volume.proofs.Standings.{still_led, still_well}
-use Rattle.fv_volume.proofs.Told.{is_inside}
+use Rattle.fv_volumes.proofs.StandingMaps.{maps_still}
+use Rattle.fv_volume.proofs.OneVolumes.{still_led, still_well}
+use Rattle.fv_volumes.proofs.Told.{is_inside}
 use Rattle.fv_cp.specs.Held.{IsHeld, IsHeldIn}
 
 -- What a call that changes a volume's files in memory leaves of it. Unmarked it is as it was, but for the numbers of its files.

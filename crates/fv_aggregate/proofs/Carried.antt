@@ -1,6 +1,6 @@
 -- A session that judged a command on files, or carried one out, by the call of the volume of a slot.
-use Rattle.std.proofs.Common.{◌≡◌, ◌<◌, ◌≤◌, ◌+◌, ◌-◌, ◌^◌, ℕ, true, List, Option, Some, None, Result, Ok, Err, length, true≢false, refl, sym, ap, subst, ◌∙◌, arith, get_or-set_same}
-use Rattle.std.specs.Prelude.{IsNone, min}
+use Rattle.std.proofs.Common.{◌≡◌, ◌<◌, ◌≤◌, ◌+◌, ℕ, true, List, Option, Some, None, Result, Ok, Err, length, true≢false, refl, sym, ap, subst, ◌∙◌, arith}
+use Rattle.std.specs.Prelude.{IsNone}
 use Rattle.std.specs.FinMap as fin
 use Rattle.std.proofs.lemmas.List.{set-get_or}
 use Rattle.fv_disk.specs.Shown.{Shown, IsDisk}
@@ -21,15 +21,13 @@ use Rattle.fv_volume.specs.Placing.{pending_of}
 use Rattle.fv_volume.specs.Slots.{is_named, NoneHasName}
 use Rattle.fv_volume.specs.States.{States, state_at, with_state}
 use Rattle.fv_volume.proofs.Undamaged.{no_damage}
-use Rattle.fv_volume.proofs.Told.{is_inside}
 use Rattle.fv_cp.specs.Held.{IsHeldIn}
-use Rattle.fv_cp.specs.Placing.{pending_by}
 use Rattle.fv_aggregate.specs.declared.fault.Fault.{Fault}
 use Rattle.fv_aggregate.specs.declared.fault.Fault.TheVariants.{DiskFault, Damaged, Memory}
 use Rattle.fv_aggregate.specs.declared.session.Session.{Session}
 use Rattle.fv_aggregate.specs.Calls.{GoesFor}
 use Rattle.fv_aggregate.specs.Commands.{changed_by, file_room, has_range}
-use Rattle.fv_aggregate.specs.Looking.{done_as, ChangesSlot, ChangesState, HasJudged, IsSlotChanged, JudgesSlot, JudgesState, IsAimed, Makes, Replied}
+use Rattle.fv_aggregate.specs.Looking.{done_as, ChangesState, HasJudged, JudgesState, IsChangeAt, Makes, Replied}
 use Rattle.fv_aggregate.specs.Standing.{Stands, StandsFor}
 use Rattle.fv_aggregate.proofs.Holes.{kept_entries}
 use Rattle.fv_aggregate.proofs.Asked.{calm_damage, calm_memory, damaged_at, rose_by}
@@ -179,24 +177,6 @@ module _ (d e : Shown) (laws : IsDisk d) (s : Session) (q : Pool) (c : Command) 
       entries = λ low. kept_entries s after did.reads.leaves.containers;
     })
 
--- ---- the volume of the slot
-
-module _ (d : Shown) (p : Pool) (states : States) (slot : ℕ) (x : VolumeState) (there : state_at states slot ≡ Some x) (others : ℕ) (others_are : others ≡ beside states slot) (c : Command) (e : Shown) (q : Pool) (r : Result Unit VolumeFault) where
-  pub slot_judged : JudgesSlot d p (state_at states slot) others c e q r → JudgesState d p x (beside states slot) c e q r
-  slot_judged is = subst (λ (n : ℕ). JudgesState d p x n c e q r) others_are (subst (λ (o : Option VolumeState). JudgesSlot d p o others c e q r) there is)
-
-  pub slot_changed : (stay : States) → ChangesSlot d p states slot (state_at states slot) others c e q stay r → IsSlotChanged d p states slot x (beside states slot) c e q stay r
-  slot_changed stay is = subst (λ (n : ℕ). IsSlotChanged d p states slot x n c e q stay r) others_are (subst (λ (o : Option VolumeState). ChangesSlot d p states slot o others c e q stay r) there is)
-
--- the blocks that were added, by what is pending of the slot's volume before it and after it
-pub counted_as : (states stay : States) (slot : ℕ) (x y : VolumeState) → length states ≡ 64 → state_at states slot ≡ Some x → stay ≡ with_state states slot (Some y) → (before after more : ℕ)
-    → before ≡ min (pending_by (state_at states slot)) (2 ^ 64 - 1) → after ≡ min (pending_by (state_at stay slot)) (2 ^ 64 - 1) → more ≡ min (after - before) 16 → more ≡ counted (pending_of x.files) (pending_of y.files)
-counted_as states stay slot x y long there row before after more before_is after_is more_is =
-    let here : state_at stay slot ≡ Some y = ap (λ (xs : States). state_at xs slot) row ∙ get_or-set_same states slot (Some y) None (let low = is_inside states slot x long there in omega (arith, low, long)) in
-    let was : before ≡ min (pending_of x.files) (2 ^ 64 - 1) = before_is ∙ ap (λ (o : Option VolumeState). min (pending_by o) (2 ^ 64 - 1)) there in
-    let now : after ≡ min (pending_of y.files) (2 ^ 64 - 1) = after_is ∙ ap (λ (o : Option VolumeState). min (pending_by o) (2 ^ 64 - 1)) here in
-    more_is ∙ (λ j. min (now j - was j) 16)
-
 -- ---- before a volume is asked
 
 -- what the machine refuses is refused at once
@@ -215,9 +195,9 @@ pub refused_missing : (d : Shown) (s : Session) → length s.volumes ≡ 64 → 
 refused_missing d s long name c none change near last m is = no_change m name (subst (λ (k : Machine). fin.get k.volumes name ≡ None) is.machine (not_there d s.pool s.volumes long name none)) c change near
 
 -- the command changes a file of the volume that its name finds
-pub aimed_at : (states : States) (slot : ℕ) (name : List ℕ) (c : Command) → slot < 64 → is_named (state_at states slot) name ≡ true → changed_by c ≡ Some name → IsAimed states slot c
+pub aimed_at : (states : States) (slot : ℕ) (name : List ℕ) (c : Command) → slot < 64 → is_named (state_at states slot) name ≡ true → changed_by c ≡ Some name → IsChangeAt states slot c
 aimed_at states slot name c within named change = by (state_at states slot) refl named
   where
-    by : (o : Option VolumeState) → state_at states slot ≡ o → is_named o name ≡ true → IsAimed states slot c
+    by : (o : Option VolumeState) → state_at states slot ≡ o → is_named o name ≡ true → IsChangeAt states slot c
     by None at named = absurd cc
     by (Some x) at named = record { within = within; state = x; there = at; change = subst (λ (n : List ℕ). IsChangeOf n c) (sym (same_name x.name name named)) (change_of_volume name c change) }

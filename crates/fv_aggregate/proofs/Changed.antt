@@ -14,8 +14,7 @@ use Rattle.fv_model.specs.Refusals.{next, refusal}
 use Rattle.fv_laws.proofs.Admission.{admitted}
 use Rattle.fv_laws.proofs.Commits.{commits_put, now_there}
 use Rattle.fv_image.specs.Held.{view_at}
-use Rattle.fv_image.specs.Sound.{overheads}
-use Rattle.fv_image.specs.Views.{entry_count}
+use Rattle.fv_image.specs.Views.{entry_count, overheads}
 use Rattle.fv_root.specs.declared.find.Found.{Found}
 use Rattle.fv_root.specs.Finding.{root_found, IsInRange}
 use Rattle.fv_aggmap.specs.Space.{Space, blocks_of}
@@ -27,7 +26,7 @@ use Rattle.fv_volume.specs.declared.pool.Pool.{Pool}
 use Rattle.fv_volume.specs.declared.state.VolumeState.{VolumeState}
 use Rattle.fv_volume.specs.Calls.{Changes, Has, HasWithin, Reads}
 use Rattle.fv_volume.specs.Files.{IsLabelled}
-use Rattle.fv_volume.specs.Housed.{AreHoused}
+use Rattle.fv_volumes.specs.Housed.{AreHoused}
 use Rattle.fv_volume.specs.Keeping.{Blocks, IsUnkept}
 use Rattle.fv_volume.specs.Loading.{Houses}
 use Rattle.fv_volume.specs.OneVolume.{volume_for, IsReady, IsStanding}
@@ -35,7 +34,7 @@ use Rattle.fv_volume.specs.Placing.{pending_of}
 use Rattle.fv_volume.specs.Slots.{committed_by, sum_of}
 use Rattle.fv_volume.specs.States.{States, parent_in, state_at, with_state}
 use Rattle.fv_volume.specs.Writing.{IsTaken, on_disk}
-use Rattle.fv_volume.proofs.Told.{is_inside, ledger_commit}
+use Rattle.fv_volumes.proofs.Told.{is_inside, ledger_commit}
 use Rattle.fv_cp.specs.Held.{machine_held, IsHeld, IsHeldIn}
 use Rattle.fv_cp.specs.Lent.{maps_waiting, waiting_by, FitTogether}
 use Rattle.fv_cp.specs.Placing.{pending_by, pending_files, AreReady, IsReadyIn}

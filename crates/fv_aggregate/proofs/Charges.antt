@@ -22,7 +22,7 @@ use Rattle.fv_volume.specs.declared.state.VolumeState.{VolumeState}
 use Rattle.fv_volume.specs.Files.{AreNamed, AreStates, IsState}
 use Rattle.fv_volume.specs.States.{States, head_in, state_at, view_over}
 use Rattle.fv_volume.specs.Trees.{Trees, active_in, machine_in}
-use Rattle.fv_volume.proofs.Made.{to_pair}
+use Rattle.fv_volumes.proofs.Made.{to_pair}
 use Rattle.fv_aggregate.specs.declared.session.Session.{Session}
 use Rattle.fv_aggregate.specs.Standing.{charged_in, StandsFor}
 use Rattle.fv_aggregate.specs.Telling.{charged_by, charged_from}

@@ -10,7 +10,7 @@ use Rattle.fv_image.specs.Maps.{map_bit}
 use Rattle.fv_root.specs.declared.find.Found.{Found}
 use Rattle.fv_root.specs.Finding.{root_found}
 use Rattle.fv_aggmap.specs.Space.{Space, blocks_of, free_blocks, free_from, is_held}
-use Rattle.fv_volume.specs.UnderRoot.{IsMapOf}
+use Rattle.fv_volumes.specs.UnderRoot.{IsMapOf}
 use Rattle.fv_aggregate.specs.Asking.{free_under}
 use Rattle.fv_aggregate.specs.Standing.{clear_blocks, taken_since}
 

@@ -20,8 +20,8 @@ use Rattle.fv_volume.specs.declared.state.VolumeState.{VolumeState}
 use Rattle.fv_volume.specs.OneVolume.{volume_for}
 use Rattle.fv_volume.specs.Slots.{is_named, sum_of, NoneHasName}
 use Rattle.fv_volume.specs.States.{States, state_at}
-use Rattle.fv_volume.proofs.Made.{to_pair}
-use Rattle.fv_volume.proofs.Told.{distinct_from, named_at, named_from, none_named, some_named, summed, summed_states, AreDistinct, Named}
+use Rattle.fv_volumes.proofs.Made.{to_pair}
+use Rattle.fv_volumes.proofs.Told.{distinct_from, named_at, named_from, none_named, some_named, summed, summed_states, AreDistinct, Named}
 use Rattle.fv_cp.specs.Held.{machine_held, named_held, IsHeld, IsHeldIn}
 
 -- at its own slot a volume is found by its name

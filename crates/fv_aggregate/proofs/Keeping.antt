@@ -12,7 +12,7 @@ use Rattle.fv_laws.proofs.Changes.{itself}
 use Rattle.fv_model.specs.declared.commands.Kind.{Kind}
 use Rattle.fv_model.specs.Spelling.{is_same_name}
 use Rattle.fv_volume.specs.declared.pool.Pool.{Pool}
-use Rattle.fv_volume.specs.Destroying.{Destroys}
+use Rattle.fv_volumes.specs.Destroying.{Destroys}
 use Rattle.fv_volume.specs.Promising.{promised, PromisesOne}
 use Rattle.fv_volume.specs.declared.fault.VolumeFault.{VolumeFault}
 use Rattle.fv_volume.specs.declared.fault.VolumeFault.TheVariants as volume
@@ -24,7 +24,7 @@ use Rattle.fv_cp.specs.Placing.{core_of, KeepCores}
 use Rattle.fv_aggregate.specs.declared.fault.Fault.{Fault}
 use Rattle.fv_aggregate.specs.declared.session.Session.{Session}
 use Rattle.fv_aggregate.specs.Adding.{IsAdded}
-use Rattle.fv_aggregate.specs.Commands.{finds_file, loses_numbers}
+use Rattle.fv_aggregate.specs.Commands.{loses_numbers}
 use Rattle.fv_aggregate.specs.Known.{KeepsNumbers, KeepsNumbersBut, KnowsNamed, KnowsNumbers, MayLose}
 use Rattle.fv_aggregate.specs.Looking.{Replied}
 use Rattle.fv_aggregate.specs.Managing.{Manages}
@@ -43,9 +43,6 @@ keeps_core old new cores s known = subst (λ (t : Type 0). t) (sym (whole (state
 
 pub keeps_but : (lost : ℕ → Type 0) (old new : States) → KeepsNumbers old new → KeepsNumbersBut lost old new
 keeps_but lost old new kept s known stays = kept s known
-
-pub keeps_then : (lost : ℕ → Type 0) (a b c : States) → KeepsNumbers a b → KeepsNumbersBut lost b c → KeepsNumbersBut lost a c
-keeps_then lost a b c first second s known stays = second s (first s known) stays
 
 -- ---- one slot
 
@@ -96,11 +93,6 @@ may_lose name (Clean v) is loses = absurd is
 may_lose name (Probe v f i) is loses = absurd is
 may_lose name (Work n) is loses = absurd is
 may_lose name Cp is loses = absurd is
-
-finds_keeps : (c : Command) → finds_file c ≡ true → keeps_numbers c ≡ false → ⊥
-finds_keeps (New v f reserve) finds loses = absurd (true≢false (sym finds))
-finds_keeps (Remove v f) finds loses = absurd (true≢false (sym finds))
-finds_keeps c finds loses = absurd cc
 
 -- what a call answered for a volume leaves the volumes
 pub replied_volumes : (d : Shown) (r : Result Reply VolumeFault) (old new : Session) (result : Result Reply Fault) → Replied d r old new result → new.volumes ≡ old.volumes

@@ -37,16 +37,16 @@ use Rattle.fv_volume.specs.declared.state.VolumeState.{VolumeState}
 use Rattle.fv_volume.specs.Loading.{HaveBits, IsContainerOf, IsLoaded, LoadedTo, label_of}
 use Rattle.fv_volume.specs.Files.{HasOwnSlots}
 use Rattle.fv_volume.specs.States.{States, head_in, state_at}
-use Rattle.fv_volume.proofs.StandingMaps.{loaded_maps}
+use Rattle.fv_volumes.proofs.StandingMaps.{loaded_maps}
 use Rattle.fv_volume.specs.Stored.{AreApartIn, AreSpacedIn, has_block, leads, place_at, place_in}
-use Rattle.fv_volume.specs.Housed.{HaveReaches, ReachesAll}
+use Rattle.fv_volumes.specs.Housed.{HaveReaches, ReachesAll}
 use Rattle.fv_cp.specs.Lent.{IsLentAt}
-use Rattle.fv_volume.proofs.LentSlots.{lent_from_loaded}
+use Rattle.fv_volumes.proofs.LentSlots.{lent_from_loaded}
 use Rattle.fv_volume.proofs.EachRoot.{root_there}
 use Rattle.fv_volume.proofs.KeptSlots.{root_bits, root_few}
-use Rattle.fv_volume.proofs.LoadedBlocks.{loaded_holds, span_of}
+use Rattle.fv_volumes.proofs.LoadedBlocks.{loaded_holds, span_of}
 use Rattle.fv_container.proofs.Leading.{any_in_range}
-use Rattle.fv_volume.proofs.SlotBlocks.{HasKinds, at_is, entry_kinds}
+use Rattle.fv_volumes.proofs.SlotBlocks.{HasKinds, at_is, entry_kinds}
 
 -- ---- the blocks of one volume
 

@@ -28,6 +28,7 @@ mod Changed
 mod NumbersRead
 mod Changing
 mod Carried
+mod Returned
 mod PointFirst
 mod Applying
 mod Having
@@ -47,3 +48,5 @@ mod SnapListed
 mod SnapApplied
 mod SnapFits
 mod SnapNow
+mod Serving
+mod Aimed

@@ -8,8 +8,7 @@ use Rattle.fv_disk.specs.DiskCalls.{OnlyReads}
 use Rattle.fv_model.specs.Machines.{Machine, capacity}
 use Rattle.fv_model.specs.Spelling.{name_cmp}
 use Rattle.fv_image.specs.Held.{layout_at, view_at, AllKeep}
-use Rattle.fv_image.specs.Sound.{overheads}
-use Rattle.fv_image.specs.Views.{slots}
+use Rattle.fv_image.specs.Views.{slots, overheads}
 use Rattle.fv_image.specs.WholeMachine.{Tells}
 use Rattle.fv_root.specs.declared.find.Found.{Found}
 use Rattle.fv_root.specs.Finding.{IsFound, IsInRange, root_found}
@@ -19,13 +18,13 @@ use Rattle.fv_container.specs.Chains.{Slots, container_at}
 use Rattle.fv_volume.specs.declared.pool.Pool.{Pool}
 use Rattle.fv_volume.specs.declared.state.VolumeState.{VolumeState}
 use Rattle.fv_volume.specs.Calls.{Reads}
-use Rattle.fv_volume.specs.Housed.{AreHoused}
+use Rattle.fv_volumes.specs.Housed.{AreHoused}
 use Rattle.fv_volume.specs.Keeping.{Blocks, IsUnkept}
 use Rattle.fv_volume.specs.Slots.{sum_of}
 use Rattle.fv_volume.specs.Writing.{IsTaken, on_disk}
 use Rattle.fv_volume.specs.States.{States, state_at}
 use Rattle.fv_volume.specs.Stored.{AreSpacedIn}
-use Rattle.fv_volume.specs.UnderRoot.{IsLentAt, IsMapOf}
+use Rattle.fv_volumes.specs.UnderRoot.{IsLentAt, IsMapOf}
 use Rattle.fv_volume.proofs.OneVolumes.{still_ready, still_volume}
 use Rattle.fv_cp.specs.Held.{machine_held, named_held, IsHeld, IsHeldIn}
 use Rattle.fv_cp.specs.Known.{AreKnown}

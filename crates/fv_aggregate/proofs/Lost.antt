@@ -72,11 +72,6 @@ module _ (D : Type 0) (x : VolumeState) (old new : D) (p q : Pool) (c : Command)
   lost_within true range lost = lost_alone (lost refl)
   lost_within false range lost = absurd (range_differs (sym refused ∙ same_err T f (volume.Refused Range) (range refl).answer))
 
--- so of the volume of a slot
-pub over_slot : (A B : VolumeState → Type 0) → ((x : VolumeState) → A x → B x) → (o : Option VolumeState) → IfSome o A → IfSome o B
-over_slot A B to None is = tt
-over_slot A B to (Some x) is = to x is
-
 -- what a session answers for it
 pub replied_lost : (e : Shown) (r : Result Reply VolumeFault) (old new : Session) (result : Result Reply Fault) → r ≡ Err (volume.Refused NoSnapshot) → Replied e r old new result → (result ≡ Ok (Refused NoSnapshot)) × (new ≡ old)
 replied_lost e r old new result is replied = subst (λ (z : Result Reply VolumeFault). Replied e z old new result) is replied

@@ -18,7 +18,7 @@ use Rattle.fv_model.specs.Replies.{answer, is_open, stat_of, Allows}
 use Rattle.fv_model.specs.Volumes.{Volume}
 use Rattle.fv_volume.specs.declared.pool.Pool.{Pool}
 use Rattle.fv_volume.specs.declared.state.VolumeState.{VolumeState}
-use Rattle.fv_volume.specs.Destroying.{Destroys}
+use Rattle.fv_volumes.specs.Destroying.{Destroys}
 use Rattle.fv_volume.specs.OneVolume.{content_for, volume_for}
 use Rattle.fv_volume.specs.Promising.{has_size, refusal_of, told_by, IsPromised, PromisesOne}
 use Rattle.fv_volume.specs.Slots.{is_named, NoneHasName}

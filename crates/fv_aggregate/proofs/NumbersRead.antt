@@ -1,5 +1,5 @@
 -- What a session stands for once the numbers of a volume's files were read into memory.
-use Rattle.std.proofs.Common.{◌≡◌, ◌≢◌, ◌<◌, ◌≤◌, ◌+◌, ◌-◌, ℕ, true, length, Option, Some, None, Result, Ok, Err, refl, sym, ap, subst, ◌∙◌, ⊎_elim, arith, get_or-set_other, get_or-set_same}
+use Rattle.std.proofs.Common.{◌≡◌, ◌≢◌, ◌<◌, ◌≤◌, ◌+◌, ◌-◌, ℕ, true, length, Some, None, Result, Ok, Err, refl, sym, ap, subst, ◌∙◌, ⊎_elim, arith, get_or-set_other, get_or-set_same}
 use Rattle.std.specs.Prelude.{max, IsNone}
 use Rattle.std.specs.Option.{is_some, option_map}
 use Rattle.std.proofs.lemmas.Bool.{cases_eq}
@@ -9,7 +9,7 @@ use Rattle.fv_disk.specs.declared.fault.BlockFault.{BlockFault}
 use Rattle.fv_disk.specs.declared.fault.BlockFault.TheVariants as block
 use Rattle.fv_model.specs.Machines.{Machine, capacity}
 use Rattle.fv_image.specs.Held.{view_at}
-use Rattle.fv_image.specs.Sound.{overheads}
+use Rattle.fv_image.specs.Views.{overheads}
 use Rattle.fv_root.specs.Finding.{root_found}
 use Rattle.fv_charge.specs.Ledgers.{committed}
 use Rattle.fv_volume.specs.declared.pool.Pool.{Pool}
@@ -23,8 +23,8 @@ use Rattle.fv_volume.specs.Placing.{pending_of, IsLedTo, IsStoredWell}
 use Rattle.fv_volume.specs.Slots.{committed_by, sum_of}
 use Rattle.fv_volume.specs.States.{States, state_at, with_state}
 use Rattle.fv_volume.proofs.OneVolumes.{still_volume}
-use Rattle.fv_volume.proofs.Standings.{still_led, still_well}
-use Rattle.fv_volume.proofs.Told.{is_inside}
+use Rattle.fv_volume.proofs.OneVolumes.{still_led, still_well}
+use Rattle.fv_volumes.proofs.Told.{is_inside}
 use Rattle.fv_volume.proofs.Undamaged.{no_damage}
 use Rattle.fv_cp.specs.Held.{machine_held, IsHeld, IsHeldIn}
 use Rattle.fv_cp.specs.Lent.{asked_by, blocks_asked, maps_waiting, FitTogether}
@@ -34,7 +34,7 @@ use Rattle.fv_aggregate.specs.declared.fault.Fault.TheVariants.{DiskFault, Damag
 use Rattle.fv_aggregate.specs.declared.session.Session.{Session}
 use Rattle.fv_aggregate.specs.Calls.{but_numbers, KeepsAsking, SameButNumbers, WasRead}
 use Rattle.fv_aggregate.specs.Looking.{Breaks}
-use Rattle.fv_aggregate.specs.Numbering.{HasNumbered, IsSlotNumbered, NumbersSlot, NumbersState}
+use Rattle.fv_aggregate.specs.Numbering.{HasNumbered, IsSlotNumbered, NumbersState}
 use Rattle.fv_aggregate.specs.Known.{KeepsNumbers, KnowsNumbers}
 use Rattle.fv_aggregate.proofs.Holes.{kept_entries}
 use Rattle.fv_aggregate.proofs.Keeping.{keeps_none, keeps_with}
@@ -220,25 +220,11 @@ module _ (d e : Shown) (laws : IsDisk d) (s : Session) (q : Pool) (slot : ℕ) (
     kept = kept_it (Err block.Memory) did;
   })
 
--- ---- the volume of the slot
-
-some_there : (o : Option VolumeState) → is_some o ≡ true → (x : VolumeState) × (o ≡ Some x)
-some_there None some = cc
-some_there (Some x) some = (x, refl)
-
 -- the volume of a slot, of which the numbers were read
 pub record IsNumberedAt (d e : Shown) (p q : Pool) (states stay : States) (slot : ℕ) (r : Result Unit BlockFault) : Type 0 where
   pub was : VolumeState
   pub there : state_at states slot ≡ Some was
   pub done : IsSlotNumbered d p states slot was e q stay r
-
--- so it is of a session whose slot has a volume
-pub slot_numbered : (d e : Shown) (before s : Session) → before ≡ s → (q : Pool) (stay : States) (slot : ℕ) → is_some (state_at s.volumes slot) ≡ true → (r : Result Unit BlockFault)
-    → NumbersSlot d before.pool before.volumes slot (state_at before.volumes slot) e q stay r → IsNumberedAt d e s.pool q s.volumes stay slot r
-slot_numbered d e before s same q stay slot some r is =
-    let one = some_there (state_at s.volumes slot) some in
-    let said = subst (λ (n : Session). NumbersSlot d n.pool n.volumes slot (state_at n.volumes slot) e q stay r) same is in
-    record { was = one.0; there = one.1; done = subst (λ (o : Option VolumeState). NumbersSlot d s.pool s.volumes slot o e q stay r) one.1 said }
 
 -- its volumes fit together still
 pub fit_numbered : (d e : Shown) (p q : Pool) (states left : States) (slot : ℕ) (r : Result Unit BlockFault) → IsNumberedAt d e p q states left slot r → FitTogether p states → FitTogether q left

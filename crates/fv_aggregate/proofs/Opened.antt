@@ -9,13 +9,12 @@ use Rattle.fv_disk.specs.DiskCalls.{OnlyReads}
 use Rattle.fv_disk.proofs.Resting.{settled_image}
 use Rattle.fv_model.specs.Machines.{Machine}
 use Rattle.fv_image.specs.NewerRoot.{Taken}
-use Rattle.fv_image.specs.Views.{View}
+use Rattle.fv_image.specs.Views.{View, overheads}
 use Rattle.fv_image.specs.Held.{Keeps, layout_at, view_at}
-use Rattle.fv_image.specs.Sound.{overheads}
 use Rattle.fv_image.specs.Seen.{seen}
 use Rattle.fv_image.specs.Soundness.{AreTables}
 use Rattle.fv_image.specs.WholeMachine.{Tells, is_built, machine_of}
-use Rattle.fv_image.proofs.Stands.{stands_for}
+use Rattle.fv_image.proofs.SoundTests.{stands_for}
 use Rattle.fv_root.specs.declared.find.Found.{Found}
 use Rattle.fv_root.specs.Finding.{IsFound, IsInRange, root_found}
 use Rattle.fv_root.specs.Commits.{IsFoundOn}
@@ -28,7 +27,7 @@ use Rattle.fv_cp.specs.Lent.{FitTogether, IsLent, blocks_asked}
 use Rattle.fv_cp.specs.Placing.{AreReady, IsReadyIn}
 use Rattle.fv_cp.proofs.Known.{known_none}
 use Rattle.fv_cp.proofs.Lendable.{held_machine, lent_held}
-use Rattle.fv_volume.specs.Housed.{HaveReaches}
+use Rattle.fv_volumes.specs.Housed.{HaveReaches}
 use Rattle.fv_aggmap.specs.Space.{blocks_of}
 use Rattle.fv_aggmap.proofs.Room.{room_when_sound}
 use Rattle.fv_disk.specs.declared.fault.BlockFault.{BlockFault}
@@ -40,7 +39,7 @@ use Rattle.fv_volume.specs.Loading.{IsCounted, IsLoadFault, KeptTo}
 use Rattle.fv_volume.specs.OneVolume.{IsReady}
 use Rattle.fv_volume.specs.States.{States, state_at, view_over}
 use Rattle.fv_volume.specs.Trees.{no_trees}
-use Rattle.fv_volume.proofs.Trees.{unchanged_machine}
+use Rattle.fv_volumes.proofs.Trees.{unchanged_machine}
 use Rattle.fv_volume.specs.declared.pool.Pool.{Pool}
 use Rattle.fv_aggregate.specs.declared.fault.OpenFault.{OpenFault}
 use Rattle.fv_aggregate.specs.declared.session.Session.{Session}
@@ -48,7 +47,7 @@ use Rattle.fv_aggregate.specs.Causes.{IsOpenFault, of_block}
 use Rattle.fv_aggregate.specs.Opening.{AreOpened, IsFresh, IsOpened}
 use Rattle.fv_aggregate.specs.Standing.{IsWithoutFiles, Stands, StandsFor}
 use Rattle.fv_aggregate.specs.Asking.{AsksWithin}
-use Rattle.fv_volume.specs.UnderRoot.{IsMapOf}
+use Rattle.fv_volumes.specs.UnderRoot.{IsMapOf}
 use Rattle.fv_aggregate.proofs.Asking.{asks_after_reads}
 use Rattle.fv_aggregate.proofs.Clear.{clear_is_free, none_held, none_placed}
 use Rattle.fv_aggregate.proofs.Standing.{settled_after_reads}

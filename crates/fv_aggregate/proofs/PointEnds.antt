@@ -13,10 +13,9 @@ use Rattle.fv_model.specs.Machines.{Machine, capacity}
 use Rattle.fv_model.specs.Space.{commits}
 use Rattle.fv_image.specs.Layout.{root_place}
 use Rattle.fv_image.specs.Maps.{map_bit}
-use Rattle.fv_image.specs.Views.{View}
+use Rattle.fv_image.specs.Views.{View, leaves_room, overheads}
 use Rattle.fv_image.specs.Held.{label_place, layout_at, view_at}
 use Rattle.fv_image.specs.Volumes.{told_with}
-use Rattle.fv_image.specs.Sound.{leaves_room, overheads}
 use Rattle.fv_image.specs.Seen.{seen}
 use Rattle.fv_image.specs.VolumeRules.{commits_seen}
 use Rattle.fv_image.proofs.Committed.{commits_told}
@@ -41,13 +40,13 @@ use Rattle.fv_volume.specs.declared.fault.VolumeFault.{VolumeFault}
 use Rattle.fv_volume.specs.declared.fault.VolumeFault.TheVariants as cp
 use Rattle.fv_volume.specs.declared.pool.Pool.{Pool}
 use Rattle.fv_volume.specs.declared.state.VolumeState.{VolumeState}
-use Rattle.fv_volume.specs.Creating.{Admits}
+use Rattle.fv_volumes.specs.Creating.{Admits}
 use Rattle.fv_volume.specs.Loading.{IsLoaded}
 use Rattle.fv_volume.specs.Slots.{committed_by, is_named, sum_of}
 use Rattle.fv_volume.specs.Held.{IsHeldIn}
 use Rattle.fv_volume.specs.States.{States, state_at, view_over}
-use Rattle.fv_volume.proofs.FreeNumbers.{has_numbers}
-use Rattle.fv_volume.proofs.StillLoaded.{none_loaded}
+use Rattle.fv_volumes.proofs.FreeNumbers.{has_numbers}
+use Rattle.fv_volumes.proofs.StillLoaded.{none_loaded}
 use Rattle.fv_aggregate.specs.declared.session.Session.{Session}
 use Rattle.fv_aggregate.specs.declared.fault.Fault.TheVariants.{DiskFault, Damaged, Memory}
 use Rattle.fv_aggregate.specs.Adding.{HasRoom, IsPointed, StillAdmits}

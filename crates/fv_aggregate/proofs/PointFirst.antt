@@ -18,7 +18,7 @@ use Rattle.fv_aggregate.specs.declared.fault.Fault.{Fault}
 use Rattle.fv_aggregate.specs.declared.session.Session.{Session}
 use Rattle.fv_aggregate.specs.Calls.{Goes, GoesFor, HasDamage, WasRead}
 use Rattle.fv_aggregate.specs.Commands.{dirty_limit, file_room, is_refusal}
-use Rattle.fv_aggregate.specs.Looking.{refusal_in, HasJudged, IsAimed, Makes}
+use Rattle.fv_aggregate.specs.Looking.{refusal_in, HasJudged, IsChangeAt, Makes}
 use Rattle.fv_aggregate.specs.Standing.{StandsFor}
 use Rattle.fv_aggregate.proofs.Holes.{never_within}
 use Rattle.fv_aggregate.proofs.CallEnds.{fails_early, goes_after, goes_for_after, goes_wider, replies_wider}
@@ -109,7 +109,7 @@ module _ (d : Shown) (s : Session) (c : Command) (past : dirty_limit < s.pending
 -- ---- the volume of the slot
 
 -- over a session that kept its volumes' names the command changes a file of the same slot's volume
-pub still_aimed : (states stay : States) (slot : ℕ) (c : Command) → KeepCores states stay → IsAimed states slot c → IsAimed stay slot c
+pub still_aimed : (states stay : States) (slot : ℕ) (c : Command) → KeepCores states stay → IsChangeAt states slot c → IsChangeAt stay slot c
 still_aimed states stay slot c cores aimed = by (state_at stay slot) refl (cores slot ∙ ap (option_map core_of) aimed.there)
   where
     name_in : Option VolumeState → List ℕ
@@ -122,12 +122,12 @@ still_aimed states stay slot c cores aimed = by (state_at stay slot) refl (cores
     nothing : (b : VolumeState) → ◌≡◌ {A = Option VolumeState} None (Some b) → ⊥
     nothing b e = cc
 
-    by : (o : Option VolumeState) → state_at stay slot ≡ o → option_map core_of o ≡ Some (core_of aimed.state) → IsAimed stay slot c
+    by : (o : Option VolumeState) → state_at stay slot ≡ o → option_map core_of o ≡ Some (core_of aimed.state) → IsChangeAt stay slot c
     by None at is = absurd (nothing (core_of aimed.state) is)
     by (Some y) at is = record { within = aimed.within; state = y; there = at; change = subst (λ (n : List ℕ). IsChangeOf n c) (sym (same y aimed.state is)) aimed.change }
 
 -- a session of which blocks were read is aimed at as before
-pub aimed_read : (d : Shown) (s : Session) (e : Shown) (n : Session) (slot : ℕ) (c : Command) → WasRead d s e n → IsAimed s.volumes slot c → IsAimed n.volumes slot c
+pub aimed_read : (d : Shown) (s : Session) (e : Shown) (n : Session) (slot : ℕ) (c : Command) → WasRead d s e n → IsChangeAt s.volumes slot c → IsChangeAt n.volumes slot c
 aimed_read d s e n slot c read aimed =
     let one = still_there s.volumes n.volumes read.volumes slot aimed.state aimed.there in
     record { within = aimed.within; state = one.0; there = one.1.0; change = subst (λ (v : List ℕ). IsChangeOf v c) one.1.1 aimed.change }

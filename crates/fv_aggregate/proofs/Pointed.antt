@@ -19,7 +19,7 @@ use Rattle.fv_volume.specs.declared.state.VolumeState.{VolumeState}
 use Rattle.fv_volume.specs.Loading.{Houses, label_of}
 use Rattle.fv_volume.specs.States.{state_at}
 use Rattle.fv_volume.specs.Stored.{is_map_written, map_entry, place_at}
-use Rattle.fv_volume.proofs.Viewed.{entry_of}
+use Rattle.fv_volumes.proofs.Viewed.{entry_of}
 use Rattle.fv_cp.specs.Choosing.{has_slot, regions_chosen}
 use Rattle.fv_cp.specs.Points.{is_due}
 use Rattle.fv_cp.specs.Settling.{IsHeldPoint, LeavesPlaced}

@@ -16,8 +16,7 @@ use Rattle.fv_laws.proofs.Changes.{same_name}
 use Rattle.fv_laws.proofs.Orders.{name_total, name_ties}
 use Rattle.fv_image.specs.Held.{layout_at, view_at, AllKeep}
 use Rattle.fv_image.specs.Maps.{map_bit}
-use Rattle.fv_image.specs.Sound.{overheads}
-use Rattle.fv_image.specs.Views.{entry_count}
+use Rattle.fv_image.specs.Views.{entry_count, overheads}
 use Rattle.fv_image.specs.WholeMachine.{Tells}
 use Rattle.fv_root.specs.declared.find.Found.{Found}
 use Rattle.fv_root.specs.Commits.{IsFoundOn}
@@ -26,17 +25,17 @@ use Rattle.fv_store.specs.Held.{StandsOn}
 use Rattle.fv_container.specs.Chains.{container_at}
 use Rattle.fv_volume.specs.declared.pool.Pool.{Pool}
 use Rattle.fv_volume.specs.declared.state.VolumeState.{VolumeState}
-use Rattle.fv_volume.specs.Destroying.{Destroys, IsDestroyed, IsGone}
+use Rattle.fv_volumes.specs.Destroying.{Destroys, IsDestroyed, IsGone}
 use Rattle.fv_volume.specs.OneVolume.{volume_for}
 use Rattle.fv_volume.specs.Slots.{is_named, NoneHasName}
 use Rattle.fv_volume.specs.States.{States, state_at, with_state}
 use Rattle.fv_volume.specs.Stored.{leads, AreSpacedIn}
-use Rattle.fv_volume.specs.UnderRoot.{IsMapOf}
+use Rattle.fv_volumes.specs.UnderRoot.{IsMapOf}
 use Rattle.fv_volume.specs.Writing.{IsTaken}
-use Rattle.fv_volume.proofs.DestroyedOthers.{beside_volume, held_left, spaced_left}
-use Rattle.fv_volume.proofs.Made.{to_pair}
-use Rattle.fv_volume.proofs.Removed.{each_left, empty_state, given_within, housed_left, lent_left, names_left, other_state, ready_left, sum_left, sum_less, unkept_left}
-use Rattle.fv_volume.proofs.Told.{named_from, same_named}
+use Rattle.fv_volumes.proofs.DestroyedOthers.{beside_volume, held_left, spaced_left}
+use Rattle.fv_volumes.proofs.Made.{to_pair}
+use Rattle.fv_volumes.proofs.Removed.{each_left, empty_state, given_within, housed_left, lent_left, names_left, other_state, ready_left, sum_left, sum_less, unkept_left}
+use Rattle.fv_volumes.proofs.Told.{named_from, same_named}
 use Rattle.fv_cp.specs.Held.{machine_held, IsHeld, IsHeldIn}
 use Rattle.fv_cp.specs.Lent.{FitTogether, asked_by, blocks_asked, waiting_by}
 use Rattle.fv_cp.specs.Placing.{pending_by}

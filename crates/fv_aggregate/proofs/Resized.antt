@@ -16,7 +16,7 @@ use Rattle.fv_volume.specs.Calls.{Has}
 use Rattle.fv_volume.specs.OneVolume.{content_for, volume_for}
 use Rattle.fv_volume.specs.Promising.{promised, IsPromised, PromisesOne}
 use Rattle.fv_volume.specs.States.{States}
-use Rattle.fv_volume.proofs.PromisedAll.{each_promised, held_promised, housed_promised, lent_promised, names_promised, ready_promised, spaced_promised, sum_promised}
+use Rattle.fv_volumes.proofs.PromisedAll.{each_promised, held_promised, housed_promised, lent_promised, names_promised, ready_promised, spaced_promised, sum_promised}
 use Rattle.fv_cp.specs.Held.{machine_held, IsHeld}
 use Rattle.fv_cp.specs.Lent.{FitTogether, waiting_by}
 use Rattle.fv_cp.specs.Placing.{pending_by}

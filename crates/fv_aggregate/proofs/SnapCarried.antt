@@ -33,7 +33,7 @@ use Rattle.fv_volume.specs.Placing.{pending_of}
 use Rattle.fv_volume.specs.Slots.{is_named}
 use Rattle.fv_volume.specs.States.{state_at, with_state}
 use Rattle.fv_volume.specs.Writing.{map_wait}
-use Rattle.fv_volume.proofs.Told.{is_inside}
+use Rattle.fv_volumes.proofs.Told.{is_inside}
 use Rattle.fv_cp.specs.Held.{machine_held, IsHeldIn}
 use Rattle.fv_cp.specs.Lent.{FitTogether}
 use Rattle.fv_cp.specs.Placing.{pending_by, HasNoFiles, HasNumbers, HaveNoFiles, IsPlacedAs}

@@ -16,7 +16,7 @@ use Rattle.fv_snapshot.specs.Deleting.{Deletes}
 use Rattle.fv_snapshot.specs.Restoring.{Restores}
 use Rattle.fv_aggregate.specs.declared.session.Session.{Session}
 use Rattle.fv_aggregate.specs.Commands.{snapped_by}
-use Rattle.fv_aggregate.specs.Looking.{IsSlotSnapped, IsSnapAimed, SnapsSlot, SnapsState}
+use Rattle.fv_aggregate.specs.Looking.{SnapsState}
 use Rattle.fv_aggregate.proofs.SnapCommands.{snap_cases}
 use Rattle.fv_aggregate.proofs.SnapSessions.{placed_fit, snapped_fit}
 use Rattle.fv_aggregate.proofs.SnapSteps.{restored_step, snapped_step, unsnapped_step}
@@ -44,15 +44,9 @@ module _ (d : Shown) (s : Session) (fit : FitTogether s.pool s.volumes) (slot : 
   pub snap_fits : (c : Command) → snapped_by c ≡ Some x.name → (r : Result Unit VolumeFault) → SnapsState d s.pool x others c q y r → FitTogether q stay
   snap_fits c of r = snap_cases (λ (k : Command). SnapsState d s.pool x others k q y r → FitTogether q stay) (λ v name did. create_fits name r did.1.0 did.1.1) (λ v name did. delete_fits name r did.1) (λ v name did. restore_fits name r did.1.0 did.1.1) x.name c of
 
--- what the call on the volume of a slot did, by that volume
-pub slot_snapped : (d : Shown) (p : Pool) (states : States) (slot : ℕ) (x : VolumeState) → state_at states slot ≡ Some x → (others : ℕ) (c : Command) (q : Pool) (stay : States) (r : Result Unit VolumeFault)
-    → SnapsSlot d p states slot (state_at states slot) others c q stay r → IsSlotSnapped d p states slot x others c q stay r
-slot_snapped d p states slot x there others c q stay r = subst (λ (o : Option VolumeState). SnapsSlot d p states slot o others c q stay r) there
-
--- So they are by what the call on the slot at which a command is aimed did.
-pub fits_after : (d : Shown) (s : Session) → FitTogether s.pool s.volumes → (slot : ℕ) (c : Command) → IsSnapAimed s.volumes slot c → (others : ℕ) (q : Pool) (stay : States) (r : Result Unit VolumeFault)
-    → SnapsSlot d s.pool s.volumes slot (state_at s.volumes slot) others c q stay r → FitTogether q stay
-fits_after d s fit slot c aimed others q stay r did =
-    let its = slot_snapped d s.pool s.volumes slot aimed.state aimed.there others c q stay r did in
-    let slot_is = (subst (λ (o : Option VolumeState). IfSome o (IsLabelled slot)) aimed.there (fit.housed.volumes slot)).slot_is in
-    subst (FitTogether q) (sym its.row) (snap_fits d s fit slot aimed.state aimed.there slot_is others q its.now its.ready c aimed.snaps r its.snaps)
+-- So they are by what the call on the volume did at which a command is aimed.
+pub fits_after : (d : Shown) (s : Session) → FitTogether s.pool s.volumes → (slot : ℕ) (c : Command) (x : VolumeState) → state_at s.volumes slot ≡ Some x → snapped_by c ≡ Some x.name → (others : ℕ) (q : Pool) (y : VolumeState) → IsReady d q y → (r : Result Unit VolumeFault)
+    → SnapsState d s.pool x others c q y r → FitTogether q (with_state s.volumes slot (Some y))
+fits_after d s fit slot c x there of others q y ready r did =
+    let slot_is = (subst (λ (o : Option VolumeState). IfSome o (IsLabelled slot)) there (fit.housed.volumes slot)).slot_is in
+    snap_fits d s fit slot x there slot_is others q y ready c of r did

@@ -11,19 +11,20 @@ use Rattle.fv_volume.specs.declared.pool.Pool.{Pool}
 use Rattle.fv_volume.specs.declared.state.VolumeState.{VolumeState}
 use Rattle.fv_volume.specs.Files.{IsLabelled}
 use Rattle.fv_volume.specs.Held.{IsReadyIn}
-use Rattle.fv_volume.specs.States.{States, state_at, with_state}
+use Rattle.fv_volume.specs.States.{state_at, with_state}
 use Rattle.fv_cp.specs.Lent.{FitTogether}
 use Rattle.fv_aggregate.specs.declared.fault.Fault.{Fault}
 use Rattle.fv_aggregate.specs.declared.session.Session.{Session}
-use Rattle.fv_aggregate.specs.Commands.{room_of}
-use Rattle.fv_aggregate.specs.Looking.{done_as, IsSnapAimed, Replied, SnapsSlot, SnapsState}
-use Rattle.fv_aggregate.specs.Snapping.{snap_blocks, IsAccepted}
+use Rattle.fv_aggregate.specs.Commands.{room_of, snapped_by}
+use Rattle.fv_aggregate.specs.Looking.{done_as, IsSnapAimed, Replied, SnapsState}
+use Rattle.fv_snapshot.specs.declared.creating.Granted.{Granted}
+use Rattle.fv_volume.specs.OneVolume.{IsReady}
+use Rattle.fv_aggregate.specs.Snapping.{snap_blocks, HasGrant, IsAccepted}
 use Rattle.fv_aggregate.specs.Standing.{Stands}
 use Rattle.fv_aggregate.proofs.Changed.{beside}
 use Rattle.fv_aggregate.proofs.SnapCarried.{carried_by, pending_after}
 use Rattle.fv_aggregate.proofs.SnapCommands.{snap_within}
 use Rattle.fv_aggregate.proofs.SnapDone.{IsCarried}
-use Rattle.fv_aggregate.proofs.SnapFits.{slot_snapped}
 
 -- the room is within that of the command
 pub room_most : (d : Shown) (s : Session) → Stands d s → (slot : ℕ) (c : Command) → IsSnapAimed s.volumes slot c → (room : ℕ) → room ≡ snap_blocks (state_at s.volumes slot) c → room ≤ room_of c
@@ -36,24 +37,22 @@ room_most d s stands slot c aimed room is =
     omega (arith, within, same)
 
 module _ {D : Type 0} (d : Shown) (disk : D) (laws : IsDisk d) (s : Session) (fresh : IsNone s.failed) (stands : Stands d s) (fit : FitTogether s.pool s.volumes) (slot : ℕ) (c : Command) (aimed : IsSnapAimed s.volumes slot c)
-    (others : ℕ) (others_are : others ≡ beside s.volumes slot) (room : ℕ) (room_is : room ≡ snap_blocks (state_at s.volumes slot) c) (few : (room ≡ 0) ⊎ (s.pending + room ≤ 256)) (accepted : IsAccepted (state_at s.volumes slot) s.pool.found.blocks others c) where
-  pub carried_now : (q : Pool) (stay : States) (r : Result Unit VolumeFault) → SnapsSlot d s.pool s.volumes slot (state_at s.volumes slot) others c q stay r
-      → (before : Session) → before ≡ record s { volumes = stay; pool = q; pending = cond (is_ok r) (s.pending + room) s.pending } → (asked : Result Reply VolumeFault) → asked ≡ done_as r → (new : Session) (result : Result Reply Fault) → Replied d asked before new result → IsCarried d disk s c room new result
-  carried_now q stay r did before before_is asked asked_is new result replied =
-      carried_by d disk laws s fresh stands fit slot aimed.state aimed.there slot_is room c aimed.snaps q (slot_snapped d s.pool s.volumes slot aimed.state aimed.there others c q stay r did).now r (slot_snapped d s.pool s.volumes slot aimed.state aimed.there others c q stay r did).ready snaps
-      (room_is ∙ ap (λ (o : Option VolumeState). snap_blocks o c) aimed.there) few (room_most d s stands slot c aimed room room_is)
-      (subst (λ (n : ℕ). IsAccepted (Some aimed.state) s.pool.found.blocks n c) others_are (subst (λ (o : Option VolumeState). IsAccepted o s.pool.found.blocks others c) aimed.there accepted))
+    (x : VolumeState) (there : state_at s.volumes slot ≡ Some x) (of : snapped_by c ≡ Some x.name)
+    (others : ℕ) (others_are : others ≡ beside s.volumes slot) (granted : Granted) (few : (granted.room ≡ 0) ⊎ (s.pending + granted.room ≤ 256)) (grant : HasGrant (state_at s.volumes slot) s.pool.found.blocks others c granted) where
+  pub carried_now : (q : Pool) (y : VolumeState) → IsReady d q y → (r : Result Unit VolumeFault) → SnapsState d s.pool x others c q y r
+      → (before : Session) → before ≡ record s { volumes = with_state s.volumes slot (Some y); pool = q; pending = cond (is_ok r) (s.pending + granted.room) s.pending } → (asked : Result Reply VolumeFault) → asked ≡ done_as r → (new : Session) (result : Result Reply Fault) → Replied d asked before new result → IsCarried d disk s c granted.room new result
+  carried_now q y ready r did before before_is asked asked_is new result replied =
+      carried_by d disk laws s fresh stands fit slot x there slot_is granted.room c of q y r ready (subst (λ (n : ℕ). SnapsState d s.pool x n c q y r) others_are did)
+      (grant.room ∙ ap (λ (o : Option VolumeState). snap_blocks o c) there) few (room_most d s stands slot c aimed granted.room grant.room)
+      (subst (λ (n : ℕ). IsAccepted (Some x) s.pool.found.blocks n c) others_are (subst (λ (o : Option VolumeState). IsAccepted o s.pool.found.blocks others c) there grant.accepted))
       new result (subst (λ (n : Session). Replied d (done_as r) n new result) (before_is ∙ as_said) (subst (λ (a : Result Reply VolumeFault). Replied d a before new result) asked_is replied))
     where
-      slot_is : aimed.state.slot ≡ slot
-      slot_is = (subst (λ (o : Option VolumeState). IfSome o (IsLabelled slot)) aimed.there (fit.housed.volumes slot)).slot_is
+      slot_is : x.slot ≡ slot
+      slot_is = (subst (λ (o : Option VolumeState). IfSome o (IsLabelled slot)) there (fit.housed.volumes slot)).slot_is
 
-      snaps : SnapsState d s.pool aimed.state (beside s.volumes slot) c q (slot_snapped d s.pool s.volumes slot aimed.state aimed.there others c q stay r did).now r
-      snaps = subst (λ (n : ℕ). SnapsState d s.pool aimed.state n c q (slot_snapped d s.pool s.volumes slot aimed.state aimed.there others c q stay r did).now r) others_are (slot_snapped d s.pool s.volumes slot aimed.state aimed.there others c q stay r did).snaps
-
-      counted : (r : Result Unit VolumeFault) → cond (is_ok r) (s.pending + room) s.pending ≡ pending_after d disk laws s fresh stands fit slot aimed.state aimed.there slot_is room r
+      counted : (r : Result Unit VolumeFault) → cond (is_ok r) (s.pending + granted.room) s.pending ≡ pending_after d disk laws s fresh stands fit slot x there slot_is granted.room r
       counted (Ok u) = refl
       counted (Err f) = refl
 
-      as_said : ◌≡◌ {A = Session} (record s { volumes = stay; pool = q; pending = cond (is_ok r) (s.pending + room) s.pending }) (record s { volumes = with_state s.volumes slot (Some (slot_snapped d s.pool s.volumes slot aimed.state aimed.there others c q stay r did).now); pool = q; pending = pending_after d disk laws s fresh stands fit slot aimed.state aimed.there slot_is room r })
-      as_said = λ j. record s { volumes = (slot_snapped d s.pool s.volumes slot aimed.state aimed.there others c q stay r did).row j; pool = q; pending = counted r j }
+      as_said : ◌≡◌ {A = Session} (record s { volumes = with_state s.volumes slot (Some y); pool = q; pending = cond (is_ok r) (s.pending + granted.room) s.pending }) (record s { volumes = with_state s.volumes slot (Some y); pool = q; pending = pending_after d disk laws s fresh stands fit slot x there slot_is granted.room r })
+      as_said = λ j. record s { volumes = with_state s.volumes slot (Some y); pool = q; pending = counted r j }

@@ -22,7 +22,10 @@ use Rattle.fv_volume.specs.Slots.{committed_by}
 use Rattle.fv_volume.specs.States.{snaps_in, state_at, States}
 use Rattle.fv_cp.specs.Held.{machine_held}
 use Rattle.fv_cp.specs.Placing.{core_of, KeepCores}
-use Rattle.fv_snapshot.specs.Creating.{content_by, creation_refusal}
+use Rattle.fv_volume.specs.Asking.{snap_named}
+use Rattle.fv_volume.specs.Snapshots.{IsLeastFree}
+use Rattle.fv_snapshot.specs.declared.creating.Granted.{Granted}
+use Rattle.fv_snapshot.specs.Creating.{content_by, creation_refusal, IsGranted}
 use Rattle.fv_aggregate.specs.declared.fault.Fault.{Fault}
 use Rattle.fv_aggregate.specs.declared.fault.Fault.TheVariants.{Memory}
 use Rattle.fv_aggregate.specs.declared.session.Session.{Session}
@@ -31,7 +34,7 @@ use Rattle.fv_aggregate.specs.Calls.{Goes, GoesFor, HasDamage, IsForWant, IsWith
 use Rattle.fv_aggregate.specs.Commands.{dirty_limit, is_refusal, loses_numbers, places_files, room_of, snapped_by}
 use Rattle.fv_aggregate.specs.Known.{KeepsNumbers}
 use Rattle.fv_aggregate.specs.Looking.{HasSnapped, IsSnapAimed}
-use Rattle.fv_aggregate.specs.Snapping.{snap_blocks, HasRoomFor, IsAccepted}
+use Rattle.fv_aggregate.specs.Snapping.{nothing, snap_blocks, HasGrant, HasSlot, IsAccepted, JudgesSnap}
 use Rattle.fv_aggregate.specs.Standing.{StandsFor}
 use Rattle.fv_aggregate.proofs.CallEnds.{fails_early, goes_after, goes_for_after}
 use Rattle.fv_aggregate.proofs.Calls.{goes_as}
@@ -45,19 +48,19 @@ same_names a b e = cc
 
 -- ---- what is judged
 
--- a command with room for what it adds isn't refused
-module _ (x : VolumeState) (blocks others room : ℕ) where
-  abbrev HasRoom : Command → Type 0
-  HasRoom c = HasRoomFor (Some x) blocks others c (Ok room) → (room ≡ snap_blocks (Some x) c) × IsAccepted (Some x) blocks others c
+-- what was granted to a command that isn't refused
+module _ (x : VolumeState) (blocks others : ℕ) (granted : Granted) where
+  abbrev HasBeen : Command → Type 0
+  HasBeen c = JudgesSnap x blocks others c (Ok granted) → HasGrant (Some x) blocks others c granted
 
-  same_room : (a b : ℕ) → ◌≡◌ {A = Result ℕ Refusal} (Ok a) (Ok b) → a ≡ b
-  same_room a b e = cc
+  same_grant : (a b : Granted) → ◌≡◌ {A = Result Granted Refusal} (Ok a) (Ok b) → a ≡ b
+  same_grant a b e = cc
 
-  pub room_given : (v : List ℕ) (c : Command) → snapped_by c ≡ Some v → HasRoom c
-  room_given v c of = snap_cases HasRoom
-      (λ w name is. (same_room room (map_blocks x.span) is.room, sym is.judges.same ∙ sym is.refused))
-      (λ w name is. (same_room room 0 is, tt))
-      (λ w name is. (same_room room 0 is, tt))
+  pub grant_given : (v : List ℕ) (c : Command) → snapped_by c ≡ Some v → HasBeen c
+  grant_given v c of = snap_cases HasBeen
+      (λ w name is. record { room = is.1; accepted = sym is.0.same; slot = record { free = is.0.slot; none = is.0.none; fits = is.0.fits } })
+      (λ w name is. record { room = ap (λ (g : Granted). g.room) (same_grant granted nothing is); accepted = tt; slot = tt })
+      (λ w name is. record { room = ap (λ (g : Granted). g.room) (same_grant granted nothing is); accepted = tt; slot = tt })
       v c of
 
 -- the names of the snapshots differ in its head, too
@@ -68,9 +71,9 @@ named_alike (q ∷ qs) = ap (λ (ns : List (List ℕ)). q.name ∷ ns) (named_al
 -- one that is refused is refused by the machine
 module _ (d : Shown) (s : Session) (long : length s.volumes ≡ 64) (slot : ℕ) (x : VolumeState) (there : state_at s.volumes slot ≡ Some x) (others : ℕ) (others_are : others ≡ beside s.volumes slot) (r : Refusal) where
   abbrev IsRefused : Command → Type 0
-  IsRefused c = snapped_by c ≡ Some x.name → HasRoomFor (Some x) s.pool.found.blocks others c (Err r) → (last m : Machine) → StandsFor d s last m → refusal m c ≡ Some r
+  IsRefused c = snapped_by c ≡ Some x.name → JudgesSnap x s.pool.found.blocks others c (Err r) → (last m : Machine) → StandsFor d s last m → refusal m c ≡ Some r
 
-  never : ◌≡◌ {A = Result ℕ Refusal} (Err r) (Ok 0) → ⊥
+  never : ◌≡◌ {A = Result Granted Refusal} (Err r) (Ok nothing) → ⊥
   never e = cc
 
   refused_create : (v name : List ℕ) → IsRefused (SnapCreate v name)
@@ -79,10 +82,10 @@ module _ (d : Shown) (s : Session) (long : length s.volumes ≡ 64) (slot : ℕ)
       let can : CanHave x (content_by (table_for d s.pool x) (blocks_in d s.pool x) x) = record { reserves = own.stands.reserves; ledger = own.stands.ledger } in
       let has = has_within d s.pool s.volumes long last stands.held slot x there in
       let distinct : are_distinct (map (λ p. p.name) (snaps_in x.snapshots)) ≡ true = ap (λ (ns : List (List ℕ)). are_distinct ns) (named_alike x.snapshots) ∙ own.stands.names in
-      let judged = is.judges.agrees (table_for d s.pool x) (blocks_in d s.pool x) _ can distinct (subst (λ (n : ℕ). HasBeside x.name (volume_for d s.pool x) n s.pool.found.blocks (machine_held d s.pool s.volumes)) (sym others_are) has.beside) in
-      ap (λ (n : List ℕ). refusal m (SnapCreate n name)) (same_names v x.name of) ∙ sym (ap (λ (k : Machine). refusal k (SnapCreate x.name name)) stands.machine) ∙ judged ∙ sym is.refused
+      let judged = is.0.agrees (table_for d s.pool x) (blocks_in d s.pool x) _ can distinct (subst (λ (n : ℕ). HasBeside x.name (volume_for d s.pool x) n s.pool.found.blocks (machine_held d s.pool s.volumes)) (sym others_are) has.beside) in
+      ap (λ (n : List ℕ). refusal m (SnapCreate n name)) (same_names v x.name of) ∙ sym (ap (λ (k : Machine). refusal k (SnapCreate x.name name)) stands.machine) ∙ judged
 
-  pub refused_given : (c : Command) → snapped_by c ≡ Some x.name → HasRoomFor (Some x) s.pool.found.blocks others c (Err r) → (last m : Machine) → StandsFor d s last m → refusal m c ≡ Some r
+  pub refused_given : (c : Command) → snapped_by c ≡ Some x.name → JudgesSnap x s.pool.found.blocks others c (Err r) → (last m : Machine) → StandsFor d s last m → refusal m c ≡ Some r
   refused_given c of = snap_cases IsRefused refused_create (λ w name of is. absurd (never is)) (λ w name of is. absurd (never is)) x.name c of of
 
 -- ---- after a point
@@ -96,8 +99,8 @@ same_sums f none (x ∷ xs) (y ∷ ys) same = let first : f y ≡ f x = same 0 i
 
 -- what stays of the volume of a slot
 module _ (states stay : States) (cores : KeepCores states stay) (slot : ℕ) where
-  nothing : (x : VolumeState) → ◌≡◌ {A = Option VolumeState} None (Some x) → ⊥
-  nothing x e = cc
+  none_some : (x : VolumeState) → ◌≡◌ {A = Option VolumeState} None (Some x) → ⊥
+  none_some x e = cc
 
   same_some : (a b : VolumeState) → ◌≡◌ {A = Option VolumeState} (Some a) (Some b) → a ≡ b
   same_some a b e = cc
@@ -107,7 +110,7 @@ module _ (states stay : States) (cores : KeepCores states stay) (slot : ℕ) whe
   still_there x there = by (state_at stay slot) refl (cores slot ∙ ap (option_map core_of) there)
     where
       by : (o : Option VolumeState) → state_at stay slot ≡ o → option_map core_of o ≡ Some (core_of x) → (y : VolumeState) × ((state_at stay slot ≡ Some y) × (core_of y ≡ core_of x))
-      by None at is = absurd (nothing (core_of x) is)
+      by None at is = absurd (none_some (core_of x) is)
       by (Some y) at is = (y, (at, same_some (core_of y) (core_of x) is))
 
   -- the command is aimed at the volume of the slot still
@@ -143,6 +146,26 @@ module _ (states stay : States) (cores : KeepCores states stay) (slot : ℕ) whe
     where
       accepted_by : ℕ → ℕ → List ℕ → VolumeState → Option Refusal
       accepted_by left others name z = creation_refusal z.snapshots z.ledger left others name
+
+  -- so what was granted to it stands
+  pub still_granted : (blocks left others : ℕ) → left ≡ blocks → (c : Command) → IsSnapAimed states slot c → (granted : Granted) → HasGrant (state_at states slot) blocks others c granted → HasGrant (state_at stay slot) left others c granted
+  still_granted blocks left others same c aimed granted is =
+      let now = still_there aimed.state aimed.there in
+      let first : HasSlot (Some aimed.state) c granted.slot = subst (λ (o : Option VolumeState). HasSlot o c granted.slot) aimed.there is.slot in
+      record {
+        room = is.room ∙ sym (still_room c aimed);
+        accepted = still_accepted blocks left others same c aimed is.accepted;
+        slot = subst (λ (o : Option VolumeState). HasSlot o c granted.slot) (sym now.1.0) (snap_cases (λ (k : Command). HasSlot (Some aimed.state) k granted.slot → HasSlot (Some now.0) k granted.slot)
+            (λ w name has. core_granted name granted.slot now.0 aimed.state now.1.1 has) (λ w name has. tt) (λ w name has. tt) aimed.state.name c aimed.snaps first);
+      }
+    where
+      -- what is granted rests on the core of a volume
+      core_granted : (name : List ℕ) (k : ℕ) (y x : VolumeState) → core_of y ≡ core_of x → IsGranted x name k → IsGranted y name k
+      core_granted name k y x same has = record {
+        free = subst (λ (z : VolumeState). IsLeastFree z.snapshots k) (sym same) has.free;
+        none = subst (λ (z : VolumeState). snap_named z.snapshots name ≡ None) (sym same) has.none;
+        fits = subst (λ (z : VolumeState). z.ledger.charge + map_blocks z.span ≤ z.size) (sym same) has.fits;
+      }
 
 -- what isn't refused holds nothing of a refusal
 never_refused : (X : Type 0) (result : Result Reply Fault) → IfOk result (λ reply. is_refusal reply ≡ false) → IfOk result (λ reply. IsTrue (is_refusal reply) → X)

@@ -9,7 +9,7 @@ use Rattle.fv_model.specs.Machines.{Machine}
 use Rattle.fv_model.specs.Effects.{Becomes, change_of}
 use Rattle.fv_model.specs.Refusals.{next, refusal}
 use Rattle.fv_image.specs.Held.{view_at}
-use Rattle.fv_image.specs.Sound.{overheads}
+use Rattle.fv_image.specs.Views.{overheads}
 use Rattle.fv_root.specs.declared.find.Found.{Found}
 use Rattle.fv_root.specs.Commits.{IsFoundOn}
 use Rattle.fv_root.specs.Finding.{root_found}
@@ -19,8 +19,8 @@ use Rattle.fv_volume.specs.OneVolume.{volume_for, IsReady}
 use Rattle.fv_volume.specs.Placing.{pending_of}
 use Rattle.fv_volume.specs.States.{States, state_at, with_state}
 use Rattle.fv_volume.specs.Writing.{map_wait}
-use Rattle.fv_volume.proofs.PlacedIn as placing
-use Rattle.fv_volume.proofs.Told.{is_inside}
+use Rattle.fv_volumes.proofs.PlacedIn as placing
+use Rattle.fv_volumes.proofs.Told.{is_inside}
 use Rattle.fv_cp.specs.Held.{machine_held, IsHeldIn}
 use Rattle.fv_cp.specs.Lent.{FitTogether}
 use Rattle.fv_cp.specs.Placing.{AreReady, HaveNoFiles, HasNoFiles, IsPlacedAs}

@@ -22,9 +22,9 @@ use Rattle.fv_volume.specs.declared.state.VolumeState.{VolumeState}
 use Rattle.fv_volume.specs.Snaps.{turned_to, with_snapshot, without_snapshot}
 use Rattle.fv_volume.specs.Snapshots.{IsLeastFree}
 use Rattle.fv_volume.specs.Stored.{has_stored_map}
-use Rattle.fv_volume.specs.UnderRoot.{StandMaps}
+use Rattle.fv_volumes.specs.UnderRoot.{StandMaps}
 use Rattle.fv_volume.specs.Writing.{map_count, map_wait}
-use Rattle.fv_volume.proofs.StandingMaps.{maps_still}
+use Rattle.fv_volumes.proofs.StandingMaps.{maps_still}
 use Rattle.fv_snapshot.specs.Creating.{IsSnapped}
 use Rattle.fv_snapshot.specs.Deleting.{IsUnsnapped}
 use Rattle.fv_snapshot.specs.Restoring.{IsTurned}

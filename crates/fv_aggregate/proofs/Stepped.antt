@@ -22,17 +22,17 @@ use Rattle.fv_volume.specs.declared.pool.Pool.{Pool}
 use Rattle.fv_volume.specs.declared.state.VolumeState.{VolumeState}
 use Rattle.fv_volume.specs.Calls.{Reads}
 use Rattle.fv_volume.specs.Files.{AreNamed, IsLabelled}
-use Rattle.fv_volume.specs.Housed.{AreHoused}
+use Rattle.fv_volumes.specs.Housed.{AreHoused}
 use Rattle.fv_volume.specs.Loading.{Houses}
 use Rattle.fv_volume.specs.OneVolume.{volume_for, IsReady}
 use Rattle.fv_volume.specs.Placing.{pending_of}
 use Rattle.fv_volume.specs.Slots.{committed_by, sum_of}
 use Rattle.fv_volume.specs.States.{States, parent_in, state_at, with_state}
 use Rattle.fv_volume.specs.Stored.{AreApartIn, AreSpacedIn, has_block, is_of}
-use Rattle.fv_volume.specs.UnderRoot.{IsLentAt, StandMaps}
+use Rattle.fv_volumes.specs.UnderRoot.{IsLentAt, StandMaps}
 use Rattle.fv_volume.specs.Writing.{map_wait}
-use Rattle.fv_volume.proofs.Made.{from_pairs, to_pair}
-use Rattle.fv_volume.proofs.Told.{is_inside, ledger_commit}
+use Rattle.fv_volumes.proofs.Made.{from_pairs, to_pair}
+use Rattle.fv_volumes.proofs.Told.{is_inside, ledger_commit}
 use Rattle.fv_cp.specs.Held.{machine_held, IsHeld, IsHeldIn}
 use Rattle.fv_cp.specs.Lent.{maps_waiting, waiting_by, FitTogether}
 use Rattle.fv_cp.specs.Placing.{pending_by, pending_files, AreReady, HaveNoFiles, HasNoFiles, IsReadyIn}

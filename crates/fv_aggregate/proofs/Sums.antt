@@ -7,8 +7,7 @@ use Rattle.std.proofs.lemmas.List.{get_or_past}
 use Rattle.std.proofs.lemmas.List.Sums.{get_or-le-sum_by, sum_by-cons, sum_by-set}
 use Rattle.fv_disk.specs.Shown.{Image}
 use Rattle.fv_model.specs.Space.{overhead}
-use Rattle.fv_image.specs.Views.{Head, View, slots}
-use Rattle.fv_image.specs.Sound.{overheads}
+use Rattle.fv_image.specs.Views.{Head, View, slots, overheads}
 use Rattle.fv_image.proofs.Counts.{none_sum, same_sum}
 use Rattle.fv_cp.specs.Lent.{asked_all, asked_by, asked_of, blocks_asked, maps_waiting, waiting_by, HaveNoneWaiting}
 use Rattle.fv_cp.specs.Placing.{core_of, pending_by, pending_files, HaveNoFiles, HasNoFiles, KeepCores}

@@ -35,13 +35,13 @@ use Rattle.fv_image.proofs.SoundFacts.{lying_label}
 use Rattle.fv_image.proofs.SoundSlots.{held_lies, slot_from_blocks}
 use Rattle.fv_image.proofs.NodesOnce.{has_shape}
 use Rattle.fv_image.proofs.WellLabels.{numbers_at}
-use Rattle.fv_image.proofs.Stands.{stands_for}
+use Rattle.fv_image.proofs.SoundTests.{stands_for}
 use Rattle.fv_root.specs.declared.find.Found.{Found}
 use Rattle.fv_root.specs.Finding.{IsDamaged, IsNoAggregate, root_found}
 use Rattle.fv_aggmap.specs.Loading.{IsPastMap}
 use Rattle.fv_volume.specs.Loading.{IsLabelFault, IsMapFault, IsTreeFault, entry_block, form_in, label_of}
 use Rattle.fv_volume.proofs.KeptSlots.{root_few, root_used}
-use Rattle.fv_volume.proofs.Mapping.{block_there}
+use Rattle.fv_volumes.proofs.Mapping.{block_there}
 use Rattle.fv_aggregate.specs.declared.fault.OpenFault.{OpenFault}
 use Rattle.fv_aggregate.specs.declared.fault.OpenFault.TheVariants.{DiskFault, NotAggregate, Damaged, Memory}
 use Rattle.fv_aggregate.specs.declared.session.Session.{Session}

@@ -3,10 +3,10 @@ use Rattle.std.specs.Prelude.{◌≡◌, ◌≤◌, ◌+◌, ℕ, List, length, 
 use Rattle.fv_disk.specs.Shown.{Shown}
 use Rattle.fv_model.specs.declared.commands.Kind.{Kind}
 use Rattle.fv_image.specs.Held.{view_at}
-use Rattle.fv_image.specs.Sound.{overheads}
+use Rattle.fv_image.specs.Views.{overheads}
 use Rattle.fv_root.specs.Finding.{root_found}
 use Rattle.fv_container.specs.Chains.{container_at, slot_count}
-use Rattle.fv_volume.specs.Creating.{Admits, IsMade, IsNew, with_holes}
+use Rattle.fv_volumes.specs.Creating.{Admits, IsMade, IsNew, with_holes}
 use Rattle.fv_volume.specs.Slots.{IsFirstFree}
 use Rattle.fv_volume.specs.States.{state_at}
 use Rattle.fv_volume.specs.Files.{IsLabelled}

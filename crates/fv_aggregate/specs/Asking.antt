@@ -7,7 +7,7 @@ use Rattle.fv_image.specs.Layout.{root_place}
 use Rattle.fv_image.specs.Maps.{map_bit}
 use Rattle.fv_image.specs.NewerRoot.{Taken, root_of}
 use Rattle.fv_image.specs.Held.{view_at}
-use Rattle.fv_image.specs.Sound.{overheads}
+use Rattle.fv_image.specs.Views.{overheads}
 use Rattle.fv_root.specs.Finding.{root_found}
 use Rattle.fv_cp.specs.Lent.{blocks_asked}
 use Rattle.fv_aggregate.specs.declared.session.Session.{Session}

@@ -28,9 +28,9 @@ use Rattle.fv_aggregate.specs.Adding.{IsPointed}
 use Rattle.fv_aggregate.specs.Asking.{AsksWithin, IsShort}
 use Rattle.fv_aggregate.specs.Causes.{KeepsEnds}
 use Rattle.fv_aggregate.specs.Commands.{changed_by, dirty_limit, finds_file, has_range, is_built, is_get, is_refusal, managed_by, places_files, removes_volume, room_of, snapped_by, snapshot_asked, volume_asked}
-use Rattle.fv_aggregate.specs.Known.{KnowsNamed}
+use Rattle.fv_aggregate.specs.Known.{KeepsNumbers, KnowsNamed}
 use Rattle.fv_aggregate.specs.Managing.{IsManaged}
-use Rattle.fv_aggregate.specs.Standing.{taken_since, OneOf, Stands, StandsAfter, StandsFor}
+use Rattle.fv_aggregate.specs.Standing.{taken_since, HoldsAsCommitted, IsWithoutFiles, OneOf, Stands, StandsAfter, StandsFor}
 use Rattle.fv_aggregate.specs.Telling.{names_from}
 
 -- ---- faults
@@ -134,6 +134,26 @@ pub record GoesFor {T : Type 0} (before : Shown) (last m next : Machine) (after 
   pub still : IsNone new.failed → OnErr result (StandsAfter after new last m m)
   pub whole : IfErr result IsNoDamage
 
+-- damage for want of blocks, or where a file was to be placed, with nothing written
+abbrev pub IsForWant : Shown → Session → Shown → Session → Fault → Type 0
+IsForWant before old after new (Damaged at want found) = OnlyReads before after × (LacksBlocks before old new at want found ⊎ HasFilesToPlace old)
+IsForWant before old after new fault = Unit {0}
+
+-- What a call does that may run a consistency point, for which it may add `room` blocks, and that makes `next m` of the machine `m`. A
+-- point asks for no more than before, damage comes for want of blocks alone, and the numbers of files stay in memory.
+pub record Runs {T : Type 0} (room : ℕ) (next : Machine → Machine) (before : Shown) (old : Session) (after : Shown) (new : Session)
+    (result : Result T Fault) : Type 0 where
+  pub goes : Goes room before old after new result
+  pub asks : KeepsAsking room before old after new
+  pub damage : IfErr result (IsForWant before old after new)
+  pub goes_for : IsTrue before.tells → (last m : Machine) → StandsFor before old last m → GoesFor before last m (next m) after new result
+  pub numbers : IsNone new.failed → KeepsNumbers old.volumes new.volumes
+
+-- no file comes into memory, and where the next root would hold just what the one on the disk holds it does so afterwards
+pub record KeepsHolding {T : Type 0} (before : Shown) (old new : Session) (result : Result T Fault) : Type 0 where
+  pub files : IsTrue before.tells → IsWithoutFiles old → OnOk result (IsWithoutFiles new)
+  pub same : IsTrue before.tells → HoldsAsCommitted old → OnOk result (HoldsAsCommitted new)
+
 -- ---- entries
 
 -- Each entry of a container is as it was, or leads to a block that the root on the disk doesn't hold. So none became a hole.
@@ -166,11 +186,6 @@ pub record WasRead (before : Shown) (old : Session) (after : Shown) (new : Sessi
 -- the disk and the session are as they were
 abbrev pub IsUntouched : {D : Type 0} → D → Session → D → Session → Type 0
 IsUntouched before old after new = (after ≡ before) × (new ≡ old)
-
--- damage for want of blocks, or where a file was to be placed, with nothing written
-abbrev pub IsForWant : Shown → Session → Shown → Session → Fault → Type 0
-IsForWant before old after new (Damaged at want found) = OnlyReads before after × (LacksBlocks before old new at want found ⊎ HasFilesToPlace old)
-IsForWant before old after new fault = Unit {0}
 
 -- a command on a whole volume is always answered
 pub record IsAnswered (old : Session) (command : Command) (name : List ℕ) (new : Session) (result : Result Reply Fault) : Type 0 where

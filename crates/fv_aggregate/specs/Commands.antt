@@ -151,7 +151,12 @@ has_range command = true
 abbrev pub file_room : ℕ
 file_room = 16
 
--- so many blocks the map of a snapshot has at most
+-- So many overheads a volume has at most, with the greatest span, 1,048,576: a label; 32 blocks of its active map; 4,100 leaves of its container, each for 256 of
+-- 1,048,576 + 25 * 32 numbers; and 18 nodes above them, 17 and 1.
+abbrev pub most_overhead : ℕ
+most_overhead = 4151
+
+-- so many blocks the map of a snapshot has at most: one for each 32,768 numbers of the greatest span
 abbrev pub snap_room : ℕ
 snap_room = 32
 

@@ -4,6 +4,7 @@ pub mod Asking
 pub mod Commands
 pub mod Known
 pub mod Causes
+pub mod Aiming
 pub mod Calls
 pub mod Looking
 pub mod Managing
@@ -13,3 +14,4 @@ pub mod Adding
 pub mod Telling
 pub mod Snapping
 pub mod Reclaiming
+pub mod Applying

@@ -19,7 +19,7 @@ use Rattle.fv_volume.specs.Changing.{keeps_numbers, IsChangeOf, KeepsTable}
 use Rattle.fv_volume.specs.Lending.{lent_for}
 use Rattle.fv_volume.specs.OneVolume.{home_in, standing_for, volume_for, IsReady, IsStanding}
 use Rattle.fv_volume.specs.Placing.{IsStoredWell}
-use Rattle.fv_volume.specs.States.{States, state_at, with_state}
+use Rattle.fv_volume.specs.States.{States, state_at}
 use Rattle.fv_volume.specs.declared.fault.VolumeFault.{VolumeFault}
 use Rattle.fv_volume.specs.declared.fault.VolumeFault.TheVariants as volume
 use Rattle.fv_aggregate.specs.declared.fault.Fault.{Fault}
@@ -65,11 +65,6 @@ pub record AsksState (before : Shown) (pool : Pool) (x : VolumeState) (command :
   pub known : IsStanding before pool x → IsStoredWell before pool x → OnOk result ((m : Machine) → Has x.name (volume_for before pool x) m → steps ≡ start)
   pub unmoved : IfErr result (λ e. (r : Refusal) → e ≡ volume.Refused r → steps ≡ start)
 
--- so it is of the volume of a slot
-abbrev pub AsksSlot : Shown → Pool → Option VolumeState → Command → ℕ → Shown → Pool → ℕ → Result Reply VolumeFault → Type 0
-AsksSlot before pool None command start after left steps result = ⊥
-AsksSlot before pool (Some x) command start after left steps result = AsksState before pool x command start after left steps result
-
 -- ---- a volume that is judged or changed
 
 -- A volume was judged beside others that commit so much, and is as it was: where it stands, a command is refused as in each machine that has it
@@ -78,11 +73,6 @@ pub record JudgesState (before : Shown) (pool : Pool) (x : VolumeState) (others 
   pub reads : Reads before pool after left
   pub agrees : IsStanding before pool x → (m : Machine) → HasWithin x.name (volume_for before pool x) others pool.found.blocks m → Agrees m command result
   pub cause : CallCause (IsStanding before pool x) (standing_for before pool x) (lent_for pool x.map before 0 (home_in x) 0) after.faults result
-
--- so it is of the volume of a slot
-abbrev pub JudgesSlot : Shown → Pool → Option VolumeState → ℕ → Command → Shown → Pool → Result Unit VolumeFault → Type 0
-JudgesSlot before pool None others command after left result = ⊥
-JudgesSlot before pool (Some x) others command after left result = JudgesState before pool x others command after left result
 
 -- The files of a volume were changed in memory, beside others that commit so much. Calls can be made on it still. Where it stood it stands, for the
 -- volume that the command makes of it in each machine that has it, or after a fault for what it stood for. Of the pool only the cache changed. The
@@ -97,16 +87,6 @@ pub record ChangesState (before : Shown) (pool : Pool) (x : VolumeState) (others
   pub numbers : keeps_numbers command ≡ true → y.numbers ≡ x.numbers
   pub cause : CallCause (IsStanding before pool x) (standing_for before pool x) (lent_for pool x.map before 0 (home_in x) 0) after.faults result
 
--- so it is of the volume of a slot, and the other volumes are as they were
-pub record IsSlotChanged (before : Shown) (pool : Pool) (states : States) (slot : ℕ) (x : VolumeState) (others : ℕ) (command : Command) (after : Shown) (left : Pool) (stay : States) (result : Result Unit VolumeFault) : Type 0 where
-  pub now : VolumeState
-  pub row : stay ≡ with_state states slot (Some now)
-  pub changes : ChangesState before pool x others command after left now result
-
-abbrev pub ChangesSlot : Shown → Pool → States → ℕ → Option VolumeState → ℕ → Command → Shown → Pool → States → Result Unit VolumeFault → Type 0
-ChangesSlot before pool states slot None others command after left stay result = ⊥
-ChangesSlot before pool states slot (Some x) others command after left stay result = IsSlotChanged before pool states slot x others command after left stay result
-
 -- ---- a volume whose snapshots change
 
 -- A snapshot of a volume was made, removed or restored, beside volumes that commit so much.
@@ -115,17 +95,6 @@ SnapsState disk pool x others (SnapCreate volume snapshot) left y result = (volu
 SnapsState disk pool x others (SnapDelete volume snapshot) left y result = (volume ≡ x.name) × Deletes disk pool x snapshot left y result
 SnapsState disk pool x others (SnapRestore volume snapshot) left y result = (volume ≡ x.name) × ((left ≡ pool) × Restores disk pool x others snapshot y result)
 SnapsState disk pool x others command left y result = ⊥
-
--- So it is of the volume of a slot, and the other volumes are as they were. Calls can be made on it still.
-pub record IsSlotSnapped (disk : Shown) (pool : Pool) (states : States) (slot : ℕ) (x : VolumeState) (others : ℕ) (command : Command) (left : Pool) (stay : States) (result : Result Unit VolumeFault) : Type 0 where
-  pub now : VolumeState
-  pub row : stay ≡ with_state states slot (Some now)
-  pub ready : IsReady disk left now
-  pub snaps : SnapsState disk pool x others command left now result
-
-abbrev pub SnapsSlot : Shown → Pool → States → ℕ → Option VolumeState → ℕ → Command → Pool → States → Result Unit VolumeFault → Type 0
-SnapsSlot disk pool states slot None others command left stay result = ⊥
-SnapsSlot disk pool states slot (Some x) others command left stay result = IsSlotSnapped disk pool states slot x others command left stay result
 
 -- a command makes, removes or restores a snapshot of the volume of a slot
 pub record IsSnapAimed (states : States) (slot : ℕ) (command : Command) : Type 0 where
@@ -162,7 +131,7 @@ done_as (Err fault) = Err fault
 -- ---- in parts
 
 -- a command changes a file of the volume of a slot
-pub record IsAimed (states : States) (slot : ℕ) (command : Command) : Type 0 where
+pub record IsChangeAt (states : States) (slot : ℕ) (command : Command) : Type 0 where
   pub within : slot < slot_count
   pub state : VolumeState
   pub there : state_at states slot ≡ Some state

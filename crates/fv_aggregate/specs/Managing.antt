@@ -9,7 +9,7 @@ use Rattle.fv_model.specs.declared.commands.Command.{Command}
 use Rattle.fv_model.specs.declared.commands.Command.TheVariants.{VolDestroy, VolResize, VolGuarantee, VolStat}
 use Rattle.fv_container.specs.Chains.{slot_count}
 use Rattle.fv_volume.specs.declared.state.VolumeState.{VolumeState}
-use Rattle.fv_volume.specs.Destroying.{Destroys, IsGone}
+use Rattle.fv_volumes.specs.Destroying.{Destroys, IsGone}
 use Rattle.fv_volume.specs.Promising.{told_by, IsPromised, PromisesOne}
 use Rattle.fv_volume.specs.Slots.{HasName, NoneHasName}
 use Rattle.fv_volume.specs.States.{state_at}

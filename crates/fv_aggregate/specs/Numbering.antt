@@ -1,5 +1,5 @@
 -- What is done before a command on a volume's files: their numbers are read into memory.
-use Rattle.std.specs.Prelude.{◌≡◌, ℕ, true, Option, Some, None, IsTrue, Result, OnOk}
+use Rattle.std.specs.Prelude.{◌≡◌, ℕ, true, Some, IsTrue, Result, OnOk}
 use Rattle.std.specs.Option.{is_some}
 use Rattle.fv_disk.specs.Shown.{Shown}
 use Rattle.fv_disk.specs.DiskCalls.{OnlyReads}
@@ -44,7 +44,3 @@ pub record IsSlotNumbered (before : Shown) (pool : Pool) (states : States) (slot
   pub now : VolumeState
   pub row : stay ≡ with_state states slot (Some now)
   pub numbers : NumbersState before pool x after left now result
-
-abbrev pub NumbersSlot : Shown → Pool → States → ℕ → Option VolumeState → Shown → Pool → States → Result Unit BlockFault → Type 0
-NumbersSlot before pool states slot None after left stay result = ⊥
-NumbersSlot before pool states slot (Some x) after left stay result = IsSlotNumbered before pool states slot x after left stay result

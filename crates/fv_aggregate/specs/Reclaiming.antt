@@ -1,5 +1,5 @@
 -- What a consistency point makes of the entries of a session's volumes, as the image shows them.
-use Rattle.std.specs.Prelude.{◌≡◌, ◌<◌, ◌&&◌, ℕ, Bool, true, false, List, Option, Some, None, if◌then◌else◌}
+use Rattle.std.specs.Prelude.{◌≡◌, ◌≢◌, ◌<◌, ◌&&◌, ℕ, Bool, true, false, List, Option, Some, None, Result, OnOk, IfErr, IsTrue, if◌then◌else◌}
 use Rattle.std.specs.Option.{option_map}
 use Rattle.std.specs.FinMap as fin
 use Rattle.fv_disk.specs.Shown.{Shown}
@@ -19,9 +19,14 @@ use Rattle.fv_volume.specs.declared.state.VolumeState.{VolumeState}
 use Rattle.fv_volume.specs.States.{States, placed_in, state_at}
 use Rattle.fv_volume.specs.Stored.{is_map_written, map_entry}
 use Rattle.fv_cp.specs.Choosing.{CountsMissing, regions_chosen, LeavesRoom}
-use Rattle.fv_cp.specs.Placing.{AreButPlaced, LeavesUnused, PlacesEntries, RestsPlaced}
+use Rattle.fv_cp.specs.Settling.{OldOrHeld}
+use Rattle.fv_disk.specs.Crash.{Leaves}
+use Rattle.fv_cp.specs.Placing.{HaveNoFiles, AreButPlaced, LeavesUnused, PlacesEntries, RestsPlaced}
 use Rattle.fv_cp.specs.Points.{is_due}
+use Rattle.fv_aggregate.specs.declared.fault.Fault.{Fault}
+use Rattle.fv_aggregate.specs.declared.fault.Fault.TheVariants.{Memory}
 use Rattle.fv_aggregate.specs.declared.session.Session.{Session}
+use Rattle.fv_aggregate.specs.Adding.{IsPointed}
 use Rattle.fv_aggregate.specs.Standing.{StandsFor}
 
 -- the entry under a VVBN of the volume of a slot, as an image shows it under the root of a session
@@ -68,3 +73,13 @@ pub record HasPointed (want : ℕ) (old : Session) (after : Shown) (new : Sessio
   pub stands : StandsFor after new m m
   pub room : LeavesRoom (view_at (root_found new.pool.found) after.reads) want
   pub entries : ReclaimsEntries want old after new
+
+-- A consistency point ran for an event of this room, or not. Without a file in memory no memory lacks. Done, it is what is said of one;
+-- and each image on its way is of one side of it.
+pub record Points {T : Type 0} (want : ℕ) (before : Shown) (old : Session) (after : Shown) (new : Session)
+    (result : Result T Fault) : Type 0 where
+  pub memory : HaveNoFiles old.volumes → IfErr result (λ e. e ≢ Memory)
+  pub point : IsTrue before.tells → (last m : Machine) → StandsFor before old last m → OnOk result (HasPointed want old after new m)
+  pub sides : IsTrue before.tells → (last m : Machine) → StandsFor before old last m
+      → Leaves before after (OldOrHeld before old.pool old.volumes last)
+  pub left : OnOk result (IsPointed before old new)

@@ -1,11 +1,17 @@
--- The first step of a command on snapshots in a session: whether it is refused before room is made for it, and for how many blocks room is made.
-use Rattle.std.specs.Prelude.{◌≡◌, ℕ, List, Option, Some, None, Result, Ok, OnOk}
+-- The first step of a command on snapshots in a session: whether it is refused before room is made for it, and what it is granted.
+use Rattle.std.specs.Prelude.{◌≡◌, ℕ, Option, Some, None, Result, Ok, IfOk}
 use Rattle.fv_model.specs.declared.answers.Refusal.{Refusal}
 use Rattle.fv_model.specs.declared.commands.Command.{Command}
 use Rattle.fv_model.specs.declared.commands.Command.TheVariants.{SnapCreate}
 use Rattle.fv_model.specs.Space.{map_blocks}
 use Rattle.fv_volume.specs.declared.state.VolumeState.{VolumeState}
-use Rattle.fv_snapshot.specs.Creating.{JudgesCreation, creation_refusal, refusal_in}
+use Rattle.fv_snapshot.specs.declared.creating.Granted.{Granted}
+use Rattle.fv_snapshot.specs.Creating.{JudgesCreation, IsGranted, creation_refusal}
+use Rattle.fv_snapshot.specs.Granting.{slot_granted}
+
+-- what is granted to a command that makes no snapshot
+abbrev pub nothing : Granted
+nothing = record { slot = 0; room = 0 }
 
 -- the room of a command on the volume of a slot: the blocks of the map of a snapshot that is made, and none of each other command
 abbrev pub snap_blocks : Option VolumeState → Command → ℕ
@@ -19,14 +25,20 @@ IsAccepted None blocks others command = ⊥
 IsAccepted (Some x) blocks others (SnapCreate volume snapshot) = creation_refusal x.snapshots x.ledger blocks others snapshot ≡ None
 IsAccepted (Some x) blocks others command = Unit {0}
 
--- A snapshot that is made is refused as it is judged, and else adds the blocks of its map; each other command adds none.
-pub record IsJudged (x : VolumeState) (blocks others : ℕ) (name : List ℕ) (result : Result ℕ Refusal) : Type 0 where
-  pub judged : Result ℕ Refusal
-  pub judges : JudgesCreation x blocks others name judged
-  pub refused : refusal_in result ≡ refusal_in judged
-  pub room : OnOk result (result ≡ Ok (map_blocks x.span))
+-- it has the slot that it was granted
+abbrev pub HasSlot : Option VolumeState → Command → ℕ → Type 0
+HasSlot None command slot = ⊥
+HasSlot (Some x) (SnapCreate volume snapshot) slot = IsGranted x snapshot slot
+HasSlot (Some x) command slot = Unit {0}
 
-abbrev pub HasRoomFor : Option VolumeState → ℕ → ℕ → Command → Result ℕ Refusal → Type 0
-HasRoomFor None blocks others command result = ⊥
-HasRoomFor (Some x) blocks others (SnapCreate volume snapshot) result = IsJudged x blocks others snapshot result
-HasRoomFor (Some x) blocks others command result = result ≡ Ok 0
+-- A command was granted this: it isn't refused, and has this room and this slot.
+pub record HasGrant (o : Option VolumeState) (blocks others : ℕ) (command : Command) (granted : Granted) : Type 0 where
+  pub room : granted.room ≡ snap_blocks o command
+  pub accepted : IsAccepted o blocks others command
+  pub slot : HasSlot o command granted.slot
+
+-- A snapshot that is made is judged, with the room of its map; to each other command nothing is granted.
+abbrev pub JudgesSnap : VolumeState → ℕ → ℕ → Command → Result Granted Refusal → Type 0
+JudgesSnap x blocks others (SnapCreate volume snapshot) result =
+    JudgesCreation x blocks others snapshot (slot_granted result) × IfOk result (λ granted. granted.room ≡ map_blocks x.span)
+JudgesSnap x blocks others command result = result ≡ Ok nothing

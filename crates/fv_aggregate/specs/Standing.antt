@@ -8,14 +8,14 @@ use Rattle.fv_disk.specs.Shown.{Image, Shown, IsSettled}
 use Rattle.fv_store.specs.Held.{StandsOn}
 use Rattle.fv_model.specs.Machines.{Machine, first_block}
 use Rattle.fv_image.specs.Held.{view_at}
-use Rattle.fv_image.specs.Sound.{overheads}
+use Rattle.fv_image.specs.Views.{overheads}
 use Rattle.fv_image.specs.WholeMachine.{machine_of}
 use Rattle.fv_root.specs.Finding.{root_found}
 use Rattle.fv_root.specs.Commits.{IsFoundOn}
 use Rattle.fv_aggmap.specs.Space.{Space, blocks_of, free_blocks, free_from}
 use Rattle.fv_volume.specs.declared.state.VolumeState.{VolumeState}
 use Rattle.fv_volume.specs.States.{States}
-use Rattle.fv_volume.specs.UnderRoot.{IsMapOf}
+use Rattle.fv_volumes.specs.UnderRoot.{IsMapOf}
 use Rattle.fv_cp.specs.Held.{machine_held, IsHeld}
 use Rattle.fv_cp.specs.Known.{AreKnown}
 use Rattle.fv_cp.specs.Lent.{maps_waiting}

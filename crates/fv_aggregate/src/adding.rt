@@ -1,6 +1,6 @@
 //! The volumes that a session makes.
 
-ghost use Rattle.std.specs.Prelude.{◌≡◌, ◌≤◌, ◌+◌, ℕ, length, max, IsTrue, IsNone, IfErr, IfOk, OnOk, OnErr};
+ghost use Rattle.std.specs.Prelude.{◌≡◌, ◌≤◌, ◌+◌, length, max, IsTrue, IsNone, IfErr, IfOk, OnOk, OnErr};
 ghost use Rattle.fv_container.specs.Chains.{slot_count};
 ghost use Rattle.fv_model.specs.Machines.{Machine};
 ghost use Rattle.fv_model.specs.Space.{overhead, span_of};
@@ -8,20 +8,19 @@ ghost use Rattle.fv_model.specs.Refusals.{next};
 ghost use Rattle.fv_model.specs.Replies.{Allows};
 ghost use Rattle.fv_model.specs.declared.answers.Reply.TheVariants.{Done};
 ghost use Rattle.fv_model.specs.declared.commands.Command.TheVariants.{VolCreate};
-ghost use Rattle.fv_volume.specs.Creating.{Admits};
+ghost use Rattle.fv_volumes.specs.Creating.{Admits};
 ghost use Rattle.fv_aggregate.specs.declared.fault.Fault.TheVariants.{Memory};
 ghost use Rattle.fv_aggregate.specs.Adding.{IsAdded};
-ghost use Rattle.fv_aggregate.specs.Calls.{Goes, GoesFor, IsForWant, KeepsAsking, MakesNoHoles};
-ghost use Rattle.fv_aggregate.specs.Commands.{dirty_limit, is_refusal};
-ghost use Rattle.fv_aggregate.specs.Known.{KeepsNumbers};
-ghost use Rattle.fv_aggregate.specs.Standing.{HoldsAsCommitted, IsWithoutFiles, Stands, StandsFor};
+ghost use Rattle.fv_aggregate.specs.Calls.{KeepsHolding, MakesNoHoles, Runs};
+ghost use Rattle.fv_aggregate.specs.Commands.{dirty_limit, is_refusal, most_overhead};
+ghost use Rattle.fv_aggregate.specs.Standing.{Stands, StandsFor};
 
 use crate::fault::Fault;
 use crate::session::Session;
 use fv_charge::overhead;
 use fv_disk::Disk;
-use fv_model::{Kind, Name, Refusal, Reply};
-use fv_volume::Admitted;
+use fv_model::{Kind, Name, Reply};
+use fv_volumes::Admitted;
 use std::alloc::AllocError;
 
 impl Session {
@@ -35,21 +34,16 @@ impl Session {
     ) -> Result<Reply, Fault>
         requires fresh { IsNone self.old.failed }
         requires stands { Stands (D.shown disk.old) self.old }
-        ensures goes { Goes (overhead (span_of size 0 0)) (D.shown disk.old) self.old (D.shown disk.new) self.new result }
-        ensures asks { KeepsAsking (overhead (span_of size 0 0)) (D.shown disk.old) self.old (D.shown disk.new) self.new }
-        ensures damage { IfErr result (IsForWant (D.shown disk.old) self.old (D.shown disk.new) self.new) }
-        ensures goes_for { IsTrue (D.shown disk.old).tells → (last m : Machine) → StandsFor (D.shown disk.old) self.old last m
-            → GoesFor (D.shown disk.old) last m (next m (VolCreate name.now size kind)) (D.shown disk.new) self.new result }
+        ensures runs { Runs (overhead (span_of size 0 0)) (λ m. next m (VolCreate name.now size kind))
+            (D.shown disk.old) self.old (D.shown disk.new) self.new result }
         ensures reply { IsTrue (D.shown disk.old).tells → (last m : Machine) → StandsFor (D.shown disk.old) self.old last m
             → IfOk result (Allows m (VolCreate name.now size kind)) }
         ensures refused { IfOk result (λ reply. IsTrue (is_refusal reply) → (disk.new ≡ disk.old) × (self.new ≡ self.old)) }
         ensures calm { self.old.pending + overhead (span_of size 0 0) ≤ dirty_limit → disk.new ≡ disk.old }
         ensures map { self.old.pending + overhead (span_of size 0 0) ≤ dirty_limit → self.new.pool.map ≡ self.old.pool.map }
         ensures entries { self.old.pending + overhead (span_of size 0 0) ≤ dirty_limit → MakesNoHoles self.old self.new }
-        ensures files { IsTrue (D.shown disk.old).tells → IsWithoutFiles self.old → OnOk result (IsWithoutFiles self.new) }
-        ensures same { IsTrue (D.shown disk.old).tells → HoldsAsCommitted self.old → OnOk result (HoldsAsCommitted self.new) }
+        ensures holding { KeepsHolding (D.shown disk.old) self.old self.new result }
         ensures wanting { self.old.pending + overhead (span_of size 0 0) ≤ dirty_limit → IfErr result (λ e. e ≡ Memory → self.new ≡ self.old) }
-        ensures numbers { IsNone self.new.failed → KeepsNumbers self.old.volumes self.new.volumes }
     {
         match self.volumes.admit(self.pool.found.blocks, name, size, kind) {
             Ok(admitted) => self.make(disk, name, size, kind, admitted),
@@ -70,19 +64,14 @@ impl Session {
         requires stands { Stands (D.shown disk.old) self.old }
         requires long { length self.old.volumes ≡ slot_count }
         requires admitted { Admits self.old.volumes self.old.pool.found.blocks name.now size kind admitted.slot admitted.span }
-        ensures goes { Goes (overhead admitted.span) (D.shown disk.old) self.old (D.shown disk.new) self.new result }
-        ensures asks { KeepsAsking (overhead admitted.span) (D.shown disk.old) self.old (D.shown disk.new) self.new }
-        ensures damage { IfErr result (IsForWant (D.shown disk.old) self.old (D.shown disk.new) self.new) }
-        ensures goes_for { IsTrue (D.shown disk.old).tells → (last m : Machine) → StandsFor (D.shown disk.old) self.old last m
-            → GoesFor (D.shown disk.old) last m (next m (VolCreate name.now size kind)) (D.shown disk.new) self.new result }
+        ensures runs { Runs (overhead admitted.span) (λ m. next m (VolCreate name.now size kind))
+            (D.shown disk.old) self.old (D.shown disk.new) self.new result }
         ensures reply { IfOk result (λ reply. reply ≡ Done) }
         ensures calm { self.old.pending + overhead admitted.span ≤ dirty_limit → disk.new ≡ disk.old }
         ensures map { self.old.pending + overhead admitted.span ≤ dirty_limit → self.new.pool.map ≡ self.old.pool.map }
         ensures entries { self.old.pending + overhead admitted.span ≤ dirty_limit → MakesNoHoles self.old self.new }
-        ensures files { IsTrue (D.shown disk.old).tells → IsWithoutFiles self.old → OnOk result (IsWithoutFiles self.new) }
-        ensures same { IsTrue (D.shown disk.old).tells → HoldsAsCommitted self.old → OnOk result (HoldsAsCommitted self.new) }
+        ensures holding { KeepsHolding (D.shown disk.old) self.old self.new result }
         ensures wanting { self.old.pending + overhead admitted.span ≤ dirty_limit → IfErr result (λ e. e ≡ Memory → self.new ≡ self.old) }
-        ensures numbers { IsNone self.new.failed → KeepsNumbers self.old.volumes self.new.volumes }
     {
         let room = u64::from(overhead(admitted.span()));
         self.make_room(disk, room)?;
@@ -101,7 +90,7 @@ impl Session {
     ) -> Result<(), AllocError>
         requires fresh { IsNone self.old.failed }
         requires few { self.old.pending + room ≤ max dirty_limit room }
-        requires least { room ≤ 4151 }
+        requires least { room ≤ most_overhead }
         requires room { room ≡ overhead admitted.span }
         requires admitted { Admits self.old.volumes self.old.pool.found.blocks name.now size kind admitted.slot admitted.span }
         ensures added { OnOk result (IsAdded self.old name.now size kind room self.new) }

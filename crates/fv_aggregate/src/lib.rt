@@ -2,6 +2,7 @@
 #![tactic(auto)]
 
 mod adding;
+mod aiming;
 mod fault;
 mod files;
 mod managing;

@@ -4,7 +4,7 @@ ghost use Rattle.std.specs.Prelude.{◌≤◌, IsTrue, IfOk, IfErr};
 ghost use Rattle.fv_disk.specs.DiskCalls.{OnlyReads};
 ghost use Rattle.fv_store.specs.Held.{StandsOn};
 ghost use Rattle.fv_image.specs.Held.{view_at};
-ghost use Rattle.fv_image.specs.Sound.{overheads};
+ghost use Rattle.fv_image.specs.Views.{overheads};
 ghost use Rattle.fv_root.specs.Finding.{root_found};
 ghost use Rattle.fv_cp.specs.Lent.{blocks_asked};
 ghost use Rattle.fv_aggregate.specs.Causes.{HasOpenCause, IsOpenFault};
@@ -14,7 +14,8 @@ use crate::fault::OpenFault;
 use crate::session::Session;
 use fv_disk::Disk;
 use fv_root::find_root;
-use fv_volume::{Pool, Volumes};
+use fv_volume::Pool;
+use fv_volumes::Volumes;
 use std::alloc::Global;
 
 /// Reads the aggregate on a disk.

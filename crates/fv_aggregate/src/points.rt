@@ -1,20 +1,18 @@
 //! The consistency points of a session.
 
-ghost use Rattle.std.specs.Prelude.{◌≡◌, ◌≢◌, ◌≤◌, ◌<◌, ◌+◌, ◌*◌, nat_le, max, IsTrue, IsNone, IfErr, IfOk, OnErr, OnOk, Some};
-ghost use Rattle.fv_disk.specs.Crash.{Leaves};
+ghost use Rattle.std.specs.Prelude.{◌≡◌, ◌≤◌, ◌<◌, ◌+◌, ◌*◌, nat_le, max, IsTrue, IsNone, IfErr, IfOk, OnErr, OnOk, Some};
 ghost use Rattle.fv_disk.specs.Shown.{Rose};
 ghost use Rattle.fv_model.specs.Machines.{Machine, capacity};
 ghost use Rattle.fv_model.specs.Space.{commits};
 ghost use Rattle.fv_model.specs.declared.answers.Reply.TheVariants.{Done};
-ghost use Rattle.fv_cp.specs.Placing.{HaveNoFiles, KeepCores};
-ghost use Rattle.fv_cp.specs.Settling.{OldOrHeld};
+ghost use Rattle.fv_cp.specs.Placing.{KeepCores};
 ghost use Rattle.fv_aggregate.specs.declared.fault.Fault.TheVariants.{Memory};
 ghost use Rattle.fv_aggregate.specs.Adding.{HasRoom, IsPointed, StillAdmits};
-ghost use Rattle.fv_aggregate.specs.Calls.{Goes, GoesFor, IsForWant, KeepsAsking};
+ghost use Rattle.fv_aggregate.specs.Calls.{Goes, GoesFor, IsForWant, KeepsAsking, KeepsHolding, Runs};
 ghost use Rattle.fv_aggregate.specs.Commands.{dirty_limit};
 ghost use Rattle.fv_aggregate.specs.Known.{KeepsNumbers};
-ghost use Rattle.fv_aggregate.specs.Reclaiming.{HasPointed};
-ghost use Rattle.fv_aggregate.specs.Standing.{HoldsAsCommitted, IsWithoutFiles, Stands, StandsFor};
+ghost use Rattle.fv_aggregate.specs.Reclaiming.{HasPointed, Points};
+ghost use Rattle.fv_aggregate.specs.Standing.{IsWithoutFiles, Stands, StandsFor};
 
 use crate::fault::Fault;
 use crate::session::Session;
@@ -24,7 +22,8 @@ use fv_model::Reply;
 use fv_volume::VolumeFault;
 
 /// The dirty limit: so many blocks may be pending, with the room of the next event, before a consistency point runs. `docs/SPACE.md`
-/// has the rule; beside the overheads of the last point at least as many blocks are free.
+/// has the rule; beside the overheads of the last point at least as many blocks are free. More would be taken from each capacity, span and
+/// memory; less makes more points, each of three barriers. At least 16 changes of files fit, each of room 16 at most.
 const DIRTY_LIMIT: u64 = 256;
 
 impl Session {
@@ -32,11 +31,7 @@ impl Session {
     pub(crate) fn make_room<D: Disk>(&mut self, disk: &mut D, room: u64) -> Result<(), Fault>
         requires fresh { IsNone self.old.failed }
         requires stands { Stands (D.shown disk.old) self.old }
-        ensures goes { Goes room (D.shown disk.old) self.old (D.shown disk.new) self.new result }
-        ensures asks { KeepsAsking room (D.shown disk.old) self.old (D.shown disk.new) self.new }
-        ensures damage { IfErr result (IsForWant (D.shown disk.old) self.old (D.shown disk.new) self.new) }
-        ensures goes_for { IsTrue (D.shown disk.old).tells → (last m : Machine) → StandsFor (D.shown disk.old) self.old last m
-            → GoesFor (D.shown disk.old) last m m (D.shown disk.new) self.new result }
+        ensures runs { Runs room (λ m. m) (D.shown disk.old) self.old (D.shown disk.new) self.new result }
         ensures room { IsTrue (D.shown disk.old).tells → (last m : Machine) → StandsFor (D.shown disk.old) self.old last m
             → commits m + 2 * room ≤ capacity m.blocks → OnOk result (HasRoom (D.shown disk.new) self.new room) }
         ensures pending { self.new.pending ≤ self.old.pending }
@@ -47,9 +42,7 @@ impl Session {
         ensures pointed { dirty_limit < self.old.pending + room → OnOk result (IsPointed (D.shown disk.old) self.old self.new) }
         ensures reclaimed { IsTrue (D.shown disk.old).tells → (last m : Machine) → StandsFor (D.shown disk.old) self.old last m
             → dirty_limit < self.old.pending + room → OnOk result (HasPointed room self.old (D.shown disk.new) self.new m) }
-        ensures files { IsTrue (D.shown disk.old).tells → IsWithoutFiles self.old → OnOk result (IsWithoutFiles self.new) }
-        ensures same { IsTrue (D.shown disk.old).tells → HoldsAsCommitted self.old → OnOk result (HoldsAsCommitted self.new) }
-        ensures numbers { IsNone self.new.failed → KeepsNumbers self.old.volumes self.new.volumes }
+        ensures holding { KeepsHolding (D.shown disk.old) self.old self.new result }
     {
         if self.has_room(room) {
             Ok(())
@@ -69,20 +62,10 @@ impl Session {
     pub(crate) fn reclaim<D: Disk>(&mut self, disk: &mut D) -> Result<Reply, Fault>
         requires fresh { IsNone self.old.failed }
         requires stands { Stands (D.shown disk.old) self.old }
-        ensures goes { Goes 0 (D.shown disk.old) self.old (D.shown disk.new) self.new result }
-        ensures asks { KeepsAsking 0 (D.shown disk.old) self.old (D.shown disk.new) self.new }
-        ensures damage { IfErr result (IsForWant (D.shown disk.old) self.old (D.shown disk.new) self.new) }
-        ensures memory { HaveNoFiles self.old.volumes → IfErr result (λ e. e ≢ Memory) }
-        ensures goes_for { IsTrue (D.shown disk.old).tells → (last m : Machine) → StandsFor (D.shown disk.old) self.old last m
-            → GoesFor (D.shown disk.old) last m m (D.shown disk.new) self.new result }
-        ensures done { IsTrue (D.shown disk.old).tells → (last m : Machine) → StandsFor (D.shown disk.old) self.old last m
-            → OnOk result (HasPointed 0 self.old (D.shown disk.new) self.new m) }
-        ensures sides { IsTrue (D.shown disk.old).tells → (last m : Machine) → StandsFor (D.shown disk.old) self.old last m
-            → Leaves (D.shown disk.old) (D.shown disk.new) (OldOrHeld (D.shown disk.old) self.old.pool self.old.volumes last) }
-        ensures left { OnOk result (IsPointed (D.shown disk.old) self.old self.new) }
+        ensures runs { Runs 0 (λ m. m) (D.shown disk.old) self.old (D.shown disk.new) self.new result }
+        ensures points { Points 0 (D.shown disk.old) self.old (D.shown disk.new) self.new result }
         ensures reply { IfOk result (λ reply. reply ≡ Done) }
         ensures files { IsTrue (D.shown disk.old).tells → OnOk result (IsWithoutFiles self.new) }
-        ensures numbers { IsNone self.new.failed → KeepsNumbers self.old.volumes self.new.volumes }
     {
         self.point(disk, 0)?;
         Ok(Reply::Done)
@@ -95,19 +78,14 @@ impl Session {
         ensures goes { Goes 0 (D.shown disk.old) self.old (D.shown disk.new) self.new result }
         ensures asks { KeepsAsking 0 (D.shown disk.old) self.old (D.shown disk.new) self.new }
         ensures damage { IfErr result (IsForWant (D.shown disk.old) self.old (D.shown disk.new) self.new) }
-        ensures memory { HaveNoFiles self.old.volumes → IfErr result (λ e. e ≢ Memory) }
         ensures goes_for { IsTrue (D.shown disk.old).tells → (last m : Machine) → StandsFor (D.shown disk.old) self.old last m
             → GoesFor (D.shown disk.old) last m m (D.shown disk.new) self.new result }
-        ensures done { IsTrue (D.shown disk.old).tells → (last m : Machine) → StandsFor (D.shown disk.old) self.old last m
-            → OnOk result (HasPointed want self.old (D.shown disk.new) self.new m) }
-        ensures sides { IsTrue (D.shown disk.old).tells → (last m : Machine) → StandsFor (D.shown disk.old) self.old last m
-            → Leaves (D.shown disk.old) (D.shown disk.new) (OldOrHeld (D.shown disk.old) self.old.pool self.old.volumes last) }
+        ensures numbers { IsNone self.new.failed → KeepsNumbers self.old.volumes self.new.volumes }
+        ensures points { Points want (D.shown disk.old) self.old (D.shown disk.new) self.new result }
         ensures kept { IsTrue (D.shown disk.old).tells → (last m : Machine) → StandsFor (D.shown disk.old) self.old last m
             → IsNone self.new.failed → OnErr result (StandsFor (D.shown disk.new) self.new last m) }
         ensures room { IsTrue (D.shown disk.old).tells → (last m : Machine) → StandsFor (D.shown disk.old) self.old last m
             → commits m + 2 * want ≤ capacity m.blocks → OnOk result (HasRoom (D.shown disk.new) self.new want) }
-        ensures left { OnOk result (IsPointed (D.shown disk.old) self.old self.new) }
-        ensures numbers { IsNone self.new.failed → KeepsNumbers self.old.volumes self.new.volumes }
     {
         let before = disk.write_faults();
         match full_point(

@@ -1,79 +1,34 @@
 //! The commands that ask for files. None of them changes a volume.
 
-ghost use Rattle.std.specs.Prelude.{◌≡◌, ◌<◌, option_copied, false, true, is_some, None, Some, Ok, Err, IsTrue, IsNone, IfSome, IfOk, OnOk};
-ghost use Rattle.fv_container.specs.Chains.{slot_count};
-ghost use Rattle.fv_cp.specs.Placing.{IsReadyIn};
-ghost use Rattle.fv_model.specs.declared.answers.Refusal.TheVariants.{NoSnapshot, NoVolume, Range};
+ghost use Rattle.std.specs.Prelude.{◌≡◌, ◌<◌, false, true, None, Some, Ok, Err, IsTrue, IsNone, IfSome, IfOk, OnOk};
+ghost use Rattle.fv_model.specs.declared.answers.Refusal.TheVariants.{NoSnapshot};
 ghost use Rattle.fv_model.specs.declared.answers.Reply.TheVariants.{Refused};
 ghost use Rattle.fv_model.specs.Machines.{Machine};
 ghost use Rattle.fv_volume.specs.Asking.{table_named, IsRefusedUnread};
 ghost use Rattle.fv_volume.specs.declared.fault.VolumeFault.TheVariants as of_volume;
 ghost use Rattle.fv_volume.specs.OneVolume.{IsReady};
-ghost use Rattle.fv_volume.specs.Slots.{NoneHasName};
 ghost use Rattle.fv_volume.specs.States.{state_at};
-ghost use Rattle.fv_aggregate.specs.Calls.{IsUntouched, LacksSnapshot};
+ghost use Rattle.fv_aggregate.specs.Calls.{IsUntouched};
 ghost use Rattle.fv_aggregate.specs.Commands.{finds_file, has_range, is_get, is_refusal, snapshot_asked, volume_asked};
-ghost use Rattle.fv_aggregate.specs.Known.{KeepsNumbers, KnowsNamed, KnowsNumbers};
-ghost use Rattle.fv_aggregate.specs.Looking.{AsksSlot, AsksState, Breaks, IsAsked, Looks, Replied};
+ghost use Rattle.fv_aggregate.specs.Known.{KeepsNumbers, KnowsNumbers};
+ghost use Rattle.fv_aggregate.specs.Looking.{AsksState, Breaks, IsAsked, Looks, Replied};
 ghost use Rattle.fv_aggregate.specs.Standing.{Stands, StandsFor};
 
+use crate::aiming::volume_at;
 use crate::fault::Fault;
-use crate::files::is_in_range;
 use crate::points::failure;
 use crate::session::Session;
 use fv_container::Steps;
 use fv_disk::{Block, Disk};
-use fv_model::{Command, Name, Refusal, Reply};
-use fv_volume::{Pool, VolumeFault, VolumeState, Volumes};
+use fv_model::{Command, Refusal, Reply};
+use fv_volume::{Pool, VolumeFault, VolumeState};
 use std::alloc::Global;
 use std::sync::ledger::Ledger;
 
-/// The volume that a command asks for files: `get`, `len` and `ls`.
-pub(crate) fn asked_volume(command: &Command) -> Option<&Name>
-    ensures { option_copied result ≡ volume_asked command.now }
-{
-    match command {
-        Command::Get { volume, .. } => Some(volume),
-        Command::Len { volume, .. } => Some(volume),
-        Command::Ls { volume, .. } => Some(volume),
-        _ => None,
-    }
-}
-
 impl Session {
-    /// Answers a command that asks for files of a volume: `get`, `len` or `ls`.
-    pub(crate) fn look<D: Disk, L: Ledger>(
-        &mut self,
-        disk: &mut D,
-        volume: &Name,
-        command: &Command,
-        steps: &mut Steps<L>,
-    ) -> Result<Reply, Fault>
-        requires fresh { IsNone self.old.failed }
-        requires stands { Stands (D.shown disk.old) self.old }
-        requires asks { volume_asked command.now ≡ Some volume.now }
-        ensures looks { Looks (D.shown disk.old) self.old command.now (D.shown disk.new) self.new result }
-        ensures range { has_range command.now ≡ false → (result ≡ Ok (Refused Range)) × IsUntouched disk.old self.old disk.new self.new }
-        ensures missing { has_range command.now ≡ true → NoneHasName self.old.volumes volume.now → (result ≡ Ok (Refused NoVolume)) × IsUntouched disk.old self.old disk.new self.new }
-        ensures lost { has_range command.now ≡ true → LacksSnapshot self.old.volumes volume.now command.now → (result ≡ Ok (Refused NoSnapshot)) × IsUntouched disk.old self.old disk.new self.new }
-        ensures only { result ≡ Ok (Refused NoSnapshot) → LacksSnapshot self.old.volumes volume.now command.now }
-        ensures steps { is_get command.now ≡ false → steps.new ≡ steps.old }
-        ensures known { IsTrue (D.shown disk.old).tells → (last m : Machine) → StandsFor (D.shown disk.old) self.old last m → OnOk result (steps.new ≡ steps.old) }
-        ensures kept { KeepsNumbers self.old.volumes self.new.volumes }
-        ensures finds { finds_file command.now ≡ true → has_range command.now ≡ true → OnOk result (KnowsNamed self.old.volumes volume.now self.new.volumes) }
-    {
-        if !is_in_range(command) {
-            return Ok(Reply::Refused(Refusal::Range));
-        }
-        match self.volumes.find(volume) {
-            Some(slot) => self.look_at(disk, slot, command, steps),
-            None => Ok(Reply::Refused(Refusal::NoVolume)),
-        }
-    }
-
     /// Answers a command that asks for files of the volume of a slot. `get` and `len` have the numbers of its files in memory; `ls` reads all
     /// names itself, and a file of a snapshot is found without the numbers, which aren't those of its table.
-    fn look_at<D: Disk, L: Ledger>(
+    pub(crate) fn look_at<D: Disk, L: Ledger>(
         &mut self,
         disk: &mut D,
         slot: u8,
@@ -116,15 +71,8 @@ impl Session {
         ensures known { IsTrue (D.shown disk.old).tells → (last m : Machine) → StandsFor (D.shown disk.old) self.old last m → OnOk result (steps.new ≡ steps.old) }
         ensures volumes { self.new.volumes ≡ self.old.volumes }
     {
-        let asked = ask_slot(
-            self.alloc,
-            &mut self.volumes,
-            &mut self.pool,
-            disk,
-            slot,
-            command,
-            steps,
-        );
+        let state = volume_at(&mut self.volumes, slot);
+        let asked = ask_state(state, self.alloc, &mut self.pool, disk, command, steps);
         self.replied(disk, asked)
     }
 
@@ -170,33 +118,6 @@ fn finds(command: &Command) -> bool
         Command::Get { snapshot, .. } => snapshot.is_none(),
         Command::Len { snapshot, .. } => snapshot.is_none(),
         _ => false,
-    }
-}
-
-/// Asks the volume of a slot.
-fn ask_slot<D: Disk, L: Ledger>(
-    alloc: Global,
-    volumes: &mut Volumes,
-    pool: &mut Pool,
-    disk: &mut D,
-    slot: u8,
-    command: &Command,
-    steps: &mut Steps<L>,
-) -> Result<Reply, VolumeFault>
-    requires slot { slot < slot_count }
-    requires there { is_some (state_at volumes.old slot) ≡ true }
-    requires ready { IfSome (state_at volumes.old slot) (IsReadyIn (D.shown disk.old) pool.old slot) }
-    requires asks { IfSome (state_at volumes.old slot) (λ x. volume_asked command.now ≡ Some x.name) }
-    ensures asks { AsksSlot (D.shown disk.old) pool.old (state_at volumes.old slot) command.now steps.old (D.shown disk.new) pool.new steps.new result }
-    ensures lost { has_range command.now ≡ true → IfSome (state_at volumes.old slot) (λ x. table_named x (snapshot_asked command.now) ≡ None → IsRefusedUnread NoSnapshot disk.old pool.old disk.new pool.new result) }
-    ensures only { result ≡ Err (of_volume.Refused NoSnapshot) → IfSome (state_at volumes.old slot) (λ x. table_named x (snapshot_asked command.now) ≡ None) }
-    ensures told { IfOk result (λ reply. is_refusal reply ≡ false) }
-    ensures same { volumes.new ≡ volumes.old }
-    ensures steps { is_get command.now ≡ false → steps.new ≡ steps.old }
-{
-    match volumes.get_mut(slot) {
-        Some(state) => ask_state(state, alloc, pool, disk, command, steps),
-        None => Err(VolumeFault::Refused(Refusal::NoVolume)),
     }
 }
 

@@ -1,7 +1,6 @@
 //! A session.
 
-ghost use Rattle.std.specs.Prelude.{◌≡◌, ◌≢◌, ◌≤◌, ◌+◌, ◌⊎◌, ℕ, false, true, IsTrue, IsNone, IsSome, IfOk, IfErr, OnErr, OnOk, Some};
-ghost use Rattle.fv_disk.specs.Crash.{Leaves};
+ghost use Rattle.std.specs.Prelude.{◌≡◌, IsTrue, IsNone, IsSome, IfOk, IfErr, OnErr, OnOk, Some};
 ghost use Rattle.fv_disk.specs.Shown.{IsSettled, Rose};
 ghost use Rattle.fv_container.specs.Chains.{slot_count};
 ghost use Rattle.fv_model.specs.Machines.{Machine};
@@ -9,31 +8,24 @@ ghost use Rattle.fv_model.specs.declared.commands.Command.TheVariants.{Cp};
 ghost use Rattle.fv_image.specs.WholeMachine.{machine_of};
 ghost use Rattle.fv_volume.specs.Trees.{Trees};
 ghost use Rattle.fv_volume.specs.Files.{Over};
-ghost use Rattle.fv_cp.specs.Placing.{HaveNoFiles};
-ghost use Rattle.fv_cp.specs.Settling.{OldOrHeld};
 ghost use Rattle.fv_aggregate.specs.declared.fault.Fault.TheVariants.{Memory};
-ghost use Rattle.fv_aggregate.specs.Adding.{IsPointed};
 ghost use Rattle.fv_aggregate.specs.Asking.{AsksWithin};
-ghost use Rattle.fv_disk.specs.DiskCalls.{OnlyReads};
-ghost use Rattle.fv_aggregate.specs.Calls.{CountsSteps, Goes, GoesFor, IsForWant, IsOnFiles, IsPlain, IsWithinLimit, KeepsAsking, MakesNoHoles, SameCounts};
+ghost use Rattle.fv_aggregate.specs.Applying.{HasApplied};
+ghost use Rattle.fv_aggregate.specs.Calls.{Runs, SameCounts};
 ghost use Rattle.fv_aggregate.specs.Causes.{HasOpenCause, IsUnwritten, OpenFails};
-ghost use Rattle.fv_aggregate.specs.Commands.{Replies, changed_by, changes_volume, machine_after, places_files, reads_files, removes_volume, room_of};
 ghost use Rattle.fv_aggregate.specs.Opening.{IsFresh, IsOpened};
-ghost use Rattle.fv_aggregate.specs.Known.{KeepsNumbers, KeepsNumbersBut, MayLose};
-ghost use Rattle.fv_aggregate.specs.Reclaiming.{HasPointed};
-ghost use Rattle.fv_aggregate.specs.Standing.{HoldsAsCommitted, IsWithoutFiles, Stands, StandsFor, charged_in};
+ghost use Rattle.fv_aggregate.specs.Reclaiming.{Points};
+ghost use Rattle.fv_aggregate.specs.Standing.{IsWithoutFiles, Stands, StandsFor, charged_in};
 ghost use Rattle.fv_aggregate.specs.Telling.{charged_from};
 
 use crate::fault::{Fault, OpenFault};
-use crate::files::changed_volume;
 use crate::opening::load;
-use crate::reading::asked_volume;
-use crate::snapshots::snapped_volume;
 use crate::volumes::{names_of, sum_charges};
 use fv_container::Steps;
 use fv_disk::Disk;
-use fv_model::{Command, Refusal, Reply};
-use fv_volume::{Pool, Volumes};
+use fv_model::{Command, Reply};
+use fv_volume::Pool;
+use fv_volumes::Volumes;
 use std::alloc::Global;
 use std::marker::Model;
 use std::sync::ledger::Ledger;
@@ -101,8 +93,8 @@ impl Session {
 
     /// Applies a command, and answers the machine's reply, refusals included. A command whose room, in blocks, would pass the dirty
     /// limit of 256 together with the blocks pending is preceded by a consistency point; one that is refused is refused before that, and
-    /// changes nothing but the cache and the numbers of files in memory. So far the commands that begin with `vol` or `snap`, `cp`, `new` without
-    /// a reserve, `put`, `get`, `len`, `cut`, `rm` and `ls` are built, and every other command is refused as none.
+    /// changes nothing but the cache and the numbers of files in memory. So far the commands that begin with `vol` or `snap`, `cp`, `new`
+    /// without a reserve, `put`, `get`, `len`, `cut`, `rm` and `ls` are built, and every other command is refused as none.
     ///
     /// `steps` counts the unknown pointers that a `get` passes; there are none in what a session stands for yet.
     ///
@@ -131,26 +123,8 @@ impl Session {
         steps: &mut Steps<L>,
     ) -> Result<Reply, Fault>
         requires stands { IsNone self.old.failed → Stands (D.shown disk.old) self.old }
-        ensures goes { Goes (room_of command.now) (D.shown disk.old) self.old (D.shown disk.new) self.new result }
-        ensures asks { changes_volume command.now ≡ false → KeepsAsking (room_of command.now) (D.shown disk.old) self.old (D.shown disk.new) self.new }
-        ensures goes_for { IsTrue (D.shown disk.old).tells → (last m : Machine) → StandsFor (D.shown disk.old) self.old last m
-            → GoesFor (D.shown disk.old) last m (machine_after m command.now) (D.shown disk.new) self.new result }
-        ensures reply { IsTrue (D.shown disk.old).tells → (last m : Machine) → StandsFor (D.shown disk.old) self.old last m
-            → IfOk result (Replies m command.now) }
-        ensures plain { reads_files command.now ≡ false → IsPlain command.now (D.shown disk.old) disk.old self.old (D.shown disk.new) disk.new self.new result }
-        ensures on_files { reads_files command.now ≡ true → IsOnFiles command.now (D.shown disk.old) disk.old self.old (D.shown disk.new) disk.new self.new result }
-        ensures point { IsTrue (D.shown disk.old).tells → (last m : Machine) → StandsFor (D.shown disk.old) self.old last m → command.now ≡ Cp
-            → OnOk result (HasPointed 0 self.old (D.shown disk.new) self.new m) }
-        ensures sides { IsTrue (D.shown disk.old).tells → (last m : Machine) → StandsFor (D.shown disk.old) self.old last m → command.now ≡ Cp
-            → Leaves (D.shown disk.old) (D.shown disk.new) (OldOrHeld (D.shown disk.old) self.old.pool self.old.volumes last) }
-        ensures calm { command.now ≢ Cp → IsWithinLimit self.old command.now → OnlyReads (D.shown disk.old) (D.shown disk.new) }
-        ensures entries { command.now ≢ Cp → IsWithinLimit self.old command.now → removes_volume command.now ≡ false → MakesNoHoles self.old self.new }
-        ensures files { IsTrue (D.shown disk.old).tells → changed_by command.now ≡ None → IsWithoutFiles self.old → OnOk result (IsWithoutFiles self.new) }
-        ensures same { IsTrue (D.shown disk.old).tells → changed_by command.now ≡ None → removes_volume command.now ≡ false → (places_files command.now ≡ false) ⊎ IsWithoutFiles self.old → HoldsAsCommitted self.old
-            → OnOk result (HoldsAsCommitted self.new) }
-        ensures steps { CountsSteps command.now (D.shown disk.old) self.old steps.old steps.new result }
-        ensures numbers { IsNone self.new.failed → KeepsNumbersBut (MayLose command.now self.old.volumes) self.old.volumes self.new.volumes }
-        ensures dead { IsSome self.old.failed → disk.new ≡ disk.old }
+        ensures { HasApplied command.now (D.shown disk.old) disk.old self.old steps.old
+            (D.shown disk.new) disk.new self.new steps.new result }
     {
         if let Some(faults) = self.failed {
             return Err(Fault::Failed { faults });
@@ -160,16 +134,11 @@ impl Session {
             Command::VolList => Ok(Reply::Names(names_of(self.alloc, &self.volumes)?)),
             Command::Cp => self.reclaim(disk),
             Command::SnapList { volume } => Ok(self.snapshots(volume)?),
-            _ => match asked_volume(command) {
-                Some(volume) => self.look(disk, volume, command, steps),
-                None => match changed_volume(command) {
-                    Some(volume) => self.change(disk, volume, command),
-                    None => match snapped_volume(command) {
-                        Some(volume) => self.snap(disk, volume, command),
-                        None => Ok(self.manage(command)),
-                    },
-                },
-            },
+            Command::VolDestroy { volume } => Ok(self.destroy(volume)),
+            Command::VolResize { volume, size } => Ok(self.resize(volume, *size)),
+            Command::VolGuarantee { volume, kind } => Ok(self.guarantee(volume, *kind)),
+            Command::VolStat { volume } => Ok(self.stat(volume)),
+            _ => self.serve(disk, command, steps),
         }
     }
 
@@ -186,20 +155,10 @@ impl Session {
     /// `docs/SPACE.md` has the order.
     pub fn consistency_point<D: Disk>(&mut self, disk: &mut D) -> Result<(), Fault>
         requires stands { IsNone self.old.failed → Stands (D.shown disk.old) self.old }
-        ensures goes { Goes 0 (D.shown disk.old) self.old (D.shown disk.new) self.new result }
-        ensures asks { KeepsAsking 0 (D.shown disk.old) self.old (D.shown disk.new) self.new }
-        ensures damage { IfErr result (IsForWant (D.shown disk.old) self.old (D.shown disk.new) self.new) }
-        ensures memory { HaveNoFiles self.old.volumes → IfErr result (λ e. e ≢ Memory) }
-        ensures goes_for { IsTrue (D.shown disk.old).tells → (last m : Machine) → StandsFor (D.shown disk.old) self.old last m
-            → GoesFor (D.shown disk.old) last m m (D.shown disk.new) self.new result }
-        ensures point { IsTrue (D.shown disk.old).tells → (last m : Machine) → StandsFor (D.shown disk.old) self.old last m
-            → OnOk result (HasPointed 0 self.old (D.shown disk.new) self.new m) }
-        ensures sides { IsTrue (D.shown disk.old).tells → (last m : Machine) → StandsFor (D.shown disk.old) self.old last m
-            → Leaves (D.shown disk.old) (D.shown disk.new) (OldOrHeld (D.shown disk.old) self.old.pool self.old.volumes last) }
-        ensures left { OnOk result (IsPointed (D.shown disk.old) self.old self.new) }
+        ensures runs { Runs 0 (λ m. m) (D.shown disk.old) self.old (D.shown disk.new) self.new result }
+        ensures points { Points 0 (D.shown disk.old) self.old (D.shown disk.new) self.new result }
         ensures kept { IsTrue (D.shown disk.old).tells → (last m : Machine) → StandsFor (D.shown disk.old) self.old last m
             → IsNone self.new.failed → OnErr result (StandsFor (D.shown disk.new) self.new last m) }
-        ensures numbers { IsNone self.new.failed → KeepsNumbers self.old.volumes self.new.volumes }
         ensures dead { IsSome self.old.failed → disk.new ≡ disk.old }
     {
         match self.failed {

@@ -1,67 +1,39 @@
 //! The commands on snapshots: one is made of a volume's active table, one is removed, the active table becomes that of one, and their
 //! names are told.
 
-ghost use Rattle.std.specs.Prelude.{◌≡◌, ◌≢◌, ◌≤◌, ◌+◌, ◌-◌, ◌^◌, ◌⊎◌, ℕ, false, Some, Ok, IsNone, IfErr, IfOk, IfSome, option_copied};
-ghost use Rattle.fv_container.specs.Chains.{slot_count};
-ghost use Rattle.fv_cp.specs.Placing.{HaveNoFiles, IsReadyIn};
+ghost use Rattle.std.specs.Prelude.{◌≡◌, ◌≢◌, ◌≤◌, ◌+◌, ◌-◌, ◌^◌, ◌⊎◌, false, Some, Ok, IsNone, IfErr, IfOk};
+ghost use Rattle.fv_cp.specs.Placing.{HaveNoFiles};
 ghost use Rattle.fv_model.specs.declared.answers.Refusal.TheVariants.{NoVolume};
 ghost use Rattle.fv_model.specs.declared.answers.Reply.TheVariants.{Refused};
 ghost use Rattle.fv_root.specs.Formatted.{IsSize};
 ghost use Rattle.fv_volume.specs.Files.{IsLabelled};
 ghost use Rattle.fv_volume.specs.OneVolume.{IsBooked, IsReady};
-ghost use Rattle.fv_volume.specs.Slots.{committed_by, sum_of, NoneHasName};
+ghost use Rattle.fv_volume.specs.Slots.{committed_by, sum_of};
 ghost use Rattle.fv_volume.specs.States.{state_at};
 ghost use Rattle.fv_aggregate.specs.declared.fault.Fault.TheVariants.{Memory};
 ghost use Rattle.fv_aggregate.specs.Calls.{TellsSnapshots};
 ghost use Rattle.fv_aggregate.specs.Commands.{dirty_limit, is_refusal, snapped_by};
-ghost use Rattle.fv_aggregate.specs.Looking.{HasSnapped, IsSnapAimed, SnapsSlot, SnapsState};
-ghost use Rattle.fv_aggregate.specs.Snapping.{HasRoomFor, IsAccepted, snap_blocks};
+ghost use Rattle.fv_aggregate.specs.Looking.{HasSnapped, IsSnapAimed, SnapsState};
+ghost use Rattle.fv_aggregate.specs.Snapping.{HasGrant, JudgesSnap};
 ghost use Rattle.fv_aggregate.specs.Standing.{Stands};
 
+use crate::aiming::{volume_at, volume_in};
 use crate::fault::Fault;
 use crate::files::done;
 use crate::session::Session;
 use fv_disk::Disk;
 use fv_model::{Command, Name, Refusal, Reply};
-use fv_snapshot::judge_create;
-use fv_volume::{Pool, VolumeFault, VolumeState, Volumes};
+use fv_snapshot::{Granted, judge_create};
+use fv_volume::{Pool, VolumeFault, VolumeState};
 use std::alloc::AllocError;
 
-/// The volume of which a command makes, removes or restores a snapshot.
-pub(crate) fn snapped_volume(command: &Command) -> Option<&Name>
-    ensures { option_copied result ≡ snapped_by command.now }
-{
-    match command {
-        Command::SnapCreate { volume, .. } => Some(volume),
-        Command::SnapDelete { volume, .. } => Some(volume),
-        Command::SnapRestore { volume, .. } => Some(volume),
-        _ => None,
-    }
-}
+/// What is granted to a command that makes no snapshot.
+const NOTHING: Granted = Granted { slot: 0, room: 0 };
 
 impl Session {
-    /// Carries out a command that makes, removes or restores a snapshot of this volume.
-    pub(crate) fn snap<D: Disk>(
-        &mut self,
-        disk: &mut D,
-        volume: &Name,
-        command: &Command,
-    ) -> Result<Reply, Fault>
-        requires fresh { IsNone self.old.failed }
-        requires stands { Stands (D.shown disk.old) self.old }
-        requires snaps { snapped_by command.now ≡ Some volume.now }
-        ensures snapped { HasSnapped (D.shown disk.old) disk.old self.old command.now (D.shown disk.new) disk.new self.new result }
-        ensures missing { NoneHasName self.old.volumes volume.now → result ≡ Ok (Refused NoVolume) }
-    {
-        match self.volumes.find(volume) {
-            Some(slot) => self.snap_at(disk, slot, command),
-            None => Ok(Reply::Refused(Refusal::NoVolume)),
-        }
-    }
-
-    /// Carries out such a command on the volume of a slot. A snapshot that is made is judged before the point that its map would ask
-    /// for, so that what is refused is refused before it.
-    fn snap_at<D: Disk>(
+    /// Carries out a command that makes, removes or restores a snapshot of the volume of a slot. A snapshot that is made is judged before
+    /// the point that its map would ask for, so that what is refused is refused before it.
+    pub(crate) fn snap_at<D: Disk>(
         &mut self,
         disk: &mut D,
         slot: u8,
@@ -73,19 +45,20 @@ impl Session {
         ensures snapped { HasSnapped (D.shown disk.old) disk.old self.old command.now (D.shown disk.new) disk.new self.new result }
     {
         let others = self.volumes.commits_beside(slot);
-        match room_at(&self.volumes, slot, self.pool.found.blocks, others, command) {
-            Ok(room) => self.snap_with(disk, slot, others, room, command),
+        let state = volume_in(&self.volumes, slot);
+        match judge_snap(state, self.pool.found.blocks, others, command) {
+            Ok(granted) => self.snap_with(disk, slot, others, granted, command),
             Err(refusal) => Ok(Reply::Refused(refusal)),
         }
     }
 
-    /// Carries out such a command that wasn't refused and has this room. Where it passes the dirty limit room is made first.
+    /// Carries out such a command to which this was granted. Where its room passes the dirty limit room is made first.
     fn snap_with<D: Disk>(
         &mut self,
         disk: &mut D,
         slot: u8,
         others: u64,
-        room: u64,
+        granted: Granted,
         command: &Command,
     ) -> Result<Reply, Fault>
         requires fresh { IsNone self.old.failed }
@@ -93,15 +66,14 @@ impl Session {
         requires aimed { IsSnapAimed self.old.volumes slot command.now }
         requires others { others ≡ sum_of self.old.volumes - committed_by (state_at self.old.volumes slot) }
         requires most { others ≤ 2 ^ 62 }
-        requires room { room ≡ snap_blocks (state_at self.old.volumes slot) command.now }
-        requires accepted { IsAccepted (state_at self.old.volumes slot) self.old.pool.found.blocks others command.now }
+        requires granted { HasGrant (state_at self.old.volumes slot) self.old.pool.found.blocks others command.now granted }
         ensures snapped { HasSnapped (D.shown disk.old) disk.old self.old command.now (D.shown disk.new) disk.new self.new result }
     {
-        if room == 0 || self.has_room(room) {
-            return self.snap_now(disk, slot, others, room, command);
+        if granted.room == 0 || self.has_room(granted.room) {
+            return self.snap_now(disk, slot, others, granted, command);
         }
-        self.make_room(disk, room)?;
-        self.snap_now(disk, slot, others, room, command)
+        self.make_room(disk, granted.room)?;
+        self.snap_now(disk, slot, others, granted, command)
     }
 
     /// Carries out such a command for which there is room. It doesn't reach the disk.
@@ -110,7 +82,7 @@ impl Session {
         disk: &D,
         slot: u8,
         others: u64,
-        room: u64,
+        granted: Granted,
         command: &Command,
     ) -> Result<Reply, Fault>
         requires fresh { IsNone self.old.failed }
@@ -118,23 +90,16 @@ impl Session {
         requires aimed { IsSnapAimed self.old.volumes slot command.now }
         requires others { others ≡ sum_of self.old.volumes - committed_by (state_at self.old.volumes slot) }
         requires most { others ≤ 2 ^ 62 }
-        requires room { room ≡ snap_blocks (state_at self.old.volumes slot) command.now }
-        requires few { (room ≡ 0) ⊎ (self.old.pending + room ≤ dirty_limit) }
-        requires accepted { IsAccepted (state_at self.old.volumes slot) self.old.pool.found.blocks others command.now }
+        requires few { (granted.room ≡ 0) ⊎ (self.old.pending + granted.room ≤ dirty_limit) }
+        requires granted { HasGrant (state_at self.old.volumes slot) self.old.pool.found.blocks others command.now granted }
         ensures snapped { HasSnapped (D.shown disk.now) disk.now self.old command.now (D.shown disk.now) disk.now self.new result }
         ensures placed { HaveNoFiles self.old.volumes → IfErr result (λ e. e ≡ Memory) }
-        ensures accepted { room ≢ 0 → IfOk result (λ reply. is_refusal reply ≡ false) }
+        ensures accepted { granted.room ≢ 0 → IfOk result (λ reply. is_refusal reply ≡ false) }
     {
-        let made = snap_slot(
-            &mut self.volumes,
-            &mut self.pool,
-            disk,
-            slot,
-            others,
-            command,
-        );
+        let state = volume_at(&mut self.volumes, slot);
+        let made = change_snaps(state, &mut self.pool, disk, others, granted, command);
         if made.is_ok() {
-            self.pending += room;
+            self.pending += granted.room;
         }
         self.replied(disk, done(made))
     }
@@ -147,78 +112,50 @@ impl Session {
         let Some(slot) = self.volumes.find(volume) else {
             return Ok(Reply::Refused(Refusal::NoVolume));
         };
-        match self.volumes.get(slot) {
-            Some(state) => Ok(Reply::Names(state.snapshot_names(self.alloc)?)),
-            None => Ok(Reply::Refused(Refusal::NoVolume)),
-        }
+        let names = volume_in(&self.volumes, slot).snapshot_names(self.alloc)?;
+        Ok(Reply::Names(names))
     }
 }
 
-/// How many blocks a command on snapshots of the volume of a slot adds, or why it is refused: a snapshot that is made adds those of its
-/// map, and each other command none.
-fn room_at(
-    volumes: &Volumes,
-    slot: u8,
+/// Whether a command on snapshots of a volume is refused before room is made for it, and what it is granted: a snapshot that is made gets a
+/// slot and the room of its map, and each other command nothing.
+fn judge_snap(
+    state: &VolumeState,
     blocks: u32,
     others: u64,
     command: &Command,
-) -> Result<u64, Refusal>
-    requires aimed { IsSnapAimed volumes.now slot command.now }
-    requires booked { IfSome (state_at volumes.now slot) IsBooked }
-    requires labelled { IfSome (state_at volumes.now slot) (IsLabelled slot) }
+) -> Result<Granted, Refusal>
+    requires booked { IsBooked state.now }
+    requires labelled { IsLabelled state.now.slot state.now }
     requires blocks { IsSize blocks }
     requires others { others ≤ 2 ^ 62 }
-    ensures { HasRoomFor (state_at volumes.now slot) blocks others command.now result }
+    ensures { JudgesSnap state.entry.now blocks others command.now result }
 {
     match command {
-        Command::SnapCreate { snapshot, .. } => match volumes.get(slot) {
-            Some(state) => {
-                judge_create(state, blocks, others, snapshot)?;
-                Ok(u64::from(state.span.div_ceil(32_768)))
-            }
-            None => Err(Refusal::NoVolume),
-        },
-        _ => Ok(0),
+        Command::SnapCreate { snapshot, .. } => judge_create(state, blocks, others, snapshot),
+        _ => Ok(NOTHING),
     }
 }
 
-/// Makes the change of a command on snapshots of the volume of a slot, beside which the other volumes commit so many blocks.
-fn snap_slot<D: Disk>(
-    volumes: &mut Volumes,
-    pool: &mut Pool,
-    disk: &D,
-    slot: u8,
-    others: u64,
-    command: &Command,
-) -> Result<(), VolumeFault>
-    requires aimed { IsSnapAimed volumes.old slot command.now }
-    requires ready { IfSome (state_at volumes.old slot) (IsReadyIn (D.shown disk.now) pool.old slot) }
-    requires others { others ≤ 2 ^ 62 }
-    ensures snaps { SnapsSlot (D.shown disk.now) pool.old volumes.old slot (state_at volumes.old slot) others command.now pool.new volumes.new result }
-{
-    match volumes.get_mut(slot) {
-        Some(state) => snap_state(state, pool, disk, others, command),
-        None => Err(VolumeFault::Refused(Refusal::NoVolume)),
-    }
-}
-
-/// Makes the change of a command on snapshots of a volume.
-fn snap_state<D: Disk>(
+/// Makes the change of a command on snapshots of a volume, to which this was granted.
+fn change_snaps<D: Disk>(
     state: &mut VolumeState,
     pool: &mut Pool,
     disk: &D,
     others: u64,
+    granted: Granted,
     command: &Command,
 ) -> Result<(), VolumeFault>
     requires snaps { snapped_by command.now ≡ Some state.old.name }
     requires ready { IsReady (D.shown disk.now) pool.old state.old }
     requires others { others ≤ 2 ^ 62 }
+    requires granted { HasGrant (Some state.old) pool.old.found.blocks others command.now granted }
     ensures snaps { SnapsState (D.shown disk.now) pool.old state.old others command.now pool.new state.new result }
     ensures ready { IsReady (D.shown disk.now) pool.new state.new }
 {
     match command {
         Command::SnapCreate { snapshot, .. } => {
-            fv_snapshot::create(state, pool, disk, others, snapshot)
+            fv_snapshot::create(state, pool, disk, granted, snapshot)
         }
         Command::SnapDelete { snapshot, .. } => fv_snapshot::delete(state, pool, disk, snapshot),
         Command::SnapRestore { snapshot, .. } => {

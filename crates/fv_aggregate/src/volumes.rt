@@ -9,13 +9,11 @@ ghost use Rattle.fv_volume.specs.declared.pool.Pool.{Pool};
 ghost use Rattle.fv_aggregate.specs.Standing.{charged_in};
 ghost use Rattle.fv_aggregate.specs.Telling.{charged_by, charged_from, names_from, with_name};
 
+use fv_codec::SLOTS;
 use fv_model::{Name, Names};
-use fv_volume::Volumes;
+use fv_volumes::Volumes;
 use std::alloc::{AllocError, Global};
 use std::collections::BTreeSet;
-
-/// How many slots there are.
-const SLOTS: u8 = 64;
 
 /// The names of all volumes in byte order.
 pub(crate) fn names_of(alloc: Global, volumes: &Volumes) -> Result<Names, AllocError>

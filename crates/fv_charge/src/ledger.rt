@@ -14,7 +14,7 @@ use crate::count::count_held;
 use crate::delta::Delta;
 use crate::numbers::overhead;
 use fv_bits::BitMap;
-use fv_model::{Kind, Refusal};
+use fv_model::{Kind, Refusal, map_blocks};
 
 /// What a volume is charged for and needs, in blocks, with the numbers that its commit follows from.
 #[derive(Clone, Copy, Debug, PartialEq, Eq)]
@@ -52,7 +52,7 @@ impl Ledger {
         ensures { result ≡ record { charge = charge_counted held.now (option_copied base.entry) snapshots span; need = need; size = size; kind = kind; span = span } }
     {
         Ledger {
-            charge: count_held(held, base) + span.div_ceil(32_768) * snapshots,
+            charge: count_held(held, base) + map_blocks(span) * snapshots,
             need,
             size,
             kind,

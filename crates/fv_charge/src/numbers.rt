@@ -1,8 +1,10 @@
 //! The numbers that follow from a volume's size and span.
 
 ghost use Rattle.std.specs.Prelude.{◌≡◌, ◌≤◌, ◌<◌, ◌+◌, ◌/◌, IfSome, IfNone};
-ghost use Rattle.fv_model.specs.Numbers.{greatest_span};
+ghost use Rattle.fv_model.specs.Numbers.{greatest_span, most_overhead};
 ghost use Rattle.fv_model.specs.Space.{nodes_above, overhead, span_of};
+
+use fv_model::map_blocks;
 
 /// The greatest span of a volume: it has as many VVBNs.
 const GREATEST_SPAN: u64 = 1_048_576;
@@ -24,16 +26,17 @@ pub fn span_of(size: u32, base_ids: u32, at_least: u32) -> Option<u32>
 }
 
 /// The blocks that a volume of this span, at most 1,048,576, needs beside its data: its label, its active map, and its container.
-/// They are 4151 at most. Costs a step and takes no memory.
+/// They are 4151 at most: of the greatest span the label, 32 blocks of the map, and 4100 leaves with 18 nodes over them. Costs a step and
+/// takes no memory.
 #[tactic(auto, unfolding(fv_model::specs::Space::overhead))]
 pub fn overhead(span: u32) -> u32
     requires { span ≤ greatest_span }
     ensures exact { result ≡ overhead span }
-    ensures most { result ≤ 4151 }
+    ensures most { result ≤ most_overhead }
 {
-    let map_blocks = span.div_ceil(32_768);
-    let leaves = (span + 25 * map_blocks).div_ceil(256);
-    1 + map_blocks + leaves + nodes_above(leaves)
+    let map = map_blocks(span);
+    let leaves = (span + 25 * map).div_ceil(256);
+    1 + map + leaves + nodes_above(leaves)
 }
 
 /// The nodes of 256 entries above so many leaves, up to one root.

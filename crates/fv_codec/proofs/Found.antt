@@ -36,23 +36,22 @@ eight bytes long = grind arith
 four : (bytes : List ℕ) → length bytes ≡ 4 → big_number 4 bytes ≡ from_be_bytes w32 bytes
 four bytes long = grind arith
 
+-- a number where it stands, where so many bytes are spelled by their number
+number_back : (n : ℕ) (spell : ℕ → List ℕ) → ((own : List ℕ) → length own ≡ n → IsBytes own → spell (big_number n own) ≡ own)
+    → (at : ℕ) (bytes : List ℕ) → IsBytes bytes → at + n ≤ length bytes → drop at bytes ≡ spell (big_number n (drop at bytes)) ++ drop (at + n) bytes
+number_back n spell back at bytes are room =
+    let own = drop at bytes in
+    let long : length (take n own) ≡ n = omega (arith, length-take n own, length-drop at bytes) in
+    let front : spell (big_number n own) ≡ take n own = ap spell (sym (big_from-take 0 n n own (omega arith))) ∙ back (take n own) long (IsBytes-take n own (IsBytes-drop at bytes are)) in
+    run_back at n bytes ∙ ap (λ (xs : List ℕ). xs ++ drop (at + n) bytes) (sym front)
+
 pub word_back : (at : ℕ) (bytes : List ℕ) → IsBytes bytes → at + 8 ≤ length bytes → drop at bytes ≡ word (word_at at bytes) ++ drop (at + 8) bytes
 unfolding word word_at
-word_back at bytes are room =
-    let own = drop at bytes in
-    let long : length (take 8 own) ≡ 8 = omega (arith, length-take 8 own, length-drop at bytes) in
-    let number : big_number 8 own ≡ from_be_bytes w64 (take 8 own) = sym (big_from-take 0 8 8 own (omega arith)) ∙ eight (take 8 own) long in
-    let front : word (word_at at bytes) ≡ take 8 own = be_bytes_8 (take 8 own) (big_number 8 own) long (IsBytes-take 8 own (IsBytes-drop at bytes are)) number in
-    run_back at 8 bytes ∙ ap (λ (xs : List ℕ). xs ++ drop (at + 8) bytes) (sym front)
+word_back = number_back 8 word (λ own long are. be_bytes_8 own (big_number 8 own) long are (eight own long))
 
 pub half_back : (at : ℕ) (bytes : List ℕ) → IsBytes bytes → at + 4 ≤ length bytes → drop at bytes ≡ half (half_at at bytes) ++ drop (at + 4) bytes
 unfolding half half_at
-half_back at bytes are room =
-    let own = drop at bytes in
-    let long : length (take 4 own) ≡ 4 = omega (arith, length-take 4 own, length-drop at bytes) in
-    let number : big_number 4 own ≡ from_be_bytes w32 (take 4 own) = sym (big_from-take 0 4 4 own (omega arith)) ∙ four (take 4 own) long in
-    let front : half (half_at at bytes) ≡ take 4 own = be_bytes_4 (take 4 own) (big_number 4 own) long (IsBytes-take 4 own (IsBytes-drop at bytes are)) number in
-    run_back at 4 bytes ∙ ap (λ (xs : List ℕ). xs ++ drop (at + 4) bytes) (sym front)
+half_back = number_back 4 half (λ own long are. be_bytes_4 own (big_number 4 own) long are (four own long))
 
 pub byte_back : (at : ℕ) (bytes : List ℕ) → at < length bytes → drop at bytes ≡ (byte_at at bytes ∷ []) ++ drop (at + 1) bytes
 unfolding byte_at

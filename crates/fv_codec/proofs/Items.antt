@@ -1,7 +1,9 @@
 -- Items one after the other, as a loop reads and writes them.
 use Rattle.std.proofs.Common.{◌≡◌, ℕ, zero, suc, ◌+◌, ◌-◌, ◌*◌, ◌<◌, ◌≤◌, List, [], ◌∷◌, ◌++◌, length, take, drop, set, Ok, Err, refl, ap, sym, ◌∙◌, arith, drop-drop, append_assoc}
+use Rattle.std.specs.Prelude.{IsErrAnd}
 use Rattle.std.specs.List.{flat_map, AllByRecursion}
 use Rattle.std.proofs.lemmas.List.{take_more_set, take_all, drop_at, length-append}
+use Rattle.std.proofs.lemmas.Result.{err_from_is_err_and}
 use Rattle.std.proofs.lemmas.List.Concat.{flat_map-cons}
 use Rattle.fv_codec.specs.declared.shape.Shape.{Shape}
 use Rattle.fv_codec.specs.Fields.{Verdict, each, items, items_in, verdict}
@@ -60,6 +62,25 @@ module _ {X : Type 0} (value : List ℕ → X) (size : ℕ) where
   items_all into n i bytes long le ge so_far =
       let e : i ≡ n = omega arith in
       sym (take_all i into (omega arith)) ∙ so_far ∙ ap (λ (k : ℕ). items k size value bytes) e
+
+-- what a loop that reads items has found after so many of them
+pub record ReadSoFar {X : Type 0} (size : ℕ) (asks : List ℕ → Verdict) (value : List ℕ → X) (n i : ℕ) (bytes : List ℕ) (into : List X) : Type 0 where
+  pub verdict : each n size asks bytes ≡ each (n - i) size asks (drop (size * i) bytes)
+  pub found : take i into ≡ items i size value bytes
+
+module _ {X : Type 0} {size : ℕ} {asks : List ℕ → Verdict} {value : List ℕ → X} {n i : ℕ} {bytes own : List ℕ} {into : List X} where
+  -- an item that is as said is written into its place
+  pub reads_on : {x : X} → own ≡ drop (size * i) bytes → i < n → length into ≡ n → Ok tt ≡ asks own → x ≡ value own → ReadSoFar size asks value n i bytes into → ReadSoFar size asks value n (i + 1) bytes (set into i x)
+  reads_on {x} is lt long said found so_far = record {
+    verdict = each_next n i size asks bytes _ lt (own_says asks is said) so_far.verdict;
+    found = items_next value size into i x bytes (omega (arith, lt, long)) (found ∙ ap value is) so_far.found;
+  }
+
+  -- the loop leaves with the verdict of an item that isn't as said
+  pub leaves_with : {fault : Shape} {result : Verdict} → IsErrAnd result (λ y. y ≡ fault) → own ≡ drop (size * i) bytes → i < n → Err fault ≡ asks own → ReadSoFar size asks value n i bytes into → result ≡ each n size asks bytes
+  leaves_with {fault} {result} left is lt said so_far =
+      let p = err_from_is_err_and result left in
+      rw (p.1, p.2) (sym (each_fails n i size asks bytes fault _ lt (own_says asks is said) so_far.verdict))
 
 -- ---- items that were written are read again
 

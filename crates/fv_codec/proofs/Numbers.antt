@@ -29,6 +29,16 @@ pub word_there : (at x : ℕ) (bytes rest : List ℕ) → drop at bytes ≡ word
 unfolding word_at word
 word_there at x bytes rest there small = rw there (big_number-reads_back 8 x rest small)
 
+-- a word that stands at an offset: what it is read as, and what follows it
+pub record Standing (at x : ℕ) (bytes rest : List ℕ) : Type 0 where
+  pub here : drop at bytes ≡ word x ++ rest
+  pub small : x < 2 ^ 64
+  pub there : word_at at bytes ≡ x
+  pub next : drop (at + 8) bytes ≡ rest
+
+pub standing : (at x : ℕ) (bytes rest : List ℕ) → drop at bytes ≡ word x ++ rest → x < 2 ^ 64 → Standing at x bytes rest
+standing at x bytes rest here small = record { here = here; small = small; there = word_there at x bytes rest here small; next = past_word at x bytes rest here }
+
 in_range_ok : (least greatest x : ℕ) → least ≤ x → x ≤ greatest → in_range least greatest x ≡ Ok tt
 in_range_ok least greatest x low high = grind (arith, nat_tests)
 

@@ -150,6 +150,7 @@ impl InodeBlock {
     }
 
     /// Records one after the other.
+    #[tactic(auto, unfolding(crate::specs::Fields::each, crate::specs::Fields::items))]
     fn read_files(bytes: &[u8], into: &mut [InodeRecord]) -> Result<(), Shape>
         requires { 240 * length into.old ≤ length bytes.now }
         ensures verdict { result ≡ each (length into.old) 240 asks_file bytes.now }

@@ -234,6 +234,7 @@ impl Label {
     }
 
     /// Records one after the other.
+    #[tactic(auto, unfolding(crate::specs::Fields::each, crate::specs::Fields::items))]
     fn read_snapshots(bytes: &[u8], into: &mut [SnapRecord]) -> Result<(), Shape>
         requires { 128 * length into.old ≤ length bytes.now }
         ensures verdict { result ≡ each (length into.old) 128 asks_snap bytes.now }

@@ -19,6 +19,6 @@ pub use inode::{InodeBlock, InodeRecord};
 pub use label::{Label, SnapRecord};
 pub use node::Node;
 pub use pointer::Pointer;
-pub use root::Root;
+pub use root::{Root, SLOTS};
 pub use shape::Shape;
 pub use superblock::Super;

@@ -85,6 +85,7 @@ impl Node {
     }
 
     /// Pointers one after the other.
+    #[tactic(auto, unfolding(crate::specs::Fields::each, crate::specs::Fields::items))]
     fn read_children(bytes: &[u8], into: &mut [Pointer]) -> Result<(), Shape>
         requires { 24 * length into.old ≤ length bytes.now }
         ensures verdict { result ≡ each (length into.old) 24 (asks_pointer true) bytes.now }

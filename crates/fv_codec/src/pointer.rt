@@ -21,8 +21,8 @@ impl Pointer {
     ghost use Rattle.fv_codec.specs.Blocks.{asks_pointer, pointed, pointer_of};
     ghost use Rattle.fv_codec.specs.Spelling.{pointer_bytes};
 
-    /// A hole.
-    pub(crate) const HOLE: Pointer = Pointer {
+    /// A hole: a pointer that leads to no block. All three of its numbers are 0 (`docs/FORMAT.md`).
+    pub const HOLE: Pointer = Pointer {
         vvbn: 0,
         pvbn: 0,
         stamp: 0,

@@ -204,6 +204,7 @@ pub(crate) fn tail(bytes: &[u8], at: usize) -> &[u8]
 }
 
 /// Words one after the other, each a block's place or 0.
+#[tactic(auto, unfolding(crate::specs::Fields::each, crate::specs::Fields::items))]
 pub(crate) fn places_in(bytes: &[u8], into: &mut [u32]) -> Result<(), Shape>
     requires { 8 * length into.old ≤ length bytes.now }
     ensures verdict { result ≡ each (length into.old) 8 asks_place bytes.now }

@@ -7,6 +7,9 @@ use crate::shape::Shape;
 /// `FVROOT00` as a word.
 const MARK: u64 = 0x4656_524f_4f54_3030;
 
+/// The slots of labels in a root: an aggregate has at most 64 volumes (`docs/FORMAT.md`), and slots go from 0 to 63.
+pub const SLOTS: u8 = 64;
+
 /// A root: which generation it is, and where the label of each volume's slot stands.
 #[derive(Clone, Copy, Debug, PartialEq, Eq)]
 pub struct Root {

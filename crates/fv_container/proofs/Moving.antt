@@ -16,7 +16,7 @@ use Rattle.fv_container.specs.Spelled.{names, pair_of}
 use Rattle.fv_container.specs.Freeing.{IsRoom, Room}
 use Rattle.fv_container.specs.Written.{AreAnew, AreLeft, ArePlaced, AreWritten, HasReleased, HasTaken, IsInnerOf, IsNodeOf, IsPlaced, IsSameBelow, Stays, blocks_needed, child_from, is_written, written_before}
 use Rattle.fv_container.specs.Clean.{AreAlone, IsCleanOn}
-use Rattle.fv_container.specs.Flushed.{IsApart, IsMoved, IsOnce}
+use Rattle.fv_container.specs.Flushed.{AreRows, IsApart, IsMoved, IsOnce}
 use Rattle.fv_container.proofs.Named.{named_at, named_where}
 
 -- ---- taking places
@@ -106,10 +106,18 @@ is_wanted stays written wanted is so = is ∙ ap (λ t. not t && written) so
 
 -- ---- the whole tree
 
-module _ (es : List (Option Entry)) (tree : List ℕ) (dirty : List Bool) (fresh places : List ℕ) (few : length es ≤ most_entries)
-    (tree_long : length tree ≡ node_count (length es)) (long : length places ≡ node_count (length es)) (fresh_long : length fresh ≡ length places)
-    (placed : ArePlaced es tree dirty fresh places (length places))
+module _ (es : List (Option Entry)) (tree : List ℕ) (dirty : List Bool) (fresh places next room_row : List ℕ) (rows : AreRows es tree dirty next room_row)
+    (len : length places ≡ length next) (anew_len : length fresh ≡ length room_row) (placed : ArePlaced es tree dirty fresh places (length places))
   where
+    tree_long : length tree ≡ node_count (length es)
+    tree_long = rows.tree
+
+    pub long : length places ≡ node_count (length es)
+    long = len ∙ rows.nodes
+
+    fresh_long : length fresh ≡ length places
+    fresh_long = anew_len ∙ (rows.fresh ∙ sym long)
+
     abbrev leaves : ℕ
     leaves = level_width (length es) 0
 
@@ -125,13 +133,13 @@ module _ (es : List (Option Entry)) (tree : List ℕ) (dirty : List Bool) (fresh
     inside_tree : (m : ℕ) → get_or tree m 0 ≢ 0 → m < length places
     inside_tree m some = omega (arith, within tree m some, tree_long, long)
 
-    pub all_bounded : (room : Room) (new : Room) → HasTaken room es fresh (length fresh) new → ((m : ℕ) → get_or dirty m true ≡ false → get_or tree m 0 ≤ last_place) → (m : ℕ) → get_or places m 0 ≤ last_place
-    all_bounded room new taken bounded m = ⊎_elim
+    pub all_bounded : (room : Room) (new : Room) → HasTaken room es fresh (length fresh) new → (m : ℕ) → get_or places m 0 ≤ last_place
+    all_bounded room new taken m = ⊎_elim
         (λ (none : get_or places m 0 ≡ 0). omega (arith, none))
         (λ (some : get_or places m 0 ≢ 0).
         let lt = within places m some in
         ⊎_elim
-        (λ (stays : get_or fresh m 0 ≡ 0). let is = (placed m lt).stays stays some in rw is.place (bounded m is.clean))
+        (λ (stays : get_or fresh m 0 ≡ 0). let is = (placed m lt).stays stays some in rw is.place (rows.places m is.clean))
         (λ (anew : get_or fresh m 0 ≢ 0). rw ((placed m lt).anew anew) (taken.bounded m (omega (arith, lt, fresh_long))))
         (cases_eq (get_or fresh m 0) 0))
         (cases_eq (get_or places m 0) 0)
@@ -230,9 +238,12 @@ module _ (es : List (Option Entry)) (tree : List ℕ) (dirty : List Bool) (fresh
     and_first true true is = absurd (true≢false (sym is))
     and_first false t is = absurd (true≢false (sym is))
 
-    module _ (given : List ℕ) (given_long : length given ≡ length places) (left : AreLeft tree places given (length given)) (room mid new : Room) (laws : IsRoom room)
+    module _ (given : List ℕ) (given_is : length given ≡ length fresh) (left : AreLeft tree places given (length given)) (room mid new : Room) (laws : IsRoom room)
         (taken : HasTaken room es fresh (length fresh) mid) (released : HasReleased mid given (length given) new)
       where
+        given_long : length given ≡ length places
+        given_long = given_is ∙ fresh_long
+
         all_taken : (b : ℕ) → names (take (length fresh) fresh) b ≡ names fresh b
         all_taken b = ap (λ (l : List ℕ). names l b) (take-length fresh)
 

@@ -1,10 +1,12 @@
 -- What a flush writes, and what it makes of the map of free blocks.
-use Rattle.std.specs.Prelude.{◌≡◌, ◌≢◌, ◌<◌, ◌≤◌, ◌+◌, ℕ, true, false, not, ◌&&◌, ◌||◌, if◌then◌else◌, List, length, get_or, Result, Ok, Err}
+use Rattle.std.specs.Prelude.{◌≡◌, ◌≢◌, ◌<◌, ◌≤◌, ◌+◌, ℕ, true, false, not, ◌&&◌, ◌||◌, if◌then◌else◌, List, length, get_or, Bool, Option, None, IfSome, Result, Ok, Err}
 use Rattle.std.specs.FinSet as set
 use Rattle.fv_disk.specs.Shown.{Image}
 use Rattle.fv_disk.specs.declared.Failed.{Failed}
-use Rattle.fv_image.specs.Containers.{HasNonePast, IsWholeTree}
-use Rattle.fv_container.specs.Mapped.{Mapped}
+use Rattle.fv_codec.specs.Blocks.{last_place}
+use Rattle.fv_image.specs.Containers.{HasNonePast, IsWholeTree, most_entries}
+use Rattle.fv_container.specs.declared.entry.Entry.{Entry}
+use Rattle.fv_container.specs.Mapped.{IsHeld, Mapped, node_count}
 use Rattle.fv_container.specs.Spelled.{Spelled, names}
 use Rattle.fv_container.specs.Freeing.{Room}
 use Rattle.fv_container.specs.Written.{IsSameBelow, blocks_needed, is_written}
@@ -53,6 +55,27 @@ pub record IsMoved (old : Room) (before after : Mapped) (new : Room) : Type 0 wh
 pub record Loses (old new : Room) : Type 0 where
   pub free : (b : ℕ) → set.contains new.free b ≡ true → set.contains old.free b ≡ true
   pub committed : new.committed ≡ old.committed
+
+-- the rows of a flush: entries that a container can have, the places and marks of its tree's nodes, each clean one at a place, and two rows
+-- for the new tree as long as that
+pub record AreRows (es : List (Option Entry)) (old : List ℕ) (marks : List Bool) (next room : List ℕ) : Type 0 where
+  pub few : length es ≤ most_entries
+  pub held : (v : ℕ) → IfSome (get_or es v None) IsHeld
+  pub tree : length old ≡ node_count (length es)
+  pub dirty : length marks ≡ node_count (length es)
+  pub places : (m : ℕ) → get_or marks m true ≡ false → get_or old m 0 ≤ last_place
+  pub nodes : length next ≡ node_count (length es)
+  pub fresh : length room ≡ node_count (length es)
+
+-- both rows for the new tree stay as long as they are
+pub record KeepLengths (next next_new fresh fresh_new : List ℕ) : Type 0 where
+  pub len : length next_new ≡ length next
+  pub anew : length fresh_new ≡ length fresh
+
+-- what a flush leaves that failed: the container as before, and of the map no block became free
+pub record GivesUp (old : Room) (before after : Mapped) (new : Room) : Type 0 where
+  pub failed : after ≡ before
+  pub lost : Loses old new
 
 -- an answer but for its value
 abbrev pub without_value : {T : Type 0} → Result T Failed → Result (Unit {0}) Failed

@@ -1,6 +1,8 @@
 -- Nodes as they are read.
 use Rattle.std.specs.Prelude.{◌≡◌, ◌≢◌, ◌<◌, ◌≤◌, ◌+◌, ◌-◌, ◌*◌, ◌/◌, ◌%◌, ◌^◌, ◌⊎◌, ℕ, List, length, get_or, Option, None, Result, Ok, Err}
-use Rattle.fv_disk.specs.Shown.{Image}
+use Rattle.fv_disk.specs.Shown.{Image, Shown}
+use Rattle.fv_disk.specs.DiskCalls.{OnlyReads}
+use Rattle.fv_disk.specs.Faults.{HasBlockCause}
 use Rattle.fv_codec.specs.declared.shape.Shape.{Shape}
 use Rattle.fv_codec.specs.declared.container.ContainerLeaf.{ContainerLeaf}
 use Rattle.fv_codec.specs.declared.container.ContainerInner.{ContainerInner}
@@ -8,6 +10,7 @@ use Rattle.fv_codec.specs.Blocks.{inner_at, leaf_at}
 use Rattle.fv_image.specs.Containers.{node_shape, lying, child_in, most_entries}
 use Rattle.fv_disk.specs.declared.fault.BlockFault.{BlockFault}
 use Rattle.fv_disk.specs.declared.fault.BlockFault.TheVariants.{DiskFault, Damaged, Memory}
+use Rattle.fv_store.specs.Held.{Pairs, StandsOn}
 use Rattle.fv_container.specs.declared.entry.Entry.{Entry}
 use Rattle.fv_container.specs.Mapped.{node_count}
 
@@ -96,3 +99,10 @@ StandLeaves i entries places count = (k : ℕ) → k < count → get_or places k
 
 abbrev pub StandInner : Image → List ℕ → ℕ → ℕ → Type 0
 StandInner i places leaves count = (q : ℕ) → q < count → get_or places (leaves + q) 0 ≢ 0 → StandsInner i (get_or places (leaves + q) 0) 1 q (leaves - 256 * q)
+
+-- What each read leaves, whatever it answers: the disk was only read, what the cache holds stands on it, and its count of faults tells of the
+-- answer.
+pub record HasRead {X : Type 0} (old new : Shown) (pairs : Pairs) (result : Result X BlockFault) : Type 0 where
+  pub only_reads : OnlyReads old new
+  pub stands : StandsOn new pairs
+  pub cause : HasBlockCause old.faults new.faults result

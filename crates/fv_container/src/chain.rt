@@ -20,8 +20,8 @@ use std::alloc::{AllocError, Global};
 use std::marker::Model;
 use std::sync::ledger::Ledger;
 
-/// How many volumes there can be.
-const SLOTS: usize = 64;
+/// How many slots there are, to count a row by.
+const SLOTS: usize = fv_codec::SLOTS as usize;
 
 /// A container and a parent's slot for each volume slot that has them.
 ///

@@ -6,7 +6,7 @@ ghost use Rattle.fv_codec.specs.Blocks.{last_place};
 ghost use Rattle.fv_disk.specs.Sparing.{Spares};
 ghost use Rattle.fv_container.specs.Written.{HasReleased, blocks_needed};
 ghost use Rattle.fv_container.specs.Clean.{AreClean, IsCleanOn, IsOver};
-ghost use Rattle.fv_container.specs.Flushed.{IsApart, IsFlushed, IsMoved, Loses, WasTaken, without_value};
+ghost use Rattle.fv_container.specs.Flushed.{GivesUp, IsApart, IsFlushed, IsMoved, WasTaken, without_value};
 ghost use Rattle.fv_disk.specs.Shown.{Shown};
 ghost use Rattle.fv_image.specs.Containers.{height_of, level_width, most_entries};
 ghost use Rattle.fv_store.specs.Held.{StandsOn};
@@ -229,7 +229,7 @@ impl Container {
         requires stands { StandsOn (D.shown disk.old) store.old.pairs }
         requires room { blocks_needed self.old.entries ≤ set.len (F.room map.old).free }
         ensures entries { self.new.entries ≡ self.old.entries }
-        ensures failed { OnErr result (self.new ≡ self.old) }
+        ensures gives_up { OnErr result (GivesUp (F.room map.old) self.old self.new (F.room map.new)) }
         ensures flushed { IsTrue (D.shown disk.old).tells
             → IsApart (F.room map.old) self.old.tree
             → IsCleanOn (D.shown disk.old).reads self.old
@@ -242,7 +242,6 @@ impl Container {
         ensures root { IfOk result (λ root. (1 ≤ root) × (root ≤ last_place)) }
         ensures writes { Spares (WasTaken (F.room map.old)) (D.shown disk.old) (D.shown disk.new) (without_value result) }
         ensures moved { OnOk result (IsMoved (F.room map.old) self.old self.new (F.room map.new)) }
-        ensures lost { OnErr result (Loses (F.room map.old) (F.room map.new)) }
         ensures valid { IsMapped self.old × IsMapped self.new }
         ensures stands { StandsOn (D.shown disk.new) store.new.pairs }
     {

@@ -10,7 +10,7 @@ ghost use Rattle.fv_container.specs.Kept.{map_of};
 ghost use Rattle.fv_container.specs.Mapped.{IsHeld, node_count};
 ghost use Rattle.fv_container.specs.Clean.{IsCleanOn};
 ghost use Rattle.fv_container.specs.Written.{AreWritten, blocks_needed, root_number};
-ghost use Rattle.fv_container.specs.Flushed.{IsApart, IsFlushed, IsMoved, Loses, WasTaken};
+ghost use Rattle.fv_container.specs.Flushed.{AreRows, IsApart, IsFlushed, IsMoved, KeepLengths, Loses, WasTaken};
 
 use crate::entry::Entry;
 use crate::free::Free;
@@ -32,16 +32,9 @@ pub(crate) fn flush_tree<D: Disk, F: Free>(
     fresh: &mut [u32],
 ) -> Result<(), Failed>
     requires stands { StandsOn (D.shown disk.old) store.old.pairs }
-    requires few { length entries.now ≤ most_entries }
-    requires held { (v : ℕ) → IfSome (get_or entries.now v None) IsHeld }
-    requires tree { length tree.now ≡ node_count (length entries.now) }
-    requires dirty { length dirty.now ≡ node_count (length entries.now) }
-    requires places { (m : ℕ) → get_or dirty.now m true ≡ false → get_or tree.now m 0 ≤ last_place }
-    requires nodes { length next.old ≡ node_count (length entries.now) }
-    requires fresh { length fresh.old ≡ node_count (length entries.now) }
+    requires rows { AreRows entries.now tree.now dirty.now next.old fresh.old }
     requires room { blocks_needed entries.now ≤ set.len (F.room map.old).free }
-    ensures len { length next.new ≡ length next.old }
-    ensures anew { length fresh.new ≡ length fresh.old }
+    ensures lengths { KeepLengths next.old next.new fresh.old fresh.new }
     ensures bounded { OnOk result ((m : ℕ) → get_or next.new m 0 ≤ last_place) }
     ensures flushed { IsTrue (D.shown disk.old).tells
         → IsApart (F.room map.old) tree.now

@@ -10,7 +10,7 @@ ghost use Rattle.fv_disk.specs.Faults.{HasBlockCause};
 ghost use Rattle.fv_container.specs.Kept.{map_of};
 ghost use Rattle.fv_container.specs.Mapped.{IsHeld};
 ghost use Rattle.fv_container.specs.Spelled.{IsFault, Spelled, pair_of};
-ghost use Rattle.fv_container.specs.Reading.{AreChildren, AreShaped, FillsFrom, HasLevels, IsBadNode, IsBlank, IsLevelFault, ReadsAs, StandInner, StandLeaves, StandsInner, StaysOutside};
+ghost use Rattle.fv_container.specs.Reading.{AreChildren, AreShaped, FillsFrom, HasLevels, HasRead, IsBadNode, IsBlank, IsLevelFault, ReadsAs, StandInner, StandLeaves, StandsInner, StaysOutside};
 ghost use Rattle.fv_container.specs.Written.{AreWritten};
 
 use crate::entry::Entry;
@@ -176,9 +176,7 @@ fn read_level<D: Disk>(
     ensures whole { IsTrue (D.shown disk.old).tells
         → IfOk result (λ whole. whole ≡ true → StandInner (D.shown disk.old).reads places.old leaves inner) }
     ensures fault { IsTrue (D.shown disk.old).tells → IfErr result (IsLevelFault (D.shown disk.old).reads 1 places.old leaves inner) }
-    ensures only_reads { OnlyReads (D.shown disk.old) (D.shown disk.new) }
-    ensures stands { StandsOn (D.shown disk.new) store.new.pairs }
-    ensures cause { HasBlockCause (D.shown disk.old).faults (D.shown disk.new).faults result }
+    ensures read { HasRead (D.shown disk.old) (D.shown disk.new) store.new.pairs result }
 {
     let mut whole = true;
     for q in 0..inner {
@@ -249,9 +247,7 @@ fn read_leaves<D: Disk>(
         → IfOk result (λ whole. whole ≡ true → StandLeaves (D.shown disk.old).reads (length entries.old) places.now (level_width (length entries.old) 0)) }
     ensures fault { IsTrue (D.shown disk.old).tells
         → IfErr result (IsLevelFault (D.shown disk.old).reads 0 places.now 0 (level_width (length entries.old) 0)) }
-    ensures only_reads { OnlyReads (D.shown disk.old) (D.shown disk.new) }
-    ensures stands { StandsOn (D.shown disk.new) store.new.pairs }
-    ensures cause { HasBlockCause (D.shown disk.old).faults (D.shown disk.new).faults result }
+    ensures read { HasRead (D.shown disk.old) (D.shown disk.new) store.new.pairs result }
 {
     let count = entries.len();
     let mut whole = true;
@@ -292,9 +288,7 @@ fn read_root<D: Disk>(
     ensures whole { IsTrue (D.shown disk.old).tells
         → IfOk result (λ whole. whole ≡ true → height ≡ 2 → root ≢ 0 → StandsInner (D.shown disk.old).reads root 2 0 inner) }
     ensures fault { IsTrue (D.shown disk.old).tells → IfErr result (λ fault. (height ≡ 2) × IsBadNode (D.shown disk.old).reads root 1 fault) }
-    ensures only_reads { OnlyReads (D.shown disk.old) (D.shown disk.new) }
-    ensures stands { StandsOn (D.shown disk.new) store.new.pairs }
-    ensures cause { HasBlockCause (D.shown disk.old).faults (D.shown disk.new).faults result }
+    ensures read { HasRead (D.shown disk.old) (D.shown disk.new) store.new.pairs result }
 {
     if height == 1 {
         places[leaves] = root;
@@ -329,9 +323,7 @@ pub(crate) fn read_tree<D: Disk>(
     ensures whole { IsTrue (D.shown disk.old).tells
         → IfOk result (λ whole. whole ≡ true → AreWritten entries.new places.new (length places.new) (D.shown disk.old).reads) }
     ensures fault { IsTrue (D.shown disk.old).tells → IfErr result (IsFault (D.shown disk.old).reads root height (length entries.old)) }
-    ensures only_reads { OnlyReads (D.shown disk.old) (D.shown disk.new) }
-    ensures stands { StandsOn (D.shown disk.new) store.new.pairs }
-    ensures cause { HasBlockCause (D.shown disk.old).faults (D.shown disk.new).faults result }
+    ensures read { HasRead (D.shown disk.old) (D.shown disk.new) store.new.pairs result }
 {
     let leaves = leaf_count(entries.len());
     let inner = inner_count(entries.len());

@@ -17,16 +17,16 @@ use Rattle.fv_root.proofs.Crashes.{IsReadyFor, new_machine, old_machine}
 use Rattle.fv_volume.specs.declared.pool.Pool.{Pool}
 use Rattle.fv_volume.specs.States.{States}
 use Rattle.fv_volume.specs.Writing.{on_disk, IsTaken}
-use Rattle.fv_volume.proofs.LentSlots.{area_taken, held_taken}
+use Rattle.fv_volumes.proofs.LentSlots.{area_taken, held_taken}
 use Rattle.fv_cp.specs.Lent.{IsLent}
 use Rattle.fv_cp.specs.Points.{IsNew, IsOld, IsOnDisk, OldOrLent, machine_lent}
-use Rattle.fv_volume.proofs.RootFound.{fixed_taken}
-use Rattle.fv_volume.proofs.Staying.{kept_stands}
+use Rattle.fv_volumes.proofs.RootFound.{fixed_taken}
+use Rattle.fv_volumes.proofs.Staying.{kept_stands}
 use Rattle.fv_disk.specs.declared.Failed.{Failed}
 use Rattle.fv_disk.specs.Sparing.{LeftBefore, Spares}
 use Rattle.fv_disk.proofs.Moments.{started, then, weaken}
 use Rattle.fv_image.specs.Layout.{area_place}
-use Rattle.fv_image.specs.MachineOf.{AllStandFor}
+use Rattle.fv_image.specs.WholeMachine.{AllStandFor}
 use Rattle.fv_image.proofs.Kept.{slot_is_small}
 
 module _ (disk : Shown) (pool : Pool) (states : States) (before : Machine) (lent : IsLent disk pool states before) where

@@ -33,25 +33,25 @@ use Rattle.fv_store.specs.Held.{StandsOn}
 use Rattle.fv_aggmap.specs.Space.{Space}
 use Rattle.fv_volume.specs.declared.pool.Pool.{Pool}
 use Rattle.fv_volume.specs.declared.state.VolumeState.{VolumeState}
-use Rattle.fv_volume.specs.Housed.{AreHoused, as_written, settled_as, settled_at}
+use Rattle.fv_volumes.specs.Housed.{AreHoused, as_written, settled_as, settled_at}
 use Rattle.fv_volume.specs.Keeping.{Blocks, seen as block_seen, seen}
 use Rattle.fv_volume.specs.Loading.{IsLoaded, label_of}
 use Rattle.fv_volume.specs.States.{States, label_in_state, placed_in, state_at, view_over}
 use Rattle.fv_volume.specs.Trees.{active_in, no_trees}
 use Rattle.fv_volume.specs.Stored.{AreApartIn, AreSpacedIn, has_block, is_of, stays}
 use Rattle.fv_volume.specs.Writing.{on_disk}
-use Rattle.fv_volume.proofs.HeldAlone.{of_each}
-use Rattle.fv_volume.proofs.LentSlots.{lent_apart, lent_from_loaded, loaded_from_lent, lent_slot}
-use Rattle.fv_volume.proofs.Settled.{heads_stay, housed_after, same_stay, settled_same, settled_slots, settled_span, unchanged_stay, settled_written}
-use Rattle.fv_volume.proofs.StandingMaps.{loaded_maps}
-use Rattle.fv_volume.proofs.Spacing.{spaced_same}
-use Rattle.fv_volume.proofs.StaysStates.{active_same, reach_stays, states_stay}
-use Rattle.fv_volume.proofs.StillLoaded.{still_loaded, still_stands}
-use Rattle.fv_volume.proofs.StoredTold.{entry_stays, stays_in, past_clear, stands_for, tables_now, uses_there}
-use Rattle.fv_volume.proofs.StoredTold.{stays_now as stays_now_told}
-use Rattle.fv_volume.proofs.Told.{head_at, is_inside}
-use Rattle.fv_volume.proofs.Viewed.{entry_of}
-use Rattle.fv_volume.proofs.Waiting.{none_waits}
+use Rattle.fv_volumes.proofs.HeldAlone.{of_each}
+use Rattle.fv_volumes.proofs.LentSlots.{lent_apart, lent_from_loaded, loaded_from_lent, lent_slot}
+use Rattle.fv_volumes.proofs.Settled.{heads_stay, housed_after, same_stay, settled_same, settled_slots, settled_span, unchanged_stay, settled_written}
+use Rattle.fv_volumes.proofs.StandingMaps.{loaded_maps}
+use Rattle.fv_volumes.proofs.Spacing.{spaced_same}
+use Rattle.fv_volumes.proofs.StaysStates.{active_same, reach_stays, states_stay}
+use Rattle.fv_volumes.proofs.StillLoaded.{still_loaded, still_stands}
+use Rattle.fv_volumes.proofs.StoredTold.{entry_stays, stays_in, past_clear, stands_for, tables_now, uses_there}
+use Rattle.fv_volumes.proofs.StoredTold.{stays_now as stays_now_told}
+use Rattle.fv_volumes.proofs.Told.{head_at, is_inside}
+use Rattle.fv_volumes.proofs.Viewed.{entry_of}
+use Rattle.fv_volumes.proofs.Waiting.{none_waits}
 use Rattle.fv_cp.specs.Course.{HasCome, IsOnCourse, as_lent, found_with, label_lent, renewed, IsCourse, StaysFrom}
 use Rattle.fv_cp.specs.Lent.{FitTogether, IsLent, IsLentAt}
 use Rattle.fv_cp.specs.Points.{GoesOn, IsNew, IsOld, IsPoint, IsSwitched, LeavesEntries, OldOrLent, is_due, machine_lent}
@@ -64,15 +64,15 @@ use Rattle.fv_cp.proofs.Room.{counts_missing, leaves}
 use Rattle.fv_delay.specs.declared.regions.Region.{Region}
 use Rattle.fv_delay.specs.Delay.{is_delayed, region_of}
 use Rattle.fv_delay.specs.Holding.{AreHoldingsOf, AreLeft, Holding, all_delayed, has_region}
-use Rattle.fv_volume.proofs.RootFound.{found_still, map_now, next_in_range}
+use Rattle.fv_volumes.proofs.RootFound.{found_still, map_now, next_in_range}
 use Rattle.std.proofs.lemmas.Option.{none-some, same_Some}
 use Rattle.fv_image.specs.Reclaimed.{IsAllocatable}
 use Rattle.fv_volume.specs.Files.{HasOwnSlots, IsLabelled}
-use Rattle.fv_volume.specs.UnderRoot.{AllStandUnder, StandsUnder}
-use Rattle.fv_volume.proofs.Emptied.{none_stands}
-use Rattle.fv_volume.proofs.Staying.{entry_kept, place_is}
-use Rattle.fv_volume.proofs.StoredSlot.{stored_stands}
-use Rattle.fv_volume.proofs.Reclaiming.{maps_left, stays_left}
+use Rattle.fv_volumes.specs.UnderRoot.{AllStandUnder, StandsUnder}
+use Rattle.fv_volumes.proofs.Emptied.{none_stands}
+use Rattle.fv_volumes.proofs.Staying.{entry_kept, place_is}
+use Rattle.fv_volumes.proofs.StoredSlot.{stored_stands}
+use Rattle.fv_volumes.proofs.Reclaiming.{maps_left, stays_left}
 use Rattle.fv_volume.proofs.StayingMaps.{stays_unwritten}
 use Rattle.fv_cp.proofs.Crashing.{old_stays, switching}
 

@@ -30,10 +30,10 @@ use Rattle.fv_volume.specs.Slots.{sum_of}
 use Rattle.fv_volume.specs.States.{States, state_at, with_state}
 use Rattle.fv_volume.specs.Stored.{AreSpacedIn}
 use Rattle.fv_volume.specs.Writing.{asked, map_wait}
-use Rattle.fv_volume.proofs.PlacedIn as one
-use Rattle.fv_volume.proofs.Told.{is_inside}
+use Rattle.fv_volumes.proofs.PlacedIn as one
+use Rattle.fv_volumes.proofs.Told.{is_inside}
 use Rattle.fv_volume.proofs.Spending.{spent_one}
-use Rattle.fv_volume.proofs.Staying.{only_itself}
+use Rattle.fv_volumes.proofs.Staying.{only_itself}
 use Rattle.fv_cp.specs.Held.{machine_held, named_held, IsHeld, IsHeldIn}
 use Rattle.fv_cp.specs.Lent.{asked_all, asked_by, asked_of, blocks_asked, maps_waiting, waiting_by, FitTogether}
 use Rattle.fv_cp.specs.Placing.{pending_by, pending_files, HasNumbers, HaveNoFiles, HaveRoom, HaveSpent, IsPlacedAs, AreButPlaced, ArePlaced, AreReady, but_placed, HasNoFiles, HasWholeMap, IsReadyIn, IsSlotPlaced, IsSpareEntry, MayFail, LeavesUnused, PlacesEntries, PlacesSlot, RestsPlaced}

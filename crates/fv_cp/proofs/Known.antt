@@ -17,10 +17,10 @@ use Rattle.fv_delay.specs.Holding.{AreHoldingsOf, AreLeft, Holding, IsHoldingOf,
 use Rattle.fv_volume.specs.declared.pool.Pool.{Pool}
 use Rattle.fv_volume.specs.declared.state.VolumeState.{VolumeState}
 use Rattle.fv_volume.specs.Files.{IsLabelled}
-use Rattle.fv_volume.specs.Housed.{AreHoused}
+use Rattle.fv_volumes.specs.Housed.{AreHoused}
 use Rattle.fv_volume.specs.Loading.{IsLoaded}
 use Rattle.fv_volume.specs.States.{States, head_in, state_at}
-use Rattle.fv_volume.specs.UnderRoot.{IsLentAt}
+use Rattle.fv_volumes.specs.UnderRoot.{IsLentAt}
 use Rattle.fv_cp.specs.Choosing.{counts_at, holding_with}
 use Rattle.fv_cp.specs.Known.{AreKnown}
 use Rattle.fv_cp.specs.Lent.{IsLent}

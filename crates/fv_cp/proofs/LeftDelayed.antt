@@ -24,15 +24,15 @@ use Rattle.fv_delay.proofs.Reclaimed.{delayed_now}
 use Rattle.fv_volume.specs.declared.pool.Pool.{Pool}
 use Rattle.fv_volume.specs.declared.state.VolumeState.{VolumeState}
 use Rattle.fv_volume.specs.Files.{HasOwnSlots, HasSlotsOf, IsLabelled}
-use Rattle.fv_volume.specs.Housed.{AreHoused}
+use Rattle.fv_volumes.specs.Housed.{AreHoused}
 use Rattle.fv_volume.specs.Loading.{HaveBits, Houses, IsContainerOf, IsLoaded, label_of}
 use Rattle.fv_volume.specs.States.{States, head_in, placed_in, state_at}
 use Rattle.fv_volume.specs.Stored.{is_map_written}
-use Rattle.fv_volume.proofs.Drawing.{not_so}
+use Rattle.fv_volumes.proofs.Drawing.{not_so}
 use Rattle.fv_volume.proofs.KeptSlots.{maps_of}
-use Rattle.fv_volume.proofs.StoredSlot.{written_held}
-use Rattle.fv_volume.proofs.Viewed.{entry_of}
-use Rattle.fv_volume.proofs.Waiting.{none_waits}
+use Rattle.fv_volumes.proofs.StoredSlot.{written_held}
+use Rattle.fv_volumes.proofs.Viewed.{entry_of}
+use Rattle.fv_volumes.proofs.Waiting.{none_waits}
 use Rattle.fv_cp.specs.Choosing.{ReclaimsChanged, holding_with, holdings}
 use Rattle.fv_cp.specs.Course.{IsCourse, IsOnCourse, IsRenewed, as_lent, renewed}
 

@@ -26,7 +26,7 @@ use Rattle.fv_volmap.specs.Slots.{IsVolume}
 use Rattle.fv_volume.specs.declared.pool.Pool.{Pool}
 use Rattle.fv_volume.specs.declared.state.VolumeState.{VolumeState}
 use Rattle.fv_volume.specs.Files.{AreStates, IsState, has_form}
-use Rattle.fv_volume.specs.Housed.{ReachesAll}
+use Rattle.fv_volumes.specs.Housed.{ReachesAll}
 use Rattle.fv_volume.specs.States.{States, head_in, state_at, view_over}
 use Rattle.fv_volume.specs.Trees.{no_trees}
 use Rattle.fv_cp.specs.Held.{machine_held, named_held, IsHeld, IsHeldIn}
@@ -35,16 +35,16 @@ use Rattle.fv_cp.specs.Placing.{HasNoFiles, HasWholeMap}
 use Rattle.fv_cp.specs.Points.{machine_lent}
 use Rattle.fv_volume.proofs.Ruled as rule
 use Rattle.fv_volume.proofs.Ruled.{AreRuled}
-use Rattle.fv_volume.proofs.HeldAlone as alone
-use Rattle.fv_volume.proofs.HeldAlone.{all_seen, commits_fit, commits_in_view, each_held, of_each}
+use Rattle.fv_volumes.proofs.HeldAlone as alone
+use Rattle.fv_volumes.proofs.HeldAlone.{all_seen, commits_fit, commits_in_view, each_held, of_each}
 use Rattle.fv_volume.specs.Numbering.{AreNumbersSeen}
 use Rattle.fv_volume.specs.OneVolume.{IsReady, IsStanding}
 use Rattle.fv_volume.specs.Placing.{IsLedTo, IsStoredWell}
 use Rattle.fv_aggmap.specs.Loading.{IsLoaded as IsMapLoaded}
 use Rattle.fv_container.specs.Chains.{container_at, slot_count}
 use Rattle.fv_volume.specs.Loading.{LoadedTo}
-use Rattle.fv_volume.proofs.LentSlots.{loaded_from_lent}
-use Rattle.fv_volume.proofs.SeenAlone as loaded_alone
+use Rattle.fv_volumes.proofs.LentSlots.{loaded_from_lent}
+use Rattle.fv_volumes.proofs.SeenAlone as loaded_alone
 use Rattle.fv_image.specs.Held.{label_place}
 use Rattle.fv_root.specs.Finding.{root_found}
 

@@ -14,6 +14,7 @@ pub mod Plans
 pub mod OwnCharged
 pub mod Planned
 pub mod Pointing
+pub mod ByPlan
 pub mod Room
 pub mod SameChoice
 pub mod Sums

@@ -27,13 +27,13 @@ use Rattle.fv_volume.specs.declared.state.VolumeState.{VolumeState}
 use Rattle.fv_volume.specs.Files.{AreNamed, AreStates, IsLabelled, IsState}
 use Rattle.fv_volume.specs.Held.{core_of, HasNoFiles, HasWholeMap, IsReadyIn}
 use Rattle.fv_volume.specs.Numbering.{AreNumbersSeen}
-use Rattle.fv_volume.specs.Housed.{AreHoused, HaveReaches, ReachesAll}
+use Rattle.fv_volumes.specs.Housed.{AreHoused, HaveReaches, ReachesAll}
 use Rattle.fv_volume.specs.Labels.{label_said}
 use Rattle.fv_volume.specs.Loading.{Houses}
 use Rattle.fv_volume.specs.States.{States, head_in, parent_in, state_at, view_over, with_state}
 use Rattle.fv_volume.specs.Stored.{AreSpacedIn, has_block}
 use Rattle.fv_volume.specs.Trees.{no_trees}
-use Rattle.fv_volume.specs.UnderRoot.{IsLentAt, IsLentSlot}
+use Rattle.fv_volumes.specs.UnderRoot.{IsLentAt, IsLentSlot}
 use Rattle.fv_volume.specs.Writing.{asked}
 use Rattle.fv_cp.specs.Choosing.{AreMarkedTo, ReclaimsChanged, asked_marked, asked_with, greatest_number, has_slot, holding_with, holdings, marked, marked_as, marked_at, missing_for, needs, needs_by, regions_chosen}
 use Rattle.fv_cp.specs.Lent.{FitTogether, IsLent, asked_all, asked_by, asked_of, blocks_asked}

@@ -12,12 +12,12 @@ use Rattle.fv_model.specs.declared.commands.Kind.TheVariants.{Volume as Whole, F
 use Rattle.fv_model.specs.Machines.{first_block}
 use Rattle.fv_model.specs.Space.{charge, commit, need, overhead, promised, use_of}
 use Rattle.fv_image.specs.Containers.{most_entries}
-use Rattle.fv_image.specs.Views.{Head, View, slots}
-use Rattle.fv_image.specs.Sound.{overheads}
+use Rattle.fv_image.specs.Views.{Head, View, slots, overheads}
 use Rattle.fv_image.specs.Volumes.{volume_told, volume_with}
 use Rattle.fv_image.specs.Seen.{VolumeSeen, seen, volume_seen}
 use Rattle.fv_image.specs.Soundness.{AreTables}
 use Rattle.fv_image.specs.VolumeRules.{commits_seen, has_use_in_size, uses_seen}
+use Rattle.fv_image.proofs.Points.{within_third}
 use Rattle.fv_image.proofs.SameSeen.{of_volume, seen_at}
 use Rattle.fv_delay.specs.Delay.{delayed_of, is_delayed}
 use Rattle.fv_delay.specs.Holding.{Holding, all_delayed}
@@ -27,23 +27,11 @@ use Rattle.fv_volume.specs.declared.state.VolumeState.{VolumeState}
 use Rattle.fv_volume.specs.Files.{AreStates, IsState}
 use Rattle.fv_volume.specs.States.{States, head_in, state_at, view_over}
 use Rattle.fv_volume.specs.Trees.{no_trees}
-use Rattle.fv_volume.proofs.Standings.{active_is}
+use Rattle.fv_volumes.proofs.Standings.{active_is}
 use Rattle.fv_cp.specs.Choosing.{greatest_number, holdings, missing_for, needs, needs_by}
 use Rattle.fv_cp.proofs.Sums.{over_slots}
 
 -- ---- sums
-
--- twice a sum and another are within a third where the parts are
-both_within : (a b c : ℕ → ℕ) (from count : ℕ) → ((k : ℕ) → from ≤ k → k < from + count → 2 * a k + b k ≤ c k) → 2 * sum_by a (range_with_len from count) + sum_by b (range_with_len from count) ≤ sum_by c (range_with_len from count)
-both_within a b c from zero each = omega arith
-both_within a b c from (suc count) each = omega (
-  arith,
-  sum_by-cons a from (range_with_len (from + 1) count),
-  sum_by-cons b from (range_with_len (from + 1) count),
-  sum_by-cons c from (range_with_len (from + 1) count),
-  each from (omega arith) (omega arith),
-  both_within a b c (from + 1) count (λ k low high. each k (omega (arith, low)) (omega (arith, high))),
-)
 
 -- they are the third where the parts are
 both_are : (a b c : ℕ → ℕ) (from count : ℕ) → ((k : ℕ) → from ≤ k → k < from + count → 2 * a k + b k ≡ c k) → 2 * sum_by a (range_with_len from count) + sum_by b (range_with_len from count) ≡ sum_by c (range_with_len from count)
@@ -85,7 +73,7 @@ module _ (w : View) (tables : AreTables (seen w)) where
 
   pub uses_promised : 2 * overheads w + uses_seen (seen w) ≤ commits_seen (seen w)
   unfolding overheads uses_seen commits_seen slots volume_seen
-  uses_promised = both_within (λ s. option_map_or (λ h. overhead h.span) (w.head s) 0) (λ s. option_map_or (λ x. use_of x.volume) ((seen w).volume s) 0) (λ s. option_map_or (λ x. commit x.volume) ((seen w).volume s) 0) 0 64
+  uses_promised = within_third (λ s. option_map_or (λ h. overhead h.span) (w.head s) 0) (λ s. option_map_or (λ x. use_of x.volume) ((seen w).volume s) 0) (λ s. option_map_or (λ x. commit x.volume) ((seen w).volume s) 0) 0 64
       (λ s low high. so s (omega (arith, high)) (w.head s) refl)
     where
       so : (s : ℕ) → s < 64 → (o : Option Head) → w.head s ≡ o

@@ -20,7 +20,7 @@ use Rattle.fv_image.specs.Chains.{place}
 use Rattle.fv_image.specs.Charged.{out_items}
 use Rattle.fv_image.specs.Mapped.{AreInSlots, is_rising, stored_slots}
 use Rattle.fv_image.specs.ReachRules.{is_reach, is_same_position, has_map_blocks, has_maps_of_reach, reaches_once}
-use Rattle.fv_image.specs.Seen.{Reached, Root, VolumeSeen, roots_of, seen, volume_seen}
+use Rattle.fv_image.specs.Seen.{Reached, Root, VolumeSeen, own_blocks, roots_of, seen, volume_seen}
 use Rattle.fv_image.specs.Soundness.{AreMaps, AreTables}
 use Rattle.fv_image.specs.Staying.{own_items}
 use Rattle.fv_image.specs.Views.{Footing, Head, Rooted, Snap, View, is_active_map, is_held_in, is_own, map_vvbn, own, slots, used_slots, volume_bit, vvbns}
@@ -32,6 +32,7 @@ use Rattle.fv_image.proofs.Counts.{none_between, others, same_sum}
 use Rattle.fv_image.proofs.LoneTables.{no_parent, place_own}
 use Rattle.fv_image.proofs.OwnUses.{HasLabelNumbers}
 use Rattle.fv_image.proofs.SameSeen.{of_items, of_volume, seen_at}
+use Rattle.fv_image.proofs.OwnBlocks.{own_tests}
 use Rattle.fv_image.proofs.SoundFacts.{of_slot}
 use Rattle.fv_cp.proofs.Missing.{none_seen}
 
@@ -184,7 +185,9 @@ module _ (w : View) (s : ℕ) (h : Head) (small : s < 64) (there : w.head s ≡ 
   map_there : (k j : ℕ) → In k snap_slots → j < map_blocks h.span → is_some (w.entry s (map_vvbn h.span k j)) ≡ true
   unfolding has_map_blocks
   map_there k j one within =
-      let all = subst (λ (o : Option Head). option_map_or (λ h. list_all (blocks_there s h) (roots_of h)) o true ≡ true) there (of_slot (λ s. option_map_or (λ h. list_all (blocks_there s h) (roots_of h)) (w.head s) true) s maps.there small) in
+      let own : ℕ → Head → Bool = λ s h. list_all (λ (b : ℕ × ℕ). is_some (w.entry s b.0)) (own_blocks w.version h) in
+      let all : list_all (blocks_there s h) (roots_of h) ≡ true = sym (own_tests (λ b. is_some (w.entry s b.0)) w.version h)
+      ∙ subst (λ (o : Option Head). option_map_or (own s) o true ≡ true) there (of_slot (λ s. option_map_or (own s) (w.head s) true) s maps.there small) in
       let p = from_map (λ (p : Snap). p.slot) k h.snapshots one in
       let of_root = from_all (blocks_there s h) (roots_of h) all (p.0.slot, p.0.table) (inr (in_map (λ (p : Snap). (p.slot, p.table)) p.0 h.snapshots p.1)) in
       subst (λ (n : ℕ). is_some (w.entry s (map_vvbn h.span n j)) ≡ true) p.2

@@ -13,11 +13,11 @@ use Rattle.fv_delay.specs.Holding.{Holding, counts_of, has_region, held_by}
 use Rattle.fv_delay.specs.Reclaims.{goes_with}
 use Rattle.fv_volume.specs.declared.pool.Pool.{Pool}
 use Rattle.fv_volume.specs.declared.state.VolumeState.{VolumeState}
-use Rattle.fv_volume.specs.Housed.{AreHoused}
+use Rattle.fv_volumes.specs.Housed.{AreHoused}
 use Rattle.fv_volume.specs.Keeping.{seen}
 use Rattle.fv_volume.specs.Loading.{Houses}
 use Rattle.fv_volume.specs.States.{States, state_at}
-use Rattle.fv_volume.proofs.Told.{is_inside}
+use Rattle.fv_volumes.proofs.Told.{is_inside}
 use Rattle.fv_cp.specs.declared.planning.Plan.{Plan}
 use Rattle.fv_cp.specs.Choosing.{CanChoose, asked_with, has_slot, holding_with, holdings, marked_at, missing_for, regions_chosen}
 use Rattle.fv_cp.specs.Course.{HasCome, IsCourse, IsOnCourse, as_lent, renewed}

@@ -11,10 +11,9 @@ use Rattle.fv_model.specs.Space.{need, overhead}
 use Rattle.fv_laws.specs.Positions.{HasNoReserve}
 use Rattle.fv_laws.proofs.PathCharges.{no_need}
 use Rattle.fv_image.specs.Containers.{most_entries}
-use Rattle.fv_image.specs.Views.{Head, View, slots}
+use Rattle.fv_image.specs.Views.{Head, View, slots, overheads}
 use Rattle.fv_image.specs.Volumes.{volume_told, volume_with}
 use Rattle.fv_image.specs.Seen.{Seen, VolumeSeen, seen, volume_seen}
-use Rattle.fv_image.specs.Sound.{overheads}
 use Rattle.fv_image.specs.Soundness.{AreMaps, AreTables}
 use Rattle.fv_image.specs.VolumeRules.{commits_seen, has_commits_in_capacity, uses_seen}
 use Rattle.fv_image.proofs.LabelNumbers.{label_numbers}
@@ -33,14 +32,14 @@ use Rattle.fv_delay.proofs.RoomLeft.{room_left, rule_left}
 use Rattle.fv_volume.specs.declared.pool.Pool.{Pool}
 use Rattle.fv_volume.specs.declared.state.VolumeState.{VolumeState}
 use Rattle.fv_volume.specs.Files.{AreStates, IsLabelled, IsState}
-use Rattle.fv_volume.specs.Housed.{AreHoused}
+use Rattle.fv_volumes.specs.Housed.{AreHoused}
 use Rattle.fv_volume.specs.Labels.{label_said}
 use Rattle.fv_volume.specs.Loading.{Houses}
 use Rattle.fv_volume.specs.States.{States, head_in, state_at, view_over}
 use Rattle.fv_volume.specs.Trees.{no_trees}
 use Rattle.fv_volume.proofs.Labels.{label_head}
-use Rattle.fv_volume.proofs.Standings.{active_is}
-use Rattle.fv_volume.proofs.Told.{head_at, head_there}
+use Rattle.fv_volumes.proofs.Standings.{active_is}
+use Rattle.fv_volumes.proofs.Told.{head_at, head_there}
 use Rattle.fv_cp.specs.Choosing.{CountsMissing, LeavesRoom, greatest_number, holding_with, holdings, lacking, missing_for, needs, regions_chosen}
 use Rattle.fv_cp.proofs.Missing.{few_delayed, lacks_missing, missing_is, uses_needed, uses_promised}
 use Rattle.fv_cp.proofs.OwnCharged.{IsLone, owns_used}

@@ -21,10 +21,10 @@ use Rattle.fv_delay.proofs.Held.{active_long, held_below}
 use Rattle.fv_delay.proofs.Left.{left_still, others_left}
 use Rattle.fv_volume.specs.declared.pool.Pool.{Pool}
 use Rattle.fv_volume.specs.declared.state.VolumeState.{VolumeState}
-use Rattle.fv_volume.specs.Housed.{as_written, settled_as}
+use Rattle.fv_volumes.specs.Housed.{as_written, settled_as}
 use Rattle.fv_volume.specs.Loading.{Houses}
 use Rattle.fv_volume.specs.States.{States, state_at}
-use Rattle.fv_volume.proofs.Settled.{settled_keeps}
+use Rattle.fv_volumes.proofs.Settled.{settled_keeps}
 use Rattle.fv_cp.specs.Choosing.{greatest_number, holding_with, holdings, marked_as, missing_for, needs, needs_by, regions_chosen}
 use Rattle.fv_cp.specs.Placing.{but_placed, AreButPlaced, HasWholeMap, LeavesUnused}
 use Rattle.fv_cp.proofs.Marking.{marked_same}

@@ -19,7 +19,7 @@ use Rattle.fv_container.specs.Chains.{Slots, container_at}
 use Rattle.fv_aggmap.specs.Space.{blocks_of, Space, free_blocks}
 use Rattle.fv_volume.specs.declared.pool.Pool.{Pool}
 use Rattle.fv_volume.specs.declared.state.VolumeState.{VolumeState}
-use Rattle.fv_volume.specs.Housed.{as_written, AreHoused}
+use Rattle.fv_volumes.specs.Housed.{as_written, AreHoused}
 use Rattle.fv_volume.specs.Keeping.{seen}
 use Rattle.fv_volume.specs.States.{States, state_at}
 use Rattle.fv_delay.specs.Reclaims.{goes_with}
@@ -27,15 +27,15 @@ use Rattle.fv_volume.specs.Files.{IsLabelled}
 use Rattle.fv_volume.specs.Loading.{Houses}
 use Rattle.fv_volume.specs.Stored.{AreApartIn, AreSpacedIn, IsStored, has_block}
 use Rattle.fv_volume.specs.Writing.{HasOwnBlocks, IsWritten, IsTaken, on_disk}
-use Rattle.fv_volume.proofs.Drawing.{leads_at}
-use Rattle.fv_volume.proofs.Spacing.{LeavesSpaced, written_leaves}
-use Rattle.fv_volume.proofs.Reclaiming.{emptied_apart, emptied_leaves, emptied_own, stays_left}
+use Rattle.fv_volumes.proofs.Drawing.{leads_at}
+use Rattle.fv_volumes.proofs.Spacing.{LeavesSpaced, written_leaves}
+use Rattle.fv_volumes.proofs.Reclaiming.{emptied_apart, emptied_leaves, emptied_own, stays_left}
 use Rattle.fv_volume.proofs.StayingMaps.{stays_unwritten, stays_within}
-use Rattle.fv_volume.proofs.Stored.{stored, stored_still}
-use Rattle.fv_volume.proofs.Waiting.{waits_first, waits_on}
+use Rattle.fv_volumes.proofs.Stored.{stored, stored_still}
+use Rattle.fv_volumes.proofs.Waiting.{waits_first, waits_on}
 use Rattle.fv_cp.specs.Lent.{IsLent, IsLentSlot, asked_by, blocks_asked}
 use Rattle.fv_cp.specs.Course.{AreNamedFor, HasCome, IsAsLent, IsCourse, IsOnCourse, IsSlotWritten, as_lent, label_lent, renewed, GoesPast, IsPassed, asked_from}
-use Rattle.fv_volume.proofs.LentSlots.{held_taken, lent_slot, own_blocks}
+use Rattle.fv_volumes.proofs.LentSlots.{held_taken, lent_slot, own_blocks}
 use Rattle.std.specs.FinMap as fin
 use Rattle.std.proofs.lemmas.List.Elements.{All-set}
 use Rattle.fv_disk.specs.declared.Failed.{Failed}
@@ -43,8 +43,8 @@ use Rattle.fv_disk.specs.Sparing.{Spares}
 use Rattle.fv_codec.specs.Blocks.{last_place}
 use Rattle.fv_root.specs.Finding.{IsInRange, root_found}
 use Rattle.fv_store.specs.Held.{StandsOn}
-use Rattle.fv_volume.proofs.Housing.{housed_put}
-use Rattle.fv_volume.proofs.Sparing.{then_spares}
+use Rattle.fv_volumes.proofs.Housing.{housed_put}
+use Rattle.fv_volumes.proofs.Sparing.{then_spares}
 use Rattle.std.proofs.Math.ListN.{drop_of_length-le}
 use Rattle.std.proofs.lemmas.List.Sums.{sum_by-cons}
 

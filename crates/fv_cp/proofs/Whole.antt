@@ -26,22 +26,22 @@ use Rattle.fv_volume.specs.Files.{IsLabelled}
 use Rattle.fv_volume.specs.Loading.{Houses}
 use Rattle.fv_volume.specs.Numbering.{AreNumbersSeen}
 use Rattle.fv_volume.specs.States.{States, parent_in, state_at, view_over}
-use Rattle.fv_volume.proofs.Settled.{settled_keeps}
-use Rattle.fv_volume.proofs.Staying.{kept_stands}
-use Rattle.fv_volume.proofs.HeldSettled.{core_parent, ready_of, settled_core, settled_no_files, settled_numbers, settled_ready, settled_unchanged, settled_whole}
+use Rattle.fv_volumes.proofs.Settled.{settled_keeps}
+use Rattle.fv_volumes.proofs.Staying.{kept_stands}
+use Rattle.fv_volumes.proofs.HeldSettled.{core_parent, ready_of, settled_core, settled_no_files, settled_numbers, settled_ready, settled_unchanged, settled_whole}
 use Rattle.fv_cp.specs.Held.{machine_held, IsHeld}
 use Rattle.fv_cp.specs.Lent.{FitTogether, IsLent}
 use Rattle.fv_cp.specs.Placing.{core_of, ArePlaced, AreReady, HasNoFiles, HasWholeMap, HaveNoFiles, HaveRoom, IsPlaceFault, IsReadyIn}
 use Rattle.fv_cp.specs.Points.{machine_lent, Counts, GoesOn, IsCalm, IsNew, IsOld, IsPoint, LacksRoom, LeavesAll, LeavesContainers, OldOrLent}
 use Rattle.fv_cp.specs.Settling.{GoesOnWhole, HasWholeCause, HaveFullRoom, IsHeldPoint, IsNoDamage, IsStill, OldOrHeld, StillHeld, WholeCounts, WholeFails}
-use Rattle.fv_volume.specs.Housed.{settled_as}
+use Rattle.fv_volumes.specs.Housed.{settled_as}
 use Rattle.fv_volume.specs.Trees.{active_in, no_trees}
 use Rattle.fv_cp.specs.Choosing.{CanChoose, has_slot, marked_as, regions_chosen}
 use Rattle.fv_cp.specs.Known.{AreKnown}
 use Rattle.fv_cp.proofs.Marking.{asked_least, asked_most, marked_core, marked_no_files, marked_numbers, marked_ready, marked_table, marked_whole}
 use Rattle.fv_cp.proofs.SameChoice.{chosen_before, chosen_behind}
 use Rattle.fv_cp.proofs.Lendable.{held_lent, held_machine, numbers_held, past_held}
-use Rattle.fv_volume.proofs.PlacedIn.{found_read}
+use Rattle.fv_volumes.proofs.PlacedIn.{found_read}
 
 -- where there is room for all, there is room for what is pending
 pub some_room : (pool : Pool) (states : States) → HaveFullRoom pool states → HaveRoom pool states

@@ -7,8 +7,7 @@ use Rattle.fv_aggmap.specs.Space.{free_blocks}
 use Rattle.fv_model.specs.Machines.{capacity, first_block}
 use Rattle.fv_model.specs.Space.{overhead}
 use Rattle.fv_image.specs.Seen.{seen}
-use Rattle.fv_image.specs.Sound.{leaves_room, overheads}
-use Rattle.fv_image.specs.Views.{View, own}
+use Rattle.fv_image.specs.Views.{View, own, leaves_room, overheads}
 use Rattle.fv_image.specs.VolumeRules.{commits_seen}
 use Rattle.fv_container.specs.Chains.{Slots, container_at, slot_count}
 use Rattle.fv_container.specs.Mapped.{Mapped}

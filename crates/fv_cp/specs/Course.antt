@@ -23,7 +23,7 @@ use Rattle.fv_volume.specs.declared.state.VolumeState.{VolumeState}
 use Rattle.fv_volume.specs.Keeping.{seen}
 use Rattle.fv_volume.specs.States.{States, state_at}
 use Rattle.fv_volume.specs.Stored.{AreSpacedIn, IsStored, is_map_written, place_at, stays}
-use Rattle.fv_volume.specs.Housed.{AreHoused, as_written}
+use Rattle.fv_volumes.specs.Housed.{AreHoused, as_written}
 use Rattle.fv_cp.specs.Lent.{IsLent, asked_by}
 use Rattle.fv_volume.specs.Writing.{HasOwnBlocks, IsTaken, IsWritten, on_disk}
 

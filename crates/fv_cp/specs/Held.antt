@@ -16,7 +16,7 @@ pub use Rattle.fv_volume.specs.Held.{named_held, IsHeldIn}
 use Rattle.fv_volume.specs.Slots.{sum_of}
 use Rattle.fv_volume.specs.States.{States, state_at}
 use Rattle.fv_volume.specs.Stored.{AreSpacedIn}
-use Rattle.fv_volume.specs.UnderRoot.{IsLentAt, IsMapOf}
+use Rattle.fv_volumes.specs.UnderRoot.{IsLentAt, IsMapOf}
 
 -- The volumes of a session between points. `before` is the machine that the image of the root on the disk stands for, and each image that a
 -- crash now may leave keeps that image's layout. The next root will hold the blocks of the volumes and no others. Files may be in memory:

@@ -20,9 +20,9 @@ use Rattle.fv_volume.specs.Trees.{no_trees}
 use Rattle.fv_volume.specs.Files.{AreStates}
 pub use Rattle.fv_volume.specs.Loading.{Houses}
 use Rattle.fv_volume.specs.Writing.{IsTaken, asked, map_wait, on_disk}
-pub use Rattle.fv_volume.specs.Housed.{AreHoused, HaveReaches}
+pub use Rattle.fv_volumes.specs.Housed.{AreHoused, HaveReaches}
 pub use Rattle.fv_volume.specs.Stored.{AreApartIn, AreSpacedIn, has_block}
-pub use Rattle.fv_volume.specs.UnderRoot.{IsLentAt, IsLentSlot, IsMapOf}
+pub use Rattle.fv_volumes.specs.UnderRoot.{IsLentAt, IsLentSlot, IsMapOf}
 
 -- ---- in memory
 

@@ -35,7 +35,7 @@ use Rattle.fv_disk.specs.declared.fault.BlockFault.TheVariants.{DiskFault, Damag
 use Rattle.fv_cp.specs.Choosing.{CountsMissing, LeavesRoom, has_slot, marked_as, regions_chosen}
 use Rattle.fv_cp.specs.Known.{AreKnown}
 use Rattle.fv_cp.specs.Lent.{FitTogether, IsLent, blocks_asked}
-use Rattle.fv_volume.specs.Housed.{settled_as}
+use Rattle.fv_volumes.specs.Housed.{settled_as}
 
 -- the machine of the volumes lent
 abbrev pub machine_lent : Shown → Pool → States → Machine

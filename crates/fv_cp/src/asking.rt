@@ -2,17 +2,16 @@
 
 ghost use Rattle.std.specs.Prelude.{◌≡◌, ◌≤◌, ℕ, IfSome, option_copied};
 ghost use Rattle.std.specs.Option.{option_map};
-ghost use Rattle.fv_model.specs.Numbers.{greatest_span};
+ghost use Rattle.fv_model.specs.Numbers.{greatest_span, most_asked};
 ghost use Rattle.fv_volume.specs.Files.{IsLabelled};
 ghost use Rattle.fv_volume.specs.States.{state_at};
 ghost use Rattle.fv_cp.specs.Lent.{asked_by};
 ghost use Rattle.fv_cp.specs.Choosing.{asked_marked, marked_as};
 ghost use Rattle.fv_cp.specs.Planning.{is_set};
 
-use fv_volume::{VolumeState, Volumes};
-
-/// How many volumes there can be.
-const SLOTS: u8 = 64;
+use fv_codec::SLOTS;
+use fv_volume::VolumeState;
+use fv_volumes::Volumes;
 
 /// The blocks that the volumes ask for that changed or are due to be written.
 pub(crate) fn blocks_asked(volumes: &Volumes, due: &[bool; 64]) -> u64
@@ -31,7 +30,7 @@ pub(crate) fn blocks_asked(volumes: &Volumes, due: &[bool; 64]) -> u64
 fn asked_by(state: Option<&VolumeState>, due: bool) -> u64
     requires { IfSome (option_copied state) (λ x. x.span ≤ greatest_span) }
     ensures value { result ≡ asked_by (option_map (marked_as due) (option_copied state.entry)) }
-    ensures most { result ≤ 4919 }
+    ensures most { result ≤ most_asked }
 {
     match state {
         Some(state) if due || state.is_changed() => state.asked(),

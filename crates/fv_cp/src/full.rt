@@ -16,7 +16,8 @@ use crate::placing::flush;
 use crate::point::consistency_point;
 use fv_container::Containers;
 use fv_disk::Disk;
-use fv_volume::{Pool, VolumeFault, Volumes};
+use fv_volume::{Pool, VolumeFault};
+use fv_volumes::Volumes;
 
 /// Places what changed of the files of all volumes, writes what changed in the volumes, and makes a root count that names it: `flush`, and
 /// then `consistency_point`. `want` is the room in blocks that the event needs which asked for the point, and `delays` says by slot of which

@@ -10,11 +10,10 @@ ghost use Rattle.fv_volume.specs.declared.fault.VolumeFault.TheVariants.{Memory}
 ghost use Rattle.fv_cp.specs.Held.{IsHeld};
 ghost use Rattle.fv_cp.specs.Placing.{ArePlaced, AreReady, HasNoFiles, HasWholeMap, HaveNoFiles, HaveRoom, IsPlaceFault, IsPlacedAs, IsReadyIn, MayFail, PlacesSlot};
 
+use fv_codec::SLOTS;
 use fv_disk::Disk;
-use fv_volume::{Pool, VolumeFault, Volumes};
-
-/// How many volumes there can be.
-const SLOTS: u8 = 64;
+use fv_volume::{Pool, VolumeFault};
+use fv_volumes::Volumes;
 
 /// Places what changed of the files of all volumes, in the order of slots, so that a consistency point can follow: each block waits among
 /// the kept ones, and its volume's active root names the files. Then no file is in memory. In every outcome the volumes stand for the

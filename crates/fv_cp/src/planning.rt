@@ -11,7 +11,7 @@ ghost use Rattle.fv_delay.specs.ByThreshold.{IsTable, threshold_for};
 ghost use Rattle.fv_delay.specs.Choice.{full_count};
 ghost use Rattle.fv_delay.specs.Holding.{Holding, counts_of};
 ghost use Rattle.fv_volume.specs.Files.{IsLabelled};
-ghost use Rattle.fv_volume.specs.Housed.{AreHoused};
+ghost use Rattle.fv_volumes.specs.Housed.{AreHoused};
 ghost use Rattle.fv_volume.specs.Loading.{Houses};
 ghost use Rattle.fv_volume.specs.States.{state_at};
 ghost use Rattle.fv_cp.specs.Lent.{blocks_asked};
@@ -20,13 +20,12 @@ ghost use Rattle.fv_cp.specs.Planning.{AreCounted, AreTables, IsPlan, IsSlotCoun
 
 use crate::asking::blocks_asked;
 use fv_charge::overhead;
+use fv_codec::SLOTS;
 use fv_container::Containers;
 use fv_delay::{Table, Threshold, table_of};
 use fv_root::first_block;
-use fv_volume::{Pool, VolumeState, Volumes};
-
-/// How many volumes there can be.
-const SLOTS: u8 = 64;
+use fv_volume::{Pool, VolumeState};
+use fv_volumes::Volumes;
 
 /// So many blocks are to be had behind a point, whatever is wanted.
 const LEAST: u64 = 256;

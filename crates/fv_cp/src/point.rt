@@ -15,7 +15,7 @@ ghost use Rattle.fv_container.specs.Chains.{slot_count};
 ghost use Rattle.fv_aggmap.specs.Space.{blocks_of, free_blocks};
 ghost use Rattle.fv_volume.specs.Files.{IsLabelled};
 ghost use Rattle.fv_volume.specs.States.{state_at, with_state};
-ghost use Rattle.fv_volume.specs.Housed.{AreHoused, settled_as, settled_at};
+ghost use Rattle.fv_volumes.specs.Housed.{AreHoused, settled_as, settled_at};
 ghost use Rattle.fv_cp.specs.Lent.{AreKept, FitTogether, IsLent, asked_by, blocks_asked};
 ghost use Rattle.fv_cp.specs.Points.{Counts, GoesOn, IsCalm, IsPoint, IsSwitched, LacksRoom, LeavesAll, OldOrLent};
 ghost use Rattle.fv_volume.specs.Writing.{IsTaken, on_disk};
@@ -28,13 +28,11 @@ use crate::asking::blocks_asked;
 use crate::fault::CpFault;
 use crate::planning::{Plan, choose};
 use crate::reclaiming::{mark, reclaim_due};
-use fv_codec::Root;
+use fv_codec::{Root, SLOTS};
 use fv_disk::{Disk, Failed};
 use fv_root::{commit, first_block, next_found, root_place};
-use fv_volume::{Pool, VolumeState, Volumes, write_volume};
-
-/// How many volumes there can be.
-const SLOTS: u8 = 64;
+use fv_volume::{Pool, VolumeState};
+use fv_volumes::{Volumes, write_volume};
 
 /// Writes what changed in the volumes and makes a root count that names it, past the point's last barrier: the kept blocks are written
 /// to their places, then each volume that changed in the order of slots, to blocks that were free, and then the root is committed. The

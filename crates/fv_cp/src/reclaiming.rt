@@ -12,13 +12,11 @@ ghost use Rattle.fv_cp.specs.Planning.{LeavesDelays, is_set, takes_of};
 
 use crate::planning::Plan;
 use fv_aggmap::AggMap;
+use fv_codec::SLOTS;
 use fv_container::Container;
 use fv_delay::reclaim_taken;
 use fv_volmap::VolMap;
-use fv_volume::Volumes;
-
-/// How many volumes there can be.
-const SLOTS: u8 = 64;
+use fv_volumes::Volumes;
 
 /// Says of each volume that is due that there is something to write.
 pub(crate) fn mark(volumes: &mut Volumes, due: &[bool; 64])

@@ -1,7 +1,6 @@
 -- What a volume's maps hold, as the code asks for it and as an image shows it.
 use Rattle.std.proofs.Common.{◌≡◌, ◌<◌, ◌≤◌, ◌-◌, ◌*◌, ◌/◌, ℕ, Bool, true, false, not, ◌&&◌, length, take, None, refl, subst, ap, ◌∙◌, arith}
 use Rattle.std.specs.Prelude.{◌==◌, IfSome, nat_lt, if◌then◌else◌}
-use Rattle.std.specs.Int.{div_ceil}
 use Rattle.std.specs.List.{list_any}
 use Rattle.std.specs.Option.{is_some}
 use Rattle.std.proofs.Math.Nat.{div-lt_iff_lt-mul}
@@ -49,9 +48,6 @@ held_within map v within = so (nat_lt v map.span) refl
         let stored : (v - map.span) / map_blocks map.span < stored_count = slot_below map.span v past within in
         let test : nat_lt ((v - map.span) / map_blocks map.span) stored_count ≡ true = grind (arith, nat_tests, stored) in
         held_behind map v past ∙ ap (λ (t : Bool). t && is_used_slot map ((v - map.span) / map_blocks map.span)) test
-
-pub blocks_are : (span : ℕ) → div_ceil span 32768 ≡ map_blocks span
-blocks_are span = omega arith
 
 -- ---- an image's volume
 

@@ -3,8 +3,7 @@ use Rattle.std.proofs.Common.{◌≡◌, ◌⊎◌, ℕ, ◌+◌, ◌-◌, ◌*�
 use Rattle.std.specs.Prelude.{Option, max}
 use Rattle.std.specs.List.{list_all}
 use Rattle.fv_model.specs.Machines.{first_block, capacity}
-use Rattle.fv_image.specs.Views.{View, delayed}
-use Rattle.fv_image.specs.Sound.{overheads, leaves_room}
+use Rattle.fv_image.specs.Views.{View, delayed, overheads, leaves_room}
 use Rattle.fv_image.specs.Seen.{seen}
 use Rattle.fv_image.specs.VolumeRules.{uses_seen, commits_seen}
 use Rattle.fv_image.specs.Soundness.{AreTables}

@@ -7,6 +7,7 @@ ghost use Rattle.fv_model.specs.Numbers.{greatest_span};
 ghost use Rattle.fv_delay.specs.Delay.{delayed_in, has_delayed, is_delayed, is_held, is_used};
 
 use fv_container::Container;
+use fv_model::map_blocks;
 use fv_volmap::VolMap;
 
 /// The slots whose maps stand on the disk: the active one and 24 for snapshots.
@@ -77,7 +78,7 @@ pub(crate) fn is_held(map: &VolMap, vvbn: u32) -> bool
     if vvbn < span {
         map.held(vvbn)
     } else {
-        is_used(map, (vvbn - span) / span.div_ceil(32_768))
+        is_used(map, (vvbn - span) / map_blocks(span))
     }
 }
 
@@ -103,7 +104,7 @@ pub(crate) fn entry_count(map: &VolMap) -> u32
     ensures most { result ≤ most_entries }
 {
     let span = span_of(map);
-    span + STORED * span.div_ceil(32_768)
+    span + STORED * map_blocks(span)
 }
 
 /// The first VVBN of a region, or the number of entries where the region lies behind them.

@@ -67,6 +67,12 @@ looks_then told f old mid new x r first second = record {
   cause = IfErr-weaker r _ _ (λ e h. fails_after told (table_in old f) old mid new e first.counts.calm first.untouched.held (earlier (λ y. FilesFail told y mid new e) f old mid first.untouched.held h)) second.cause;
 }
 
+-- the tree of a file was read, and then a call of the table fails
+pub looks_past : {S R T : Type 0} (told : Type 0) (f : Files) (info : Info) (old mid new : Shown) (x : S) (e : BlockFault) → (told → IsInfoOf (table_in old f).inode info) → IsUntouched old mid → Counts {E = BlockFault} old mid (Ok x)
+    → inodes.Looks {T = R} told (table_in mid f).inode mid new (Err e) → Looks {T = T} told (table_in old f) old new (Err e)
+looks_past told f info old mid new x e is untouched counts looks =
+    looks_then told f old mid new x (Err e) (looks_tree told (table_in old f) info old mid (Ok x) is untouched counts tt) (looks_failed told (table_in mid f) mid new e (looks_inode told (table_in mid f) mid new (Err e) looks))
+
 -- there is no memory
 pub looks_memory : {S T : Type 0} (told : Type 0) (x : Standing) (old new : Shown) (y : S) (e : BlockFault) → IsUntouched old new → Counts {E = BlockFault} old new (Ok y) → e ≡ Memory → Looks {T = T} told x old new (Err e)
 looks_memory {S} {T} told x old new y e same counts is = subst (λ e. Looks {T = T} told x old new (Err e)) (sym is) (record {

@@ -1,5 +1,13 @@
 -- A file's tree is placed, and its record has its root already: the tree goes from memory, and the inode block stays.
-use Rattle.std.proofs.Common.{◌≡◌, ◌+◌, ℕ, true, false, cond, nat_eq, Ok, refl, sym, ap, subst, ◌∙◌, arith}
+use Rattle.std.proofs.Common.{◌≡◌, ◌+◌, ℕ, true, false, cond, nat_eq, Ok, refl, sym, ap, subst, ◌∙◌, arith, ◌≤◌, Err, Result}
+use Rattle.fv_files.proofs.Kept.{stored_on_blocks}
+use Rattle.fv_inode.specs.Readying.{IsReadyFile}
+use Rattle.fv_tree.specs.Writing.{IsAlike}
+use Rattle.fv_tree.specs.Costs.{pending}
+use Rattle.fv_inode.specs.Failing.{OnlyLoads, Looks}
+use Rattle.fv_inode.specs.declared.file.InodeFile.{InodeFile}
+use Rattle.fv_disk.specs.declared.fault.BlockFault.TheVariants.{Memory}
+use Rattle.fv_disk.specs.declared.fault.BlockFault.{BlockFault}
 use Rattle.std.specs.Prelude.{Option, Some, None, is_some}
 use Rattle.std.specs.Option.{option_map}
 use Rattle.std.specs.Ordering.{nat_cmp}
@@ -22,15 +30,15 @@ use Rattle.fv_files.specs.Tables.{table_in, AreStanding, IsLed, IsStored, loaded
 use Rattle.fv_files.specs.Calls.{KeepsStored, SparesOthers}
 use Rattle.fv_files.specs.Flushing.{FlushesKept, HasRoot, LaysTrees, KeptAnew, KeptKeeps}
 use Rattle.fv_files.specs.Pending.{pending_trees, tree_cost, FitsTable}
-use Rattle.fv_files.proofs.Tables.{placed_then, some_same}
+use Rattle.fv_files.proofs.Tables.{placed_then, some_same, alike}
 use Rattle.fv_files.proofs.Looked.{counts_done}
-use Rattle.fv_files.proofs.Changed.{with_trees, owned_stands, kept_inode}
-use Rattle.fv_files.proofs.Flushed.{kept_keeps, kept_lays, kept_stores, kept_places}
-use Rattle.fv_files.proofs.Laid.{flushed_spares, gone_led, gone_placed, gone_spares, gone_stands, gone_stored, table_spares_then, gone_laid, gone_leave}
+use Rattle.fv_files.proofs.Changed.{with_trees, owned_stands, kept_inode, own_ready, with_inode}
+use Rattle.fv_files.proofs.Flushed.{kept_keeps, kept_lays, kept_stores, kept_places, ready_lays, ready_places, ready_stores, look_lays, look_places}
+use Rattle.fv_files.proofs.Laid.{flushed_spares, gone_led, gone_placed, gone_spares, gone_stands, gone_stored, table_spares_then, gone_laid, gone_leave, lays_then, places_then, stores_then}
 use Rattle.fv_tree.proofs.Stays.{unchanged}
 use Rattle.fv_files.specs.Altering.{FlushesKeep, FlushesPlaces, LeavesTrees}
 use Rattle.fv_files.proofs.Altered.{leaves_places_trees, places_trees_then}
-use Rattle.fv_files.proofs.Unplaced.{placed_stamps, unplaced_then}
+use Rattle.fv_files.proofs.Unplaced.{placed_stamps, unplaced_then, keeps_then}
 
 -- what is known of a file says its root
 pub root_told : (n : ℕ) (info : Info) (o : Option InodeRecord) → Some info ≡ option_map (info_of n) o → HasRoot o info.levels info.root
@@ -145,3 +153,53 @@ module _ (told : Type 0) (old mid : Shown) (f : Files) (m last : maps.BTreeMap �
         let z = loaded_trees (under mid) three in
         unplaced_then x y z free free keep (λ v. Unit {0}) keep (λ v is all. is) (placed_stamps old mid f two (first.placed tells sound)) (placed_stamps mid mid two three (later_placed tells sound)) (first_places.anew tells sound laid)
         (leaves_places_trees free y z (later_leave tells sound)) (kept_keeps told old mid f m n (Ok root) kept keep keeps tells sound laid) (λ v none. tt)
+
+-- the tree was placed, and its root couldn't be set in the table, whose inode file was only loaded
+module _ {T : Type 0} (told : Type 0) (old mid new : Shown) (f : Files) (m : maps.BTreeMap ℕ Tree) (i : InodeFile) (n : ℕ) (root : Pointer) (e : BlockFault) (kept : FlushesKept told old mid f.trees m n (Ok root))
+    (loads : OnlyLoads {T = T} told mid new f.inode.tree i.tree (Err e)) (fewer : pending i.tree ≤ pending f.inode.tree) (ready : told → IsReadyFile f.inode n → e ≡ Memory) where
+  unset_alike : told → IsAlike (rooted mid f.inode) (rooted new i)
+  unset_alike tells = alike (rooted mid f.inode) (rooted new i) (loads.failed tells)
+
+  unset_memory : told → AreStanding mid (with_trees f m) → e ≡ Memory
+  unset_memory tells sound = ready tells (own_ready mid (with_trees f m) n (ap is_some kept.becomes.now) sound)
+
+  unset_first : LaysTrees told old mid f (with_trees f m) (Ok root)
+  unset_first = kept_lays told old mid f m n (Ok root) kept
+
+  unset_next : LaysTrees {T = T} told mid new (with_trees f m) (with_inode (with_trees f m) i) (Err e)
+  unset_next = ready_lays told mid new (with_trees f m) i (Err e) loads unset_alike fewer unset_memory
+
+  pub unset_lays : LaysTrees {T = T} told old new f (with_inode (with_trees f m) i) (Err e)
+  unset_lays = lays_then told old mid new f (with_trees f m) (with_inode (with_trees f m) i) root (Err e) unset_first unset_next
+
+  pub unset_stores : told → KeepsPlaces old mid → KeepsStored old new f (with_inode (with_trees f m) i)
+  unset_stores tells places = stores_then told old mid new f (with_trees f m) (with_inode (with_trees f m) i) root unset_first tells (kept_stores told old mid f m n (Ok root) kept tells places)
+      (ready_stores told mid new (with_trees f m) i (Err e) loads unset_alike fewer unset_memory tells)
+
+  pub unset_places : (first free : ℕ → Type 0) → ((v : ℕ) → first v → free v) → (told → KeptAnew first old mid f.trees m n) → FlushesPlaces told free old new f (with_inode (with_trees f m) i)
+  unset_places first free sooner anew = places_then told first first free sooner sooner old mid new f (with_trees f m) (with_inode (with_trees f m) i) root unset_first (kept_places told old mid f m n (Ok root) kept first anew)
+      (ready_places told mid new (with_trees f m) i (Err e) loads unset_alike fewer unset_memory first loads.leaves)
+
+  pub unset_keeps : (free first next keep : ℕ → Type 0) → ((v : ℕ) → first v → next v → keep v) → (told → KeptAnew free old mid f.trees m n) → (told → KeptKeeps first old mid f.trees m n) → ((v : ℕ) → next v)
+      → FlushesKeep told keep old new f (with_inode (with_trees f m) i)
+  unset_keeps free first next keep both anew keeps more = keeps_then told free free first next keep both old mid new f (with_trees f m) (with_inode (with_trees f m) i) root (Err e) unset_first unset_next
+      (kept_places told old mid f m n (Ok root) kept free anew) (ready_places told mid new (with_trees f m) i (Err e) loads unset_alike fewer unset_memory free loads.leaves)
+      (kept_keeps told old mid f m n (Ok root) kept first keeps) (λ tells sound laid v none. more v)
+
+-- the record was looked for, and then the trees are laid
+module _ {S T : Type 0} (told : Type 0) (old mid new : Shown) (f g : Files) (x : S) (r : Result T BlockFault) (looks : Looks told (rooted old f.inode) old mid (Ok x)) (lays : LaysTrees told mid new f g r) where
+  found_first : LaysTrees told old mid f f (Ok x)
+  found_first = look_lays told old mid f (Ok x) looks (λ tells sound. tt)
+
+  pub found_lays : LaysTrees told old new f g r
+  found_lays = lays_then told old mid new f f g x r found_first lays
+
+  pub found_stores : told → KeepsStored mid new f g → KeepsStored old new f g
+  found_stores tells stores = stores_then told old mid new f f g x found_first tells (λ sound led. stored_on_blocks f old mid looks.untouched.held) stores
+
+  pub found_places : (next free : ℕ → Type 0) → ((v : ℕ) → next v → free v) → FlushesPlaces told next mid new f g → FlushesPlaces told free old new f g
+  found_places next free later places = places_then told free next free (λ v is. is) later old mid new f f g x found_first (look_places told free old mid f (Ok x) looks) places
+
+  pub found_keeps : (free first next keep : ℕ → Type 0) → ((v : ℕ) → first v → next v → keep v) → FlushesPlaces told free mid new f g → ((v : ℕ) → first v) → FlushesKeep told next mid new f g → FlushesKeep told keep old new f g
+  found_keeps free first next keep both places kept keeps =
+      keeps_then told free free first next keep both old mid new f f g x r found_first lays (look_places told free old mid f (Ok x) looks) places (λ tells sound laid v none. kept v) keeps

@@ -1,15 +1,17 @@
 -- What the trees in memory cost, where one is put, changed or taken out.
-use Rattle.std.proofs.Common.{◌≡◌, ◌≤◌, ℕ, ◌+◌, List, Some, refl, sym, ap, ◌∙◌, arith}
+use Rattle.std.proofs.Common.{false, ◌≡◌, ◌≤◌, ℕ, ◌+◌, List, Some, refl, sym, ap, ◌∙◌, arith}
 use Rattle.std.specs.Prelude.{length, [], ◌∷◌, sum_by, unwrap_or}
 use Rattle.std.specs.Option.{option_map}
-use Rattle.std.specs.Ordering.{nat_cmp}
+use Rattle.std.specs.Ordering.{nat_cmp, is_eq}
 use Rattle.std.specs.Cmp.{nat_cmp_total}
 use Rattle.std.specs.Map.{remove_entry, set_value, values_of}
 use Rattle.std.specs.BTreeMap as maps
+use Rattle.std.proofs.lemmas.Bool.Decides.{nat_tests}
 use Rattle.std.proofs.lemmas.List.Sums.{sum_by-cons}
 use Rattle.std.proofs.lemmas.Map.Entries.{sum_by-insert_entry, sum_by-remove_entry, sum_by-set_value}
 use Rattle.fv_tree.specs.declared.kept.Tree.{Tree}
 use Rattle.fv_tree.specs.Costs.{pending}
+use Rattle.fv_files.specs.Calls.{Becomes}
 use Rattle.fv_files.specs.Pending.{pending_trees, tree_cost}
 
 abbrev pub cost_of : List (ℕ × Tree) → ℕ
@@ -40,6 +42,16 @@ module _ (m n : maps.BTreeMap ℕ Tree) (k : ℕ) where
       let same : pending_trees n ≡ cost_of (set_value (maps.is_at (nat_cmp k)) m.entries u) = ap cost_of is in
       let exact : cost_of (set_value (maps.is_at (nat_cmp k)) m.entries u) + tree_cost t ≡ pending_trees m + tree_cost u = sum_by-set_value tree_cost (maps.is_at (nat_cmp k)) m.entries t u (sym held) in
       omega (arith, exact, same)
+
+  -- one tree is another one now
+  pub becomes_set : (t u : Tree) → Some t ≡ maps.get nat_cmp m k → n.entries ≡ set_value (maps.is_at (nat_cmp k)) m.entries u → maps.get nat_cmp n k ≡ Some u
+      → ((j : ℕ) → is_eq (nat_cmp k j) ≡ false → maps.get nat_cmp n j ≡ maps.get nat_cmp m j) → Becomes m n k t u
+  becomes_set t u held is now others = record {
+    was = sym held;
+    now = now;
+    others = λ j differs. others j (let test : is_eq (nat_cmp k j) ≡ false = grind (arith, nat_tests, differs) in test);
+    sum = set_cost t u held is;
+  }
 
   module _ (is : n.entries ≡ remove_entry (maps.is_at (nat_cmp k)) m.entries) where
     left_cost : pending_trees n + unwrap_or (option_map tree_cost (maps.get nat_cmp m k)) 0 ≡ pending_trees m

@@ -1,6 +1,8 @@
 -- Tables of which trees are in memory: what is known of a file, and tables that are told alike or of which a file was written.
-use Rattle.std.proofs.Common.{◌≡◌, ◌≢◌, ℕ, ◌+◌, max, Bool, true, false, cond, List, refl, sym, ap, subst, ◌∙◌, arith, ⊎_elim}
-use Rattle.std.specs.Prelude.{Option, Some, None}
+use Rattle.std.proofs.Common.{◌≡◌, ◌≢◌, ℕ, ◌+◌, max, Bool, true, false, cond, List, refl, sym, ap, subst, ◌∙◌, arith, ⊎_elim, Result}
+use Rattle.fv_disk.specs.declared.fault.BlockFault.{BlockFault}
+use Rattle.fv_tree.specs.Sources.{Shown}
+use Rattle.std.specs.Prelude.{Option, Some, None, IfErr}
 use Rattle.std.specs.Option.{option_map}
 use Rattle.std.specs.FinMap as fin
 use Rattle.std.proofs.lemmas.Bool.{cases_eq}
@@ -11,7 +13,7 @@ use Rattle.fv_tables.specs.Told.{AreTold, tree_told, cells_told, file_at, Standi
 use Rattle.fv_tables.specs.Kept.{IsPlacedFile, IsPlacedTable}
 use Rattle.fv_tables.proofs.Tables.{stamps_told, blocks_told, placed_table}
 use Rattle.fv_tree.specs.declared.kept.Tree.{Tree}
-use Rattle.fv_tree.specs.Standing.{standing}
+use Rattle.fv_tree.specs.Standing.{standing, Fails, under}
 use Rattle.fv_tree.specs.Writing.{IsAlike, Remains, Writes}
 use Rattle.fv_inode.specs.declared.info.Info.{Info}
 use Rattle.fv_inode.specs.Files.{with_info, IsFirst}
@@ -55,6 +57,14 @@ kept_known u f info t is = ap (λ o. tree_or (option_map (standing u) o) (stored
 
 pub stored_known : (u : Under) (f : Files) (info : Info) → tree_in f info.number ≡ None → tree_known (standing_in u (changed f)) info ≡ stored u info.number info.levels info.root
 stored_known u f info none = ap (λ o. tree_or (option_map (standing u) o) (stored u info.number info.levels info.root)) none
+
+-- a tree with the root that the table has is what is known of its file, and fails as that does
+pub stored_is : (u : Under) (f : Files) (info : Info) (t : Rooted) → t ≡ stored u info.number info.levels info.root → tree_in f info.number ≡ None → t ≡ tree_known (standing_in u (changed f)) info
+stored_is u f info t is none = is ∙ sym (stored_known u f info none)
+
+pub stored_cause : {T : Type 0} (told : Type 0) (old new : Shown) (f : Files) (info : Info) (t : Rooted) (r : Result T BlockFault) → t ≡ stored (under old) info.number info.levels info.root → tree_in f info.number ≡ None
+    → IfErr r (Fails told t old new) → IfErr r (Fails told (tree_known (standing_in (under old) (changed f)) info) old new)
+stored_cause told old new f info t r is none cause = subst (λ t. IfErr r (Fails told t old new)) (stored_is (under old) f info t is none) cause
 
 -- of a file that a look-up found
 pub first_info : (t : Rooted) (name : List ℕ) (info : Info) → IsFirst t name info → IsInfoOf t info

@@ -29,8 +29,8 @@ use Rattle.fv_tables.specs.Spelled.{Under, Rooted, pointer_at, stored}
 use Rattle.fv_tables.specs.Told.{tree_told, file_at, Standing, tree_of, tree_or, file_in, table_told}
 use Rattle.fv_tables.proofs.Tables.{files_told}
 use Rattle.fv_tree.specs.Erasing.{StandsAt, HoldsCells}
-use Rattle.fv_tree.specs.Counting.{is_staying}
-use Rattle.fv_tree.specs.Flushing.{Loaded, loaded_over}
+use Rattle.fv_tree.specs.Counting.{is_staying, staying_at}
+use Rattle.fv_tree.specs.Flushing.{Loaded, loaded_over, loaded}
 use Rattle.fv_tree.specs.Standing.{standing, under}
 use Rattle.fv_tree.specs.Taking.{has_cell, is_gone, is_staying_with, counted_under, gone_with, staying_with}
 use Rattle.fv_tree.proofs.Spans.{sum_none, sum_same}
@@ -345,3 +345,7 @@ removal_takes source f info shared tree inode taken is gone stays lost over gone
         ap (λ o. staying_where o shared (nat_le 0)) there
         ∙ all_stay (known_loaded (under source) info (tree_in f info.number)) shared (subst HoldsCells (sym (kept_tree (tree_in f info.number))) (holds now well))
         ∙ ap (λ o. staying_of o shared) (sym there)
+
+-- as many stay over a source that holds and shares the same
+pub staying_same : (t : Tree) (old mid : Shown) (shared shares : ℕ → Bool) (place : ℕ) → mid.held ≡ old.held → ((v : ℕ) → shares v ≡ shared v) → staying_at (loaded mid t) shares place ≡ staying_at (loaded old t) shared place
+staying_same t old mid shared shares place held same = λ j. staying_at (loaded_over (λ v. fin.get (held j) v) t) (λ v. same v j) place

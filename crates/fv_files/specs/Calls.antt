@@ -1,14 +1,15 @@
 -- What the calls of a table answer and do, by the machine.
-use Rattle.std.specs.Prelude.{◌≡◌, ◌≢◌, ◌≤◌, ◌⊎◌, ℕ, ◌+◌, max, nat_le, Bool, true, List, replicate, Option, Some, None, is_some, Result, OnOk, OnErr, IfOk, IfErr}
+use Rattle.std.specs.Prelude.{◌≡◌, ◌≢◌, ◌≤◌, ◌⊎◌, ℕ, ◌+◌, ◌/◌, max, nat_le, Bool, true, List, replicate, Option, Some, None, is_some, Result, OnOk, OnErr, IfOk, IfErr}
 use Rattle.std.specs.Ordering.{nat_cmp}
 use Rattle.std.specs.BTreeMap as maps
 use Rattle.std.specs.FinMap as fin
 use Rattle.fv_disk.specs.declared.fault.BlockFault.{BlockFault}
+use Rattle.fv_codec.specs.declared.pointer.Pointer.{Pointer}
 use Rattle.fv_model.specs.Tables.{File, inode_cell, put, cut, rm}
 use Rattle.fv_laws.specs.WellFormed.{IsWellTable}
 use Rattle.fv_laws.specs.Positions.{added_by, taken_by_cut, taken_by_rm}
 use Rattle.fv_tables.specs.Spelled.{Under, stored}
-use Rattle.fv_tables.specs.Told.{Standing, file_in, table_told}
+use Rattle.fv_tables.specs.Told.{Standing, file_in, records_each, table_told}
 use Rattle.fv_tree.specs.declared.kept.Tree.{Tree}
 use Rattle.fv_tree.specs.Sources.{Shown, Counts, IsUntouched, Use}
 use Rattle.fv_tree.specs.Standing.{standing, under, Fails}
@@ -19,9 +20,9 @@ use Rattle.fv_tree.specs.Leading.{LeadsNoMore}
 use Rattle.fv_tree.specs.Stored.{IsStoredWell}
 use Rattle.fv_tree.specs.Removal.{Removal}
 use Rattle.fv_tree.specs.Erasing.{HoldsCells}
-use Rattle.fv_tree.specs.Costs.{pending, Rises}
+use Rattle.fv_tree.specs.Costs.{pending, way_cost, Rises}
 use Rattle.fv_inode.specs.declared.info.Info.{Info}
-use Rattle.fv_inode.specs.Files.{rooted}
+use Rattle.fv_inode.specs.Files.{rooted, IsInfo}
 use Rattle.fv_inode.specs.Readying.{IsReadyFile}
 use Rattle.fv_files.specs.declared.files.Files.{Files}
 use Rattle.fv_tree.specs.Beside.{Spares}
@@ -41,6 +42,10 @@ or_zeros (Some block) = block
 -- block i of file n
 abbrev pub GivesCell : Standing → ℕ → ℕ → List ℕ → Type 0
 GivesCell x n i into = (f : File) → file_in x n ≡ Some f → into ≡ or_zeros (fin.get f.blocks i)
+
+-- what the pointers cost that are followed from the root of a table to the record of a file, and from there to its cell i
+abbrev pub path_cost : (Pointer → ℕ) → Standing → Info → ℕ → ℕ
+path_cost cost x info i = way_cost cost x.inode (info.number / records_each) + way_cost cost (tree_known x info) i
 
 -- ---- writes
 
@@ -122,6 +127,13 @@ KeepsStored old new f g = AreStanding old f → IsLed old f → IsStored old f �
 -- the tree of file n, which is in memory, failed
 abbrev pub KeptFails : Type 0 → Shown → Shown → Files → ℕ → BlockFault → Type 0
 KeptFails told old new f n e = (t : Tree) → tree_in f n ≡ Some t → Fails told (standing (under old) t) old new e
+
+-- A file is held ready for a change: what is known of it is so, and its inode block and its tree are in memory.
+pub record IsPrepared (told : Type 0) (source : Shown) (f : Files) (info : Info) : Type 0 where
+  pub range : IsInfo info
+  pub there : told → IsInfoOf (rooted source f.inode) info
+  pub ready : IsReadyFile f.inode info.number
+  pub kept : is_some (tree_in f info.number) ≡ true
 
 -- A file is held ready for a change, where there is one: its inode block with the nodes over it, and its tree, as it is. The table is told
 -- as before, also after a fault.

@@ -7,10 +7,9 @@ ghost use Rattle.fv_codec.specs.Blocks.{most_cells};
 ghost use Rattle.fv_laws.specs.WellFormed.{IsWellTable};
 ghost use Rattle.fv_tables.specs.Told.{table_told};
 ghost use Rattle.fv_inode.specs.Files.{rooted, IsInfo};
-ghost use Rattle.fv_inode.specs.Readying.{IsReadyFile};
-ghost use Rattle.fv_files.specs.Tables.{table_in, tree_in, AreStanding, IsInfoOf};
+ghost use Rattle.fv_files.specs.Tables.{table_in, AreStanding, IsInfoOf};
 ghost use Rattle.fv_files.specs.Failing.{FilesFail};
-ghost use Rattle.fv_files.specs.Calls.{shortened, Changes, CutsFile, CutsKept, KeepsLed, KeptFails, TakesByCut};
+ghost use Rattle.fv_files.specs.Calls.{IsPrepared, shortened, Changes, CutsFile, CutsKept, KeepsLed, KeptFails, TakesByCut};
 ghost use Rattle.fv_files.specs.Pending.{pending_in};
 ghost use Rattle.fv_files.specs.Altering.{AltersPlaces};
 
@@ -67,10 +66,7 @@ fn cut_ready<B: Blocks>(
 ) -> Result<u32, FilesFault>
     requires length { length ≤ most_cells }
     requires stamp { 1 ≤ stamp }
-    requires range { IsInfo info.now }
-    requires there { B.told → IsInfoOf (rooted (B.shown blocks.old) files.old.inode) info.now }
-    requires ready { IsReadyFile files.old.inode info.now.number }
-    requires kept { is_some (tree_in files.old info.now.number) ≡ true }
+    requires prepared { IsPrepared B.told (B.shown blocks.old) files.old info.now }
     ensures cut { B.told → OnOk result (AreStanding (B.shown blocks.old) files.old → CutsFile (table_in (B.shown blocks.old) files.old) (table_in (B.shown blocks.new) files.new) info.now.number length stamp) }
     ensures counted { B.told → IfOk result (λ count. AreStanding (B.shown blocks.old) files.old → TakesByCut (table_in (B.shown blocks.old) files.old) info.now.number length stamp count) }
     ensures alters { AltersPlaces B.told (Unit {0}) (B.shown blocks.old) (B.shown blocks.new) files.old files.new stamp result }

@@ -171,13 +171,6 @@ fn flush_kept<B: Blocks>(
 {
     match trees.get_mut(&number) {
         Some(tree) => tree.flush(blocks),
-        None => Ok(HOLE),
+        None => Ok(Pointer::HOLE),
     }
 }
-
-/// A pointer that leads nowhere.
-const HOLE: Pointer = Pointer {
-    vvbn: 0,
-    pvbn: 0,
-    stamp: 0,
-};

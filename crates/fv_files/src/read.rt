@@ -9,7 +9,7 @@ ghost use Rattle.fv_tree.specs.Costs.{way_cost};
 ghost use Rattle.fv_inode.specs.Files.{rooted, IsInfo};
 ghost use Rattle.fv_files.specs.Tables.{table_in, tree_known, IsInfoOf};
 ghost use Rattle.fv_files.specs.Failing.{Looks};
-ghost use Rattle.fv_files.specs.Calls.{GivesCell};
+ghost use Rattle.fv_files.specs.Calls.{path_cost, GivesCell};
 
 use crate::files::{Files, FilesFault};
 use crate::hold::stored_tree;
@@ -41,6 +41,32 @@ impl Files {
         if !read_cell(self, blocks, info, index, into)? {
             clear(into);
         }
+        Ok(())
+    }
+
+    /// Block `index` of the file of which this is known, as `read` gives it, with the look-ups of the whole path to it: it follows the path
+    /// from the root of the table to the record of the file first, and so loads a block for each node over the file's inode block, and that
+    /// block, besides.
+    ///
+    /// # Errors
+    ///
+    /// As `look` and `read`. Then the content of `into` is open.
+    pub fn read_by_path<B: Blocks>(
+        &self,
+        blocks: &mut B,
+        info: &Info,
+        index: u32,
+        into: &mut [u8; 4096],
+    ) -> Result<(), FilesFault>
+        requires range { IsInfo info.now }
+        requires there { B.told → IsInfoOf (rooted (B.shown blocks.old) self.now.inode) info.now }
+        ensures block { B.told → OnOk result (GivesCell (table_in (B.shown blocks.old) self.now) info.now.number index into.new) }
+        ensures spent { B.told → OnOk result ((B.shown blocks.new).spent ≡ (B.shown blocks.old).spent + path_cost (B.shown blocks.old).cost (table_in (B.shown blocks.old) self.now) info.now index) }
+        ensures looks { Looks B.told (table_in (B.shown blocks.old) self.now) (B.shown blocks.old) (B.shown blocks.new) result }
+        ensures reads { B.reads blocks.old blocks.new }
+    {
+        self.look(blocks, info.number)?;
+        self.read(blocks, info, index, into)?;
         Ok(())
     }
 }

@@ -8,10 +8,9 @@ ghost use Rattle.fv_tables.specs.Told.{table_told};
 ghost use Rattle.fv_tree.specs.declared.kept.Tree as kept;
 ghost use Rattle.fv_tree.specs.Erasing.{HoldsCells};
 ghost use Rattle.fv_inode.specs.Files.{rooted, IsInfo};
-ghost use Rattle.fv_inode.specs.Readying.{IsReadyFile};
-ghost use Rattle.fv_files.specs.Tables.{table_in, tree_in, AreStanding, IsInfoOf};
+ghost use Rattle.fv_files.specs.Tables.{table_in, AreStanding, IsInfoOf};
 ghost use Rattle.fv_files.specs.Failing.{FilesFail};
-ghost use Rattle.fv_files.specs.Calls.{Changes, KeepsLed, KeptFails, RemovesFile, TakesByRemoval};
+ghost use Rattle.fv_files.specs.Calls.{IsPrepared, Changes, KeepsLed, KeptFails, RemovesFile, TakesByRemoval};
 ghost use Rattle.fv_files.specs.Pending.{pending_in, pending_trees, tree_cost};
 ghost use Rattle.fv_files.specs.Altering.{AltersPlaces};
 
@@ -64,10 +63,7 @@ fn remove_ready<B: Blocks>(
     stamp: u64,
 ) -> Result<u32, FilesFault>
     requires stamp { 1 ≤ stamp }
-    requires range { IsInfo info.now }
-    requires there { B.told → IsInfoOf (rooted (B.shown blocks.old) files.old.inode) info.now }
-    requires ready { IsReadyFile files.old.inode info.now.number }
-    requires kept { is_some (tree_in files.old info.now.number) ≡ true }
+    requires prepared { IsPrepared B.told (B.shown blocks.old) files.old info.now }
     ensures removed { B.told → OnOk result (AreStanding (B.shown blocks.old) files.old → RemovesFile (table_in (B.shown blocks.old) files.old) (table_in (B.shown blocks.new) files.new) info.now.number stamp) }
     ensures counted { B.told → IfOk result (λ count. AreStanding (B.shown blocks.old) files.old → TakesByRemoval (table_in (B.shown blocks.old) files.old) info.now.number stamp count) }
     ensures led { B.told → (now : ℕ) → IsWellTable now (table_told (table_in (B.shown blocks.old) files.old)) → KeepsLed (B.shown blocks.old) (B.shown blocks.new) files.old files.new }

@@ -5,10 +5,9 @@ ghost use Rattle.std.specs.Ordering.{nat_cmp};
 ghost use Rattle.std.specs.BTreeMap as maps;
 ghost use Rattle.fv_tree.specs.Sources.{IsUntouched};
 ghost use Rattle.fv_inode.specs.Files.{rooted, IsInfo};
-ghost use Rattle.fv_inode.specs.Readying.{IsReadyFile};
-ghost use Rattle.fv_files.specs.Tables.{table_in, tree_in, IsInfoOf};
+ghost use Rattle.fv_files.specs.Tables.{table_in, IsInfoOf};
 ghost use Rattle.fv_files.specs.Failing.{FilesFail};
-ghost use Rattle.fv_files.specs.Calls.{longer, Changes, KeepsLed, KeptFails, PutsKept, WritesCell};
+ghost use Rattle.fv_files.specs.Calls.{IsPrepared, longer, Changes, KeepsLed, KeptFails, PutsKept, WritesCell};
 ghost use Rattle.fv_files.specs.Pending.{pending_in};
 ghost use Rattle.fv_files.specs.Altering.{AltersPlaces};
 
@@ -65,10 +64,7 @@ fn write_ready<B: Blocks>(
 ) -> Result<(), FilesFault>
     requires index { index < 2097152 }
     requires stamp { 1 ≤ stamp }
-    requires range { IsInfo info.now }
-    requires there { B.told → IsInfoOf (rooted (B.shown blocks.old) files.old.inode) info.now }
-    requires ready { IsReadyFile files.old.inode info.now.number }
-    requires kept { is_some (tree_in files.old info.now.number) ≡ true }
+    requires prepared { IsPrepared B.told (B.shown blocks.old) files.old info.now }
     ensures written { B.told → OnOk result (WritesCell (table_in (B.shown blocks.old) files.old) (table_in (B.shown blocks.new) files.new) info.now.number index stamp block.now) }
     ensures changes { Changes B.told (Unit {0}) (B.shown blocks.old) (B.shown blocks.new) files.old files.new (KeptFails B.told (B.shown blocks.old) (B.shown blocks.new) files.old info.now.number) result }
     ensures alters { AltersPlaces B.told (Unit {0}) (B.shown blocks.old) (B.shown blocks.new) files.old files.new stamp result }

@@ -13,10 +13,9 @@ use Rattle.fv_model.specs.Space.{commit, commits}
 use Rattle.fv_image.specs.Views.{Head, View, slots}
 use Rattle.fv_image.specs.Volumes.{active_at, named_with, table_at, told, told_with, volume_with, volumes_with}
 use Rattle.fv_image.specs.Held.{Layout}
-use Rattle.fv_image.specs.Sound.{share_name, has_distinct_names}
 use Rattle.fv_image.specs.Seen.{VolumeSeen, seen, volume_seen}
-use Rattle.fv_image.specs.VolumeRules.{commits_seen}
-use Rattle.fv_image.proofs.Admitted.{AllNew, apart_in, name_total, sum_of_entries}
+use Rattle.fv_image.specs.VolumeRules.{commits_seen, share_name, has_distinct_names}
+use Rattle.fv_image.proofs.SummedNames.{AllNew, apart_in, name_total, sum_of_entries}
 use Rattle.fv_image.proofs.SameSeen.{seen_at}
 
 abbrev Named : Type 0

@@ -14,10 +14,9 @@ use Rattle.fv_codec.specs.Blocks.{label_at}
 use Rattle.fv_model.specs.Space.{map_blocks, overhead}
 use Rattle.fv_image.specs.NewerRoot.{Taken}
 use Rattle.fv_image.specs.Containers.{shaped, level_width, height_of}
-use Rattle.fv_image.specs.Views.{Placed, Head, View, head_of, slots, entry_count, vvbns, is_held_in, is_active_map, is_delayed, is_own, own, delayed}
+use Rattle.fv_image.specs.Views.{Placed, Head, View, head_of, slots, entry_count, vvbns, is_held_in, is_active_map, is_delayed, is_own, own, delayed, overheads}
 use Rattle.fv_image.specs.Held.{Lying, Layout, layout_at, view_at, label_in, place_lying, place_of, at_positions, held_by_container, held_by, held}
-use Rattle.fv_image.specs.Sound.{has_shapes, overheads, is_place, all_labels, all_lying}
-use Rattle.fv_image.specs.BlockRules.{are_in_range}
+use Rattle.fv_image.specs.BlockRules.{are_in_range, has_shapes, is_place, all_labels, all_lying}
 use Rattle.fv_image.specs.Soundness.{AreBlocks}
 use Rattle.fv_image.proofs.Kept.{at_number}
 use Rattle.fv_image.proofs.Counts.{parts_of_one, none_between}

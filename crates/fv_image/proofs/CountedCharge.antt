@@ -27,7 +27,7 @@ use Rattle.fv_tables.proofs.IdsTold.{ids_told}
 use Rattle.fv_image.specs.Layout.{block_bits}
 use Rattle.fv_image.specs.Views.{Rooted, Snap, Footing, Head, View, used_slots, volume_bit}
 use Rattle.fv_image.specs.Chains.{under}
-use Rattle.fv_image.specs.Sound.{agree}
+use Rattle.fv_image.specs.BlockRules.{agree}
 use Rattle.fv_image.specs.Volumes.{standing_of, table_at, snap_told, snap_at, base_on, base_from, volume_with, volume_told}
 use Rattle.fv_image.specs.Seen.{Based, roots_of, base_root, based_at, based_on, base_seen, volume_seen, seen}
 use Rattle.fv_image.specs.ReachRules.{is_hint, has_pointers_in_range, is_reach, are_distinct}
@@ -36,7 +36,7 @@ use Rattle.fv_image.specs.VolumeRules.{has_distinct_snapshots}
 use Rattle.fv_image.specs.Staying.{items_of, own_items, base_items}
 use Rattle.fv_image.specs.Charged.{out_items}
 use Rattle.fv_image.proofs.SameSeen.{of_volume, of_items}
-use Rattle.fv_image.proofs.Samples.{agree_same}
+use Rattle.fv_image.proofs.SoundFacts.{agree_same}
 use Rattle.fv_image.proofs.OwnIds.{one_id, one_vvbn}
 use Rattle.fv_image.proofs.OwnUses.{HasLabelNumbers, seen_items, snap_count, snap_found}
 use Rattle.fv_image.proofs.WellVolumes.{found_in, named_snap}

@@ -1,5 +1,5 @@
 -- An aggregate without labels, whose map is clear, stands for the machine without volumes.
-use Rattle.std.proofs.Common.{◌≡◌, ℕ, zero, suc, ◌+◌, ◌-◌, ◌≤◌, Bool, true, false, refl, sym, ap, subst, arith}
+use Rattle.std.proofs.Common.{◌≡◌, ℕ, zero, suc, ◌+◌, ◌-◌, ◌≤◌, Bool, true, false, refl, sym, ap, subst, ◌∙◌, arith}
 use Rattle.std.specs.Prelude.{Some, None, nat_le}
 use Rattle.std.specs.List.{list_all, range_with_len}
 use Rattle.std.proofs.lemmas.Bool.Decides.{nat_tests}
@@ -7,12 +7,18 @@ use Rattle.fv_disk.specs.Shown.{Image}
 use Rattle.fv_model.specs.Machines.{empty_machine, first_block, capacity}
 use Rattle.fv_image.specs.NewerRoot.{Taken, root_of}
 use Rattle.fv_image.specs.Maps.{area_bits, map_bit}
-use Rattle.fv_image.specs.Views.{View, slots, own, delayed}
-use Rattle.fv_image.specs.Told.{is_all_plain, volumes, told}
+use Rattle.fv_image.specs.Views.{View, slots, own, delayed, overheads}
 use Rattle.fv_image.specs.Held.{Layout, layout_at, view_at, label_place, label_lying, label_in, lying_at, node_from, entry_from, held_by, held_by_container, held}
-use Rattle.fv_image.specs.Sound.{IsSound, has_shapes, is_in_range, has_entries_within, has_distinct_names, is_in_position, has_true_maps, is_held_once, has_true_map, has_true_kinds, has_true_levels, has_true_labels, is_in_size, is_in_capacity, has_room, committed, overheads}
-use Rattle.fv_image.specs.MachineOf.{machine_of, Tells}
-use Rattle.fv_image.proofs.Stands.{machine_stands}
+use Rattle.fv_image.specs.Volumes.{told_with, volumes_with}
+use Rattle.fv_image.specs.Seen.{seen}
+use Rattle.fv_image.specs.BlockRules.{has_shapes, are_in_range, has_entries_within, is_in_position, is_held_once, has_true_map}
+use Rattle.fv_image.specs.ReachRules.{has_reached_shapes, has_pointers_in_range, has_reached_positions, has_distinct_files, reaches_once, has_maps_of_reach, has_map_blocks, has_map_kinds, has_reached_kinds}
+use Rattle.fv_image.specs.TableRules.{has_one_to_one, has_stamps_past, has_marks_over, has_cells_within, has_levels}
+use Rattle.fv_image.specs.HintRules.{has_true_hints, leads_unknown, has_known_places, has_split_places, leaves_base, rests_on_base}
+use Rattle.fv_image.specs.VolumeRules.{has_wide_spans, has_bases, has_distinct_names, has_distinct_snapshots, has_use_in_size, commits_seen, has_commits_in_capacity}
+use Rattle.fv_image.specs.Soundness.{AreBlocks, AreTables, AreMaps, IsSound}
+use Rattle.fv_image.specs.WholeMachine.{is_built, has_no_reserves, machine_of, Tells}
+use Rattle.fv_image.proofs.SoundTests.{machine_told, machine_under}
 
 -- a layout in which nothing is
 abbrev empty_view : ℕ → ℕ → View
@@ -56,39 +62,70 @@ all_of_range test always from zero = refl
 all_of_range test always from (suc count) = rw (always from, all_of_range test always (from + 1) count) refl
 
 module _ (blocks version : ℕ) (size : 512 ≤ blocks) where
-  empty_is_sound : IsSound (empty_layout blocks version)
-  unfolding has_shapes is_in_range has_entries_within has_distinct_names is_in_position has_true_maps is_held_once has_true_map has_true_kinds has_true_levels has_true_labels is_in_size is_in_capacity has_room committed overheads own delayed slots held held_by held_by_container label_in
-  empty_is_sound = record {
+  blocks_empty : AreBlocks (empty_layout blocks version)
+  unfolding has_shapes are_in_range has_entries_within is_in_position is_held_once has_true_map slots held held_by held_by_container label_in
+  blocks_empty = record {
     shapes = refl;
     ranges = refl;
     entries = refl;
-    names = refl;
     positions = refl;
-    maps = refl;
     once = refl;
     map = all_of_range (λ b. true) (λ k. refl) 0 (area_bits blocks);
+  }
+
+  tables_empty : AreTables (seen (empty_view blocks version))
+  unfolding seen has_reached_shapes has_pointers_in_range has_wide_spans has_bases has_distinct_snapshots has_distinct_files has_reached_positions reaches_once has_reached_kinds has_one_to_one has_stamps_past has_marks_over has_cells_within has_levels has_true_hints leads_unknown has_known_places has_split_places leaves_base rests_on_base has_use_in_size has_commits_in_capacity commits_seen slots
+  tables_empty = record {
+    shapes = refl;
+    ranges = refl;
+    spans = refl;
+    bases = refl;
+    snapshots = refl;
+    files = refl;
+    positions = refl;
+    once = refl;
     kinds = refl;
+    ids = refl;
+    stamps = refl;
+    marks = refl;
+    cells = refl;
     levels = refl;
-    labels = refl;
+    hints = refl;
+    unknown = refl;
+    known = refl;
+    split = refl;
+    leaves = refl;
+    rests = refl;
     sizes = refl;
     commits = enough (capacity blocks);
-    room = room;
   }
     where
       enough : (n : ℕ) → nat_le 0 n ≡ true
       enough n = grind (arith, nat_tests)
 
+  maps_empty : AreMaps (empty_view blocks version)
+  unfolding has_map_blocks has_maps_of_reach has_map_kinds slots
+  maps_empty = record { there = refl; reach = refl; kinds = refl }
+
+  empty_is_sound : IsSound (empty_layout blocks version)
+  unfolding has_distinct_names overheads own delayed slots
+  empty_is_sound = record {
+    blocks = blocks_empty;
+    tables = tables_empty;
+    maps = maps_empty;
+    names = refl;
+    room = room;
+  }
+    where
       room : nat_le 256 (blocks - first_block blocks - 0 - 0) ≡ true
       room = let e : 256 ≤ blocks - first_block blocks - 0 - 0 = omega arith in grind (arith, nat_tests)
 
   tells_empty : Tells (empty_layout blocks version) (record (empty_machine blocks) { version = version })
-  unfolding is_all_plain told volumes slots
-  tells_empty = record { plain = refl; sound = empty_is_sound; machine = refl }
+  unfolding is_built has_no_reserves seen told_with volumes_with slots
+  tells_empty = record { built = refl; sound = empty_is_sound; machine = refl }
 
 pub machine_is_empty : (i : Image) (t : Taken) → root_of i ≡ Some t → 512 ≤ t.blocks → ((s : ℕ) → label_place t s ≡ 0) → ((b : ℕ) → map_bit t i b ≡ false)
     → machine_of i ≡ Some (record (empty_machine t.blocks) { version = t.root.version })
-machine_is_empty i t counts size bare clear = machine_stands i _ (record {
-  taken = t;
-  counts = counts;
-  tells = subst (λ (y : Layout). Tells y (record (empty_machine t.blocks) { version = t.root.version })) (sym (is_empty t i bare clear)) (tells_empty t.blocks t.root.version size);
-})
+machine_is_empty i t counts size bare clear = machine_under i t counts
+    ∙ machine_told (layout_at t i) (record (empty_machine t.blocks) { version = t.root.version })
+    (subst (λ (y : Layout). Tells y (record (empty_machine t.blocks) { version = t.root.version })) (sym (is_empty t i bare clear)) (tells_empty t.blocks t.root.version size))

@@ -1,27 +1,17 @@
-mod Rows
 pub mod SameContainers
 pub mod Named
 pub mod SameLayout
 pub mod Kept
-pub mod Stands
 pub mod InRange
 pub mod Counts
 pub mod Overheads
 pub mod Counted
 pub mod Room
-pub mod Added
-pub mod EmptyVolumes
 pub mod Promises
 pub mod Empty
-mod Vectors
 pub mod Uses
-mod LoneLeaf
-mod LoneVolumes
-mod Samples
 pub mod Zeros
-mod Faults
-pub mod Admitted
-pub mod Crashes
+pub mod SummedNames
 pub mod SoundFacts
 pub mod WholeSlots
 pub mod Replaced
@@ -31,14 +21,7 @@ pub mod ReclaimedSlots
 pub mod Rewritten
 pub mod SoundTests
 pub mod SameSeen
-pub mod PlainVolumes
-pub mod PlainImages
 pub mod Points
-mod Computing
-mod FileVectors
-mod SmallImages
-mod FileRows
-mod FileFaults
 pub mod Spaced
 pub mod Counting
 pub mod OwnIds
@@ -46,8 +29,6 @@ pub mod OwnUses
 pub mod OwnBases
 pub mod LabelNumbers
 pub mod Hints
-mod BlockFaults
-mod SoundFiles
 pub mod WellTrees
 pub mod WellNodes
 pub mod WellTables
@@ -55,17 +36,11 @@ pub mod WellRoots
 pub mod WellVolumes
 pub mod WellImages
 pub mod WellLabels
-mod DeepTrees
-mod DeepFiles
-mod SmallTables
-mod SpaceFaults
 pub mod ChargeBits
 pub mod LoneTables
+pub mod OwnBlocks
 pub mod SoundSlots
 pub mod StoredSlots
-pub mod Undelayed
-pub mod Reaching
-pub mod Beside
 pub mod Committed
 pub mod Different
 pub mod CountedCharge

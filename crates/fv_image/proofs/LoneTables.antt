@@ -12,7 +12,7 @@ use Rattle.fv_model.specs.Tables.{File}
 use Rattle.fv_laws.specs.Positions.{HasNoReserve}
 use Rattle.fv_tables.specs.Told.{Standing, file_at, tree_of, file_told, file_in, records}
 use Rattle.fv_tables.proofs.Tables.{files_told}
-use Rattle.fv_image.specs.Chains.{along, parent_in, span_at, place, under}
+use Rattle.fv_image.specs.Chains.{along, parent_in, span_at, place}
 use Rattle.fv_image.specs.Views.{Placed, Footing, Head, View, slots}
 use Rattle.fv_image.specs.Volumes.{standing_of, table_at}
 use Rattle.fv_image.specs.Seen.{root_seen, volume_seen, seen}

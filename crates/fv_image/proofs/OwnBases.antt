@@ -27,7 +27,7 @@ use Rattle.fv_model.specs.Volumes.{Base}
 use Rattle.fv_model.specs.Space.{ids_left_out, use_of}
 use Rattle.fv_image.specs.Views.{Footing, Head, View, Rooted as Root, vvbns, is_own}
 use Rattle.fv_image.specs.Volumes.{standing_of, table_at, snap_at, base_on, base_told, base_from, volume_with, volume_told}
-use Rattle.fv_image.specs.Sound.{agree}
+use Rattle.fv_image.specs.BlockRules.{agree}
 use Rattle.fv_image.specs.Seen.{Reached, Root as RootSeen, Based, VolumeSeen, roots_of, base_root, based_at, based_on, base_seen, volume_seen, seen}
 use Rattle.fv_image.specs.TableRules.{all_items, has_same_id, has_one_to_one}
 use Rattle.fv_image.specs.HintRules.{leaves_base}

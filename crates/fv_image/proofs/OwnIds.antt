@@ -18,9 +18,9 @@ use Rattle.fv_tables.proofs.IdsTold.{ids_told}
 use Rattle.fv_image.specs.Views.{View, Rooted as Root}
 use Rattle.fv_image.specs.Chains.{under}
 use Rattle.fv_image.specs.Volumes.{standing_of, table_at}
-use Rattle.fv_image.specs.Sound.{agree}
+use Rattle.fv_image.specs.BlockRules.{agree}
 use Rattle.fv_image.specs.TableRules.{has_same_id}
-use Rattle.fv_image.proofs.Samples.{agree_same}
+use Rattle.fv_image.proofs.SoundFacts.{agree_same}
 
 -- All that a table reaches has its id there.
 pub all_ids : (w : View) (s : ℕ) (r : Root) → r.levels ≤ 2 → list_all (λ e. set.contains (ids_of (table_at w s r)) (id_of e)) (items (standing_of w s r)) ≡ true

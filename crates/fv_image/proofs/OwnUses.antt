@@ -28,7 +28,7 @@ use Rattle.fv_tables.proofs.Lists.{tied, all_in_range}
 use Rattle.fv_tables.proofs.Listed.{picked, picked_all, picked_is}
 use Rattle.fv_image.specs.Layout.{block_bits}
 use Rattle.fv_image.specs.Views.{Rooted, Snap, Head, View, vvbns, volume_bit, used_slots, is_held_in, is_active_map, is_own}
-use Rattle.fv_image.specs.Sound.{agree}
+use Rattle.fv_image.specs.BlockRules.{agree}
 use Rattle.fv_image.specs.Volumes.{standing_of, table_at, snap_told, volume_with, volume_told}
 use Rattle.fv_image.specs.Seen.{Reached, Root, Based, reached_at, root_seen, roots_of, volume_seen, seen}
 use Rattle.fv_image.specs.ReachRules.{is_reach, has_maps_of_reach, are_distinct}

@@ -13,13 +13,13 @@ use Rattle.fv_model.specs.Space.{map_blocks, use_of, overhead, promised, commit}
 use Rattle.fv_tables.specs.Reached.{Item, items, is_listed}
 use Rattle.fv_tables.proofs.Lists.{all_of_range}
 use Rattle.fv_image.specs.Layout.{block_bits}
-use Rattle.fv_image.specs.Views.{Rooted, Head, View, slots, vvbns, volume_bit, is_own, own, delayed}
+use Rattle.fv_image.specs.Views.{Rooted, Head, View, slots, vvbns, volume_bit, is_own, own, delayed, overheads, leaves_room}
 use Rattle.fv_image.specs.Held.{Layout}
-use Rattle.fv_image.specs.Sound.{agree, overheads, has_distinct_names, leaves_room}
+use Rattle.fv_image.specs.BlockRules.{agree}
 use Rattle.fv_image.specs.Volumes.{standing_of, volume_with, volume_told, told}
 use Rattle.fv_image.specs.Seen.{VolumeSeen, roots_of, volume_seen, seen}
 use Rattle.fv_image.specs.ReachRules.{is_reach, has_maps_of_reach, has_map_blocks, has_map_kinds}
-use Rattle.fv_image.specs.VolumeRules.{has_bases, has_use_in_size, uses_seen, commits_seen, has_commits_in_capacity}
+use Rattle.fv_image.specs.VolumeRules.{has_bases, has_use_in_size, uses_seen, commits_seen, has_commits_in_capacity, has_distinct_names}
 use Rattle.fv_image.specs.HintRules.{rests_on_base}
 use Rattle.fv_image.specs.Staying.{items_of, own_items, StaysHeld}
 use Rattle.fv_image.specs.Soundness.{AreBlocks, AreTables, IsSound}
@@ -116,7 +116,7 @@ pub room_with_delayed : (w : View) → UsesOwn w → (room : ℕ) → 2 * overhe
 room_with_delayed w uses room enough = room_from w room (omega (arith, own_used w uses, enough))
 
 -- twice a sum and another are within a third where the parts are
-within_third : (a b c : ℕ → ℕ) (from count : ℕ) → ((k : ℕ) → from ≤ k → k < from + count → 2 * a k + b k ≤ c k) → 2 * sum_by a (range_with_len from count) + sum_by b (range_with_len from count) ≤ sum_by c (range_with_len from count)
+pub within_third : (a b c : ℕ → ℕ) (from count : ℕ) → ((k : ℕ) → from ≤ k → k < from + count → 2 * a k + b k ≤ c k) → 2 * sum_by a (range_with_len from count) + sum_by b (range_with_len from count) ≤ sum_by c (range_with_len from count)
 within_third a b c from zero each = omega arith
 within_third a b c from (suc count) each = omega (
   arith,

@@ -6,7 +6,7 @@ use Rattle.std.proofs.lemmas.Bool.{both_ways, or_left, or_right, or_from}
 use Rattle.std.proofs.lemmas.Bool.Decides.{nat_tests}
 use Rattle.std.proofs.lemmas.List.Sums.{sum_by-cons, sum_by-append}
 use Rattle.fv_image.specs.Held.{Layout, held, is_held}
-use Rattle.fv_image.specs.Sound.{is_held_once}
+use Rattle.fv_image.specs.BlockRules.{is_held_once}
 use Rattle.fv_image.proofs.InRange.{of_listed}
 
 -- ---- lists and how often they hold a number

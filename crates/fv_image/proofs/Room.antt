@@ -7,9 +7,9 @@ use Rattle.std.proofs.lemmas.Bool.Decides.{nat_tests}
 use Rattle.fv_bits.proofs.Counts.{passing_same}
 use Rattle.fv_model.specs.Machines.{first_block}
 use Rattle.fv_image.specs.Maps.{area_bits}
-use Rattle.fv_image.specs.Views.{own, delayed}
+use Rattle.fv_image.specs.Views.{own, delayed, overheads, leaves_room}
 use Rattle.fv_image.specs.Held.{Layout, held, is_held}
-use Rattle.fv_image.specs.Sound.{agree, has_true_map, overheads, leaves_room}
+use Rattle.fv_image.specs.BlockRules.{agree, has_true_map}
 use Rattle.fv_image.specs.Soundness.{AreBlocks, IsSound}
 use Rattle.fv_image.proofs.Kept.{at_number}
 use Rattle.fv_image.proofs.Counts.{others, listed_within}

@@ -23,16 +23,15 @@ use Rattle.fv_tables.proofs.Listed.{picked, picked_all, picked_is}
 use Rattle.fv_tables.proofs.TablePlaces.{pointer_in, number, at_place, listed_place, owner_is}
 use Rattle.fv_image.specs.Layout.{block_bits}
 use Rattle.fv_image.specs.Chains.{place, under}
-use Rattle.fv_image.specs.Views.{Placed, Rooted, Head, View, volume_bit}
-use Rattle.fv_image.specs.Sound.{agree, kind_at}
+use Rattle.fv_image.specs.Views.{Placed, Rooted, Head, View, volume_bit, kind_at}
+use Rattle.fv_image.specs.BlockRules.{agree}
 use Rattle.fv_image.specs.Volumes.{standing_of}
 use Rattle.fv_image.specs.Seen.{Reached, Root, VolumeSeen, reached_at, root_seen, roots_of, volume_seen, seen}
 use Rattle.fv_image.specs.ReachRules.{kind_of, is_same_position, is_hint, has_pointers_in_range, reaches_once, has_reached_kinds, is_reach, has_maps_of_reach}
 use Rattle.fv_image.specs.HintRules.{is_true_hint, has_true_hints}
 use Rattle.fv_image.specs.Soundness.{AreTables, AreMaps}
-use Rattle.fv_image.proofs.SoundFacts.{of_slot}
+use Rattle.fv_image.proofs.SoundFacts.{of_slot, agree_same}
 use Rattle.fv_image.proofs.SameSeen.{of_volume}
-use Rattle.fv_image.proofs.Samples.{agree_same}
 use Rattle.fv_image.proofs.WellRoots.{all_one}
 use Rattle.fv_image.proofs.ChargeBits.{led_once}
 use Rattle.fv_image.proofs.LoneTables.{kind_led, IsLedEntry}

@@ -347,7 +347,7 @@ module _ (w u : View) (stays : StaysHeld w u) (bases : has_bases (seen w) ≡ tr
   -- The rules on tables look at the same.
   pub same_seen : seen u ≡ seen w
   unfolding seen
-  same_seen = λ i. record { blocks = stays.blocks i; volume = λ s. volumes s i }
+  same_seen = λ i. record { blocks = stays.blocks i; version = stays.version i; volume = λ s. volumes s i }
     where
       of_head : (s : ℕ) → s < 64 → (o : Option Head) → w.head s ≡ o → option_map (volume_seen u s) o ≡ option_map (volume_seen w s) o
       of_head s inside None e = refl

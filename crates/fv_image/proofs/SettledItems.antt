@@ -29,7 +29,7 @@ use Rattle.fv_tables.proofs.TablePlaces.{pointer_in, at_place, stamp_is}
 use Rattle.fv_tables.proofs.IdsTold.{owner_back}
 use Rattle.fv_image.specs.Chains.{under}
 use Rattle.fv_image.specs.Views.{Rooted, Snap, Head, View}
-use Rattle.fv_image.specs.Sound.{agree}
+use Rattle.fv_image.specs.BlockRules.{agree}
 use Rattle.fv_image.specs.Volumes.{standing_of, table_at, volume_with, volume_told}
 use Rattle.fv_image.specs.Seen.{seen}
 use Rattle.fv_image.specs.ReachRules.{has_pointers_in_range}
@@ -37,7 +37,7 @@ use Rattle.fv_image.specs.TableRules.{has_one_to_one}
 use Rattle.fv_image.specs.VolumeRules.{has_distinct_snapshots}
 use Rattle.fv_image.specs.Staying.{items_of, own_items}
 use Rattle.fv_image.specs.Charged.{out_items}
-use Rattle.fv_image.proofs.Samples.{agree_same, agree_itself}
+use Rattle.fv_image.proofs.SoundFacts.{agree_same, agree_itself}
 use Rattle.fv_image.proofs.OwnUses.{HasLabelNumbers, snap_found}
 use Rattle.fv_image.proofs.CountedCharge.{HasParentNumbers, root_ids, snap_few, out_ids, told, kept_snap, distinct, one_to_one}
 

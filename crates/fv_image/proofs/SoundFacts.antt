@@ -1,8 +1,8 @@
 -- What a test of all slots or positions says of one.
-use Rattle.std.proofs.Common.{◌≡◌, ◌≢◌, ℕ, zero, suc, ◌+◌, ◌<◌, ◌≤◌, Bool, true, List, [], ◌∷◌, refl, sym, subst, ◌∙◌, arith, ⊎_elim, Ok, Err}
+use Rattle.std.proofs.Common.{◌≡◌, ◌≢◌, ℕ, zero, suc, ◌+◌, ◌<◌, ◌≤◌, Bool, true, false, List, [], ◌∷◌, refl, sym, subst, ◌∙◌, arith, ⊎_elim, Ok, Err}
 use Rattle.std.specs.Prelude.{flat_map}
 use Rattle.std.specs.List.{list_all, range_with_len}
-use Rattle.std.proofs.lemmas.Bool.{and_parts, cases_eq}
+use Rattle.std.proofs.lemmas.Bool.{and_parts, cases_eq, not-true}
 use Rattle.std.proofs.lemmas.List.Folds.{list_all-append}
 use Rattle.fv_disk.specs.Shown.{Image}
 use Rattle.fv_codec.specs.declared.label.Label.{Label}
@@ -11,8 +11,18 @@ use Rattle.fv_codec.specs.Blocks.{label_at}
 use Rattle.fv_image.specs.Containers.{shaped, level_width}
 use Rattle.fv_image.specs.Views.{slots, entry_count}
 use Rattle.fv_image.specs.Held.{lying_at, label_in, at_positions}
-use Rattle.fv_image.specs.Sound.{is_fine}
+use Rattle.fv_image.specs.BlockRules.{agree, is_fine}
 use Rattle.fv_image.proofs.Kept.{at_number}
+
+-- ---- truth values that agree
+
+pub agree_same : (x y : Bool) → agree x y ≡ true → x ≡ y
+agree_same true y e = sym e
+agree_same false y e = sym (not-true y e)
+
+pub agree_itself : (x : Bool) → agree x x ≡ true
+agree_itself true = refl
+agree_itself false = refl
 
 -- ---- one slot of all
 

@@ -11,11 +11,10 @@ use Rattle.fv_codec.specs.Blocks.{label_at}
 use Rattle.fv_model.specs.Machines.{first_block}
 use Rattle.fv_model.specs.Space.{map_blocks}
 use Rattle.fv_image.specs.Containers.{shaped, level_width, height_of, node_verdict, has_none_past}
-use Rattle.fv_image.specs.Views.{Placed, Head, Rooted, View, head_of, slots, entry_count, vvbns, map_vvbn}
+use Rattle.fv_image.specs.Views.{Placed, Head, Rooted, View, head_of, slots, entry_count, vvbns, map_vvbn, kind_at, map_kind}
 use Rattle.fv_image.specs.Held.{Lying, Layout, label_in, at_positions, place_lying, place_of, held_by_container, held_by, held, is_held}
-use Rattle.fv_image.specs.Sound.{has_shapes, has_entries_within, is_in_position, is_place, is_fine, kind_at, all_lying, all_labels, all_nodes, has_node_shape}
-use Rattle.fv_image.specs.BlockRules.{are_in_range}
-use Rattle.fv_image.specs.Seen.{roots_of}
+use Rattle.fv_image.specs.BlockRules.{are_in_range, has_shapes, has_entries_within, is_in_position, is_place, is_fine, all_lying, all_labels, all_nodes, has_node_shape}
+use Rattle.fv_image.specs.Seen.{roots_of, own_blocks}
 use Rattle.fv_image.specs.ReachRules.{all_of_view, has_map_blocks, has_map_kinds}
 use Rattle.fv_image.specs.Soundness.{AreBlocks}
 use Rattle.fv_image.specs.Whole.{is_held_by, times_held}
@@ -23,6 +22,7 @@ use Rattle.fv_image.specs.SoundSlots.{has_maps_there, HasSameSlot, IsSoundVolume
 use Rattle.fv_image.proofs.Named.{slot_in}
 use Rattle.fv_image.proofs.InRange.{of_listed}
 use Rattle.fv_image.proofs.Counted.{HasHeads}
+use Rattle.fv_image.proofs.OwnBlocks.{own_tests}
 use Rattle.fv_image.proofs.SoundFacts.{of_slot, of_position, fine_is}
 use Rattle.fv_image.proofs.Spaced.{AreSpaced, spaced_once, spaced_map}
 use Rattle.fv_image.proofs.WholeSlots.{all_between, all_listed, all_parts, all_positions, fine_from, node_shape, ok_of}
@@ -48,7 +48,7 @@ labelled y s is None lies = inl refl
 labelled y s is (Some x) lies = let v = is.volume x lies in inr (v.0, ap shaped v.1, v.2)
 
 -- a map block that is one is there
-there_with_kind : (o : Option Placed) → (kind_at o == 8) ≡ true → is_some o ≡ true
+there_with_kind : (o : Option Placed) → (kind_at o == map_kind) ≡ true → is_some o ≡ true
 there_with_kind None e = absurd cc
 there_with_kind (Some x) e = refl
 
@@ -57,13 +57,13 @@ all_there test more gives [] all = refl
 all_there test more gives (x ∷ xs) all = let parts = and_parts (test x) (list_all test xs) all in and_from (more x) _ (gives x parts.0) (all_there test more gives xs parts.1)
 
 maps_there : (w : View) (s : ℕ) (span : ℕ) (rs : List (ℕ × Rooted))
-    → list_all (λ (r : ℕ × Rooted). list_all (λ k. kind_at (w.entry s (map_vvbn span r.0 k)) == 8) (range_with_len 0 (map_blocks span))) rs ≡ true
+    → list_all (λ (r : ℕ × Rooted). list_all (λ k. kind_at (w.entry s (map_vvbn span r.0 k)) == map_kind) (range_with_len 0 (map_blocks span))) rs ≡ true
     → list_all (λ (r : ℕ × Rooted). list_all (λ k. is_some (w.entry s (map_vvbn span r.0 k))) (range_with_len 0 (map_blocks span))) rs ≡ true
 maps_there w s span [] all = refl
 maps_there w s span (r ∷ rs) all =
     let parts = and_parts _ _ all in
     and_from _ _
-    (all_there (λ k. kind_at (w.entry s (map_vvbn span r.0 k)) == 8) (λ k. is_some (w.entry s (map_vvbn span r.0 k))) (λ k. there_with_kind (w.entry s (map_vvbn span r.0 k))) (range_with_len 0 (map_blocks span)) parts.0)
+    (all_there (λ k. kind_at (w.entry s (map_vvbn span r.0 k)) == map_kind) (λ k. is_some (w.entry s (map_vvbn span r.0 k))) (λ k. there_with_kind (w.entry s (map_vvbn span r.0 k))) (range_with_len 0 (map_blocks span)) parts.0)
     (maps_there w s span rs parts.1)
 
 module _ (y : Layout) (heads : HasHeads y) (each : (s : ℕ) → s < 64 → IsSoundSlot y s) where
@@ -126,7 +126,8 @@ module _ (y : Layout) (heads : HasHeads y) (each : (s : ℕ) → s < 64 → IsSo
   -- and its map blocks are there,
   pub maps_from_slots : has_map_blocks y.view ≡ true
   unfolding has_map_blocks
-  maps_from_slots = of_heads _ (λ s l is. maps_there y.view s (head_of l).span (roots_of (head_of l)) is.maps)
+  maps_from_slots = of_heads _ (λ s l is. own_tests (λ b. is_some (y.view.entry s b.0)) y.view.version (head_of l)
+      ∙ maps_there y.view s (head_of l).span (roots_of (head_of l)) (sym (own_tests (λ b. kind_at (y.view.entry s b.0) == b.1) y.view.version (head_of l)) ∙ is.maps))
 
   -- as map blocks.
   pub kinds_from_slots : has_map_kinds y.view ≡ true
@@ -235,5 +236,5 @@ module _ (y z : Layout) (s : ℕ) (same : HasSameSlot y z s) where
         height = is.height;
         nodes = λ level number x low within node. is.nodes level number x low within (sym (same.node level number) ∙ node);
         ends = λ level number x low within node. is.ends level number x low within (sym (same.node level number) ∙ node);
-        maps = (λ i. list_all (λ (r : ℕ × Rooted). list_all (λ k. kind_at (same.entry (map_vvbn (head_of l).span r.0 k) i) == 8) (range_with_len 0 (map_blocks (head_of l).span))) (roots_of (head_of l))) ∙ is.maps;
+        maps = (λ i. list_all (λ (b : ℕ × ℕ). kind_at (same.entry b.0 i) == b.1) (own_blocks z.view.version (head_of l))) ∙ is.maps;
       }

@@ -1,12 +1,12 @@
 -- Soundness as a test and as a record, and the machine of an image as what makes it stand.
 use Rattle.std.proofs.Common.{◌≡◌, Bool, true, false, refl, sym, ap, subst, ◌∙◌}
-use Rattle.std.specs.Prelude.{Some, None, ◌&&◌, if◌then◌else◌}
+use Rattle.std.specs.Prelude.{Option, Some, None, ◌&&◌, if◌then◌else◌}
 use Rattle.std.specs.Option.{option_and_then}
 use Rattle.std.proofs.lemmas.Bool.{and_parts, and_from}
 use Rattle.fv_disk.specs.Shown.{Image}
 use Rattle.fv_model.specs.Machines.{Machine}
 use Rattle.fv_image.specs.NewerRoot.{Taken, root_of}
-use Rattle.fv_image.specs.Views.{View}
+use Rattle.fv_image.specs.Views.{View, leaves_room}
 use Rattle.fv_image.specs.Held.{Layout, layout_at, AgreeOnNamed}
 use Rattle.fv_image.specs.Volumes.{told}
 use Rattle.fv_image.specs.Seen.{Seen, seen}
@@ -14,7 +14,7 @@ use Rattle.fv_image.specs.BlockRules.{has_shapes, are_in_range, has_entries_with
 use Rattle.fv_image.specs.ReachRules.{has_reached_shapes, has_pointers_in_range, has_reached_positions, has_distinct_files, reaches_once, has_maps_of_reach, has_map_blocks, has_map_kinds, has_reached_kinds}
 use Rattle.fv_image.specs.TableRules.{has_one_to_one, has_stamps_past, has_marks_over, has_cells_within, has_levels}
 use Rattle.fv_image.specs.HintRules.{has_true_hints, leads_unknown, has_known_places, has_split_places, leaves_base, rests_on_base}
-use Rattle.fv_image.specs.VolumeRules.{has_wide_spans, has_bases, has_distinct_names, has_distinct_snapshots, has_use_in_size, has_commits_in_capacity, leaves_room}
+use Rattle.fv_image.specs.VolumeRules.{has_wide_spans, has_bases, has_distinct_names, has_distinct_snapshots, has_use_in_size, has_commits_in_capacity}
 use Rattle.fv_image.specs.Soundness.{AreBlocks, AreTables, AreMaps, IsSound, are_blocks, are_tables, are_maps, is_sound}
 use Rattle.fv_image.specs.WholeMachine.{is_built, machine_from, machine_at, machine_of, Tells}
 use Rattle.fv_image.proofs.SameLayout.{same_layout}
@@ -152,6 +152,15 @@ tells_from y m e = so (is_built y.view && is_sound y) refl e
 pub machine_under : (i : Image) (t : Taken) → root_of i ≡ Some t → machine_of i ≡ machine_from (layout_at t i)
 unfolding machine_of
 machine_under i t counts = ap (option_and_then (λ t. machine_at t i)) counts
+
+-- An image that stands for a machine has a root that counts, under which it tells that machine.
+pub stands_for : (i : Image) (m : Machine) → machine_of i ≡ Some m → (t : Taken) × ((root_of i ≡ Some t) × Tells (layout_at t i) m)
+unfolding machine_of
+stands_for i m is = so (root_of i) refl is
+  where
+    so : (o : Option Taken) → root_of i ≡ o → option_and_then (λ t. machine_at t i) o ≡ Some m → (t : Taken) × ((root_of i ≡ Some t) × Tells (layout_at t i) m)
+    so None e is = absurd cc
+    so (Some t) e is = (t, (e, tells_from (layout_at t i) m is))
 
 -- ---- images that agree on what is held
 

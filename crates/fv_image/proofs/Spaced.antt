@@ -10,7 +10,7 @@ use Rattle.std.proofs.lemmas.List.Folds.{list_any-append}
 use Rattle.fv_image.specs.Maps.{area_bits}
 use Rattle.fv_image.specs.Views.{slots}
 use Rattle.fv_image.specs.Held.{Layout, held_by, held, is_held}
-use Rattle.fv_image.specs.Sound.{agree, is_held_once, has_true_map}
+use Rattle.fv_image.specs.BlockRules.{agree, is_held_once, has_true_map}
 use Rattle.fv_image.specs.Whole.{is_held_by, times_held}
 use Rattle.fv_image.proofs.Named.{slot_in}
 use Rattle.fv_image.proofs.Room.{bit_is_held}

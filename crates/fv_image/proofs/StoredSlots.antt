@@ -11,7 +11,7 @@ use Rattle.fv_image.specs.NewerRoot.{Taken}
 use Rattle.fv_image.specs.Containers.{shaped, level_width, node_of, node_verdict, has_none_past}
 use Rattle.fv_image.specs.Views.{entry_count, vvbns}
 use Rattle.fv_image.specs.Held.{Lying, layout_at, view_at, lying_at, label_place, label_lying, label_in, node_from, entry_from, place_lying, at_positions}
-use Rattle.fv_image.specs.Sound.{is_place}
+use Rattle.fv_image.specs.BlockRules.{is_place}
 use Rattle.fv_image.specs.Whole.{times_held}
 use Rattle.fv_image.specs.Reclaimed.{IsNodeOf, IsEntryPlace, IsAllocatable, entry_at}
 use Rattle.fv_image.specs.SoundSlots.{AreDifferent, IsSoundSlot, IsSoundVolume, IsStoredSlot}

@@ -13,13 +13,13 @@ use Rattle.fv_laws.proofs.Lists.{In, in_left, in_right, in_either, in_map, from_
 use Rattle.fv_laws.proofs.Tests.{from_all, to_all}
 use Rattle.fv_tables.specs.Told.{records}
 use Rattle.fv_tables.specs.Reached.{Item, items}
-use Rattle.fv_image.specs.Views.{Rooted, Snap, Footing, Head, View, slots}
-use Rattle.fv_image.specs.Sound.{agree, is_fine, is_unknown, kind_at}
+use Rattle.fv_image.specs.Views.{Rooted, Snap, Footing, Head, View, slots, kind_at}
+use Rattle.fv_image.specs.BlockRules.{agree, is_fine}
 use Rattle.fv_image.specs.Volumes.{table_at, snap_at, volume_with, volume_told}
 use Rattle.fv_image.specs.Seen.{Reached, Root, Based, VolumeSeen, Seen, reached_at, root_seen, roots_of, base_root, based_on, base_seen, volume_seen, seen}
 use Rattle.fv_image.specs.ReachRules.{all_volumes, all_roots, kind_of, shape_for, block_is, has_reached_shapes, is_hint, has_pointers_in_range, is_of_position, has_reached_positions, are_distinct, has_distinct_files, is_same_position, reaches_once, has_reached_kinds}
 use Rattle.fv_image.specs.TableRules.{all_items, has_same_id, has_one_to_one, has_stamps_past, is_below_mark, has_marks_over, is_cell_of, has_cells_within, are_levels, has_levels}
-use Rattle.fv_image.specs.HintRules.{is_known, is_true_hint, has_true_hints, is_in_label, leads_unknown, has_known_places, is_splitting, is_based, is_copied, has_split_places, leaves_base, rests_on_base}
+use Rattle.fv_image.specs.HintRules.{is_known, is_true_hint, has_true_hints, is_in_label, leads_unknown, has_known_places, is_splitting, is_based, is_copied, has_split_places, leaves_base, rests_on_base, is_unknown}
 use Rattle.fv_image.specs.VolumeRules.{has_wide_spans, footing_in, comes_to_end, can_bear, has_footing, has_bases, has_distinct_snapshots, has_use_in_size, has_commits_in_capacity}
 use Rattle.fv_image.specs.Soundness.{AreTables}
 use Rattle.fv_image.specs.Turned.{turned, Turns, KeepsBases, added, without}

@@ -13,7 +13,7 @@ use Rattle.fv_model.specs.Tables.{File, Table, empty_table}
 use Rattle.fv_model.specs.Places.{Owner, InodeFile, OfFile, Id, Ids, Stamps, placed, tree_entries, rank, numbers, place_cmp, id_cmp, ids, ids_of, stamps_of}
 use Rattle.fv_model.specs.Space.{charge, need, use_of, kept_ids, ids_in_any, is_file_kind, needs_block, shared_ids, reserved_places, commit, overhead, promised}
 use Rattle.fv_image.specs.Views.{Head}
-use Rattle.fv_image.specs.Told.{volume_of}
+use Rattle.fv_image.specs.Volumes.{empty_volume_of}
 use Rattle.fv_model.specs.declared.commands.Kind.TheVariants.{Volume as Whole, File as ByFile, Thin}
 use Rattle.fv_model.specs.declared.commands.Kind.{Kind}
 
@@ -77,15 +77,15 @@ none_of_empty q =
 -- ---- uses
 
 module _ (h : Head) where
-  none_kept : (q : Id) → set.contains (kept_ids (volume_of h)) q ≡ false
-  unfolding volume_of
+  none_kept : (q : Id) → set.contains (kept_ids (empty_volume_of h)) q ≡ false
+  unfolding empty_volume_of
   none_kept q = ap (λ (ts : List Table). set.contains (ids_in_any ts) q) (no_values name_cmp) ∙ set.contains-empty id_cmp q
 
-  charges_nothing : charge (volume_of h) ≡ 0
-  unfolding charge volume_of
+  charges_nothing : charge (empty_volume_of h) ≡ 0
+  unfolding charge empty_volume_of
   charges_nothing =
       let a : Ids = ids_of empty_table in
-      let k : Ids = kept_ids (volume_of h) in
+      let k : Ids = kept_ids (empty_volume_of h) in
       let none : (q : Id) → set.contains (set.difference (set.union a k) set.empty) q ≡ false = λ q.
       set.contains-difference id_total (set.union a k) set.empty q
       ∙ ap (λ (b : Bool). b && not (set.contains (set.empty {R = id_cmp}) q)) (set.contains-union id_total a k q ∙ ap₂ (λ (x y : Bool). x || y) (none_of_empty q) (none_kept q)) in
@@ -93,17 +93,17 @@ module _ (h : Head) where
       let maps : fin.len (fin.empty {K = List ℕ} {X = Table} {R = name_cmp}) ≡ 0 = fin.len-empty name_cmp Table in
       rw (count, maps) (omega arith)
 
-  needs_nothing : need (volume_of h) ≡ 0
-  unfolding need volume_of
+  needs_nothing : need (empty_volume_of h) ≡ 0
+  unfolding need empty_volume_of
   needs_nothing =
-      ap (λ (es : List (ℕ × File)). cond (is_file_kind h.kind) (sum_by (λ e. count_by (needs_block (shared_ids (volume_of h)) (stamps_of empty_table)) (reserved_places 0 e.0 e.1)) es) 0) (no_entries nat_cmp)
+      ap (λ (es : List (ℕ × File)). cond (is_file_kind h.kind) (sum_by (λ e. count_by (needs_block (shared_ids (empty_volume_of h)) (stamps_of empty_table)) (reserved_places 0 e.0 e.1)) es) 0) (no_entries nat_cmp)
       ∙ same (is_file_kind h.kind)
     where
       same : (b : Bool) → ◌≡◌ {A = ℕ} (cond b 0 0) 0
       same true = refl
       same false = refl
 
-  pub uses_nothing : use_of (volume_of h) ≡ 0
+  pub uses_nothing : use_of (empty_volume_of h) ≡ 0
   uses_nothing = rw (charges_nothing, needs_nothing) refl
 
 -- what is promised to an empty volume: its size by kind `volume`, else nothing
@@ -112,11 +112,11 @@ promised_size Whole size = size
 promised_size ByFile size = 0
 promised_size Thin size = 0
 
-pub commit_is : (h : Head) → commit (volume_of h) ≡ 2 * overhead h.span + promised_size h.kind h.size
-unfolding volume_of
+pub commit_is : (h : Head) → commit (empty_volume_of h) ≡ 2 * overhead h.span + promised_size h.kind h.size
+unfolding empty_volume_of
 commit_is h = ap (λ (n : ℕ). 2 * overhead h.span + n) (so h.kind)
   where
-    so : (kind : Kind) → promised (volume_of h) kind ≡ promised_size kind h.size
+    so : (kind : Kind) → promised (empty_volume_of h) kind ≡ promised_size kind h.size
     so Whole = refl
     so ByFile = uses_nothing h
     so Thin = uses_nothing h

@@ -19,10 +19,9 @@ use Rattle.fv_tables.proofs.Lists.{tied}
 use Rattle.fv_image.specs.Views.{Snap, Footing, Head, View, slots}
 use Rattle.fv_image.specs.Volumes.{table_at, active_at, snap_told, snap_at, base_on, base_told, base_from, volume_with, volume_told, named_with, volumes_with, told_with, told}
 use Rattle.fv_image.specs.Seen.{VolumeSeen, volume_seen, Seen, seen}
-use Rattle.fv_image.specs.Sound.{share_name}
 use Rattle.fv_image.specs.ReachRules.{are_distinct}
 use Rattle.fv_image.specs.HintRules.{is_splitting}
-use Rattle.fv_image.specs.VolumeRules.{footing_in, comes_to_end, can_bear, has_footing, has_bases, has_distinct_snapshots}
+use Rattle.fv_image.specs.VolumeRules.{footing_in, comes_to_end, can_bear, has_footing, has_bases, has_distinct_snapshots, share_name}
 use Rattle.fv_image.specs.Soundness.{AreTables}
 use Rattle.fv_image.proofs.Counting.{len_within}
 use Rattle.fv_image.proofs.SameSeen.{seen_at, of_volume, Stands, stands}

@@ -18,7 +18,7 @@ use Rattle.fv_image.specs.NewerRoot.{Taken, root_of}
 use Rattle.fv_image.specs.Containers.{shaped, container_entry}
 use Rattle.fv_image.specs.Views.{Placed, Head, snaps_from, head_of, slots, entry_count}
 use Rattle.fv_image.specs.Held.{layout_at, view_at, lying_at, label_place, label_in, entry_from, placed}
-use Rattle.fv_image.specs.Sound.{share_name, has_distinct_names}
+use Rattle.fv_image.specs.VolumeRules.{share_name, has_distinct_names}
 use Rattle.fv_image.specs.Volumes.{volume_told}
 use Rattle.fv_image.specs.Seen.{seen}
 use Rattle.fv_image.specs.Soundness.{AreTables}

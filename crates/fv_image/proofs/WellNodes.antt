@@ -22,7 +22,7 @@ use Rattle.fv_tables.specs.Told.{tree_told, cells_told}
 use Rattle.fv_tables.specs.Reached.{item_of}
 use Rattle.fv_tables.proofs.Pointers.{no_block}
 use Rattle.fv_tables.proofs.Tables.{blocks_told}
-use Rattle.fv_image.specs.Sound.{is_fine}
+use Rattle.fv_image.specs.BlockRules.{is_fine}
 use Rattle.fv_image.specs.ReachRules.{shape_for}
 use Rattle.fv_image.specs.TableRules.{are_levels}
 use Rattle.fv_image.proofs.WellTrees.{StandsAt, IsNoded, well_tree}

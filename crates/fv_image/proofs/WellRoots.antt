@@ -21,7 +21,7 @@ use Rattle.fv_image.specs.Views.{Placed, Rooted, Head, View}
 use Rattle.fv_image.specs.Chains.{along, place, under, parent_in, span_at}
 use Rattle.fv_image.specs.Volumes.{standing_of, table_at}
 use Rattle.fv_image.specs.Seen.{Reached, Root, VolumeSeen, reached_at, root_seen, roots_of, volume_seen, seen}
-use Rattle.fv_image.specs.Sound.{is_fine}
+use Rattle.fv_image.specs.BlockRules.{is_fine}
 use Rattle.fv_image.specs.ReachRules.{all_roots, shape_for, block_is, has_reached_shapes, are_distinct, has_distinct_files, reaches_once, is_same_position}
 use Rattle.fv_image.specs.TableRules.{is_below_mark, has_marks_over, is_cell_of, has_cells_within, are_levels, has_levels}
 use Rattle.fv_image.specs.Soundness.{AreTables}

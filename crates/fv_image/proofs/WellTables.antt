@@ -32,7 +32,7 @@ use Rattle.fv_tables.proofs.Lists.{any_in_part}
 use Rattle.fv_tables.proofs.Pointers.{no_block}
 use Rattle.fv_tables.proofs.Tables.{files_told}
 use Rattle.fv_tables.proofs.Items.{number_within}
-use Rattle.fv_image.specs.Sound.{is_fine}
+use Rattle.fv_image.specs.BlockRules.{is_fine}
 use Rattle.fv_image.specs.ReachRules.{are_distinct}
 use Rattle.fv_image.proofs.Counting.{len_within}
 use Rattle.fv_image.proofs.WellTrees.{StandsAt, well_tree}

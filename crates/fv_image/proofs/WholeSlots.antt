@@ -13,7 +13,7 @@ use Rattle.fv_codec.specs.Blocks.{leaf_at, inner_at}
 use Rattle.fv_image.specs.Containers.{shaped, level_width, judged, leaf_for, inner_for, node_verdict}
 use Rattle.fv_image.specs.Views.{entry_count}
 use Rattle.fv_image.specs.Held.{at_positions}
-use Rattle.fv_image.specs.Sound.{is_fine, has_node_shape}
+use Rattle.fv_image.specs.BlockRules.{is_fine, has_node_shape}
 
 -- ---- tests of all that is listed
 

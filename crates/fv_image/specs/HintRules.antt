@@ -5,9 +5,12 @@ use Rattle.std.specs.Option.{is_none, option_map_or}
 use Rattle.fv_codec.specs.declared.pointer.Pointer.{Pointer}
 use Rattle.fv_tables.specs.Reached.{Item}
 use Rattle.fv_image.specs.Views.{Placed, Footing}
-use Rattle.fv_image.specs.Sound.{is_unknown}
 use Rattle.fv_image.specs.Seen.{Root, VolumeSeen, Seen}
 use Rattle.fv_image.specs.ReachRules.{all_volumes, all_roots, all_reached}
+
+-- a pointer whose place isn't known; a hole leads nowhere
+abbrev pub is_unknown : Pointer → Bool
+is_unknown p = not (p.stamp == 0) && (p.pvbn == 0)
 
 -- a pointer whose place is known; a hole leads nowhere
 abbrev pub is_known : Pointer → Bool

@@ -3,11 +3,7 @@ pub mod NewerRoot
 pub mod Maps
 pub mod Containers
 pub mod Views
-pub mod Told
 pub mod Held
-pub mod Sound
-pub mod MachineOf
-pub mod Adding
 pub mod Whole
 pub mod Reclaimed
 pub mod Chains

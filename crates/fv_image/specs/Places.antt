@@ -9,11 +9,10 @@ use Rattle.fv_tables.specs.Spelled.{Rooted, pointer_at}
 use Rattle.fv_tables.specs.Told.{Standing, records_each, file_at, tree_of}
 use Rattle.fv_tables.specs.Reached.{Item, items}
 use Rattle.fv_image.specs.Views.{Head, View, is_held_in, sum_of_heads}
-use Rattle.fv_image.specs.Sound.{is_unknown}
 use Rattle.fv_image.specs.Volumes.{standing_of}
 use Rattle.fv_image.specs.Seen.{roots_of}
 use Rattle.fv_image.specs.ReachRules.{is_same_position}
-use Rattle.fv_image.specs.HintRules.{is_known, is_in_label, is_splitting}
+use Rattle.fv_image.specs.HintRules.{is_known, is_unknown, is_in_label, is_splitting}
 
 -- ---- pointers
 

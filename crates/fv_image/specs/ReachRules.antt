@@ -14,10 +14,10 @@ use Rattle.fv_model.specs.Space.{map_blocks}
 use Rattle.fv_tables.specs.Spelled.{position}
 use Rattle.fv_tables.specs.Reached.{Item, items, is_listed}
 use Rattle.fv_image.specs.Layout.{block_bits}
-use Rattle.fv_image.specs.Views.{Placed, Head, View, Rooted, slots, map_vvbn, volume_bit}
-use Rattle.fv_image.specs.Sound.{is_fine, agree, kind_at}
+use Rattle.fv_image.specs.Views.{Placed, Head, View, Rooted, slots, kind_at, volume_bit}
+use Rattle.fv_image.specs.BlockRules.{is_fine, agree}
 use Rattle.fv_image.specs.Volumes.{standing_of}
-use Rattle.fv_image.specs.Seen.{Reached, Root, VolumeSeen, Seen, roots_of}
+use Rattle.fv_image.specs.Seen.{Reached, Root, VolumeSeen, Seen, own_blocks, roots_of}
 
 -- ---- what is asked of each
 
@@ -109,17 +109,17 @@ all_of_view w test = list_all (λ s. option_map_or (test s) (w.head s) true) slo
 unfoldable pub has_maps_of_reach : View → Bool
 has_maps_of_reach w = all_of_view w (λ s h. list_all (is_reach w s h) (roots_of h))
 
--- of each block of the maps of used slots
-abbrev pub all_map_blocks : View → (Option Placed → Bool) → Bool
-all_map_blocks w test = all_of_view w (λ s h. list_all (λ (r : ℕ × Rooted). list_all (λ k. test (w.entry s (map_vvbn h.span r.0 k))) (range_with_len 0 (map_blocks h.span))) (roots_of h))
+-- of each block that a volume has beside what its roots reach, by its kind and its entry
+abbrev pub all_own_blocks : View → (ℕ → Option Placed → Bool) → Bool
+all_own_blocks w test = all_of_view w (λ s h. list_all (λ (b : ℕ × ℕ). test b.1 (w.entry s b.0)) (own_blocks w.version h))
 
 -- Rule 2, map blocks: those of used slots are there.
 unfoldable pub has_map_blocks : View → Bool
-has_map_blocks w = all_map_blocks w (λ o. is_some o)
+has_map_blocks w = all_own_blocks w (λ kind o. is_some o)
 
 -- Rule 9, kinds of map blocks: each of those is one.
 unfoldable pub has_map_kinds : View → Bool
-has_map_kinds w = all_map_blocks w (λ o. kind_at o == 8)
+has_map_kinds w = all_own_blocks w (λ kind o. kind_at o == kind)
 
 -- Rule 9, kinds: the entry that each reached VVBN is found at has the kind of its block.
 unfoldable pub has_reached_kinds : Seen → Bool

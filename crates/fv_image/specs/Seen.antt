@@ -1,11 +1,13 @@
 -- All that the rules on tables look at, as one value. Views of which this is equal are sound alike.
-use Rattle.std.specs.Prelude.{ℕ, Bool, not, ◌&&◌, List, [], ◌∷◌, map, Option, None, nat_lt, if◌then◌else◌}
+use Rattle.std.specs.Prelude.{ℕ, Bool, not, ◌&&◌, List, [], ◌∷◌, map, flat_map, Option, None, nat_lt, if◌then◌else◌}
+use Rattle.std.specs.List.{range_with_len}
 use Rattle.std.specs.Option.{is_some, option_map, option_map_or, option_and_then}
 use Rattle.fv_codec.specs.declared.inode.InodeRecord.{InodeRecord}
 use Rattle.fv_model.specs.Volumes.{Volume}
+use Rattle.fv_model.specs.Space.{map_blocks}
 use Rattle.fv_tables.specs.Told.{records}
 use Rattle.fv_tables.specs.Reached.{Item, items}
-use Rattle.fv_image.specs.Views.{Placed, Rooted, Footing, Head, View}
+use Rattle.fv_image.specs.Views.{Placed, Rooted, Footing, Head, View, map_kind, map_vvbn}
 use Rattle.fv_image.specs.Chains.{place}
 use Rattle.fv_image.specs.Volumes.{standing_of, snap_at, volume_told}
 
@@ -40,6 +42,8 @@ pub record VolumeSeen : Type 0 where
 
 pub record Seen : Type 0 where
   pub blocks : ℕ
+  -- of the format
+  pub version : ℕ
   -- by slot
   pub volume : ℕ → Option VolumeSeen
 
@@ -59,6 +63,11 @@ root_seen w s slot r = record {
 -- the roots of a volume by map slot
 abbrev pub roots_of : Head → List (ℕ × Rooted)
 roots_of h = (0, h.active) ∷ map (λ p. (p.slot, p.table)) h.snapshots
+
+-- The blocks that a volume has beside what its roots reach, in a version of the format: their VVBNs, each with its kind. In version 1 they are
+-- those of the maps of used slots.
+abbrev pub own_blocks : ℕ → Head → List (ℕ × ℕ)
+own_blocks version h = flat_map (λ (r : ℕ × Rooted). map (λ k. (map_vvbn h.span r.0 k, map_kind)) (range_with_len 0 (map_blocks h.span))) (roots_of h)
 
 -- the root of the table that a volume stands on, which is one of its parent's
 abbrev pub base_root : View → Footing → Option Rooted
@@ -86,4 +95,4 @@ abbrev pub head_at : View → ℕ → Option Head
 head_at w s = if nat_lt s 64 then w.head s else None
 
 unfoldable pub seen : View → Seen
-seen w = record { blocks = w.blocks; volume = λ s. option_map (volume_seen w s) (head_at w s) }
+seen w = record { blocks = w.blocks; version = w.version; volume = λ s. option_map (volume_seen w s) (head_at w s) }

@@ -7,16 +7,16 @@ use Rattle.fv_codec.specs.Blocks.{label_at}
 use Rattle.fv_model.specs.Space.{map_blocks}
 use Rattle.fv_image.specs.NewerRoot.{Taken}
 use Rattle.fv_image.specs.Containers.{level_width, height_of, node_verdict, has_none_past, HasNonePast, IsWholeTree}
-use Rattle.fv_image.specs.Views.{Head, Rooted, View, head_of, entry_count, map_vvbn}
+use Rattle.fv_image.specs.Views.{Head, Rooted, View, head_of, kind_at, entry_count, map_vvbn}
 use Rattle.fv_image.specs.Held.{Lying, Layout, label_place, view_at}
-use Rattle.fv_image.specs.Sound.{is_place, kind_at}
-use Rattle.fv_image.specs.Seen.{roots_of}
+use Rattle.fv_image.specs.BlockRules.{is_place}
+use Rattle.fv_image.specs.Seen.{own_blocks}
 use Rattle.fv_image.specs.Whole.{is_held_by}
 use Rattle.fv_image.specs.Reclaimed.{IsNodeOf, IsEntryPlace, IsHeldPlace, IsAllocatable, entry_at}
 
--- whether the blocks of the maps of a volume's roots are there, as map blocks
+-- whether the blocks that a volume has beside what its roots reach are there, with their kinds
 abbrev pub has_maps_there : View → ℕ → Head → Bool
-has_maps_there w s h = list_all (λ (r : ℕ × Rooted). list_all (λ k. kind_at (w.entry s (map_vvbn h.span r.0 k)) == 8) (range_with_len 0 (map_blocks h.span))) (roots_of h)
+has_maps_there w s h = list_all (λ (b : ℕ × ℕ). kind_at (w.entry s b.0) == b.1) (own_blocks w.version h)
 
 -- of a volume whose label says this: its container has a root and the height of its entries, each node that isn't absent is the one of its
 -- position and has nothing past the entries, and its maps are there

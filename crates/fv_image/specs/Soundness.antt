@@ -16,16 +16,16 @@
 -- | 11 hints | `has_true_hints` (HintRules) |
 -- | 12 unknown pointers | `leads_unknown` (HintRules) |
 -- | 13 labels and bases | `has_known_places`, `has_split_places`, `leaves_base`, `rests_on_base` (HintRules) |
--- | 14 space | `has_use_in_size`, `has_commits_in_capacity`, `leaves_room` (VolumeRules) |
+-- | 14 space | `has_use_in_size`, `has_commits_in_capacity` (VolumeRules), `leaves_room` (Views) |
 use Rattle.std.specs.Prelude.{◌≡◌, Bool, true, ◌&&◌}
-use Rattle.fv_image.specs.Views.{View}
+use Rattle.fv_image.specs.Views.{View, leaves_room}
 use Rattle.fv_image.specs.Held.{Layout}
 use Rattle.fv_image.specs.Seen.{Seen, seen}
 use Rattle.fv_image.specs.BlockRules.{has_shapes, are_in_range, has_entries_within, is_in_position, is_held_once, has_true_map}
 use Rattle.fv_image.specs.ReachRules.{has_reached_shapes, has_pointers_in_range, has_reached_positions, has_distinct_files, reaches_once, has_maps_of_reach, has_map_blocks, has_map_kinds, has_reached_kinds}
 use Rattle.fv_image.specs.TableRules.{has_one_to_one, has_stamps_past, has_marks_over, has_cells_within, has_levels}
 use Rattle.fv_image.specs.HintRules.{has_true_hints, leads_unknown, has_known_places, has_split_places, leaves_base, rests_on_base}
-use Rattle.fv_image.specs.VolumeRules.{has_wide_spans, has_bases, has_distinct_names, has_distinct_snapshots, has_use_in_size, has_commits_in_capacity, leaves_room}
+use Rattle.fv_image.specs.VolumeRules.{has_wide_spans, has_bases, has_distinct_names, has_distinct_snapshots, has_use_in_size, has_commits_in_capacity}
 
 -- what is asked of labels, containers and the aggregate map
 pub record AreBlocks (y : Layout) : Type 0 where

@@ -4,7 +4,7 @@ use Rattle.std.specs.List.{list_all}
 use Rattle.fv_codec.specs.declared.inode.InodeRecord.{InodeRecord}
 use Rattle.fv_model.specs.Trees.{least_levels}
 use Rattle.fv_tables.specs.Reached.{Item}
-use Rattle.fv_image.specs.Sound.{agree}
+use Rattle.fv_image.specs.BlockRules.{agree}
 use Rattle.fv_image.specs.Seen.{VolumeSeen, Seen}
 use Rattle.fv_image.specs.ReachRules.{all_volumes, all_roots, all_reached, is_same_position}
 

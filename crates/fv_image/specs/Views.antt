@@ -1,6 +1,6 @@
 -- What an aggregate holds, as functions of numbers alone: the head of the volume in each slot, and what each VVBN
 -- of it leads to, with the block itself. Images with equal views are told apart by nothing that is said of views.
-use Rattle.std.specs.Prelude.{ℕ, ◌+◌, ◌-◌, ◌*◌, ◌/◌, Bool, not, ◌&&◌, List, [], ◌∷◌, map, take, sum_by, count_by, Option, Some, None, nat_lt, nat_le, ◌==◌, if◌then◌else◌}
+use Rattle.std.specs.Prelude.{ℕ, ◌+◌, ◌-◌, ◌*◌, ◌/◌, max, Bool, not, ◌&&◌, List, [], ◌∷◌, map, take, sum_by, count_by, Option, Some, None, nat_lt, nat_le, ◌==◌, if◌then◌else◌}
 use Rattle.std.specs.List.{list_any, range_with_len}
 use Rattle.std.specs.Option.{is_some, option_map_or}
 use Rattle.fv_bits.specs.Bits.{bit_of_area}
@@ -9,7 +9,8 @@ use Rattle.fv_codec.specs.declared.label.SnapRecord.{SnapRecord}
 use Rattle.fv_codec.specs.declared.label.Label.{Label}
 use Rattle.fv_model.specs.declared.commands.Kind.{Kind}
 use Rattle.fv_model.specs.declared.commands.Kind.TheVariants.{Volume as Whole, File as ByFile, Thin}
-use Rattle.fv_model.specs.Space.{map_blocks}
+use Rattle.fv_model.specs.Machines.{first_block}
+use Rattle.fv_model.specs.Space.{map_blocks, entries_by, overhead}
 use Rattle.fv_image.specs.Layout.{block_bits}
 
 -- an entry of a container that isn't a hole: its place and its kind, with the block at that place
@@ -99,7 +100,7 @@ slots = range_with_len 0 64
 
 -- how many entries a container has: one for each VVBN of the span, and for each block of 25 maps
 abbrev pub entry_count : ℕ → ℕ
-entry_count span = span + 25 * map_blocks span
+entry_count span = entries_by 1 span
 
 -- the numbers that have an entry: the VVBNs of the span, and those of map blocks behind them
 unfoldable pub vvbns : ℕ → List ℕ
@@ -110,6 +111,15 @@ abbrev pub map_vvbn : ℕ → ℕ → ℕ → ℕ
 map_vvbn span slot k = span + (slot * map_blocks span + k)
 
 -- ---- the maps of a volume
+
+-- the kind of an entry that leads to a block of a map
+abbrev pub map_kind : ℕ
+map_kind = 8
+
+-- the kind of an entry, 0 for a hole
+abbrev pub kind_at : Option Placed → ℕ
+kind_at None = 0
+kind_at (Some x) = x.kind
 
 -- what an entry leads to; a hole leads to nothing
 abbrev pub block_in : Option Placed → List ℕ
@@ -155,3 +165,12 @@ delayed w = sum_of_heads w (λ s h. count_by (is_delayed w s h) (vvbns h.span))
 -- the entries that are the volumes' own
 unfoldable pub own : View → ℕ
 own w = sum_of_heads w (λ s h. count_by (is_own w s h) (vvbns h.span))
+
+-- the overheads of all volumes
+unfoldable pub overheads : View → ℕ
+overheads w = sum_of_heads w (λ s h. overhead h.span)
+
+-- The space rule: beside the volumes' own blocks and the delayed ones, there is room for all overheads twice, and for
+-- 256 blocks, or for more where the event that asked for a consistency point needs more.
+abbrev pub leaves_room : View → ℕ → Bool
+leaves_room w room = nat_le (2 * overheads w + max 256 room) (w.blocks - first_block w.blocks - own w - delayed w)

@@ -1,19 +1,17 @@
 -- The rules on volumes as a whole: spans, bases, names and space.
-use Rattle.std.specs.Prelude.{ℕ, zero, suc, ◌+◌, Bool, true, false, not, ◌&&◌, map, sum_by, Option, nat_le}
+use Rattle.std.specs.Prelude.{ℕ, zero, suc, ◌+◌, Bool, true, false, not, ◌&&◌, map, sum_by, Option, Some, None, nat_le}
+use Rattle.std.specs.List.{list_all, range_with_len}
 use Rattle.std.specs.Option.{is_some, option_map_or, option_and_then}
 use Rattle.std.specs.FinSet as set
+use Rattle.fv_model.specs.Spelling.{is_same_name}
 use Rattle.fv_model.specs.Machines.{capacity}
 use Rattle.fv_model.specs.Space.{base_ids, use_of, commit}
-use Rattle.fv_image.specs.Views.{Footing, slots}
+use Rattle.fv_image.specs.Views.{Footing, Head, slots}
+use Rattle.fv_image.specs.Held.{Layout}
 use Rattle.fv_image.specs.Volumes.{snap_at}
 use Rattle.fv_image.specs.Seen.{VolumeSeen, Seen}
 use Rattle.fv_image.specs.ReachRules.{all_volumes, are_distinct}
 use Rattle.fv_image.specs.HintRules.{is_splitting}
--- Rule 4, names: no two volumes have one name.
--- Rule 14, room: beside the volumes' own blocks and the delayed ones, there is room for all overheads twice, and for 256 blocks, or for
--- more where the event that asked for a consistency point needs more.
-unfoldable pub use Rattle.fv_image.specs.Sound.{has_distinct_names}
-pub use Rattle.fv_image.specs.Sound.{leaves_room}
 
 -- Rule 2, spans: each has room for `most` blocks, for the ids of the base, and for 256 more.
 unfoldable pub has_wide_spans : Seen → Bool
@@ -39,6 +37,16 @@ has_footing w x b = option_map_or (can_bear x b) (w.volume b.parent) false
 -- no chain of bases comes back to itself.
 unfoldable pub has_bases : Seen → Bool
 has_bases w = all_volumes w (λ s x. comes_to_end w 64 s && option_map_or (has_footing w x) x.head.base true)
+
+-- whether the heads of two slots have one name
+abbrev pub share_name : Option Head → Option Head → Bool
+share_name None other = false
+share_name (Some h) None = false
+share_name (Some h) (Some other) = is_same_name h.name other.name
+
+-- Rule 4, names: no two volumes have one name.
+unfoldable pub has_distinct_names : Layout → Bool
+has_distinct_names y = list_all (λ s. list_all (λ earlier. not (share_name (y.view.head earlier) (y.view.head s))) (range_with_len 0 s)) slots
 
 -- Rule 4, names: no two snapshots of a volume have one name.
 unfoldable pub has_distinct_snapshots : Seen → Bool

@@ -63,6 +63,20 @@ volume_with w s h active = record {
 abbrev pub volume_told : View → ℕ → Head → Volume
 volume_told w s h = volume_with w s h (table_at w s h.active)
 
+-- the volume of a head without files, snapshots and base
+unfoldable pub empty_volume_of : Head → Volume
+empty_volume_of h = record {
+  kind = h.kind;
+  size = h.size;
+  most = h.most;
+  span = h.span;
+  now = h.now;
+  active = empty_table;
+  snapshots = fin.empty;
+  base = None;
+  known = h.known;
+}
+
 -- a volume with its name, or nothing for an empty slot
 abbrev pub named_with : View → (ℕ → Table) → ℕ → Option Head → List (List ℕ × Volume)
 named_with w active s None = []

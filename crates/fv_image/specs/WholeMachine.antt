@@ -2,7 +2,7 @@
 use Rattle.std.specs.Prelude.{◌≡◌, ℕ, Bool, true, ◌&&◌, Option, Some, None, ◌==◌, if◌then◌else◌}
 use Rattle.std.specs.List.{list_all}
 use Rattle.std.specs.Option.{is_none, option_map_or, option_and_then}
-use Rattle.fv_disk.specs.Shown.{Image}
+use Rattle.fv_disk.specs.Shown.{Image, Shown}
 use Rattle.fv_codec.specs.declared.inode.InodeRecord.{InodeRecord}
 use Rattle.fv_model.specs.Machines.{Machine}
 use Rattle.fv_image.specs.NewerRoot.{Taken, root_of}
@@ -43,3 +43,7 @@ pub record Tells (y : Layout) (m : Machine) : Type 0 where
   pub built : is_built y.view ≡ true
   pub sound : IsSound y
   pub machine : told y.view ≡ m
+
+-- each image that a crash now may leave stands for this machine
+abbrev pub AllStandFor : Shown → Machine → Type 0
+AllStandFor disk m = (c : Image) → disk.images c → machine_of c ≡ Some m

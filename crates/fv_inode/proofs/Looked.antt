@@ -15,7 +15,6 @@ use Rattle.fv_tree.specs.Standing.{standing, under, Fails}
 use Rattle.fv_tree.specs.Reading.{cell_read_at}
 use Rattle.fv_tree.specs.Writing.{Remains}
 use Rattle.fv_tree.specs.Flushing.{Loaded, IsSound, changed_of, placed_of, loaded, loaded_over, Stands}
-use Rattle.fv_tree.specs.Readying.{KeepsReady}
 use Rattle.fv_tree.specs.Stored.{IsStoredWell}
 use Rattle.fv_tree.specs.Leading.{LeadsNoMore}
 use Rattle.fv_tree.specs.Releasing.{IsDropped, Releases}
@@ -23,6 +22,7 @@ use Rattle.fv_tree.specs.Altering.{AltersHeld, Leaves}
 use Rattle.fv_tree.proofs.Altered.{leaves_itself}
 use Rattle.fv_tree.proofs.Causes.{at_err, calm_itself, calm_then, counts_then, fails_later, untouched_itself, untouched_then}
 use Rattle.fv_tree.proofs.Leading.{leads_then}
+use Rattle.fv_tree.specs.Calls.{Steady}
 use Rattle.fv_inode.specs.Failing.{OnlyLoads, InodeFails, Looks}
 
 abbrev pub Held : Type 0
@@ -60,6 +60,11 @@ looks_at told t old new r untouched counts cause = record { untouched = untouche
 -- of a call that failed, or was done, another answer
 pub looks_failed : {S T : Type 0} (told : Type 0) (t : Rooted) (old new : Shown) (e : BlockFault) → Looks {T = S} told t old new (Err e) → Looks {T = T} told t old new (Err e)
 looks_failed told t old new e looks = record { untouched = looks.untouched; counts = record { faults = looks.counts.faults; damages = looks.counts.damages; spent = looks.counts.spent; calm = tt }; cause = looks.cause }
+
+-- a call that fails, after another that only read
+pub looks_failed_then : {S R T : Type 0} (told : Type 0) (t : Tree) (old mid new : Shown) (x : S) (e : BlockFault) → Looks told (standing (under old) t) old mid (Ok x)
+    → Looks {T = R} told (standing (under mid) t) mid new (Err e) → Looks {T = T} told (standing (under old) t) old new (Err e)
+looks_failed_then told t old mid new x e first second = looks_failed told (standing (under old) t) old new e (looks_then told t old mid new x (Err e) first second)
 
 pub looks_done : {S T : Type 0} (told : Type 0) (t : Rooted) (old new : Shown) (x : S) (y : T) → Looks told t old new (Ok x) → Looks told t old new (Ok y)
 looks_done told t old new x y looks = record { untouched = looks.untouched; counts = record { faults = looks.counts.faults; damages = looks.counts.damages; spent = looks.counts.spent; calm = looks.counts.calm }; cause = tt }
@@ -117,18 +122,18 @@ looks_judged told t old new r cell at block untouched calm lies place damage = r
 -- ---- changes of a tree that only load
 
 -- a call of the tree
-pub loads_at : {T : Type 0} (told : Type 0) (t u : Tree) (old new : Shown) (r : Result T BlockFault) → (told → OnErr r (Remains (standing (under old) t) (standing (under new) u))) → (told → OnErr r (Leaves (loaded old t) (loaded new u))) → u.owner ≡ t.owner → (told → Stands old t → Stands new u)
-    → (told → LeadsNoMore (loaded old t) (loaded new u)) → (told → LeadsNoMore (loaded new u) (loaded old t)) → (told → IsStoredWell (loaded old t) → IsStoredWell (loaded new u)) → KeepsReady t u → IsUntouched old new → Counts old new r → IfErr r (Fails told (standing (under old) t) old new) → OnlyLoads told old new t u r
-loads_at told t u old new r failed leaves owner stands leads keeps stored_well keeps_ready untouched counts cause = record {
+pub loads_at : {T : Type 0} {told reading : Type 0} {t u : Tree} {old new : Shown} {more brought : ℕ} {r : Result T BlockFault} → (told → OnErr r (Remains (standing (under old) t) (standing (under new) u))) → (told → OnErr r (Leaves (loaded old t) (loaded new u)))
+    → Steady told reading old new t u more brought r → OnlyLoads told old new t u r
+loads_at {told = told} {t = t} {old = old} {new = new} {r = r} failed leaves did = record {
   failed = failed;
   leaves = leaves;
-  owner = owner;
-  stands = stands;
-  leads = leads;
-  keeps = keeps;
-  stored_well = stored_well;
-  keeps_ready = keeps_ready;
-  looks = looks_at told (standing (under old) t) old new r untouched counts cause;
+  owner = did.owner;
+  stands = did.stands;
+  leads = did.leads;
+  keeps = did.keeps;
+  stored_well = did.stored_well;
+  keeps_ready = did.keeps_ready;
+  looks = looks_at told (standing (under old) t) old new r did.untouched did.counts did.cause;
 }
 
 -- a tree that is said of over the blocks of a source, as what it leads to
@@ -166,6 +171,10 @@ loads_then told t u old mid new x r first second = record {
   keeps_ready = second.keeps_ready;
   looks = looks_then told t old mid new x r first second.looks;
 }
+
+-- a call that only read failed, and with it the change
+pub loads_none_failed : {S T : Type 0} (told : Type 0) (t : Tree) (old new : Shown) (e : BlockFault) → Looks {T = S} told (standing (under old) t) old new (Err e) → OnlyLoads {T = T} told old new t t (Err e)
+loads_none_failed told t old new e looks = loads_none told t old new (Err e) (looks_failed told (standing (under old) t) old new e looks)
 
 -- of a change that failed, or was done, another answer
 pub loads_failed : {S T : Type 0} (told : Type 0) (t u : Tree) (old new : Shown) (e : BlockFault) → OnlyLoads {T = S} told old new t u (Err e) → OnlyLoads {T = T} told old new t u (Err e)

@@ -1,17 +1,17 @@
 //! An inode file as a tree of inode blocks.
 
-ghost use Rattle.std.specs.Prelude.{◌≡◌, ◌≤◌, ◌+◌, ℕ, Option, IfOk, IfErr, OnOk, OnErr};
+ghost use Rattle.std.specs.Prelude.{◌≡◌, ◌≤◌, ℕ, Option, IfOk, OnOk};
 ghost use Rattle.std.specs.FinMap as fin;
 ghost use Rattle.fv_codec.specs.Blocks.{IsPointer, greatest_word};
 ghost use Rattle.fv_tables.specs.Spelled.{Under, hole, stored};
 ghost use Rattle.fv_tables.specs.Told.{file_at};
-ghost use Rattle.fv_tree.specs.Sources.{Counts, HasCause, Use, WasFree};
+ghost use Rattle.fv_tree.specs.Sources.{Use};
 ghost use Rattle.fv_tree.specs.Standing.{standing, under, Shows};
 ghost use Rattle.fv_tree.specs.Writing.{Remains};
-ghost use Rattle.fv_tree.specs.Stored.{HasPlaces, IsStoredWell, KeepsPlaces};
-ghost use Rattle.fv_tree.specs.Costs.{pending, Fits, IsEnough};
-ghost use Rattle.fv_tree.specs.Flushing.{loaded, loaded_over, Flushes, IsPlaced, IsSound, IsLeft, ReachesOnce, Stands};
-ghost use Rattle.fv_tree.specs.Altering.{PlacesAnew};
+ghost use Rattle.fv_tree.specs.Stored.{HasPlaces, IsStoredWell};
+ghost use Rattle.fv_tree.specs.Costs.{pending};
+ghost use Rattle.fv_tree.specs.Flushing.{loaded, loaded_over, IsSound, ReachesOnce, Stands};
+ghost use Rattle.fv_tree.specs.Calls.{PlacesChanged};
 ghost use Rattle.fv_inode.specs.Files.{rooted};
 
 use crate::info::InodeFault;
@@ -82,26 +82,15 @@ impl InodeFile {
     ///
     /// As `place` of the `Blocks` answers them.
     pub fn flush<B: Blocks>(&mut self, blocks: &mut B) -> Result<Pointer, InodeFault>
-        ensures flushes { B.told → Stands (B.shown blocks.old) self.old.tree → Flushes (loaded (B.shown blocks.old) self.old.tree) (B.shown blocks.old).used (loaded (B.shown blocks.new) self.new.tree) (B.shown blocks.new).used }
-        ensures anew { B.told → Stands (B.shown blocks.old) self.old.tree → PlacesAnew (loaded (B.shown blocks.old) self.old.tree) (WasFree B.shown B.goes blocks.old blocks.new) (loaded (B.shown blocks.new) self.new.tree) }
-        ensures keeps { B.told → Stands (B.shown blocks.old) self.old.tree → (v : ℕ) → (IsPlaced (loaded (B.shown blocks.old) self.old.tree) (loaded (B.shown blocks.new) self.new.tree) v → ⊥) → B.keeps v blocks.old blocks.new }
-        ensures strays { B.told → Stands (B.shown blocks.old) self.old.tree → (B.shown blocks.new).strays ≡ (B.shown blocks.old).strays }
         ensures remains { B.told → Stands (B.shown blocks.old) self.old.tree → Remains (rooted (B.shown blocks.old) self.old) (rooted (B.shown blocks.new) self.new) }
         ensures files { B.told → Stands (B.shown blocks.old) self.old.tree → (n : ℕ) → file_at (rooted (B.shown blocks.new) self.new) n ≡ file_at (rooted (B.shown blocks.old) self.old) n }
-        ensures left { IsLeft self.old.tree self.new.tree }
         ensures stored_well { B.told → Stands (B.shown blocks.old) self.old.tree → HasPlaces (B.shown blocks.new).used → IsStoredWell (loaded (B.shown blocks.old) self.old.tree) → IsStoredWell (loaded (B.shown blocks.new) self.new.tree) }
-        ensures fits { B.told → Stands (B.shown blocks.old) self.old.tree → Fits (B.shown blocks.old) self.old.tree (B.shown blocks.new) self.new.tree }
-        ensures enough { B.told → Stands (B.shown blocks.old) self.old.tree → IsEnough (pending self.old.tree) (B.shown blocks.old).room result }
-        ensures spent { (B.shown blocks.new).spent ≡ (B.shown blocks.old).spent }
         ensures pending { OnOk result (pending self.new.tree ≡ 0) }
         ensures root { IfOk result (λ root. root ≡ self.new.tree.root) }
         ensures pointer { IfOk result IsPointer }
         ensures stored { IfOk result (λ root. rooted (B.shown blocks.new) self.new ≡ stored (under (B.shown blocks.new)) self.old.tree.owner self.old.tree.levels root) }
         ensures reaches { B.told → IfOk result (λ root. Stands (B.shown blocks.old) self.old.tree → ReachesOnce (B.shown blocks.new).used (stored (under (B.shown blocks.new)) self.old.tree.owner self.old.tree.levels root)) }
-        ensures places { B.known → KeepsPlaces (B.shown blocks.old) (B.shown blocks.new) }
-        ensures calls { B.goes blocks.old blocks.new }
-        ensures counts { Counts (B.shown blocks.old) (B.shown blocks.new) result }
-        ensures cause { IfErr result (HasCause (B.shown blocks.old) (B.shown blocks.new)) }
+        ensures flushing { PlacesChanged B.told B.known B.shown B.goes B.keeps blocks.old blocks.new self.old.tree self.new.tree result }
     {
         self.tree.flush(blocks)
     }

@@ -29,11 +29,7 @@ use std::cmp::Ordering;
 pub const EACH: u32 = 16;
 
 /// A pointer that leads to nothing.
-pub const HOLE: Pointer = Pointer {
-    vvbn: 0,
-    pvbn: 0,
-    stamp: 0,
-};
+pub const HOLE: Pointer = Pointer::HOLE;
 
 /// A record that is free.
 pub fn free_record() -> InodeRecord

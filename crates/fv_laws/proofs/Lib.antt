@@ -33,7 +33,6 @@ pub mod Charges
 pub mod Moves
 pub mod Along
 pub mod PathCharges
-pub mod Neighbors
 pub mod Tests
 pub mod Exact
 pub mod Snapshots

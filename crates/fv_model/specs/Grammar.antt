@@ -20,23 +20,23 @@ is_end [] = true
 is_end (word ∷ words) = false
 
 -- the first word says something, and the words behind it are as the form wants them
-abbrev pub next : {A : Type 0} → (List ℕ → Option A) → (A → Form) → Form
-next says form words = option_and_then (λ p. form p.0 p.1) (first says words)
+abbrev pub next_word : {A : Type 0} → (List ℕ → Option A) → (A → Form) → Form
+next_word says form words = option_and_then (λ p. form p.0 p.1) (first says words)
 
 abbrev pub name : (List ℕ → Form) → Form
-name = next name_of
+name = next_word name_of
 
 abbrev pub number : (ℕ → Form) → Form
-number = next count_of
+number = next_word count_of
 
 abbrev pub kind : (Kind → Form) → Form
-kind = next kind_of
+kind = next_word kind_of
 
 abbrev pub table : (List ℕ → Option (List ℕ) → Form) → Form
-table form = next table_of (λ t. form t.0 t.1)
+table form = next_word table_of (λ t. form t.0 t.1)
 
 abbrev pub block : (List ℕ → Form) → Form
-block = next block_of
+block = next_word block_of
 
 -- no word is left
 abbrev pub end : Command → Form
@@ -52,7 +52,7 @@ row [] word words = None
 row (first_row ∷ rows) word words = if bytes_eq word first_row.0 then first_row.1 words else row rows word words
 
 abbrev pub keyword : List (List ℕ × Form) → Form
-keyword rows = next text_of (row rows)
+keyword rows = next_word text_of (row rows)
 
 unfoldable pub vol_create : Form
 vol_create = name (λ v. number (λ size. kind (λ k. end (VolCreate v size k))))
@@ -109,11 +109,11 @@ split_finish = name (λ c. end (SplitFinish c))
 unfoldable pub split : Form
 split = keyword ((codes "start", split_start) ∷ (codes "finish", split_finish) ∷ [])
 
-unfoldable pub new : Form
-new = name (λ v. name (λ f. end_or (New v f 0) (number (λ reserve. end (New v f reserve)))))
+unfoldable pub new_form : Form
+new_form = name (λ v. name (λ f. end_or (New v f 0) (number (λ reserve. end (New v f reserve)))))
 
-unfoldable pub put : Form
-put = name (λ v. name (λ f. number (λ i. block (λ b. end (Put v f i b)))))
+unfoldable pub put_form : Form
+put_form = name (λ v. name (λ f. number (λ i. block (λ b. end (Put v f i b)))))
 
 unfoldable pub get : Form
 get = table (λ v s. name (λ f. number (λ i. end (Get v s f i))))
@@ -121,11 +121,11 @@ get = table (λ v s. name (λ f. number (λ i. end (Get v s f i))))
 unfoldable pub len : Form
 len = table (λ v s. name (λ f. end (Len v s f)))
 
-unfoldable pub cut : Form
-cut = name (λ v. name (λ f. number (λ n. end (Cut v f n))))
+unfoldable pub cut_form : Form
+cut_form = name (λ v. name (λ f. number (λ n. end (Cut v f n))))
 
-unfoldable pub rm : Form
-rm = name (λ v. name (λ f. end (Remove v f)))
+unfoldable pub rm_form : Form
+rm_form = name (λ v. name (λ f. end (Remove v f)))
 
 unfoldable pub ls : Form
 ls = table (λ v s. end (Ls v s))
@@ -149,6 +149,6 @@ cp = end Cp
 unfoldable pub command : Form
 command = keyword
     ((codes "vol", vol) ∷ (codes "snap", snap) ∷ (codes "clone", clone) ∷ (codes "split", split)
-    ∷ (codes "new", new) ∷ (codes "put", put) ∷ (codes "get", get) ∷ (codes "len", len)
-    ∷ (codes "cut", cut) ∷ (codes "rm", rm) ∷ (codes "ls", ls) ∷ (codes "mirror", mirror)
+    ∷ (codes "new", new_form) ∷ (codes "put", put_form) ∷ (codes "get", get) ∷ (codes "len", len)
+    ∷ (codes "cut", cut_form) ∷ (codes "rm", rm_form) ∷ (codes "ls", ls) ∷ (codes "mirror", mirror)
     ∷ (codes "clean", clean) ∷ (codes "probe", probe) ∷ (codes "work", work) ∷ (codes "cp", cp) ∷ [])

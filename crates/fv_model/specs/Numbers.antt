@@ -38,6 +38,25 @@ most_changes = 2 ^ 62
 abbrev pub greatest_span : ℕ
 greatest_span = 1048576
 
+-- ---- the greatest numbers of blocks that follow from the greatest span
+
+-- the blocks of a map of the greatest span: 32,768 bits a block
+abbrev pub most_map_blocks : ℕ
+most_map_blocks = 32
+
+-- the overhead of the greatest span: the label, 32 blocks of the active map, and the container of 1,048,576 + 25 * 32 entries, which has
+-- 4100 leaves of 256 entries with 17 nodes and a root over them
+abbrev pub most_overhead : ℕ
+most_overhead = 4151
+
+-- the maps of 24 snapshots
+abbrev pub most_snapshot_blocks : ℕ
+most_snapshot_blocks = 768
+
+-- what a volume asks a consistency point for: its overhead, and the maps of its snapshots
+abbrev pub most_asked : ℕ
+most_asked = 4919
+
 -- the number under which users know a refusal
 abbrev pub number_of : Refusal → ℕ
 number_of Syntax = 1

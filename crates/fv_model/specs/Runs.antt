@@ -1,7 +1,6 @@
 -- Runs: the machine after the lines of a script, and what is given out for them.
 use Rattle.std.specs.Prelude.{◌≡◌, ℕ, ◌+◌, ◌-◌, Bool, true, false, cond, not, nat_eq, List, [], ◌∷◌, ◌++◌, length, take, count_by, flat_map, fold}
-use Rattle.std.specs.List.{suffix_len, AllZip}
-use Rattle.fv_model.specs.declared.answers.Refusal.{Refusal}
+use Rattle.std.specs.List.{suffix_len}
 use Rattle.fv_model.specs.declared.answers.Refusal.TheVariants.{Syntax, Range}
 use Rattle.fv_model.specs.declared.answers.Reply.{Reply}
 use Rattle.fv_model.specs.declared.answers.Reply.TheVariants.{Refused}

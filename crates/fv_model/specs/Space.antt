@@ -1,4 +1,5 @@
 -- Space: what a volume is charged for, what its files' reserves still need, and what it commits of its aggregate.
+-- A name that ends in `_by` takes the version of the format. The same name without it is that of version 1, the only one that there is today.
 use Rattle.std.specs.Prelude.{◌≡◌, ℕ, zero, suc, ◌+◌, ◌*◌, ◌^◌, ◌≤◌, max, Bool, true, false, cond, nat_lt, nat_le, List, [], ◌∷◌, ◌++◌, map, filter, flat_map, sum_by, count_by, Option, Some, None}
 use Rattle.std.specs.List.{range_with_len}
 use Rattle.std.specs.Option.{option_map_or}
@@ -36,11 +37,18 @@ ids_left_out (Some base) = cond base.splitting set.empty (ids_of base.table)
 abbrev pub kept_ids : Volume → Ids
 kept_ids v = ids_in_any (fin.values v.snapshots)
 
--- the ids in the active table or a snapshot, without those left out, and a map for each snapshot
-unfoldable pub charge : Volume → ℕ
-charge v =
+-- the blocks that a snapshot costs beside those that it shares: its map, and from version 2 on its record
+abbrev pub snapshot_blocks : ℕ → ℕ → ℕ
+snapshot_blocks version span = cond (nat_lt 1 version) (map_blocks span + 1) (map_blocks span)
+
+-- the ids in the active table or a snapshot, without those left out, and what each snapshot costs
+abbrev pub charge_by : ℕ → Volume → ℕ
+charge_by version v =
     set.len (set.difference (set.union (ids_of v.active) (kept_ids v)) (ids_left_out v.base))
-    + map_blocks v.span * fin.len v.snapshots
+    + snapshot_blocks version v.span * fin.len v.snapshots
+
+unfoldable pub charge : Volume → ℕ
+charge v = charge_by 1 v
 
 -- the ranges of level k that meet the indexes below a reserve, in file n
 unfoldable pub reserved_at : ℕ → ℕ → ℕ → List Place
@@ -75,18 +83,31 @@ need v = cond (is_file_kind v.kind)
 abbrev pub use_of : Volume → ℕ
 use_of v = charge v + need v
 
+abbrev pub use_by : ℕ → Volume → ℕ
+use_by version v = charge_by version v + need v
+
 -- the nodes of 256 entries above n of them, up to one root
 unfoldable pub nodes_above : ℕ → ℕ → ℕ
 nodes_above zero n = 0
 nodes_above (suc fuel) n = cond (nat_le n 256) 1 (ceil_div n 256 + nodes_above fuel (ceil_div n 256))
 
--- the leaves of a container: an entry for each number of the span, and for the blocks of 25 maps
+-- the entries of a container: one for each number of the span and for each block of 25 maps, from version 2 on of 256 maps and for 256 records
+abbrev pub entries_by : ℕ → ℕ → ℕ
+entries_by version span = cond (nat_lt 1 version) (span + 256 * map_blocks span + 256) (span + 25 * map_blocks span)
+
+-- the leaves of a container
+abbrev pub leaves_by : ℕ → ℕ → ℕ
+leaves_by version span = ceil_div (entries_by version span) 256
+
 abbrev pub leaves : ℕ → ℕ
-leaves span = ceil_div (span + 25 * map_blocks span) 256
+leaves span = leaves_by 1 span
 
 -- the blocks that a volume needs beside its data: a label, the active map, and its container (of at most 256^8 leaves)
+abbrev pub overhead_by : ℕ → ℕ → ℕ
+overhead_by version span = 1 + map_blocks span + leaves_by version span + nodes_above 8 (leaves_by version span)
+
 unfoldable pub overhead : ℕ → ℕ
-overhead span = 1 + map_blocks span + leaves span + nodes_above 8 (leaves span)
+overhead span = overhead_by 1 span
 
 -- what a volume of kind `volume` commits is its size, and what another commits is its use
 abbrev pub promised : Volume → Kind → ℕ
@@ -94,8 +115,16 @@ promised v Whole = v.size
 promised v ByFile = use_of v
 promised v Thin = use_of v
 
+abbrev pub promised_by : ℕ → Volume → Kind → ℕ
+promised_by version v Whole = v.size
+promised_by version v ByFile = use_by version v
+promised_by version v Thin = use_by version v
+
 abbrev pub commit : Volume → ℕ
 commit v = 2 * overhead v.span + promised v v.kind
+
+abbrev pub commit_by : ℕ → Volume → ℕ
+commit_by version v = 2 * overhead_by version v.span + promised_by version v v.kind
 
 -- the sum of all volumes' commits
 abbrev pub commits : Machine → ℕ

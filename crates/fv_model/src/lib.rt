@@ -9,8 +9,10 @@ mod answers;
 mod commands;
 mod naming;
 mod ranges;
+mod sizes;
 
 pub use answers::{Refusal, Reply, Stat};
 pub use commands::{Block, Command, Kind};
 pub use naming::{Name, Names};
 pub use ranges::{in_index, in_reserve, in_size, in_steps};
+pub use sizes::map_blocks;

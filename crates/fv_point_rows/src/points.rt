@@ -6,8 +6,9 @@ ghost use Rattle.fv_volume_rows.specs.Held.{AreFit, AreHeld};
 use fv_cp::full_point;
 use fv_disk::Disk;
 use fv_memdisk::MemHost;
-use fv_volume::{Pool, VolumeFault, Volumes};
+use fv_volume::{Pool, VolumeFault};
 use fv_volume_rows::{Opened, Pair, Wrong, agrees_on, new_pair};
+use fv_volumes::Volumes;
 use std::alloc::Global;
 use std::test::Fail;
 

@@ -1,7 +1,6 @@
 pub mod Views
 pub mod Finite
 pub mod Levels
-pub mod Orders
 pub mod Counting
 pub mod Allowed
 pub mod Room

@@ -6,6 +6,8 @@ ghost use Rattle.fv_model.specs.Machines.{empty_machine, first_block, capacity};
 ghost use Rattle.fv_model.specs.Space.{commit};
 ghost use Rattle.fv_model.specs.Refusals.{is_aggregate_full};
 ghost use Rattle.fv_reference.specs.Maps.{map_of};
+ghost use Rattle.fv_model.specs.Machines as machines;
+ghost use Rattle.fv_reference.specs.Codes.{machine_code};
 
 use crate::counted::Counted;
 use crate::maps::{copy, get, insert, remove};
@@ -24,11 +26,6 @@ pub struct Aggregate {
 }
 
 impl Model for Aggregate {
-    ghost use Rattle.fv_model.specs.Spelling.{name_cmp};
-    ghost use Rattle.fv_model.specs.Machines as machines;
-    ghost use Rattle.fv_reference.specs.Maps.{map_of};
-    ghost use Rattle.fv_reference.specs.Codes.{machine_code};
-
     ghost Value = { machines.Machine };
 
     ghost coded = { machine_code };

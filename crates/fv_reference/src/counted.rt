@@ -1,6 +1,8 @@
 //! A volume with its counts, so that a command recounts only the volume that it changes.
 ghost use Rattle.std.specs.Prelude.{◌≡◌, ◌+◌, ◌<◌, ◌≤◌, ◌^◌, IfOk};
 ghost use Rattle.fv_model.specs.Space.{charge, need, use_of, commit, promised};
+ghost use Rattle.fv_model.specs.Volumes as volumes;
+ghost use Rattle.fv_reference.specs.Codes.{volume_code};
 ghost use Rattle.fv_reference.specs.Counts.{IsCounted};
 
 use crate::space::{need, overhead};
@@ -18,10 +20,6 @@ pub struct Counted {
 }
 
 impl Model for Counted {
-    ghost use Rattle.fv_model.specs.Volumes as volumes;
-    ghost use Rattle.fv_reference.specs.Codes.{volume_code};
-    ghost use Rattle.fv_reference.specs.Counts.{IsCounted};
-
     ghost Value = { volumes.Volume };
 
     ghost coded = { volume_code };

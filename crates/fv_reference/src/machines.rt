@@ -5,6 +5,9 @@ ghost use Rattle.std.specs.FinMap as fin;
 ghost use Rattle.fv_model.specs.Machines.{empty_machine};
 ghost use Rattle.fv_model.specs.Refusals.{next};
 ghost use Rattle.fv_model.specs.Replies.{Allows, is_open};
+ghost use Rattle.fv_model.specs.Machines as machines;
+ghost use Rattle.fv_reference.specs.Codes.{machine_code};
+ghost use Rattle.fv_laws.specs.Within.{IsWithin};
 
 use crate::aggregates::Aggregate;
 use crate::answers::answer;
@@ -22,10 +25,6 @@ pub struct Machine {
 }
 
 impl Model for Machine {
-    ghost use Rattle.fv_model.specs.Machines as machines;
-    ghost use Rattle.fv_reference.specs.Codes.{machine_code};
-    ghost use Rattle.fv_laws.specs.Within.{IsWithin};
-
     ghost Value = { machines.Machine };
 
     ghost coded = { machine_code };

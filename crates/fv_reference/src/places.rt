@@ -1,6 +1,8 @@
 //! The places of a table, their stamps and their ids.
 ghost use Rattle.std.specs.Prelude.{◌≡◌, ◌++◌, OnOk, IfOk, map, flat_map};
-ghost use Rattle.std.specs.Ordering.{nat_cmp};
+ghost use Rattle.std.proofs.Common.{rules};
+ghost use Rattle.std.specs.Cmp.Rules.{comparing};
+ghost use Rattle.std.specs.Ordering.{nat_cmp, as_partial_cmp, eq_by_cmp};
 ghost use Rattle.std.specs.FinMap as fin;
 ghost use Rattle.std.specs.FinSet as set;
 ghost use Rattle.fv_model.specs.Places.{InodeFile, OfFile, placed, place_cmp, id_cmp, tree_entries, stamps_of, ids, ids_of};
@@ -61,10 +63,6 @@ impl Place {
 }
 
 impl Ord for Place {
-    ghost use Rattle.std.proofs.Common.{rules};
-    ghost use Rattle.std.specs.Cmp.Rules.{comparing};
-    ghost use Rattle.fv_model.specs.Places.{place_cmp};
-
     ghost cmp = { place_cmp };
 
     ghost total = { Prim.search (comparing, rules) };
@@ -80,11 +78,6 @@ impl Ord for Place {
 }
 
 impl PartialOrd for Place {
-    ghost use Rattle.std.proofs.Common.{rules};
-    ghost use Rattle.std.specs.Cmp.Rules.{comparing};
-    ghost use Rattle.std.specs.Ordering.{as_partial_cmp};
-    ghost use Rattle.fv_model.specs.Places.{place_cmp};
-
     ghost partial_cmp = { as_partial_cmp place_cmp };
 
     ghost laws = { Prim.search (comparing, rules) };
@@ -95,11 +88,6 @@ impl PartialOrd for Place {
 }
 
 impl PartialEq for Place {
-    ghost use Rattle.std.proofs.Common.{rules};
-    ghost use Rattle.std.specs.Cmp.Rules.{comparing};
-    ghost use Rattle.std.specs.Ordering.{eq_by_cmp};
-    ghost use Rattle.fv_model.specs.Places.{place_cmp};
-
     ghost eq = { eq_by_cmp place_cmp };
 
     ghost laws = { Prim.search (comparing, rules) };

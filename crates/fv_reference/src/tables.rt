@@ -1,5 +1,5 @@
 //! Tables of files, and the four changes of a table.
-ghost use Rattle.std.specs.Prelude.{◌≡◌, ◌+◌, ◌/◌, ◌<◌, ◌≤◌, IfOk, OnOk, not, nat_lt, nat_le, map, filter, find, option_map};
+ghost use Rattle.std.specs.Prelude.{◌≡◌, ◌+◌, ◌/◌, ◌<◌, ◌≤◌, IfOk, OnOk, not, nat_lt, nat_le, map, filter, find, option_map, List, ℕ};
 ghost use Rattle.std.specs.List.{prefix_len, range_with_len};
 ghost use Rattle.std.specs.Ordering.{nat_cmp};
 ghost use Rattle.std.specs.FinMap as fin;
@@ -8,6 +8,8 @@ ghost use Rattle.fv_model.specs.Trees.{least_levels, written};
 ghost use Rattle.fv_model.specs.Spelling.{is_same_name};
 ghost use Rattle.fv_model.specs.Tables.{empty_table, inode_cell, free_number, file_named, file_put, file_cut, new, put, cut, rm};
 ghost use Rattle.fv_reference.specs.Maps.{map_of};
+ghost use Rattle.fv_model.specs.Tables as tables;
+ghost use Rattle.fv_reference.specs.Codes.{file_code, table_code};
 
 use crate::maps::{copy, get, insert, keys, len, remove};
 use crate::trees::{Tree, least_levels};
@@ -24,8 +26,6 @@ pub struct Cell {
 }
 
 impl Model for Cell {
-    ghost use Rattle.std.specs.Prelude.{List, ℕ};
-
     ghost Value = { List ℕ };
 
     ghost view = { λ c. c.bytes.value };
@@ -61,11 +61,6 @@ pub struct File {
 }
 
 impl Model for File {
-    ghost use Rattle.std.specs.Ordering.{nat_cmp};
-    ghost use Rattle.fv_model.specs.Tables as tables;
-    ghost use Rattle.fv_reference.specs.Maps.{map_of};
-    ghost use Rattle.fv_reference.specs.Codes.{file_code};
-
     ghost Value = { tables.File };
 
     ghost coded = { file_code };
@@ -204,11 +199,6 @@ pub struct Table {
 }
 
 impl Model for Table {
-    ghost use Rattle.std.specs.Ordering.{nat_cmp};
-    ghost use Rattle.fv_model.specs.Tables as tables;
-    ghost use Rattle.fv_reference.specs.Maps.{map_of};
-    ghost use Rattle.fv_reference.specs.Codes.{table_code};
-
     ghost Value = { tables.Table };
 
     ghost coded = { table_code };

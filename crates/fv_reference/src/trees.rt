@@ -4,6 +4,8 @@ ghost use Rattle.std.specs.List.{range_with_len, list_any};
 ghost use Rattle.std.specs.FinMap as fin;
 ghost use Rattle.fv_model.specs.Trees.{fan, spot_cmp, least_levels, levels_with, spots_over, spots_grown, stamp_spots, holds_one, written, erased};
 ghost use Rattle.fv_reference.specs.Maps.{map_of};
+ghost use Rattle.fv_model.specs.Trees as trees;
+ghost use Rattle.fv_reference.specs.Codes.{tree_code};
 
 use crate::maps::{copy, insert, len};
 use std::alloc::{AllocError, Global};
@@ -21,11 +23,6 @@ pub struct Tree {
 }
 
 impl Model for Tree {
-    ghost use Rattle.std.specs.Prelude.{◌≤◌};
-    ghost use Rattle.fv_model.specs.Trees as trees;
-    ghost use Rattle.fv_reference.specs.Maps.{map_of};
-    ghost use Rattle.fv_reference.specs.Codes.{tree_code};
-
     ghost Value = { trees.Tree };
 
     ghost coded = { tree_code };

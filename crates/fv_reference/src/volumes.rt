@@ -8,6 +8,8 @@ ghost use Rattle.fv_model.specs.Places.{id_cmp, ids_of};
 ghost use Rattle.fv_model.specs.Space.{map_blocks, ids_in_any, ids_left_out, charge, span_of};
 ghost use Rattle.fv_model.specs.Effects.{empty_volume, clone_of, mirror_of, being_split};
 ghost use Rattle.fv_reference.specs.Maps.{map_of, set_of};
+ghost use Rattle.fv_model.specs.Volumes as volumes;
+ghost use Rattle.fv_reference.specs.Codes.{base_code, volume_code};
 
 use crate::maps::{copy, get, insert, len, remove};
 use crate::places::{Id, add_ids, take_ids};
@@ -28,9 +30,6 @@ pub struct Base {
 }
 
 impl Model for Base {
-    ghost use Rattle.fv_model.specs.Volumes as volumes;
-    ghost use Rattle.fv_reference.specs.Codes.{base_code};
-
     ghost Value = { volumes.Base };
 
     ghost coded = { base_code };
@@ -96,13 +95,6 @@ pub struct Volume {
 }
 
 impl Model for Volume {
-    ghost use Rattle.std.specs.Prelude.{◌≤◌};
-    ghost use Rattle.fv_model.specs.Numbers.{greatest_span};
-    ghost use Rattle.fv_model.specs.Spelling.{name_cmp};
-    ghost use Rattle.fv_model.specs.Volumes as volumes;
-    ghost use Rattle.fv_reference.specs.Maps.{map_of};
-    ghost use Rattle.fv_reference.specs.Codes.{volume_code};
-
     ghost Value = { volumes.Volume };
 
     ghost coded = { volume_code };

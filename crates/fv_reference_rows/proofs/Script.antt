@@ -23,7 +23,7 @@ use Rattle.fv_model.specs.Refusals.{conditions, refusal, table_asked}
 use Rattle.fv_model.specs.Replies.{AllowsBy, IsAnswer, is_open, answer, stat_of}
 use Rattle.fv_model.specs.Texts.{words}
 use Rattle.fv_model.specs.Words.{line_words, name_of, count_of, kind_of, table_of, text_of}
-use Rattle.fv_model.specs.Grammar.{command, first, is_end, vol_create, vol_destroy, vol_resize, vol_guarantee, vol_list, vol_stat, vol, snap, clone, split, new, put, get, len, cut, rm, ls, mirror, clean, probe, work}
+use Rattle.fv_model.specs.Grammar.{command, first, is_end, vol_create, vol_destroy, vol_resize, vol_guarantee, vol_list, vol_stat, vol, snap, clone, split, new_form, put_form, get, len, cut_form, rm_form, ls, mirror, clean, probe, work}
 use Rattle.fv_model.specs.Lines.{line_of, script_lines, lines}
 use Rattle.fv_model.specs.Runs.{Line, Says, AnswersAll, Full}
 use Rattle.fv_laws.proofs.Orders.{name_total, name_ties}
@@ -141,7 +141,7 @@ unfolding words digits
 spelled = (replies, answers.all, refl)
 
 reads : lines written ≡ script
-unfolding script_lines line_of line_words name_of count_of kind_of table_of text_of command first is_end vol_create vol_destroy vol_resize vol_guarantee vol_list vol_stat vol snap clone split new put get len cut rm ls mirror clean probe work
+unfolding script_lines line_of line_words name_of count_of kind_of table_of text_of command first is_end vol_create vol_destroy vol_resize vol_guarantee vol_list vol_stat vol snap clone split new_form put_form get len cut_form rm_form ls mirror clean probe work
 reads = refl
 
 -- the bytes of the script, and the bytes that are given out for them

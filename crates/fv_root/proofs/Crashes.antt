@@ -7,8 +7,7 @@ use Rattle.fv_bits.specs.Members.{is_member}
 use Rattle.fv_model.specs.Machines.{Machine}
 use Rattle.fv_image.specs.NewerRoot.{Taken}
 use Rattle.fv_image.specs.Held.{Layout, layout_at, view_at, with_bits}
-use Rattle.fv_image.specs.WholeMachine.{machine_from, machine_of, Tells}
-use Rattle.fv_image.specs.MachineOf.{AllStandFor}
+use Rattle.fv_image.specs.WholeMachine.{machine_from, machine_of, Tells, AllStandFor}
 use Rattle.fv_image.proofs.SoundTests.{tells_from, machine_under}
 use Rattle.fv_image.proofs.SoundSlots.{held_lies}
 use Rattle.fv_image.proofs.SameLayout.{same_layout, same_but_bits, held_with_bits}

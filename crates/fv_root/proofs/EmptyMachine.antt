@@ -6,7 +6,7 @@ use Rattle.std.proofs.lemmas.Bool.{cases_lt}
 use Rattle.fv_disk.specs.Shown.{Image}
 use Rattle.fv_model.specs.Machines.{empty_machine}
 use Rattle.fv_image.specs.NewerRoot.{Taken, root_of}
-use Rattle.fv_image.specs.MachineOf.{machine_of}
+use Rattle.fv_image.specs.WholeMachine.{machine_of}
 use Rattle.fv_image.specs.Held.{label_place}
 use Rattle.fv_image.proofs.Empty.{machine_is_empty as empty_volumes}
 use Rattle.fv_root.specs.Formatted.{IsSize, IsFormatted, first_root}

@@ -9,7 +9,7 @@ use Rattle.fv_disk.specs.Sparing.{AgreeOn, LeftBefore, Spares}
 use Rattle.fv_disk.proofs.Moments.{then, weaken}
 use Rattle.fv_codec.specs.Blocks.{super_at, gate_open, root_at}
 use Rattle.fv_image.specs.Layout.{superblock, gate_place, root_place, area_blocks, area_place}
-use Rattle.fv_image.specs.MachineOf.{machine_of}
+use Rattle.fv_image.specs.WholeMachine.{machine_of}
 use Rattle.fv_model.specs.Machines.{empty_machine}
 use Rattle.fv_root.specs.Formatted.{AreClosed, IsNoGate, IsSize, OldClosedOrNew, first_root}
 use Rattle.fv_root.specs.Commits.{IsNotGate}

@@ -11,7 +11,7 @@ use Rattle.fv_bits.specs.Bits.{bit_of_area}
 use Rattle.fv_bits.specs.Members.{IsBlockOf, is_member}
 use Rattle.fv_image.specs.Layout.{superblock, gate_place, root_place, area_blocks}
 use Rattle.fv_image.specs.NewerRoot.{Taken, behind, root_of}
-use Rattle.fv_image.specs.MachineOf.{area_bits, map_bit}
+use Rattle.fv_image.specs.Maps.{area_bits, map_bit}
 use Rattle.fv_root.specs.declared.find.Found.{Found}
 use Rattle.fv_root.specs.Formatted.{SameVolumes}
 use Rattle.fv_root.specs.Finding.{IsFound, other_slot, root_found}

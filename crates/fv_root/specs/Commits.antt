@@ -6,7 +6,7 @@ use Rattle.fv_codec.specs.Blocks.{gate_open, root_at}
 use Rattle.fv_bits.specs.Members.{IsBlockOf, is_member}
 use Rattle.fv_image.specs.Layout.{gate_place, root_place, area_blocks, area_place}
 use Rattle.fv_image.specs.NewerRoot.{root_of}
-use Rattle.fv_image.specs.MachineOf.{map_bit}
+use Rattle.fv_image.specs.Maps.{map_bit}
 use Rattle.fv_root.specs.declared.find.Found.{Found}
 use Rattle.fv_root.specs.Formatted.{SameVolumes}
 use Rattle.fv_root.specs.Finding.{IsFound, other_slot, root_found}

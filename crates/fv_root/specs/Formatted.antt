@@ -5,7 +5,7 @@ use Rattle.fv_disk.specs.Shown.{Image, Shown}
 use Rattle.fv_codec.specs.declared.root.Root.{Root}
 use Rattle.fv_codec.specs.Blocks.{super_at, gate_open, root_at}
 use Rattle.fv_image.specs.Layout.{superblock, gate_place, root_place, area_blocks, area_place}
-use Rattle.fv_image.specs.MachineOf.{machine_of}
+use Rattle.fv_image.specs.WholeMachine.{machine_of}
 use Rattle.fv_model.specs.Machines.{empty_machine, first_block}
 use Rattle.fv_disk.specs.Sparing.{AgreeOn, LeftBefore, Spares}
 

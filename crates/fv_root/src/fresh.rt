@@ -4,7 +4,7 @@ ghost use Rattle.std.specs.Prelude.{◌≡◌, ◌≢◌, ◌<◌, ◌+◌, ◌�
 ghost use Rattle.fv_disk.specs.Shown.{IsSettled, SameBut};
 ghost use Rattle.fv_disk.specs.Crash.{Leaves};
 ghost use Rattle.fv_disk.specs.Sparing.{Spares};
-ghost use Rattle.fv_image.specs.MachineOf.{machine_of};
+ghost use Rattle.fv_image.specs.WholeMachine.{machine_of};
 ghost use Rattle.fv_image.specs.Layout.{gate_place, area_blocks};
 ghost use Rattle.fv_codec.specs.Blocks.{super_at, gate_open, root_at};
 ghost use Rattle.fv_model.specs.Machines.{empty_machine, first_block};

@@ -18,11 +18,11 @@ use Rattle.fv_image.specs.Held.{Layout, layout_at}
 use Rattle.fv_image.specs.Seen.{seen, volume_seen}
 use Rattle.fv_image.specs.VolumeRules.{commits_seen, has_commits_in_capacity, has_use_in_size}
 use Rattle.fv_image.specs.Soundness.{IsSound}
-use Rattle.fv_image.specs.MachineOf.{machine_of}
-use Rattle.fv_image.proofs.Admitted.{name_total}
+use Rattle.fv_image.specs.WholeMachine.{machine_of}
+use Rattle.fv_image.proofs.SummedNames.{name_total}
 use Rattle.fv_image.proofs.Committed.{commits_told}
 use Rattle.fv_image.proofs.SameSeen.{of_volume}
-use Rattle.fv_image.proofs.Stands.{stands_for}
+use Rattle.fv_image.proofs.SoundTests.{stands_for}
 
 below : (a b : ℕ) → nat_le a b ≡ true → a ≤ b
 below a b e = grind (arith, nat_tests)

@@ -10,7 +10,7 @@ use Rattle.fv_model.specs.declared.answers.Reply.{Reply}
 use Rattle.fv_model.specs.Machines.{Machine}
 use Rattle.fv_model.specs.Runs.{Line, after, after_line, AllowsAt, AnswersAll, Follows, whole}
 use Rattle.fv_model.specs.Texts.{text}
-use Rattle.fv_image.specs.MachineOf.{machine_of}
+use Rattle.fv_image.specs.WholeMachine.{machine_of}
 use Rattle.fv_lines.specs.Reading.{IsStill}
 use Rattle.fv_lines.proofs.Ends.{whole_append}
 use Rattle.fv_aggregate.specs.declared.session.Session.{Session}

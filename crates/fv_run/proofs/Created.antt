@@ -10,7 +10,7 @@ use Rattle.fv_disk.proofs.Moments.{then, weaken}
 use Rattle.fv_disk.proofs.Resting.{settled_image}
 use Rattle.fv_root.specs.Formatted.{KeepsVolumes, WritesFixed}
 use Rattle.fv_model.specs.Machines.{empty_machine}
-use Rattle.fv_image.specs.MachineOf.{machine_of}
+use Rattle.fv_image.specs.WholeMachine.{machine_of}
 use Rattle.fv_run.specs.declared.ending.Fault.TheVariants.{Disk, Sink}
 use Rattle.fv_run.specs.Creating.{created_text, IsAcknowledged, Creates}
 

@@ -11,7 +11,7 @@ use Rattle.fv_model.specs.Runs.{Line, after, Full, whole}
 use Rattle.fv_model.specs.Lines.{line_of}
 use Rattle.fv_script.proofs.ScriptLines.{no_line}
 use Rattle.fv_model.specs.Texts.{text, done_text}
-use Rattle.fv_image.specs.MachineOf.{machine_of}
+use Rattle.fv_image.specs.WholeMachine.{machine_of}
 use Rattle.fv_lines.specs.Counts.{Counts}
 use Rattle.fv_lines.specs.Reading.{unread}
 use Rattle.fv_lines.proofs.Counting.{counts_then}

@@ -7,7 +7,7 @@ use Rattle.fv_disk.proofs.Moments.{started, goes_on}
 use Rattle.fv_disk.proofs.Resting.{settled_image}
 use Rattle.fv_model.specs.Machines.{Machine}
 use Rattle.fv_model.specs.Runs.{Line}
-use Rattle.fv_image.specs.MachineOf.{machine_of}
+use Rattle.fv_image.specs.WholeMachine.{machine_of}
 use Rattle.fv_root.specs.Finding.{IsNoAggregate}
 use Rattle.fv_lines.specs.Counts.{Counts}
 use Rattle.fv_aggregate.specs.declared.fault.OpenFault.{OpenFault}

@@ -6,7 +6,7 @@ use Rattle.fv_disk.specs.Crash.{Leaves}
 use Rattle.fv_disk.proofs.Moments.{then, weaken}
 use Rattle.fv_model.specs.Machines.{Machine}
 use Rattle.fv_model.specs.Runs.{after, acked, Full, Follows, whole}
-use Rattle.fv_image.specs.MachineOf.{machine_of}
+use Rattle.fv_image.specs.WholeMachine.{machine_of}
 use Rattle.fv_lines.specs.Counts.{Counts}
 use Rattle.fv_lines.proofs.Counting.{counts_then}
 use Rattle.fv_aggregate.specs.declared.session.Session.{Session}

@@ -12,8 +12,8 @@ use Rattle.fv_root.specs.Finding.{IsFound, root_found}
 use Rattle.fv_container.specs.Chains.{container_at}
 use Rattle.fv_volume.specs.declared.pool.Pool.{Pool}
 use Rattle.fv_volume.specs.States.{States, state_at}
-use Rattle.fv_volume.specs.UnderRoot.{IsLentAt, IsMapOf}
-use Rattle.fv_volume.proofs.Resting.{held_rests, named_rests, ready_rests}
+use Rattle.fv_volumes.specs.UnderRoot.{IsLentAt, IsMapOf}
+use Rattle.fv_volumes.proofs.Resting.{held_rests, named_rests, ready_rests}
 use Rattle.fv_cp.specs.Held.{machine_held, IsHeld}
 use Rattle.fv_cp.specs.Placing.{AreReady}
 

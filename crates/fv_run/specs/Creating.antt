@@ -5,7 +5,7 @@ use Rattle.fv_disk.specs.Crash.{Leaves}
 use Rattle.fv_lines.specs.Counts.{Counts}
 use Rattle.fv_root.specs.Formatted.{SameVolumes}
 use Rattle.fv_model.specs.Machines.{capacity, empty_machine}
-use Rattle.fv_image.specs.MachineOf.{machine_of}
+use Rattle.fv_image.specs.WholeMachine.{machine_of}
 use Rattle.fv_run.specs.declared.ending.Fault.{Fault}
 use Rattle.fv_run.specs.declared.ending.Fault.TheVariants.{Disk, Sink}
 use Rattle.fv_run.specs.Endings.{EndsWith, raised_by}

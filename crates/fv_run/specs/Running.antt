@@ -6,7 +6,7 @@ use Rattle.fv_lines.specs.Counts.{Counts}
 use Rattle.fv_model.specs.declared.commands.Command.{Command}
 use Rattle.fv_model.specs.Machines.{Machine}
 use Rattle.fv_model.specs.Runs.{Line, Says, NoCommand, OutOfRange, after, Full, Follows, is_cp, whole, acked}
-use Rattle.fv_image.specs.MachineOf.{machine_of}
+use Rattle.fv_image.specs.WholeMachine.{machine_of}
 use Rattle.fv_root.specs.Finding.{IsNoAggregate}
 use Rattle.fv_aggregate.specs.declared.fault.OpenFault.TheVariants as opening
 use Rattle.fv_aggregate.specs.declared.session.Session.{Session}

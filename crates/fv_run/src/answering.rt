@@ -59,10 +59,10 @@ fn apply<H: Host, L: Ledger>(
     match read_line(line) {
         Ok(command) => {
             let reply = session.apply(host, &command, steps)?;
-            Ok(reply)
+            return Ok(reply);
         }
-        Err(LineFault::Syntax) => Ok(Reply::Refused(Refusal::Syntax)),
-        Err(LineFault::Range) => Ok(Reply::Refused(Refusal::Range)),
+        Err(LineFault::Syntax) => return Ok(Reply::Refused(Refusal::Syntax)),
+        Err(LineFault::Range) => return Ok(Reply::Refused(Refusal::Range)),
     }
 }
 

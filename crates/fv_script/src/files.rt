@@ -2,7 +2,7 @@
 
 ghost use Rattle.std.specs.Prelude.{◌≡◌};
 ghost use Rattle.fv_model.specs.Words.{line_words};
-ghost use Rattle.fv_model.specs.Grammar.{cut, get, len, ls, new, put, rm};
+ghost use Rattle.fv_model.specs.Grammar.{cut_form, get, len, ls, new_form, put_form, rm_form};
 ghost use Rattle.fv_script.specs.Reading.{outcome};
 
 use crate::LineFault;
@@ -11,9 +11,9 @@ use crate::words::{Words, block, end, name, number, table};
 use fv_model::Command;
 
 /// `new V F` or `new V F RESERVE`.
-#[tactic(auto, unfolding(fv_model::specs::Grammar::new))]
+#[tactic(auto, unfolding(fv_model::specs::Grammar::new_form))]
 pub fn new(words: &mut Words<'_>) -> Result<Command, LineFault>
-    ensures { result ≡ outcome (new (line_words words.old.line.now)) }
+    ensures { result ≡ outcome (new_form (line_words words.old.line.now)) }
 {
     let volume = name(words)?;
     let file = name(words)?;
@@ -34,9 +34,9 @@ pub fn new(words: &mut Words<'_>) -> Result<Command, LineFault>
 }
 
 /// `put V F I HEX`.
-#[tactic(auto, unfolding(fv_model::specs::Grammar::put))]
+#[tactic(auto, unfolding(fv_model::specs::Grammar::put_form))]
 pub fn put(words: &mut Words<'_>) -> Result<Command, LineFault>
-    ensures { result ≡ outcome (put (line_words words.old.line.now)) }
+    ensures { result ≡ outcome (put_form (line_words words.old.line.now)) }
 {
     let volume = name(words)?;
     let file = name(words)?;
@@ -84,9 +84,9 @@ pub fn len(words: &mut Words<'_>) -> Result<Command, LineFault>
 }
 
 /// `cut V F N`.
-#[tactic(auto, unfolding(fv_model::specs::Grammar::cut))]
+#[tactic(auto, unfolding(fv_model::specs::Grammar::cut_form))]
 pub fn cut(words: &mut Words<'_>) -> Result<Command, LineFault>
-    ensures { result ≡ outcome (cut (line_words words.old.line.now)) }
+    ensures { result ≡ outcome (cut_form (line_words words.old.line.now)) }
 {
     let volume = name(words)?;
     let file = name(words)?;
@@ -100,9 +100,9 @@ pub fn cut(words: &mut Words<'_>) -> Result<Command, LineFault>
 }
 
 /// `rm V F`.
-#[tactic(auto, unfolding(fv_model::specs::Grammar::rm))]
+#[tactic(auto, unfolding(fv_model::specs::Grammar::rm_form))]
 pub fn rm(words: &mut Words<'_>) -> Result<Command, LineFault>
-    ensures { result ≡ outcome (rm (line_words words.old.line.now)) }
+    ensures { result ≡ outcome (rm_form (line_words words.old.line.now)) }
 {
     let volume = name(words)?;
     let file = name(words)?;

@@ -134,11 +134,10 @@ fn put(state: &mut u64) -> Command
 fn get(state: &mut u64) -> Command
     ensures { (result, state.new) ≡ get_from state.old }
 {
-    let file = file(draw(state, 8));
     Command::Get {
         volume: volume(),
         snapshot: None,
-        file,
+        file: file(draw(state, 8)),
         index: draw(state, 300),
     }
 }
@@ -147,10 +146,9 @@ fn get(state: &mut u64) -> Command
 fn cut(state: &mut u64) -> Command
     ensures { (result, state.new) ≡ cut_from state.old }
 {
-    let file = file(draw(state, 8));
     Command::Cut {
         volume: volume(),
-        file,
+        file: file(draw(state, 8)),
         length: draw(state, 300),
     }
 }

@@ -33,45 +33,60 @@ pub fn read_line(line: &[u8]) -> Result<Command, LineFault>
     command(&mut Words { line })
 }
 
-/// The command that the words of a line say.
+/// The command that the words of a line say. Each form is returned at once: in a chain of `else` each branch would be a place of its own for
+/// the command, 4 KB that are filled and copied.
 #[tactic(auto, unfolding(fv_model::specs::Grammar::command))]
 fn command(words: &mut Words<'_>) -> Result<Command, LineFault>
     ensures { result ≡ outcome (command (line_words words.old.line.now)) }
 {
     let keyword = word(words)?;
     if is(keyword, b"vol") {
-        vol(words)
-    } else if is(keyword, b"snap") {
-        snap(words)
-    } else if is(keyword, b"clone") {
-        clone(words)
-    } else if is(keyword, b"split") {
-        split(words)
-    } else if is(keyword, b"new") {
-        new(words)
-    } else if is(keyword, b"put") {
-        put(words)
-    } else if is(keyword, b"get") {
-        get(words)
-    } else if is(keyword, b"len") {
-        len(words)
-    } else if is(keyword, b"cut") {
-        cut(words)
-    } else if is(keyword, b"rm") {
-        rm(words)
-    } else if is(keyword, b"ls") {
-        ls(words)
-    } else if is(keyword, b"mirror") {
-        mirror(words)
-    } else if is(keyword, b"clean") {
-        clean(words)
-    } else if is(keyword, b"probe") {
-        probe(words)
-    } else if is(keyword, b"work") {
-        work(words)
-    } else if is(keyword, b"cp") {
-        cp(words)
-    } else {
-        Err(LineFault::Syntax)
+        return vol(words);
     }
+    if is(keyword, b"snap") {
+        return snap(words);
+    }
+    if is(keyword, b"clone") {
+        return clone(words);
+    }
+    if is(keyword, b"split") {
+        return split(words);
+    }
+    if is(keyword, b"new") {
+        return new(words);
+    }
+    if is(keyword, b"put") {
+        return put(words);
+    }
+    if is(keyword, b"get") {
+        return get(words);
+    }
+    if is(keyword, b"len") {
+        return len(words);
+    }
+    if is(keyword, b"cut") {
+        return cut(words);
+    }
+    if is(keyword, b"rm") {
+        return rm(words);
+    }
+    if is(keyword, b"ls") {
+        return ls(words);
+    }
+    if is(keyword, b"mirror") {
+        return mirror(words);
+    }
+    if is(keyword, b"clean") {
+        return clean(words);
+    }
+    if is(keyword, b"probe") {
+        return probe(words);
+    }
+    if is(keyword, b"work") {
+        return work(words);
+    }
+    if is(keyword, b"cp") {
+        return cp(words);
+    }
+    Err(LineFault::Syntax)
 }

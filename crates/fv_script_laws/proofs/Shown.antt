@@ -9,7 +9,7 @@ use Rattle.fv_model.specs.declared.commands.Command.{Command}
 use Rattle.fv_model.specs.declared.commands.Command.TheVariants.{VolCreate, VolDestroy, VolResize, VolGuarantee, VolList, VolStat, New, Put, Get, Len, Cut, Remove, Ls, SnapCreate, SnapDelete, SnapRestore, SnapList, CloneCreate, SplitStart, SplitFinish, Mirror, Clean, Probe, Work, Cp}
 use Rattle.fv_model.specs.Numbers.{is_size, is_reserve, is_index, is_step_count}
 use Rattle.fv_model.specs.Words.{text_of}
-use Rattle.fv_model.specs.Grammar.{first, is_end, command, vol, vol_create, vol_destroy, vol_resize, vol_guarantee, vol_list, vol_stat, snap, snap_create, snap_delete, snap_restore, snap_list, clone, clone_create, split, split_start, split_finish, new, put, get, len, cut, rm, ls, mirror, clean, probe, work, cp}
+use Rattle.fv_model.specs.Grammar.{first, is_end, command, vol, vol_create, vol_destroy, vol_resize, vol_guarantee, vol_list, vol_stat, snap, snap_create, snap_delete, snap_restore, snap_list, clone, clone_create, split, split_start, split_finish, new_form, put_form, get, len, cut_form, rm_form, ls, mirror, clean, probe, work, cp}
 use Rattle.fv_model.specs.Runs.{Says}
 use Rattle.fv_model.specs.Lines.{is_in_range, line_of}
 use Rattle.fv_script.specs.declared.fault.LineFault.{LineFault}
@@ -106,7 +106,7 @@ shows_vol_stat v v_is =
     }
 
 shows_new : (v : List ℕ) (f : List ℕ) (reserve : ℕ) → Named v → Named f → is_reserve reserve ≡ true → Reads (New v f reserve)
-unfolding first is_end text_of command new
+unfolding first is_end text_of command new_form
 shows_new v f reserve v_is f_is range =
     let small : reserve ≤ 2097152 = reserve_small reserve range in
     let wide : reserve < 2 ^ 64 = omega (arith, small) in
@@ -117,7 +117,7 @@ shows_new v f reserve v_is f_is range =
     }
 
 shows_put : (v : List ℕ) (f : List ℕ) (i : ℕ) (block : List ℕ) → Named v → Named f → IsBlock block → is_index i ≡ true → Reads (Put v f i block)
-unfolding first is_end text_of command put
+unfolding first is_end text_of command put_form
 shows_put v f i block v_is f_is block_is range =
     let small : i ≤ 2097152 = index_small i range in
     let wide : i < 2 ^ 64 = omega (arith, small) in
@@ -148,7 +148,7 @@ shows_len v s f v_is s_is f_is =
     }
 
 shows_cut : (v : List ℕ) (f : List ℕ) (n : ℕ) → Named v → Named f → is_reserve n ≡ true → Reads (Cut v f n)
-unfolding first is_end text_of command cut
+unfolding first is_end text_of command cut_form
 shows_cut v f n v_is f_is range =
     let small : n ≤ 2097152 = reserve_small n range in
     let wide : n < 2 ^ 64 = omega (arith, small) in
@@ -159,7 +159,7 @@ shows_cut v f n v_is f_is range =
     }
 
 shows_remove : (v : List ℕ) (f : List ℕ) → Named v → Named f → Reads (Remove v f)
-unfolding first is_end text_of command rm
+unfolding first is_end text_of command rm_form
 shows_remove v f v_is f_is =
     record {
       words = rw (name_word v v_is, name_word f f_is) refl;

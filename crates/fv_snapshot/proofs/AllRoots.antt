@@ -21,10 +21,10 @@ use Rattle.fv_volume.specs.declared.pool.Pool.{Pool}
 use Rattle.fv_volume.specs.declared.state.Snap.{Snap}
 use Rattle.fv_volume.specs.declared.state.VolumeState.{VolumeState}
 use Rattle.fv_volume.specs.OneVolume.{blocks_in, shows, trees_for, uses_in, RootStands}
-use Rattle.fv_volume.specs.Sharing.{pointer_in, trees_by, trees_kept, AreShared, IsOnePlace, SharesWith, StandsUnder}
+use Rattle.fv_volume.specs.Sharing.{pointer_in, trees_by, trees_kept, AreShared, IsOnePlace, SharesWith, StandsInBlock}
 use Rattle.fv_volume.proofs.ActiveRoot.{agrees}
 use Rattle.fv_volume.proofs.EachRoot.{all_among, all_in}
-use Rattle.fv_volume.proofs.LoadedTables.{same_place}
+use Rattle.fv_volume.proofs.OverBlocks.{same_place}
 use Rattle.fv_volume.proofs.Shared.{shares_back, shares_by, IsAlike}
 use Rattle.fv_volume.proofs.SharedRoots.{stored_place, stored_same}
 
@@ -35,21 +35,21 @@ module _ (blocks : Under) (uses : ℕ → Option Use) (levels : ℕ) (root : Poi
   trees = stored_trees blocks levels root
 
   -- the VVBN of a block in which a place stands is led to from its tree
-  led : (o : Option ℕ) (level place v : ℕ) → StandsUnder (trees o) level place v → LeadsFrom trees o v
+  led : (o : Option ℕ) (level place v : ℕ) → StandsInBlock (trees o) level place v → LeadsFrom trees o v
   led None level place v stands = record { level = level; place = place; leads = record { some = stands.some; placed = refl; vvbn = stands.vvbn } }
   led (Some n) level place v stands = by (file_at (stored blocks greatest_word levels root) n) stands
     where
-      by : (o : Option InodeRecord) → StandsUnder (option_map (λ r. unread (stored blocks n r.levels r.root)) o) level place v → LeadsIn (option_map (λ r. unread (stored blocks n r.levels r.root)) o) v
+      by : (o : Option InodeRecord) → StandsInBlock (option_map (λ r. unread (stored blocks n r.levels r.root)) o) level place v → LeadsIn (option_map (λ r. unread (stored blocks n r.levels r.root)) o) v
       by None stands = absurd (stands.some refl)
       by (Some r) stands = record { level = level; place = place; leads = record { some = stands.some; placed = refl; vvbn = stands.vvbn } }
 
   -- one tree has one place that stands in a block
-  once : (o : Option ℕ) (level place k q v : ℕ) → StandsUnder (trees o) level place v → StandsUnder (trees o) k q v → (level ≡ k) × (place ≡ q)
+  once : (o : Option ℕ) (level place k q v : ℕ) → StandsInBlock (trees o) level place v → StandsInBlock (trees o) k q v → (level ≡ k) × (place ≡ q)
   once None level place k q v first second = is.inode.once level place k q first.some second.some (first.vvbn ∙ sym second.vvbn)
   once (Some n) level place k q v first second = by (file_at (stored blocks greatest_word levels root) n) refl first second
     where
-      by : (o : Option InodeRecord) → file_at (stored blocks greatest_word levels root) n ≡ o → StandsUnder (option_map (λ r. unread (stored blocks n r.levels r.root)) o) level place v
-          → StandsUnder (option_map (λ r. unread (stored blocks n r.levels r.root)) o) k q v → (level ≡ k) × (place ≡ q)
+      by : (o : Option InodeRecord) → file_at (stored blocks greatest_word levels root) n ≡ o → StandsInBlock (option_map (λ r. unread (stored blocks n r.levels r.root)) o) level place v
+          → StandsInBlock (option_map (λ r. unread (stored blocks n r.levels r.root)) o) k q v → (level ≡ k) × (place ≡ q)
       by None e first second = absurd (first.some refl)
       by (Some r) e first second = (is.files n r e).once level place k q first.some second.some (first.vvbn ∙ sym second.vvbn)
 
@@ -57,13 +57,13 @@ module _ (blocks : Under) (uses : ℕ → Option Use) (levels : ℕ) (root : Poi
   pub shares_itself : SharesWith trees trees
   shares_itself = record { same = λ o level place some stamp. record { vvbn = (pointer_in (trees o) level place).vvbn; first = stood o level place some; second = stood o level place some }; back = back }
     where
-      stood : (o : Option ℕ) (level place : ℕ) → (pointer_in (trees o) level place).stamp ≢ 0 → StandsUnder (trees o) level place (pointer_in (trees o) level place).vvbn
+      stood : (o : Option ℕ) (level place : ℕ) → (pointer_in (trees o) level place).stamp ≢ 0 → StandsInBlock (trees o) level place (pointer_in (trees o) level place).vvbn
       stood o level place some = record { some = some; same = stored_same blocks levels root o level place; vvbn = refl }
 
-      back : (o u : Option ℕ) (level place k q v : ℕ) → StandsUnder (trees o) level place v → StandsUnder (trees u) k q v → IsOnePlace trees trees o level place u k q
+      back : (o u : Option ℕ) (level place k q v : ℕ) → StandsInBlock (trees o) level place v → StandsInBlock (trees u) k q v → IsOnePlace trees trees o level place u k q
       back o u level place k q v first second = elim (same_or o u) [
         | inl e ↦ (
-            let at = once u level place k q v (subst (λ (t : Option ℕ). StandsUnder (trees t) level place v) e first) second in
+            let at = once u level place k q v (subst (λ (t : Option ℕ). StandsInBlock (trees t) level place v) e first) second in
             record { tree = e; level_is = at.0; place_is = at.1; stamp = λ i. (pointer_in (trees (e i)) (at.0 i) (at.1 i)).stamp })
         | inr differ ↦ absurd (is.apart o u v differ (led o level place v first) (led u k q v second))
       ]

@@ -25,9 +25,9 @@ use Rattle.fv_volume.specs.Snapshots.{IsLeastFree}
 use Rattle.fv_volume.specs.States.{head_in}
 use Rattle.fv_volume.proofs.MapSlots.{is_free}
 use Rattle.fv_volume.proofs.SnapSlots.{least_is_free}
-use Rattle.fv_snapshot.specs.Creating.{content_by, Creates, JudgesCreation, TellsCreation}
+use Rattle.fv_snapshot.specs.Creating.{content_by, Creates, IsGranted, JudgesCreation, TellsCreation}
 use Rattle.fv_snapshot.proofs.Judging.{create_change}
-use Rattle.fv_snapshot.proofs.Placing.{none_placed, placed_held}
+use Rattle.fv_snapshot.proofs.Placing.{placed_held}
 use Rattle.fv_snapshot.proofs.Snapped.{snapped_held, snapped_ready, snapped_volume}
 use Rattle.fv_snapshot.proofs.Told.{distinct_told}
 
@@ -36,19 +36,8 @@ module _ (d : Disk) (p : Pool) (x : VolumeState) (others : ℕ) (name : List ℕ
   can_have : IsHeldIn d p x.slot x → CanHave x (content_by (table_for d p x) (blocks_in d p x) x)
   can_have held = record { reserves = held.stands.reserves; ledger = held.stands.ledger }
 
-  -- it is refused,
-  pub refused_creates : (r : Refusal) → JudgesCreation x p.found.blocks others name (Err r) → Creates d p x others name p x (Err (Refused r))
-  refused_creates r judged = record {
-    changes = λ held. record { agrees = λ m has. judged.agrees (table_for d p x) (blocks_in d p x) m (can_have held) (distinct_told x.snapshots held.stands.names) has; becomes = tt; stays = refl };
-    done = tt;
-    failed = none_placed d p x ready;
-    refused = λ s e. (refl, refl);
-    held = λ held. held;
-    cause = tt;
-  }
-
   module _ (left : Pool) (mid : VolumeState) (placed : IsPlacedAs d p x d left mid) where
-    -- or memory ran out,
+    -- Memory ran out,
     pub lacking_creates : Creates d p x others name left mid (Err Memory)
     lacking_creates = record {
       changes = λ held. record { agrees = λ m has. tt; becomes = tt; stays = placed.volume held.stands };
@@ -79,15 +68,15 @@ module _ (d : Disk) (p : Pool) (x : VolumeState) (others : ℕ) (name : List ℕ
         differs r e = cc
     failed_creates Memory calm may = lacking_creates
 
-    module _ (none : mid.files ≡ None) (whole : IsVolume mid.map) (slot : ℕ) (judged : JudgesCreation x p.found.blocks others name (Ok slot)) where
+    module _ (none : mid.files ≡ None) (whole : IsVolume mid.map) (slot : ℕ) (granted : IsGranted x name slot) where
       same_snaps : mid.snapshots ≡ x.snapshots
       same_snaps = ap (λ (z : VolumeState). z.snapshots) placed.keeps
 
       free : IsLeastFree mid.snapshots slot
-      free = subst (λ (snaps : List Snap). IsLeastFree snaps slot) (sym same_snaps) judged.slot
+      free = subst (λ (snaps : List Snap). IsLeastFree snaps slot) (sym same_snaps) granted.free
 
       other : snap_named mid.snapshots name ≡ None
-      other = ap (λ (snaps : List Snap). snap_named snaps name) same_snaps ∙ judged.none
+      other = ap (λ (snaps : List Snap). snap_named snaps name) same_snaps ∙ granted.none
 
       -- the slot is free in its maps
       pub slot_free : slot_at mid.map slot ≡ None
@@ -97,7 +86,7 @@ module _ (d : Disk) (p : Pool) (x : VolumeState) (others : ℕ) (name : List ℕ
 
       fits : mid.ledger.charge + map_blocks mid.span ≤ mid.size
       fits =
-          let was = judged.fits in
+          let was = granted.fits in
           let charge : mid.ledger.charge ≡ x.ledger.charge = ap (λ (z : VolumeState). z.ledger.charge) placed.keeps in
           let span : map_blocks mid.span ≡ map_blocks x.span = ap (λ (z : VolumeState). map_blocks z.span) placed.keeps in
           let size : mid.size ≡ x.size = ap (λ (z : VolumeState). z.size) placed.keeps in
@@ -108,14 +97,14 @@ module _ (d : Disk) (p : Pool) (x : VolumeState) (others : ℕ) (name : List ℕ
         done_ready = snapped_ready mid whole slot free name placed.ready.labelled named d left fits placed.ready
 
         -- or it is made.
-        pub done_creates : Creates d p x others name left (with_snapshot mid slot name) (Ok tt)
-        done_creates = record {
+        pub done_creates : JudgesCreation x p.found.blocks others name (Ok slot) → Creates d p x others name left (with_snapshot mid slot name) (Ok tt)
+        done_creates judged = record {
           changes = λ held. record {
             agrees = λ m has. judged.agrees (table_for d p x) (blocks_in d p x) m (can_have held) (distinct_told x.snapshots held.stands.names) has;
             becomes = λ m has. create_change m x.name (volume_for d p x) has name ∙ ap (λ (v : Volume). Becomes x.name v) (sym (after held));
             stays = tt;
           };
-          done = record { mid = mid; placed = placed; none = none; slot = slot; free = judged.slot; now = refl };
+          done = record { mid = mid; placed = placed; none = none; slot = slot; free = granted.free; now = refl };
           failed = tt;
           refused = tt;
           held = λ held. subst (λ (s : ℕ). IsHeldIn d left s (with_snapshot mid slot name)) at (snapped_held mid whole slot free name d left (there held) none other named fits);
@@ -134,9 +123,9 @@ module _ (d : Disk) (p : Pool) (x : VolumeState) (others : ℕ) (name : List ℕ
                 ∙ ap (λ (v : Volume). record v { snapshots = fin.insert v.snapshots name v.active }) (placed.volume held.stands)
 
         -- It is made exactly where there was memory for it.
-        pub kept_creates : (y : VolumeState) (r : Result Unit VolumeFault) → OnOk r (y ≡ with_snapshot mid slot name) → OnErr r (y ≡ mid) → IfErr r (λ e. e ≡ Memory) → Creates d p x others name left y r
-        kept_creates y (Ok done) now failed fault = subst (λ (z : VolumeState). Creates d p x others name left z (Ok done)) (sym now) done_creates
-        kept_creates y (Err e) now failed fault =
+        pub kept_creates : JudgesCreation x p.found.blocks others name (Ok slot) → (y : VolumeState) (r : Result Unit VolumeFault) → OnOk r (y ≡ with_snapshot mid slot name) → OnErr r (y ≡ mid) → IfErr r (λ e. e ≡ Memory) → Creates d p x others name left y r
+        kept_creates judged y (Ok done) now failed fault = subst (λ (z : VolumeState). Creates d p x others name left z (Ok done)) (sym now) (done_creates judged)
+        kept_creates judged y (Err e) now failed fault =
             subst (λ (z : VolumeState). Creates d p x others name left z (Err e)) (sym failed) (subst (λ (e : VolumeFault). Creates d p x others name left mid (Err e)) (sym fault) lacking_creates)
 
         pub kept_ready : (y : VolumeState) (r : Result Unit VolumeFault) → OnOk r (y ≡ with_snapshot mid slot name) → OnErr r (y ≡ mid) → IsReady d left y
@@ -156,14 +145,7 @@ least_one snaps a b one other = ⊎_elim
     (cases_lt a b)
 
 module _ (p : Pool) (x : VolumeState) (others : ℕ) (name : List ℕ) where
-  -- It is refused as it is judged,
-  pub refused_tells : (r : Refusal) → JudgesCreation x p.found.blocks others name (Err r) → TellsCreation p x others name x (Err (Refused r))
-  refused_tells r judged = record { judged = λ s e. sym judged.same ∙ ap (λ (k : Refusal). Some k) (same r s e); waits = tt }
-    where
-      same : (r s : Refusal) → Refused r ≡ Refused s → r ≡ s
-      same r s e = cc
-
-  -- and by nothing else.
+  -- It isn't refused.
   pub failed_tells : (y : VolumeState) (e : VolumeFault) → IsPlaceFault e → TellsCreation p x others name y (Err e)
   failed_tells y (Refused r) calm = absurd calm
   failed_tells y DiskFault calm = absurd calm

@@ -46,7 +46,8 @@ use Rattle.fv_volume.specs.States.{snap_in, snaps_in}
 use Rattle.fv_volume.proofs.Changed.{within_size}
 use Rattle.fv_volume.proofs.Charging.{left_by}
 use Rattle.fv_volume.proofs.SnapReads.{asked_table}
-use Rattle.fv_snapshot.specs.Creating.{JudgesCreation, are_full, content_by, creation_refusal, refusal_in}
+use Rattle.fv_charge.proofs.Admissions.{machine_admits, one_ledger}
+use Rattle.fv_snapshot.specs.Creating.{IsGranted, JudgesCreation, are_full, content_by, creation_refusal, refusal_in}
 use Rattle.fv_snapshot.proofs.Full.{free_few, full_many, some_slots}
 use Rattle.fv_snapshot.proofs.Told.{by_heads, table_of}
 
@@ -275,3 +276,32 @@ module _ (x : VolumeState) (name : List ℕ) where
         fits_given : (r : Result Unit Refusal) → r ≡ admission more others (capacity blocks) → OnOk (given slot r) (x.ledger.charge + map_blocks x.span ≤ x.size)
         fits_given (Ok done) e = let fits = within_size more others (capacity blocks) e in let none = booked.need in let size = booked.size in omega (arith, fits, none, size)
         fits_given (Err r) e = tt
+
+    -- A snapshot that isn't refused by what is in memory is made by each machine.
+    pub judged_granted : IsBooked x → (slot : ℕ) → IsGranted x name slot → creation_refusal x.snapshots x.ledger blocks others name ≡ None → JudgesCreation x blocks others name (Ok slot)
+    judged_granted booked slot granted accepted =
+        judged_space booked granted.none slot granted.free delta refl refl refl refl (Ok tt) admitted (λ m c v l changed left. admitted l changed ∙ machine_admits m c v l others (capacity blocks) left)
+      where
+        delta : Delta
+        delta = record { charge = pos (map_blocks x.span); need = pos 0; size = x.ledger.size; kind = x.ledger.kind }
+
+        grown : Ledger
+        grown = record x.ledger { charge = x.ledger.charge + map_blocks x.ledger.span }
+
+        moved : IsChanged x.ledger delta grown
+        moved = record {
+          charge = (let e : pos (x.ledger.charge + map_blocks x.ledger.span) ≡ (pos x.ledger.charge +ℤ pos (map_blocks x.ledger.span)) = omega (arith, ints) in e ∙ ap (λ (n : ℕ). pos x.ledger.charge +ℤ pos (map_blocks n)) booked.span);
+          need = (let e : pos x.ledger.need ≡ (pos x.ledger.need +ℤ pos 0) = omega (arith, ints) in e);
+          size = refl;
+          kind = refl;
+          span = refl;
+        }
+
+        accepts : (r : Result Unit Refusal) → refusal_in r ≡ None → Ok tt ≡ r
+        accepts (Ok done) e = refl
+        accepts (Err r) e = absurd cc
+
+        admitted : (l : Ledger) → IsChanged x.ledger delta l → Ok tt ≡ admission l others (capacity blocks)
+        admitted l changed =
+            accepts (admission grown others (capacity blocks)) (sym (by_space granted.none (some_free x.snapshots slot granted.free)) ∙ accepted)
+            ∙ ap (λ (k : Ledger). admission k others (capacity blocks)) (one_ledger x.ledger delta grown l moved changed)

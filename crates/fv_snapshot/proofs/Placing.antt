@@ -42,7 +42,6 @@ none_placed d p x ready = record {
   volume = λ is. refl;
   led = λ is led. led;
   well = λ is led well. well;
-  others = λ y other alone apart is. record { standing = is; volume = refl; led = λ led. led; well = λ well. well };
   unused = λ is v none. refl;
   room = 0;
   rest = 0;

@@ -36,11 +36,11 @@ use Rattle.fv_volume.proofs.ActiveRoot.{root_leads, root_standing, root_table, r
 use Rattle.fv_volume.proofs.CountedMaps.{slot_with}
 use Rattle.fv_volume.proofs.EachRoot.{all_among, all_in}
 use Rattle.fv_volume.proofs.Labels.{label_turned}
-use Rattle.fv_volume.proofs.Reached.{active_stands}
+use Rattle.fv_volume.proofs.ActiveStands.{active_stands}
 use Rattle.fv_volume.proofs.SlotMoves.{blocks_move, less_told, root_moves, taken_set}
 use Rattle.fv_volume.proofs.SnapRecords.{all_said}
 use Rattle.fv_volume.proofs.SnapSlots.{removed_in}
-use Rattle.fv_volume.proofs.Standings.{names_in}
+use Rattle.fv_volume.proofs.SnapNames.{names_in}
 use Rattle.fv_snapshot.proofs.AllRoots.{active_root, are_shared, each_shares, roots, shares_again, EachShares, WasRoot}
 use Rattle.fv_snapshot.proofs.Removing.{find_left, left_apart, left_of, slot_there, slots_left, told_left}
 use Rattle.fv_snapshot.proofs.Told.{distinct_told, snaps_fewer}

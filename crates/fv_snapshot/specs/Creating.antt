@@ -58,6 +58,12 @@ pub record JudgesCreation (x : VolumeState) (blocks others : ℕ) (name : List �
   pub none : OnOk result (snap_named x.snapshots name ≡ None)
   pub fits : OnOk result (x.ledger.charge + map_blocks x.span ≤ x.size)
 
+-- A volume has this map slot for a snapshot of a name: the least that is free. No snapshot has the name, and there is room for the map.
+pub record IsGranted (x : VolumeState) (name : List ℕ) (slot : ℕ) : Type 0 where
+  pub free : IsLeastFree x.snapshots slot
+  pub none : snap_named x.snapshots name ≡ None
+  pub fits : x.ledger.charge + map_blocks x.span ≤ x.size
+
 -- What changed of a volume's files was placed, and then a snapshot of its active table was kept under the least free slot.
 pub record IsSnapped (disk : Disk) (pool : Pool) (x : VolumeState) (left : Pool) (name : List ℕ) (y : VolumeState) : Type 0 where
   pub mid : VolumeState

@@ -1,3 +1,4 @@
 pub mod Creating
 pub mod Deleting
 pub mod Restoring
+pub mod Granting

@@ -1,6 +1,6 @@
 //! Making a snapshot.
 
-ghost use Rattle.std.specs.Prelude.{◌≡◌, ◌<◌, ◌≤◌, ◌^◌, None, false, get_or, pos, true, IfErr, OnErr, OnOk};
+ghost use Rattle.std.specs.Prelude.{◌≡◌, ◌<◌, ◌≤◌, ◌^◌, ℕ, None, false, get_or, pos, true, IfErr, IfOk, OnErr, OnOk};
 ghost use Rattle.fv_charge.specs.Changes.{CanChange};
 ghost use Rattle.fv_model.specs.Numbers.{greatest_span};
 ghost use Rattle.fv_model.specs.Space.{map_blocks};
@@ -11,7 +11,8 @@ ghost use Rattle.fv_volume.specs.declared.fault.VolumeFault.TheVariants.{Memory}
 ghost use Rattle.fv_volume.specs.Files.{IsLabelled};
 ghost use Rattle.fv_volume.specs.OneVolume.{greatest_charge, IsBooked, IsReady};
 ghost use Rattle.fv_volume.specs.Snaps.{with_snapshot};
-ghost use Rattle.fv_snapshot.specs.Creating.{Creates, JudgesCreation, TellsCreation};
+ghost use Rattle.fv_snapshot.specs.Creating.{creation_refusal, Creates, IsGranted, JudgesCreation, TellsCreation};
+ghost use Rattle.fv_snapshot.specs.Granting.{slot_granted};
 
 use fv_charge::{Delta, Ledger};
 use fv_disk::Disk;
@@ -19,8 +20,17 @@ use fv_model::{Name, Refusal};
 use fv_root::capacity;
 use fv_volume::{Pool, VolumeFault, VolumeState};
 
+/// What a snapshot gets that isn't refused.
+#[derive(Clone, Copy, Debug, PartialEq, Eq)]
+pub struct Granted {
+    /// The map slot, from 1 to 24.
+    pub slot: u8,
+    /// How many blocks the map has, from 1 to 32.
+    pub room: u64,
+}
+
 /// Whether a snapshot of a name is made of a volume, in an aggregate of so many blocks of which the other volumes commit `others`, at most
-/// 2^62: the map slot that it gets, the least that is free.
+/// 2^62: the map slot that it gets, the least that is free, and the blocks of its map. `create` takes it.
 ///
 /// # Errors
 /// The refusal comes exactly where the machine refuses `snap create`, and is its refusal: a snapshot has the name; there are 24; the volume
@@ -32,12 +42,13 @@ pub fn judge_create(
     blocks: u32,
     others: u64,
     name: &Name,
-) -> Result<u8, Refusal>
+) -> Result<Granted, Refusal>
     requires booked { IsBooked volume.now }
     requires labelled { IsLabelled volume.now.slot volume.now }
     requires blocks { IsSize blocks }
     requires others { others ≤ 2 ^ 62 }
-    ensures { JudgesCreation volume.entry.now blocks others name.now result }
+    ensures judges { JudgesCreation volume.entry.now blocks others name.now (slot_granted result) }
+    ensures room { IfOk result (λ granted. granted.room ≡ map_blocks volume.entry.now.span) }
 {
     if volume.snapshots.named(name).is_some() {
         return Err(Refusal::SnapshotExists);
@@ -45,24 +56,37 @@ pub fn judge_create(
     let Some(slot) = volume.snapshots.free_slot() else {
         return Err(Refusal::TooMany);
     };
-    let delta = map_more(&volume.ledger, volume.span);
+    let room = map_room(volume.span);
+    let delta = map_more(&volume.ledger, room);
     volume.ledger.admit(&delta, others, capacity(blocks))?;
-    Ok(slot)
+    Ok(Granted {
+        slot,
+        room: u64::from(room),
+    })
+}
+
+/// How many blocks the map of a span has.
+fn map_room(span: u32) -> u32
+    requires { span ≤ greatest_span }
+    ensures exact { result ≡ map_blocks span }
+    ensures few { result ≤ 32 }
+{
+    span.div_ceil(32_768)
 }
 
 /// A change of a ledger by the blocks of one map more.
-fn map_more(ledger: &Ledger, span: u32) -> Delta
+fn map_more(ledger: &Ledger, room: u32) -> Delta
     requires charge { ledger.now.charge ≤ greatest_charge }
     requires need { ledger.now.need ≡ 0 }
-    requires span { span ≤ greatest_span }
-    ensures charge { result.charge ≡ pos (map_blocks span) }
+    requires room { room ≤ 32 }
+    ensures charge { result.charge ≡ pos room }
     ensures need { result.need ≡ pos 0 }
     ensures size { result.size ≡ ledger.now.size }
     ensures kind { result.kind ≡ ledger.now.kind }
     ensures fits { CanChange ledger.now result }
 {
     Delta {
-        charge: i64::from(span.div_ceil(32_768)),
+        charge: i64::from(room),
         need: 0,
         size: ledger.size,
         kind: ledger.kind,
@@ -72,11 +96,12 @@ fn map_more(ledger: &Ledger, span: u32) -> Delta
 /// Makes a snapshot of the active table of a volume. What changed of its files is placed first, so that the active root spells the table. Of
 /// the snapshot's map no block is placed: it waits for the next consistency point.
 ///
-/// `others` is what the other volumes of the aggregate commit together, in blocks, at most 2^62.
+/// `granted` is what `judge_create` answered for the name, since when neither the volume's snapshots nor its ledger changed. So it isn't
+/// refused.
 ///
 /// # Errors
-/// `Refused` as `judge_create` refuses; nothing changes then. `Damaged` and `Memory` as `VolumeState::place_files`, and `Memory` where there
-/// is none for the snapshot. After each of them the volume stands for what it stood for.
+/// `Damaged` and `Memory` as `VolumeState::place_files`, and `Memory` where there is none for the snapshot. After each of them the volume
+/// stands for what it stood for.
 ///
 /// No call is made of the disk. Costs what `VolumeState::place_files` costs and a step for each word of 64 numbers of the span, whatever the
 /// number of files. Nothing is copied but the map.
@@ -84,21 +109,18 @@ pub fn create<D: Disk>(
     volume: &mut VolumeState,
     pool: &mut Pool,
     disk: &D,
-    others: u64,
+    granted: Granted,
     name: &Name,
 ) -> Result<(), VolumeFault>
     requires ready { IsReady (D.shown disk.now) pool.old volume.old }
-    requires others { others ≤ 2 ^ 62 }
-    ensures creates { Creates (D.shown disk.now) pool.old volume.old others name.now pool.new volume.new result }
-    ensures tells { TellsCreation pool.old volume.old others name.now volume.new result }
+    requires granted { IsGranted volume.old name.now granted.slot }
+    ensures creates { (others : ℕ) → creation_refusal volume.old.snapshots volume.old.ledger pool.old.found.blocks others name.now ≡ None
+        → Creates (D.shown disk.now) pool.old volume.old others name.now pool.new volume.new result }
+    ensures tells { (others : ℕ) → TellsCreation pool.old volume.old others name.now volume.new result }
     ensures ready { IsReady (D.shown disk.now) pool.new volume.new }
 {
-    let slot = match judge_create(volume, pool.found.blocks, others, name) {
-        Ok(slot) => slot,
-        Err(refusal) => return Err(VolumeFault::Refused(refusal)),
-    };
     volume.place_files(pool, disk)?;
-    keep(volume, slot, name)
+    keep(volume, granted.slot, name)
 }
 
 /// Keeps a snapshot of the active table, of which nothing is in memory.

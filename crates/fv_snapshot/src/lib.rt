@@ -6,6 +6,6 @@ mod creating;
 mod deleting;
 mod restoring;
 
-pub use creating::{create, judge_create};
+pub use creating::{Granted, create, judge_create};
 pub use deleting::delete;
 pub use restoring::restore;

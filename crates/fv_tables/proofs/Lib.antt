@@ -3,7 +3,6 @@ pub mod Pointers
 pub mod Tables
 pub mod Items
 pub mod Bare
-pub mod Changes
 pub mod Listed
 pub mod TablePlaces
 pub mod IdsTold

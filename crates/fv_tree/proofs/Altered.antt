@@ -23,7 +23,7 @@ use Rattle.fv_tree.proofs.HeldCells.{held_changed, held_pointers}
 use Rattle.fv_tree.proofs.Ready.{cell_pointers, cells_loaded, changed_off, marked_pointers, nodes_alone, others_changed, way_changed}
 use Rattle.fv_tree.proofs.Stamped.{above, on, off}
 use Rattle.fv_tree.proofs.Unlinked.{marks_above}
-use Rattle.fv_tree.proofs.Ways.{past, spot_is}
+use Rattle.fv_tree.proofs.Ways.{past, spot_is, brings_seen}
 
 -- ---- one after another
 
@@ -95,18 +95,7 @@ leaves_held blocks t u i block is = record {
 
 -- a node
 brings_changed : (blocks : Under) (t u : Tree) (level place : ℕ) (p : Pointer) → Brings blocks t u level place p → (k q : ℕ) → ((k ≢ level) ⊎ (q ≢ place)) ⊎ (p.stamp ≢ 0) → changed_in u.nodes k q ≡ changed_in t.nodes k q
-brings_changed blocks t u level place p brings k q (inl other) = ap node_changed (brings.others k q other)
-brings_changed blocks t u level place p brings k q (inr some) = elim (spot_is k q level place) [
-  | inr other ↦ ap node_changed (brings.others k q other)
-  | inl at ↦ (λ j. changed_in u.nodes (at.0 j) (at.1 j)) ∙ own ∙ sym (λ j. changed_in t.nodes (at.0 j) (at.1 j))
-]
-  where
-    own : changed_in u.nodes level place ≡ changed_in t.nodes level place
-    own = elim brings.own [
-      | inl same ↦ ap node_changed same
-      | inr (inl blank) ↦ absurd (some blank.0)
-      | inr (inr read) ↦ ap node_changed read.2.is ∙ read.2.changed ∙ sym (ap node_changed read.1)
-    ]
+brings_changed blocks t u level place p brings = brings_seen node_changed blocks t u level place p brings (λ none read. ap node_changed read.is ∙ read.changed ∙ sym (ap node_changed none))
 
 same_changed : (t u : Tree) (k q : ℕ) → u.cells ≡ t.cells → (1 ≤ k → changed_in u.nodes k q ≡ changed_in t.nodes k q) → changed_of u k q ≡ changed_of t k q
 same_changed t u k q cells nodes = elim (cases_eq k 0) [

@@ -1,5 +1,5 @@
 -- What a flush does to the places of a tree, step by step.
-use Rattle.std.proofs.Common.{◌≡◌, ℕ, inl, inr, Option, refl, sym, ap, subst, ◌∙◌, arith}
+use Rattle.std.proofs.Common.{◌≡◌, ℕ, inl, inr, Option, refl, sym, ap, subst, ◌∙◌, arith, None}
 use Rattle.std.specs.FinMap as fin
 use Rattle.std.proofs.lemmas.Bool.{cases_eq}
 use Rattle.fv_codec.specs.declared.pointer.Pointer.{Pointer}
@@ -45,6 +45,9 @@ left_then t u w first second = record {
 }
 
 -- ---- the moments at which a VVBN was free
+
+pub free_now : {B : Type 0} (shown : B → Shown) (goes : B → B → Type 0) (old new : B) → goes old old → goes old new → (v : ℕ) → (fin.get (shown old).held v ≡ None) × ((shown old).used v ≡ None) → WasFree shown goes old new v
+free_now shown goes old new before after v at = record { moment = old; before = before; after = after; held = at.0; used = at.1 }
 
 module _ {B : Type 0} (shown : B → Shown) (goes : B → B → Type 0) (goes_on : (old mid new : B) → goes old mid → goes mid new → goes old new) (old mid new : B) where
   pub free_sooner : goes mid new → (v : ℕ) → WasFree shown goes old mid v → WasFree shown goes old new v

@@ -7,7 +7,7 @@ use Rattle.std.specs.BTreeMap as tree
 use Rattle.std.specs.FinMap as fin
 use Rattle.std.specs.Ordering.{nat_cmp}
 use Rattle.std.specs.Option.{option_map}
-use Rattle.std.proofs.lemmas.Bool.{cases_eq, cases_lt}
+use Rattle.std.proofs.lemmas.Bool.{cases_eq}
 use Rattle.fv_codec.specs.declared.pointer.Pointer.{Pointer}
 use Rattle.fv_model.specs.Trees.{fan, spot_cmp}
 use Rattle.fv_tables.specs.Kept.{over}
@@ -28,7 +28,7 @@ use Rattle.fv_tree.proofs.Cases.{false_is_true, some_none, none_some}
 use Rattle.fv_tree.proofs.Gone.{cell_led, spot_led}
 use Rattle.fv_tree.proofs.Hints.{right_as}
 use Rattle.fv_tree.proofs.Released.{block_read}
-use Rattle.fv_tree.proofs.Ways.{IsWay, own_way, is_way, past}
+use Rattle.fv_tree.proofs.Ways.{IsWay, own_way, way_pointers}
 use Rattle.fv_tree.proofs.Writes.{block_none, block_here}
 
 -- ---- trees that stand in their blocks but for what is in memory
@@ -82,10 +82,7 @@ module _ (s : Loaded) (n : Under) (laid : IsLaid s) (stay : (level place v : ℕ
   }
 
   pub beside_pointers : (level place : ℕ) → pointer_at w level place ≡ pointer_at t level place
-  beside_pointers level place = elim (cases_lt t.levels level) [
-    | inl lt ↦ past w level place lt ∙ sym (past t level place lt)
-    | inr le ↦ is_way w (pointer_at t) way level place le
-  ]
+  beside_pointers = way_pointers w t refl way
 
   pub beside_blocks : (i : ℕ) → block_at w i ≡ block_at t i
   beside_blocks i = elim (cases_eq (pointer_at t 0 i).stamp 0) [

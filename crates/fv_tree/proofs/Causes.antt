@@ -2,6 +2,7 @@
 use Rattle.std.proofs.Common.{◌≡◌, ◌≢◌, ◌≤◌, ℕ, zero, suc, true, inl, inr, ap, subst, sym, ◌∙◌, arith, refl, Option, Some, None, Result, Ok, Err, OnOk, OnErr, is_some}
 use Rattle.std.specs.Prelude.{IfErr}
 use Rattle.std.specs.FinMap as fin
+use Rattle.std.proofs.lemmas.Result.{IfErr-weaker}
 use Rattle.std.specs.Option.{option_map}
 use Rattle.fv_disk.specs.declared.fault.BlockFault.{BlockFault}
 use Rattle.fv_disk.specs.declared.fault.BlockFault.TheVariants.{DiskFault, Damaged, Memory}
@@ -12,7 +13,7 @@ use Rattle.fv_tree.specs.Spelled.{Under, Rooted, pointer_at}
 use Rattle.fv_tree.specs.Sources.{Shown, Counts, IsCalm, IsDamaged, IsUntouched}
 use Rattle.fv_tree.specs.Carried.{kept_at}
 use Rattle.fv_tree.specs.Keeping.{IsSame}
-use Rattle.fv_tree.specs.Standing.{under, IsBlockDamage, IsUnread, LeadsAway, node_in, PointerFails, LoadFails, Fails}
+use Rattle.fv_tree.specs.Standing.{standing, under, cell_in, IsBlockDamage, IsUnread, LeadsAway, node_in, PointerFails, LoadFails, Fails}
 
 -- ---- what isn't in memory
 
@@ -154,6 +155,19 @@ fails_later told t old mid new (Damaged at want found) calm held (faults, inr (d
   ),
 )
 fails_later told t old mid new Memory calm held h = calm_then old mid new calm h
+
+-- a tree that lies over a source fails after calls that left what is held as it was
+pub fails_then : (told : Type 0) (t : Tree) (old mid new : Shown) (e : BlockFault) → IsCalm old mid → IsUntouched old mid → Fails told (standing (under mid) t) mid new e → Fails told (standing (under old) t) old new e
+fails_then told t old mid new e calm untouched cause =
+    fails_later told (standing (under old) t) old mid new e calm untouched.held (subst (λ held. Fails told (standing (λ v. fin.get held v) t) mid new e) untouched.held cause)
+
+-- a cell whose pointer was found before wasn't read
+pub pointed_fails : {T : Type 0} (told : Type 0) (old mid new : Shown) (t : Tree) (i : ℕ) (p : Pointer) (r : Result T BlockFault) → IsCalm old mid → mid.held ≡ old.held → (told → p ≡ pointer_at (standing (under old) t) 0 i)
+    → (is_some (cell_in t i) ≡ true → OnErr r ⊥) → IfErr r (PointerFails mid new p) → IfErr r (Fails told (standing (under old) t) old new)
+pointed_fails told old mid new t i p r calm same pointer held cause =
+    let at : under old ≡ under mid = ap (λ h v. fin.get h v) (sym same) in
+    IfErr-weaker r (λ e. (is_some (cell_in t i) ≡ true → ⊥) × PointerFails mid new p e) (Fails told (standing (under old) t) old new)
+    (λ e q. fails_later told (standing (under old) t) old mid new e calm same (cell_fails told (standing (under old) t) mid new i p e at pointer q.0 q.1)) (err_unless (is_some (cell_in t i) ≡ true) (PointerFails mid new p) r held cause)
 
 pub at_ok : {T E P : Type 0} (r : Result T E) → P → OnOk r P
 at_ok (Ok x) p = p

@@ -15,7 +15,7 @@ use Rattle.fv_tree.specs.Keeping.{IsSame}
 use Rattle.fv_tree.proofs.Below.{kept_pointers}
 use Rattle.fv_tree.specs.Unlinking.{HasWay}
 use Rattle.fv_tree.specs.Flushing.{pointer_in, child_of}
-use Rattle.fv_tree.specs.Collecting.{IsRising, AreBelow, IsPast, Collects, IsHeld, StillHeld, AreHeld, Extends, IsAdded, IsChildPast, IsUnder}
+use Rattle.fv_tree.specs.Collecting.{IsRising, AllBelow, IsPast, Collects, IsHeld, StillHeld, AreHeld, Extends, IsAdded, IsChildPast, IsUnder}
 use Rattle.fv_tree.proofs.Stamped.{above}
 use Rattle.fv_tree.proofs.Unlinked.{hole_below, marks_above, mark_within, top_alone}
 use Rattle.fv_tree.proofs.Levels.{not_first, fan_pos}
@@ -43,7 +43,7 @@ module _ (xs : List ℕ) (p : ℕ) where
     | inr le ↦ inr (omega (arith, one, lt, le))
   ]
 
-  pub rises : IsRising xs → AreBelow xs p → IsRising ys
+  pub rises : IsRising xs → AllBelow xs p → IsRising ys
   rises rising below j k lt in_range = elim (place_of k in_range) [
     | inl less ↦
         let first : get_or ys j 0 ≡ get_or xs j 0 = old_at j (omega (arith, lt, less)) in
@@ -55,16 +55,16 @@ module _ (xs : List ℕ) (p : ℕ) where
         let is = below j (omega (arith, lt, same)) in omega (arith, first, second, is)
   ]
 
-  pub all_below : (bound : ℕ) → p < bound → AreBelow xs bound → AreBelow ys bound
+  pub all_below : (bound : ℕ) → p < bound → AllBelow xs bound → AllBelow ys bound
   all_below bound lt below j less = elim (place_of j less) [
     | inl old ↦ let first : get_or ys j 0 ≡ get_or xs j 0 = old_at j old in let is = below j old in omega (arith, first, is)
     | inr same ↦ let last : get_or ys j 0 ≡ p = ap (λ k. get_or ys k 0) same ∙ last_at in omega (arith, last, lt)
   ]
 
-pub none_below : (bound : ℕ) → AreBelow [] bound
+pub none_below : (bound : ℕ) → AllBelow [] bound
 none_below bound j lt = absurd (omega (arith, lt))
 
-pub first_below : (bound : ℕ) → 0 < bound → AreBelow (0 ∷ []) bound
+pub first_below : (bound : ℕ) → 0 < bound → AllBelow (0 ∷ []) bound
 first_below bound some = all_below [] 0 bound some (none_below bound)
 
 -- ---- how many ranges of a level there are
@@ -125,15 +125,24 @@ pointer_in_is blocks t level place stands held =
           ∙ sym ((own_way s).down level place lt ∙ ap (λ (xs : List Pointer). get_or xs (place % fan) hole) (kept_pointers s (level + 1) (place / fan) (pointer_at s (level + 1) (place / fan)) node.0 (λ none. stands (hole_below s level place lt none)) node.1)))
     ]
 
+pub pointer_in_at : (told : Type 0) (blocks : Under) (t : Tree) (level place : ℕ) (q : Pointer) → q ≡ pointer_in t level place → (told → StandsAt (standing blocks t) level place) → (told → level < t.levels → IsHeld t (level + 1) (place / fan))
+    → told → pointer_at (standing blocks t) level place ≡ q
+pointer_in_at told blocks t level place q is stands held tells = sym (is ∙ pointer_in_is blocks t level place (stands tells) (held tells))
+
 -- ---- one level down
+
+-- the pointer to what is under a node is one of the node's
+child_spelled : (t : Rooted) (level place : ℕ) (xs : List Pointer) → 1 ≤ level → level ≤ t.levels → ((slot : ℕ) → get_or xs slot hole ≡ get_or (pointers_at t level place (pointer_at t level place)) slot hole)
+    → (q : ℕ) → q / fan ≡ place → pointer_at t (level - 1) q ≡ get_or xs (q % fan) hole
+child_spelled t level place xs low high spelled q under =
+    let n : (level - 1) + 1 ≡ level = omega arith in
+    (own_way t).down (level - 1) q (omega arith) ∙ (λ j. get_or (pointers_at t (n j) (under j) (pointer_at t (n j) (under j))) (q % fan) hole) ∙ sym (spelled (q % fan))
 
 -- the pointers of a node are those to what is under it
 pub under_as : (t : Rooted) (level most place : ℕ) (xs : List Pointer) → 1 ≤ level → level ≤ t.levels → ((slot : ℕ) → get_or xs slot hole ≡ get_or (pointers_at t level place (pointer_at t level place)) slot hole)
     → (q : ℕ) → IsChildPast xs level most place q → IsUnder t level most place q
 under_as t level most place xs low high spelled q is =
-    let n : (level - 1) + 1 ≡ level = omega arith in
-    let child : pointer_at t (level - 1) q ≡ get_or xs (q % fan) hole =
-    (own_way t).down (level - 1) q (omega arith) ∙ (λ j. get_or (pointers_at t (n j) (is.under j) (pointer_at t (n j) (is.under j))) (q % fan) hole) ∙ sym (spelled (q % fan)) in record {
+    let child = child_spelled t level place xs low high spelled q is.under in record {
       under = is.under;
       past = record { stands = λ none. is.some (ap (λ (p : Pointer). p.stamp) (sym child) ∙ none); far = is.far };
     }
@@ -141,9 +150,7 @@ under_as t level most place xs low high spelled q is =
 pub under_from : (t : Rooted) (level most place : ℕ) (xs : List Pointer) → 1 ≤ level → level ≤ t.levels → ((slot : ℕ) → get_or xs slot hole ≡ get_or (pointers_at t level place (pointer_at t level place)) slot hole)
     → (q : ℕ) → IsUnder t level most place q → IsChildPast xs level most place q
 under_from t level most place xs low high spelled q is =
-    let n : (level - 1) + 1 ≡ level = omega arith in
-    let child : pointer_at t (level - 1) q ≡ get_or xs (q % fan) hole =
-    (own_way t).down (level - 1) q (omega arith) ∙ (λ j. get_or (pointers_at t (n j) (is.under j) (pointer_at t (n j) (is.under j))) (q % fan) hole) ∙ sym (spelled (q % fan)) in record {
+    let child = child_spelled t level place xs low high spelled q is.under in record {
       under = is.under;
       some = λ none. is.past.stands (ap (λ (p : Pointer). p.stamp) child ∙ none);
       far = is.past.far;

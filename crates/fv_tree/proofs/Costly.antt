@@ -37,3 +37,7 @@ unfolding cost_below
 cost_last cost t i level none =
     let first : i / fan ^ 0 ≡ i = omega arith in
     ap (λ n. place_cost cost t n (i / fan ^ n) + cost_below cost t i n) none ∙ (let sum : place_cost cost t 0 (i / fan ^ 0) + 0 ≡ place_cost cost t 0 (i / fan ^ 0) = omega arith in sum) ∙ ap (place_cost cost t 0) first
+
+-- a cell whose pointer was found costs what the last place of its way does
+pub found_costs : (old mid : Pointer → ℕ) (t : Rooted) (i : ℕ) (p : Pointer) → mid ≡ old → p ≡ pointer_at t 0 i → load_cost mid (is_some (t.cells i)) p ≡ place_cost old t 0 i
+found_costs old mid t i p cost at = λ j. load_cost (cost j) (is_some (t.cells i)) (at j)

@@ -12,7 +12,7 @@ use Rattle.fv_tree.specs.declared.kept.Tree.{Tree}
 use Rattle.fv_tree.specs.Spelled.{Under, Rooted, pointer_at, stamp_in}
 use Rattle.fv_tree.specs.Standing.{standing}
 use Rattle.fv_tree.specs.Counting.{positions_of}
-use Rattle.fv_tree.specs.Collecting.{AreBelow, IsRising}
+use Rattle.fv_tree.specs.Collecting.{AllBelow, IsRising}
 use Rattle.fv_tree.specs.Erasing.{StandsAt}
 use Rattle.fv_tree.specs.Unlinking.{HasWay, AreBare, Unlinks}
 use Rattle.fv_tree.specs.Writing.{IsAlike}
@@ -173,7 +173,7 @@ at_least xs rising (suc j) lt =
     omega (arith, before, more)
 
 -- there are at most as many as there are numbers below their bound
-pub few_below : (xs : List ℕ) (bound : ℕ) → IsRising xs → AreBelow xs bound → length xs ≤ bound
+pub few_below : (xs : List ℕ) (bound : ℕ) → IsRising xs → AllBelow xs bound → length xs ≤ bound
 few_below xs bound rising below = elim (cases_eq (length xs) 0) [
   | inl none ↦ omega (arith, none)
   | inr some ↦

@@ -13,7 +13,7 @@ use Rattle.fv_tree.proofs.Cases.{false_is_true, none_some, some_none, there}
 use Rattle.fv_tree.proofs.Hints.{HasUnknown, right_as, right_kind}
 use Rattle.fv_tree.proofs.Spots.{here, elsewhere}
 use Rattle.fv_tree.proofs.Stamped.{apart}
-use Rattle.fv_tree.proofs.Unchanged.{IsMemory, block_read}
+use Rattle.fv_tree.proofs.Unchanged.{IsMemory, block_read, changed_before}
 use Rattle.fv_tree.proofs.Ways.{own_way, is_way, past, reached_within, spot_is, top_is_first, under_none}
 use Rattle.fv_tree.proofs.Writes.{block_here, block_none}
 
@@ -272,20 +272,14 @@ module _ (s : Loaded) (used : ℕ → Option Use) (u : Loaded) (uses : ℕ → O
   ]
 
   -- what still differs from its block is another
-  still_other : (j c : ℕ) → u.changed j c ≡ true → (j ≢ k) ⊎ (c ≢ q)
-  still_other j c changed = elim (spot_is j c k q) [
-    | inl at ↦ false_is_true (u.changed j c) ((λ i. u.changed (at.0 i) (at.1 i)) ∙ is.changed) changed
-    | inr other ↦ other
-  ]
-
-  was_changed : (j c : ℕ) → u.changed j c ≡ true → s.changed j c ≡ true
-  was_changed j c changed = sym (is.changed_others j c (still_other j c changed)) ∙ changed
+  still : (j c : ℕ) → u.changed j c ≡ true → ((j ≢ k) ⊎ (c ≢ q)) × (s.changed j c ≡ true)
+  still = changed_before s u k q is.changed is.changed_others
 
   over : (j c : ℕ) → u.changed j c ≡ true → (pointer_at u.tree j c).stamp ≢ 0 → j < u.tree.levels → u.changed (j + 1) (c / fan) ≡ true
   over j c changed reached lt =
-      let above : s.changed (j + 1) (c / fan) ≡ true = sound.over j c (was_changed j c changed) (λ e. reached (same_stamps j c ∙ e)) (omega (arith, lt, is.levels)) in
+      let above : s.changed (j + 1) (c / fan) ≡ true = sound.over j c (still j c changed).1 (λ e. reached (same_stamps j c ∙ e)) (omega (arith, lt, is.levels)) in
       elim (spot_is (j + 1) (c / fan) k q) [
-        | inl at ↦ false_is_true (s.changed j c) (is.first j c at.0) (was_changed j c changed)
+        | inl at ↦ false_is_true (s.changed j c) (is.first j c at.0) (still j c changed).1
         | inr other ↦ is.changed_others (j + 1) (c / fan) other ∙ above
       ]
 
@@ -397,7 +391,7 @@ module _ (s : Loaded) (used : ℕ → Option Use) (u : Loaded) (uses : ℕ → O
   placed_here v e = record { level = k; place = q; flushed = flushed_here; vvbn = ap (λ (p : Pointer). p.vvbn) pointer_here ∙ sym e }
 
   stays : (j c : ℕ) → (u.changed j c ≡ true) ⊎ (s.changed j c ≡ false) → pointer_at u.tree j c ≡ pointer_at s.tree j c
-  stays j c (inl changed) = pointer_there j c (still_other j c changed)
+  stays j c (inl changed) = pointer_there j c (still j c changed).0
   stays j c (inr before) = pointer_there j c (elim (spot_is j c k q) [
     | inl at ↦ false_is_true (s.changed j c) before ((λ i. s.changed (at.0 i) (at.1 i)) ∙ is.was)
     | inr other ↦ other
@@ -473,7 +467,7 @@ module _ (s : Loaded) (used : ℕ → Option Use) (u : Loaded) (uses : ℕ → O
     sound = stands;
     alike = record { levels = is.levels; stamps = λ j c. (λ i. if same_stamps j c i == 0 then None else Some (same_stamps j c i)); blocks = same_blocks };
     stamps = same_stamps;
-    fewer = λ j c changed. (was_changed j c changed, is.placed_others j c (still_other j c changed));
+    fewer = λ j c changed. ((still j c changed).1, is.placed_others j c (still j c changed).0);
     stays = stays;
     blocks = λ v block not_replaced there. (is.others v (λ e. some_none (s.tree.under v) block (ap s.tree.under e ∙ is.fresh) there) (λ leads. not_replaced (replaced_here v leads))).0 ∙ there;
     others = λ v not_replaced not_placed. is.others v (λ e. not_placed (placed_here v e)) (λ leads. not_replaced (replaced_here v leads));

@@ -8,7 +8,7 @@ use Rattle.fv_tree.specs.Spelled.{hole, pointers_at, pointers_in, pointer_at, st
 use Rattle.fv_tree.specs.Flushing.{Loaded, Leads, IsSound, IsEmptyNode, IsFlushed, Flushes, kind_for}
 use Rattle.fv_tree.proofs.Below.{no_pointers, kept_pointers, read_pointers}
 use Rattle.fv_tree.proofs.Cases.{there, false_is_true, some_none}
-use Rattle.fv_tree.proofs.Unchanged.{IsMemory, block_read, unchanged_placed}
+use Rattle.fv_tree.proofs.Unchanged.{IsMemory, block_read, unchanged_placed, changed_before}
 use Rattle.fv_tree.proofs.Hints.{right_as}
 use Rattle.fv_tree.proofs.Ways.{under_none, IsWay, own_way, is_way, past, alike, spot_is}
 use Rattle.fv_tree.proofs.Writes.{block_here, block_none, block_same}
@@ -108,20 +108,14 @@ module _ (s u : Loaded) (used : ℕ → Option Use) (k q : ℕ) (sound : IsSound
     vvbn = sym (ap (λ (p : Pointer). p.vvbn) (pointers j c)) ∙ leads.vvbn;
   }
 
-  still_other : (j c : ℕ) → u.changed j c ≡ true → (j ≢ k) ⊎ (c ≢ q)
-  still_other j c changed = elim (spot_is j c k q) [
-    | inl at ↦ false_is_true (u.changed j c) ((λ i. u.changed (at.0 i) (at.1 i)) ∙ is.changed) changed
-    | inr other ↦ other
-  ]
-
-  was_changed : (j c : ℕ) → u.changed j c ≡ true → s.changed j c ≡ true
-  was_changed j c changed = sym (is.changed_others j c (still_other j c changed)) ∙ changed
+  still : (j c : ℕ) → u.changed j c ≡ true → ((j ≢ k) ⊎ (c ≢ q)) × (s.changed j c ≡ true)
+  still = changed_before s u k q is.changed is.changed_others
 
   over : (j c : ℕ) → u.changed j c ≡ true → (pointer_at u.tree j c).stamp ≢ 0 → j < u.tree.levels → u.changed (j + 1) (c / fan) ≡ true
   over j c changed reached lt =
       let less : j < s.tree.levels = omega (arith, lt, is.levels) in
       let some : (pointer_at s.tree j c).stamp ≢ 0 = λ e. reached (same_stamps j c ∙ e) in
-      let above : s.changed (j + 1) (c / fan) ≡ true = sound.over j c (was_changed j c changed) some less in
+      let above : s.changed (j + 1) (c / fan) ≡ true = sound.over j c (still j c changed).1 some less in
       elim (spot_is (j + 1) (c / fan) k q) [
         | inl at ↦ false_is_true (s.changed (j + 1) (c / fan)) ((λ i. s.changed (at.0 i) (at.1 i)) ∙ unchanged (λ e. some (under_none s.tree j c less ((λ i. (pointer_at s.tree (at.0 i) (at.1 i)).stamp) ∙ e)))) above
         | inr other ↦ is.changed_others (j + 1) (c / fan) other ∙ above
@@ -183,7 +177,7 @@ module _ (s u : Loaded) (used : ℕ → Option Use) (k q : ℕ) (sound : IsSound
     sound = stands;
     alike = record { levels = is.levels; stamps = λ j c. ap stamp_in (pointers j c); blocks = same_blocks };
     stamps = same_stamps;
-    fewer = λ j c changed. (was_changed j c changed, is.placed_others j c (still_other j c changed));
+    fewer = λ j c changed. ((still j c changed).1, is.placed_others j c (still j c changed).0);
     stays = λ j c _. pointers j c;
     blocks = λ v block _ held. (λ i. is.under i v) ∙ held;
     others = λ v _ _. ((λ i. is.under i v), refl);

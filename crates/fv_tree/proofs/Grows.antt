@@ -26,6 +26,14 @@ use Rattle.fv_tree.proofs.StillReady.{cell_still, chosen, ready_then, stamps_rea
 use Rattle.fv_tree.proofs.GrownReady.{grown_ready}
 use Rattle.fv_tree.proofs.Writes.{levels_grow}
 
+-- what a write past the levels keeps of a tree
+pub record Grows (s u : Tree) : Type 0 where
+  pub sound : (blocks : Under) (used : ℕ → Option Use) → IsSound used (loaded_over blocks s) → IsSound used (loaded_over blocks u)
+  pub leads : (blocks : Under) → LeadsNoMore (loaded_over blocks s) (loaded_over blocks u)
+  pub keeps : (blocks : Under) → LeadsNoMore (loaded_over blocks u) (loaded_over blocks s)
+  pub hints : (blocks : Under) → KeepsHints (loaded_over blocks s) (loaded_over blocks u)
+  pub ready : KeepsReady s u
+
 -- `s` gets new nodes as `t` and the cell as `h`, its levels rise as `v`, and the way gets stamps as `u`
 module _ (s t h v u : Tree) (i stamp levels : ℕ) (block : List ℕ) (far : fan ^ s.levels ≤ i) (least : levels ≡ least_levels (i + 1)) (reach : i < fan ^ levels)
     (fields : IsSameBut s t) (grown : HasNewLevels s t levels i stamp) (brings : BringsNew s t i)
@@ -82,25 +90,28 @@ module _ (s t h v u : Tree) (i stamp levels : ℕ) (block : List ℕ) (far : fan
   marked blocks = marked_is blocks v u i stamp stamps marks given raises.covers (past_base blocks s v i stamp raises given).kept
       (ap (λ (m : tree.BTreeMap ℕ KeptCell). cell_changed (tree.get nat_cmp m i)) cells ∙ changed)
 
-  pub grows_leads : (blocks : Under) → LeadsNoMore (loaded_over blocks s) (loaded_over blocks u)
+  grows_leads : (blocks : Under) → LeadsNoMore (loaded_over blocks s) (loaded_over blocks u)
   grows_leads blocks = leads_then (loaded_over blocks s) (loaded_over blocks v) (loaded_over blocks u) (past_leads blocks s v i stamp raises given brings_up blank_up tops_up own_up others_up)
       (marked_leads (loaded_over blocks v) (loaded_over blocks u) i (marked blocks) (λ level le _. past_unplaced blocks s v i stamp raises given brings_up blank_up tops_up own_up others_up level le))
 
-  pub grows_hints : (blocks : Under) → KeepsHints (loaded_over blocks s) (loaded_over blocks u)
+  grows_hints : (blocks : Under) → KeepsHints (loaded_over blocks s) (loaded_over blocks u)
   grows_hints blocks = hints_then (loaded_over blocks s) (loaded_over blocks v) (loaded_over blocks u) (past_hints blocks s v i stamp raises given brings_up blank_up tops_up own_up others_up)
       (marked_leads (loaded_over blocks v) (loaded_over blocks u) i (marked blocks) (λ level le _. past_unplaced blocks s v i stamp raises given brings_up blank_up tops_up own_up others_up level le))
       (marked_hints (loaded_over blocks v) (loaded_over blocks u) i (marked blocks))
 
-  pub grows_keeps : (blocks : Under) → LeadsNoMore (loaded_over blocks u) (loaded_over blocks s)
+  grows_keeps : (blocks : Under) → LeadsNoMore (loaded_over blocks u) (loaded_over blocks s)
   grows_keeps blocks = leads_then (loaded_over blocks u) (loaded_over blocks v) (loaded_over blocks s) (marked_keeps (loaded_over blocks v) (loaded_over blocks u) i (marked blocks))
       (past_keeps blocks s v i stamp raises given brings_up blank_up tops_up own_up others_up)
 
-  pub grows_sound : (blocks : Under) (used : ℕ → Option Use) → IsSound used (loaded_over blocks s) → IsSound used (loaded_over blocks u)
+  grows_sound : (blocks : Under) (used : ℕ → Option Use) → IsSound used (loaded_over blocks s) → IsSound used (loaded_over blocks u)
   grows_sound blocks used sound = marked_sound (loaded_over blocks v) (loaded_over blocks u) i (marked blocks) used raises.covers (past_ready blocks s v i stamp raises given brings_up blank_up tops_up own_up others_up used sound)
 
   pub grows_alters : (blocks : Under) → Alters stamp (loaded_over blocks s) (loaded_over blocks u)
   grows_alters blocks = marked_alters blocks v u i stamp stamps marks given raises.covers (past_base blocks s v i stamp raises given).kept (ap (λ (m : tree.BTreeMap ℕ KeptCell). cell_changed (tree.get nat_cmp m i)) cells ∙ changed)
       (loaded_over blocks s) (past_place blocks s v i stamp raises given brings_up blank_up tops_up own_up others_up)
 
-  pub grows_ready : KeepsReady s u
+  grows_ready : KeepsReady s u
   grows_ready = ready_then s v u (λ j ready. grown_ready s v i stamp raises given brings_up cells_up j ready) (stamps_ready v u i stamp stamps given)
+
+  pub grows_kept : Grows s u
+  grows_kept = record { sound = grows_sound; leads = grows_leads; keeps = grows_keeps; hints = grows_hints; ready = grows_ready }

@@ -21,30 +21,30 @@ pub read_as : (t : Rooted) (level place : ℕ) (p : Pointer) (xs : List Pointer)
     → get_or xs slot hole ≡ get_or (pointers_at t level place p) slot hole
 read_as t level place p xs some none is slot = sym (ap (λ (ys : List Pointer). get_or ys slot hole) (read_pointers t level place p some none ∙ is))
 
+-- but for one node the tree stays
+keeps_but : (old new : Under) → new ≡ old → (t u : Tree) (level place : ℕ) (p : Pointer) → IsSameBut t u → ((k q : ℕ) → (k ≢ level) ⊎ (q ≢ place) → node_in u k q ≡ node_in t k q)
+    → (node_in u level place ≡ node_in t level place) ⊎ ((xs : List Pointer) × (node_in u level place ≡ Some xs) × (length xs ≡ 128) × ((slot : ℕ) → get_or xs slot hole ≡ get_or (pointers_at (standing old t) level place p) slot hole))
+    → Keeps (standing old t) (standing new u) level place p
+keeps_but old new under t u level place p same others own = record {
+  under = under;
+  owner = same.owner;
+  levels = same.levels;
+  root = same.root;
+  cells = ap (λ cells. (standing old (record t { cells = cells })).cells) same.cells;
+  others = others;
+  own = own;
+}
+
 pub kept_as : (old new : Under) → new ≡ old → (t u : Tree) (level place : ℕ) (p : Pointer) (xs : List Pointer) (r : Result (List Pointer) BlockFault) → IsSameBut t u
     → OnOk r ((k q : ℕ) → node_in u k q ≡ cond (nat_eq k level && nat_eq q place) (Some xs) (node_in t k q))
     → OnErr r ((k q : ℕ) → node_in u k q ≡ node_in t k q)
     → length xs ≡ 128
     → ((slot : ℕ) → get_or xs slot hole ≡ get_or (pointers_at (standing old t) level place p) slot hole)
     → Keeps (standing old t) (standing new u) level place p
-kept_as old new under t u level place p xs (Ok ys) same done failed long spelled = record {
-  under = under;
-  owner = same.owner;
-  levels = same.levels;
-  root = same.root;
-  cells = ap (λ cells. (standing old (record t { cells = cells })).cells) same.cells;
-  others = λ k q other. done k q ∙ ap (λ b. cond b (Some xs) (node_in t k q)) (elsewhere k q level place other);
-  own = inr (xs, done level place ∙ ap (λ b. cond b (Some xs) (node_in t level place)) (here level place), long, spelled);
-}
-kept_as old new under t u level place p xs (Err e) same done failed long spelled = record {
-  under = under;
-  owner = same.owner;
-  levels = same.levels;
-  root = same.root;
-  cells = ap (λ cells. (standing old (record t { cells = cells })).cells) same.cells;
-  others = λ k q other. failed k q;
-  own = inl (failed level place);
-}
+kept_as old new under t u level place p xs (Ok ys) same done failed long spelled = keeps_but old new under t u level place p same
+    (λ k q other. done k q ∙ ap (λ b. cond b (Some xs) (node_in t k q)) (elsewhere k q level place other))
+    (inr (xs, done level place ∙ ap (λ b. cond b (Some xs) (node_in t level place)) (here level place), long, spelled))
+kept_as old new under t u level place p xs (Err e) same done failed long spelled = keeps_but old new under t u level place p same (λ k q other. failed k q) (inl (failed level place))
 
 -- one step of the way down
 pub next_pointer : (t : Rooted) (level i : ℕ) → 1 ≤ level → level ≤ t.levels → get_or (pointers_at t level (i / fan ^ level) (pointer_at t level (i / fan ^ level))) (i / fan ^ (level - 1) % fan) hole ≡ pointer_at t (level - 1) (i / fan ^ (level - 1))

@@ -1,5 +1,5 @@
 -- What stays under a VVBN through a flush, step by step.
-use Rattle.std.proofs.Common.{◌≡◌, ◌≢◌, ◌≤◌, ℕ, ◌⊎◌, inl, inr, Bool, true, List, Option, Some, None, is_some, refl, sym, ap, ◌∙◌}
+use Rattle.std.proofs.Common.{◌≡◌, ◌≢◌, ◌≤◌, ℕ, inl, inr, Bool, true, List, Option, Some, is_some, refl, sym, ap, ◌∙◌}
 use Rattle.std.specs.Ordering.{nat_cmp}
 use Rattle.std.specs.BTreeMap as tree
 use Rattle.std.proofs.lemmas.Bool.{cases_eq}
@@ -11,7 +11,7 @@ use Rattle.fv_tree.specs.declared.kept.KeptCell.{KeptCell}
 use Rattle.fv_tree.specs.Spelled.{pointer_at}
 use Rattle.fv_tree.specs.Sources.{Shown, Use}
 use Rattle.fv_tree.specs.Flushing.{CameIntoUse, Flushes, IsPlaced, IsReplaced, KeepsOthers, Loaded, NamesUsed, Stands, Swaps, cell_changed, cell_placed, kind_for, loaded, node_changed, node_placed, pointer_in}
-use Rattle.fv_tree.proofs.Cases.{bit, false_is_true, none_some}
+use Rattle.fv_tree.proofs.Cases.{bit, none_some}
 use Rattle.fv_tree.proofs.Flushes.{placed_first, placed_second}
 use Rattle.fv_tree.proofs.Gone.{changed_cell, spot_changed, cell_led, spot_led}
 use Rattle.fv_tree.proofs.Hints.{right_some}

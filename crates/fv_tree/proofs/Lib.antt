@@ -66,3 +66,4 @@ pub mod Altered
 pub mod Anew
 pub mod KeptUnder
 pub mod Taking
+pub mod Calls

@@ -1,5 +1,5 @@
 -- How many values of a map have a mark, where one is put, written or taken out.
-use Rattle.std.proofs.Common.{◌≡◌, ◌≤◌, ℕ, ◌+◌, Bool, true, false, cond, List, ◌∷◌, Some, length, sym, ap, ◌∙◌, arith}
+use Rattle.std.proofs.Common.{◌≡◌, ◌≤◌, ℕ, ◌+◌, Bool, true, false, cond, List, [], ◌∷◌, Some, length, sym, ap, ◌∙◌, arith}
 use Rattle.std.specs.declared.cmp.Ordering.{Ordering}
 use Rattle.std.specs.Prelude.{count_by, sum_by, unwrap_or}
 use Rattle.std.specs.Option.{option_map}
@@ -90,3 +90,10 @@ counted_in mark es = sum_by (λ x. counted (mark x)) (values_of es)
 
 pub counted_more : {K V : Type 0} (mark : V → Bool) (e : K × V) (es : List (K × V)) → counted_in mark (e ∷ es) ≡ cond (mark e.1) 1 0 + counted_in mark es
 counted_more mark e es = sum_by-cons (λ x. counted (mark x)) e.1 (values_of es)
+
+-- a walk over entries goes on by one, and comes to their end
+pub next_marked : {K V : Type 0} (mark : V → Bool) (s : List (K × V)) (k : K) (x : V) (rest : List (K × V)) → s ≡ (k, x) ∷ rest → counted_in mark s ≡ cond (mark x) 1 0 + counted_in mark rest
+next_marked mark s k x rest is = ap (counted_in mark) is ∙ counted_more mark (k, x) rest
+
+pub none_marked : {K V : Type 0} (mark : V → Bool) (s : List (K × V)) → s ≡ [] → counted_in mark s ≡ 0
+none_marked mark s is = ap (counted_in mark) is

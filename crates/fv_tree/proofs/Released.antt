@@ -5,7 +5,7 @@ use Rattle.std.specs.Cmp.{nat_cmp_total}
 use Rattle.std.specs.BTreeMap as tree
 use Rattle.std.specs.FinMap as fin
 use Rattle.std.specs.Option.{option_map}
-use Rattle.std.proofs.lemmas.Bool.{cases_eq, cases_lt}
+use Rattle.std.proofs.lemmas.Bool.{cases_eq}
 use Rattle.std.proofs.lemmas.Bool.Decides.{nat_tests}
 use Rattle.fv_codec.specs.declared.pointer.Pointer.{Pointer}
 use Rattle.fv_model.specs.Trees.{fan, spot_cmp}
@@ -24,7 +24,7 @@ use Rattle.fv_tree.specs.Flushing.{Leads, IsSound, loaded, loaded_over, node_pla
 use Rattle.fv_tree.proofs.Below.{no_pointers, kept_pointers, read_pointers}
 use Rattle.fv_tree.proofs.Causes.{calm_then}
 use Rattle.fv_tree.proofs.Hints.{right_as}
-use Rattle.fv_tree.proofs.Ways.{IsWay, own_way, is_way, past, spot_is}
+use Rattle.fv_tree.proofs.Ways.{IsWay, own_way, spot_is, brings_seen, way_pointers}
 use Rattle.fv_tree.proofs.Writes.{block_none, block_here}
 
 -- ---- one after another
@@ -160,10 +160,7 @@ module _ (old new : Under) (u : Tree) (stay : (level place : ℕ) → Led old u 
   }
 
   pub moved_pointers : (level place : ℕ) → pointer_at w level place ≡ pointer_at t level place
-  moved_pointers level place = elim (cases_lt u.levels level) [
-    | inl lt ↦ past w level place lt ∙ sym (past t level place lt)
-    | inr le ↦ is_way w (pointer_at t) moved_way level place le
-  ]
+  moved_pointers = way_pointers w t refl moved_way
 
   pub moved_blocks : (i : ℕ) → block_at w i ≡ block_at t i
   moved_blocks i = elim (cases_eq (pointer_at t 0 i).stamp 0) [
@@ -311,18 +308,7 @@ keeps_same_blocks old new t u level place p under same at cells nodes = record {
     stood k q there none = there (ap (λ (p : Pointer). p.stamp) (pointers k q) ∙ none)
 
 brings_placed : (blocks : Under) (t u : Tree) (level place : ℕ) (p : Pointer) → Brings blocks t u level place p → (k q : ℕ) → ((k ≢ level) ⊎ (q ≢ place)) ⊎ (p.stamp ≢ 0) → placed_in u.nodes k q ≡ placed_in t.nodes k q
-brings_placed blocks t u level place p brings k q (inl other) = ap node_placed (brings.others k q other)
-brings_placed blocks t u level place p brings k q (inr some) = elim (spot_is k q level place) [
-  | inr other ↦ ap node_placed (brings.others k q other)
-  | inl at ↦ (λ j. placed_in u.nodes (at.0 j) (at.1 j)) ∙ own ∙ sym (λ j. placed_in t.nodes (at.0 j) (at.1 j))
-]
-  where
-    own : placed_in u.nodes level place ≡ placed_in t.nodes level place
-    own = elim brings.own [
-      | inl same ↦ ap node_placed same
-      | inr (inl blank) ↦ absurd (some blank.0)
-      | inr (inr read) ↦ ap node_placed read.2.is ∙ read.2.placed ∙ sym (ap node_placed read.1)
-    ]
+brings_placed blocks t u level place p brings = brings_seen node_placed blocks t u level place p brings (λ none read. ap node_placed read.is ∙ read.placed ∙ sym (ap node_placed none))
 
 pub keeps_brought : (old new : Under) (t u : Tree) (level place : ℕ) (p : Pointer) → new ≡ old → IsSame (standing old t) (standing new u) → pointer_at (standing old t) level place ≡ p → IsSameBut t u → Brings old t u level place p → KeepsBlocks old t u
 keeps_brought old new t u level place p under same at fields brings = keeps_same_blocks old new t u level place p under same at fields.cells (brings_placed old t u level place p brings)

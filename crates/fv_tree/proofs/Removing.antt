@@ -1,5 +1,5 @@
 -- Whole removals, over the blocks that there were before and over those that there are afterwards.
-use Rattle.std.proofs.Common.{◌≡◌, ◌≤◌, ℕ, ◌+◌, ◌/◌, ◌^◌, ◌⊎◌, inl, inr, Bool, false, ◌||◌, Result, Ok, Err, IfOk, OnOk, OnErr, IfErr, None, cond, nat_eq, sym, ap, subst, ◌∙◌, arith}
+use Rattle.std.proofs.Common.{◌≡◌, ◌≤◌, ℕ, ◌+◌, ◌/◌, ◌^◌, ◌⊎◌, inl, inr, Bool, false, ◌||◌, Result, Ok, Err, IfOk, OnOk, OnErr, None, cond, nat_eq, sym, ap, subst, ◌∙◌, arith}
 use Rattle.std.specs.FinMap as fin
 use Rattle.std.proofs.lemmas.Bool.{cases_eq}
 use Rattle.std.proofs.lemmas.Bool.Decides.{nat_tests}
@@ -10,8 +10,8 @@ use Rattle.fv_tree.specs.declared.kept.Tree.{Tree}
 use Rattle.fv_disk.specs.declared.fault.BlockFault.{BlockFault}
 use Rattle.fv_tree.specs.Writing.{Remains}
 use Rattle.fv_tree.specs.Spelled.{Under, Rooted, pointer_at, stamp_in}
-use Rattle.fv_tree.specs.Sources.{Shown, Counts, IsCalm, IsUntouched}
-use Rattle.fv_tree.specs.Standing.{standing, under, Fails}
+use Rattle.fv_tree.specs.Sources.{Shown, IsCalm, IsUntouched}
+use Rattle.fv_tree.specs.Standing.{standing, under}
 use Rattle.fv_tree.specs.Keeping.{IsSame, IsKept}
 use Rattle.fv_tree.specs.Erasing.{StandsAt, HoldsCells, IsErased, Erases}
 use Rattle.fv_tree.specs.Releasing.{IsDropped, KeepsBlocks, Releases, Removes}
@@ -19,7 +19,7 @@ use Rattle.fv_tree.specs.Flushing.{Leads, IsSound, Stands, loaded, loaded_over}
 use Rattle.fv_tree.specs.Leading.{KeepsHints, LeadsNoMore, Carries}
 use Rattle.fv_tree.specs.Counting.{positions_of}
 use Rattle.fv_tree.specs.Removal.{Removal}
-use Rattle.fv_tree.specs.Costs.{cells_held, pending}
+use Rattle.fv_tree.specs.Calls.{Removing}
 use Rattle.fv_tree.specs.Unlinking.{HasWay, CellGoes}
 use Rattle.fv_tree.proofs.Counts.{alike_count}
 use Rattle.fv_tree.proofs.Erased.{nothing_erased, erased_then, erased_as, holds_cells, stands_as, no_choice, choice}
@@ -243,30 +243,27 @@ remains_after (Err e) t u same = λ seen contents shows.
     }
 
 -- a whole removal, from what it did over the blocks of before
-pub removal_after : (told calls : Type 0) (r : Result ℕ BlockFault) (old new : Shown) (t u : Tree) (gone : ℕ → Bool) (start s : ℕ) → (told → OnOk r (Removes old new t u gone start s))
-    → (told → OnErr r (IsSame (standing (under old) t) (standing (under new) u))) → u.owner ≡ t.owner → (told → OnErr r (Carries old new t u)) → OnErr r (IsUntouched old new) → old.room ≤ new.room → OnErr r (pending u ≤ pending t) → cells_held u ≤ cells_held t → calls → Counts old new r
-    → (told → IfOk r (λ count. positions_of (standing (under old) t) ≡ positions_of (standing (under old) u) + count)) → (told → OnErr r (Leaves (loaded old t) (loaded new u)))
-    → IfErr r (Fails told (standing (under old) t) old new) → Removal told calls old new t u gone start s r
-removal_after told calls r old new t u gone start s done same owner stays untouched room still held called counts count leaves cause = record {
-  erased = λ tells. on_ok_weaker r (removed_seen old new t u gone start s) (done tells);
-  place_by_place = λ tells. on_ok_weaker r (removed old new t u gone start s) (done tells);
-  strays = λ tells. strays_after r old new t u gone start s (done tells) untouched;
-  released = λ tells. on_ok_weaker r (λ removes. removes.released) (done tells);
-  owner = owner;
-  stands = λ tells. stands_after r old new t u gone start s (done tells) (stays tells);
-  leads = λ tells. leads_after r old new t u gone start s (done tells) (stays tells);
-  stored_well = λ tells stood. stored_off (loaded old t) (loaded new u) new.used (stands_after r old new t u gone start s (done tells) (stays tells) stood) owner
-      (λ v. may_go_after r old new t u gone start s (done tells) untouched v) (leads_after r old new t u gone start s (done tells) (stays tells) stood) (hints_after r old new t u gone start s (done tells) (stays tells) stood);
-  lets_go = λ tells. lets_go_after r old new t u gone start s (done tells) (stays tells);
-  count = λ tells. count_after r old new t u gone start s (done tells) (count tells);
-  alters = λ tells. alters_after r old new t u gone start s (done tells) (leaves tells);
-  leaves = leaves;
-  failed = λ tells. remains_after r (standing (under old) t) (standing (under new) u) (same tells);
-  untouched = untouched;
-  room = room;
-  pending = still;
-  cells = held;
-  called = called;
-  counts = counts;
-  cause = cause;
+pub removal_after : (told calls : Type 0) (r : Result ℕ BlockFault) (old new : Shown) (t u : Tree) (gone : ℕ → Bool) (start s : ℕ) → Removing told calls old new t u gone start s r → Removal told calls old new t u gone start s r
+removal_after told calls r old new t u gone start s did = record {
+  erased = λ tells. on_ok_weaker r (removed_seen old new t u gone start s) (did.done tells);
+  place_by_place = λ tells. on_ok_weaker r (removed old new t u gone start s) (did.done tells);
+  strays = λ tells. strays_after r old new t u gone start s (did.done tells) did.untouched;
+  released = λ tells. on_ok_weaker r (λ removes. removes.released) (did.done tells);
+  owner = did.owner;
+  stands = λ tells. stands_after r old new t u gone start s (did.done tells) (did.stays tells);
+  leads = λ tells. leads_after r old new t u gone start s (did.done tells) (did.stays tells);
+  stored_well = λ tells stood. stored_off (loaded old t) (loaded new u) new.used (stands_after r old new t u gone start s (did.done tells) (did.stays tells) stood) did.owner
+      (λ v. may_go_after r old new t u gone start s (did.done tells) did.untouched v) (leads_after r old new t u gone start s (did.done tells) (did.stays tells) stood) (hints_after r old new t u gone start s (did.done tells) (did.stays tells) stood);
+  lets_go = λ tells. lets_go_after r old new t u gone start s (did.done tells) (did.stays tells);
+  count = λ tells. count_after r old new t u gone start s (did.done tells) (did.count tells);
+  alters = λ tells. alters_after r old new t u gone start s (did.done tells) (did.leaves tells);
+  leaves = did.leaves;
+  failed = λ tells. remains_after r (standing (under old) t) (standing (under new) u) (did.failed tells);
+  untouched = did.untouched;
+  room = did.room;
+  pending = did.still;
+  cells = did.held;
+  called = did.calls;
+  counts = did.counts;
+  cause = did.cause;
 }

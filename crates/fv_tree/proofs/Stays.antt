@@ -1,9 +1,10 @@
 -- The places over a cell, and those under a place, that lead to a shared block and don't differ from it.
-use Rattle.std.proofs.Common.{◌≡◌, ◌≤◌, ◌<◌, ◌⊎◌, ℕ, zero, suc, ◌+◌, ◌-◌, ◌*◌, ◌/◌, ◌%◌, ◌^◌, List, [], get_or, subst, ap₂, Bool, true, false, not, ◌&&◌, cond, ◌==◌, inl, inr, refl, sym, ap, ◌∙◌, arith}
+use Rattle.std.proofs.Common.{◌≡◌, ◌≢◌, ◌≤◌, ◌<◌, ◌⊎◌, ℕ, zero, suc, ◌+◌, ◌-◌, ◌*◌, ◌/◌, ◌%◌, ◌^◌, List, [], get_or, subst, ap₂, Bool, true, false, not, ◌&&◌, cond, ◌==◌, inl, inr, refl, sym, ap, ◌∙◌, arith}
 use Rattle.std.specs.Prelude.{sum_by}
 use Rattle.std.specs.List.{range_with_len}
 use Rattle.std.specs.Ordering.{nat_cmp}
 use Rattle.std.specs.BTreeMap as tree
+use Rattle.std.specs.FinMap as fin
 use Rattle.std.proofs.Math.Nat.{mul-le-mul_right, one-le-pow, pow-le-pow_right, pow-suc}
 use Rattle.std.proofs.lemmas.Bool.{cases_eq}
 use Rattle.std.proofs.lemmas.Bool.Decides.{nat_tests}
@@ -11,12 +12,14 @@ use Rattle.fv_codec.specs.declared.pointer.Pointer.{Pointer}
 use Rattle.fv_model.specs.Trees.{fan}
 use Rattle.fv_tree.specs.declared.kept.Tree.{Tree}
 use Rattle.fv_tree.specs.Spelled.{Under, Rooted, hole, pointer_at, pointers_at, pointer_below}
-use Rattle.fv_tree.specs.Standing.{standing}
+use Rattle.fv_tree.specs.Sources.{Shown, IsUntouched}
+use Rattle.fv_tree.specs.Standing.{standing, under}
 use Rattle.fv_tree.specs.Flushing.{Loaded, cell_changed, changed_of, changed_in, loaded_over}
 use Rattle.fv_tree.specs.Beside.{unread}
 use Rattle.fv_tree.specs.Costs.{pending}
 use Rattle.fv_tree.specs.Counting.{is_staying, staying_all, staying_at, staying_under}
 use Rattle.fv_tree.proofs.Below.{no_pointers, on_the_way}
+use Rattle.fv_tree.proofs.Collected.{range_within, ranges_under}
 use Rattle.fv_tree.proofs.Found.{passing_from, passing_top, passing_next, passing_all}
 use Rattle.fv_tree.proofs.Spans.{sum_more, sum_none, sum_same, under_cell, under_step}
 use Rattle.fv_tree.proofs.Seeking.{child_is}
@@ -90,6 +93,32 @@ child_pointer t level place slot p xs low high way is lt =
     let up : (place * fan + slot) / fan ≡ place = omega (arith, lt) in
     let at : (place * fan + slot) % fan ≡ slot = omega (arith, lt) in
     ap (λ n. get_or xs n hole) (sym at) ∙ child_is t level place p xs low high way is (place * fan + slot) up
+
+-- the same over a source that holds the same blocks later
+pub child_later : (old mid : Shown) (t : Tree) (level place slot : ℕ) (p : Pointer) (xs : List Pointer) → mid.held ≡ old.held → 1 ≤ level → level ≤ t.levels → p ≡ pointer_at (standing (under old) t) level place
+    → xs ≡ pointers_at (standing (under old) t) level place p → slot < fan → get_or xs slot hole ≡ pointer_at (standing (under mid) t) (level - 1) (place * fan + slot)
+child_later old mid t level place slot p xs held low high way is lt =
+    child_pointer (standing (under old) t) level place slot p xs low high way is lt
+    ∙ ap (λ (h : fin.FinMap nat_cmp (List ℕ)). pointer_at (standing (λ v. fin.get h v) t) (level - 1) (place * fan + slot)) (sym held)
+
+-- a range that isn't a cell's, and those under it
+pub range_low : (t : Tree) (level place : ℕ) → level ≢ 0 → level ≤ t.levels → place < fan ^ (3 - level) → place < 16384
+range_low t level place some high range = let few = t.few in range_within level place (omega (arith, some)) (omega (arith, few, high)) range
+
+pub child_low : (t : Tree) (level place slot : ℕ) → level ≢ 0 → level ≤ t.levels → place < fan ^ (3 - level) → slot < fan → place * fan + slot < fan ^ (3 - (level - 1))
+child_low t level place slot some high range lt = let few = t.few in let under = ranges_under level place (omega (arith, some)) (omega (arith, few, high)) range in omega (arith, under, lt)
+
+-- what a call for a child of a place needs
+pub child_meets : (told : Type 0) (old mid : Shown) (t : Tree) (level place slot : ℕ) (p : Pointer) (xs : List Pointer) → IsUntouched old mid → level ≢ 0 → level ≤ t.levels → place < fan ^ (3 - level)
+    → (told → p ≡ pointer_at (standing (under old) t) level place) → (told → xs ≡ pointers_at (standing (under old) t) level place p) → slot < fan
+    → (level - 1 ≤ t.levels) × ((place * fan + slot < fan ^ (3 - (level - 1))) × (told → get_or xs slot hole ≡ pointer_at (standing (under mid) t) (level - 1) (place * fan + slot)))
+child_meets told old mid t level place slot p xs untouched some high range way is lt = (
+  omega (arith, high),
+  (
+    child_low t level place slot some high range lt,
+    λ tells. child_later old mid t level place slot p xs untouched.held (omega (arith, some)) high (way tells) (is tells) lt,
+  ),
+)
 
 above : (place q : ℕ) → place * fan ≤ q → q < place * fan + fan → q / fan ≡ place
 above place q low high = omega (arith, low, high)

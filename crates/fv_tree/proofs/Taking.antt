@@ -1,5 +1,6 @@
 -- What a removal takes of a place and of all places under it, by the cells in its range.
-use Rattle.std.proofs.Common.{◌≡◌, ◌≤◌, ◌<◌, ◌⊎◌, ℕ, zero, suc, ◌+◌, ◌-◌, ◌*◌, ◌/◌, ◌%◌, ◌^◌, Bool, true, false, not, ◌&&◌, ◌||◌, cond, ◌==◌, inl, inr, refl, sym, ap, ap₂, subst, ◌∙◌, arith}
+use Rattle.std.proofs.Common.{◌≡◌, ◌≤◌, ◌<◌, ℕ, zero, suc, ◌+◌, ◌-◌, ◌*◌, ◌/◌, ◌%◌, ◌^◌, Bool, true, false, not, ◌&&◌, ◌||◌, cond, ◌==◌, inl, inr, refl, sym, ap, ap₂, subst, ◌∙◌, arith}
+use Rattle.fv_tree.proofs.Cases.{first_true, or_true}
 use Rattle.std.specs.Prelude.{count_by, sum_by, nat_le}
 use Rattle.std.specs.List.{list_any, range_with_len}
 use Rattle.std.proofs.Math.Nat.{div-add-mod', one-le-pow}
@@ -21,14 +22,6 @@ use Rattle.fv_tree.proofs.Stays.{here}
 use Rattle.fv_tree.proofs.Unlinked.{cells_below}
 
 -- ---- tests of a range
-
-first_true : (a b : Bool) → (a || b) ≡ true → (a ≡ true) ⊎ (b ≡ true)
-first_true true b e = inl refl
-first_true false b e = inr e
-
-or_true : (a : Bool) → (a || true) ≡ true
-or_true true = refl
-or_true false = refl
 
 and_false : (a : Bool) → (a && false) ≡ false
 and_false true = refl

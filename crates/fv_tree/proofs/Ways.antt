@@ -1,11 +1,14 @@
 -- The pointers of a tree are the only ones that agree with its root and its nodes, level by level.
-use Rattle.std.proofs.Common.{◌≡◌, ◌≢◌, ◌≤◌, ◌<◌, ℕ, zero, suc, ◌+◌, ◌-◌, ◌/◌, ◌%◌, ◌⊎◌, inl, inr, true, false, List, [], length, Some, None, get_or, replicate, refl, sym, ap, ◌∙◌, arith, ◌==◌, nat_le, if◌then◌else◌}
+use Rattle.std.proofs.Common.{◌≡◌, ◌≢◌, ◌≤◌, ◌<◌, ℕ, zero, suc, ◌+◌, ◌-◌, ◌/◌, ◌%◌, ◌⊎◌, inl, inr, true, false, List, [], length, Some, None, get_or, replicate, refl, sym, ap, ◌∙◌, arith, ◌==◌, nat_le, if◌then◌else◌, Option}
+use Rattle.fv_tree.specs.Carried.{Brings, IsRead, kept_at}
+use Rattle.fv_tree.specs.declared.kept.Tree.{Tree}
+use Rattle.fv_tree.specs.declared.kept.KeptNode.{KeptNode}
 use Rattle.std.proofs.lemmas.Bool.{cases_eq, cases_lt}
 use Rattle.std.proofs.lemmas.Bool.Decides.{nat_tests}
 use Rattle.std.proofs.lemmas.List.{get_or-replicate, get_or_past, length-replicate}
 use Rattle.fv_codec.specs.declared.pointer.Pointer.{Pointer}
 use Rattle.fv_model.specs.Trees.{fan}
-use Rattle.fv_tree.specs.Spelled.{Rooted, hole, kept_or, pointers_at, pointers_in, pointer_below, pointer_at}
+use Rattle.fv_tree.specs.Spelled.{Rooted, hole, kept_or, pointers_at, pointers_in, pointer_below, pointer_at, Under}
 use Rattle.fv_tree.specs.Keeping.{IsSame, Keeps}
 use Rattle.fv_tree.proofs.Below.{no_pointers, kept_pointers}
 
@@ -155,3 +158,30 @@ same_then t u v first second = record {
   pointers = λ k q. second.pointers k q ∙ first.pointers k q;
   nodes = λ k q some none. first.nodes k q some (second.nodes k q (λ gone. some (ap (λ (p : Pointer). p.stamp) (sym (first.pointers k q)) ∙ gone)) none);
 }
+
+-- ---- a tree whose nodes agree with the pointers of another
+
+pub way_pointers : (w t : Rooted) → w.levels ≡ t.levels → IsWay w (pointer_at t) → (level place : ℕ) → pointer_at w level place ≡ pointer_at t level place
+way_pointers w t levels way level place = elim (cases_lt w.levels level) [
+  | inl lt ↦ past w level place lt ∙ sym (past t level place (omega (arith, lt, levels)))
+  | inr le ↦ is_way w (pointer_at t) way level place le
+]
+
+-- ---- what comes into memory
+
+-- what one sees of a node stays, where a node that comes into memory leads somewhere and shows no more than none does
+pub brings_seen : {X : Type 0} (see : Option KeptNode → X) (blocks : Under) (t u : Tree) (level place : ℕ) (p : Pointer) → Brings blocks t u level place p
+    → (kept_at t level place ≡ None → IsRead blocks p.vvbn (kept_at u level place) → see (kept_at u level place) ≡ see (kept_at t level place))
+    → (k q : ℕ) → ((k ≢ level) ⊎ (q ≢ place)) ⊎ (p.stamp ≢ 0) → see (kept_at u k q) ≡ see (kept_at t k q)
+brings_seen see blocks t u level place p brings same k q (inl other) = ap see (brings.others k q other)
+brings_seen see blocks t u level place p brings same k q (inr some) = elim (spot_is k q level place) [
+  | inr other ↦ ap see (brings.others k q other)
+  | inl at ↦ (λ j. see (kept_at u (at.0 j) (at.1 j))) ∙ own ∙ sym (λ j. see (kept_at t (at.0 j) (at.1 j)))
+]
+  where
+    own : see (kept_at u level place) ≡ see (kept_at t level place)
+    own = elim brings.own [
+      | inl still ↦ ap see still
+      | inr (inl blank) ↦ absurd (some blank.0)
+      | inr (inr read) ↦ same read.1 read.2
+    ]

@@ -1,5 +1,5 @@
 -- What a write carries over of how a tree stands to its blocks: which nodes come into memory, and what is said of them.
-use Rattle.std.specs.Prelude.{◌≡◌, ◌≢◌, ◌≤◌, ◌<◌, ◌⊎◌, ℕ, ◌/◌, ◌^◌, true, false, Option, Some, None, is_some, replicate}
+use Rattle.std.specs.Prelude.{◌≡◌, ◌≢◌, ◌≤◌, ◌<◌, ◌⊎◌, ℕ, ◌+◌, ◌/◌, ◌^◌, true, false, Option, Some, None, is_some, replicate}
 use Rattle.std.specs.BTreeMap as tree
 use Rattle.fv_codec.specs.declared.pointer.Pointer.{Pointer}
 use Rattle.fv_model.specs.Trees.{fan, spot_cmp}
@@ -7,6 +7,7 @@ use Rattle.fv_tree.specs.declared.kept.Tree.{Tree}
 use Rattle.fv_tree.specs.declared.kept.KeptNode.{KeptNode}
 use Rattle.fv_tree.specs.Spelled.{Under, hole, pointers_in}
 use Rattle.fv_tree.specs.Flushing.{changed_in, placed_in}
+use Rattle.fv_tree.specs.Costs.{changes_in}
 
 abbrev pub kept_at : Tree → ℕ → ℕ → Option KeptNode
 kept_at t level place = tree.get spot_cmp t.nodes (level, place)
@@ -43,6 +44,11 @@ BringsNew old new i = (level place : ℕ) → (kept_at new level place ≡ kept_
 -- no other node in memory differs from its block
 abbrev pub MarksNoMore : Tree → Tree → Type 0
 MarksNoMore old new = (level place : ℕ) → changed_in new.nodes level place ≡ true → changed_in old.nodes level place ≡ true
+
+-- Of the nodes in memory at most three more differ from their blocks, and none more in a tree that had no cell.
+pub record MarksFew (old new : Tree) : Type 0 where
+  pub changes : changes_in new.nodes ≤ changes_in old.nodes + 3
+  pub unchanged : old.root.stamp ≡ 0 → changes_in new.nodes ≤ changes_in old.nodes
 
 -- a node over the root of a tree that grows
 pub record IsTop (t : Tree) (level : ℕ) : Type 0 where

@@ -15,8 +15,8 @@ abbrev pub IsRising : List ℕ → Type 0
 IsRising xs = (j k : ℕ) → j < k → k < length xs → get_or xs j 0 < get_or xs k 0
 
 -- all numbers of a list are below a bound
-abbrev pub AreBelow : List ℕ → ℕ → Type 0
-AreBelow xs bound = (j : ℕ) → j < length xs → get_or xs j 0 < bound
+abbrev pub AllBelow : List ℕ → ℕ → Type 0
+AllBelow xs bound = (j : ℕ) → j < length xs → get_or xs j 0 < bound
 
 -- a range of a level stands and has an index from `most` on
 pub record IsPast (t : Rooted) (level most place : ℕ) : Type 0 where

@@ -21,3 +21,4 @@ pub mod Beside
 pub mod Costs
 pub mod Altering
 pub mod Taking
+pub mod Calls

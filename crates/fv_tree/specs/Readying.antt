@@ -1,7 +1,8 @@
 -- A cell that is in memory with all nodes over it.
-use Rattle.std.specs.Prelude.{◌≡◌, ◌≢◌, ◌≤◌, ◌<◌, ◌⊎◌, ℕ, ◌/◌, ◌^◌, true, false, List, Some, None, is_some}
+use Rattle.std.specs.Prelude.{◌≡◌, ◌≢◌, ◌≤◌, ◌<◌, ◌⊎◌, ℕ, ◌-◌, ◌/◌, ◌^◌, true, false, List, Some, None, is_some}
 use Rattle.std.specs.Ordering.{nat_cmp}
 use Rattle.std.specs.BTreeMap as maps
+use Rattle.fv_codec.specs.declared.pointer.Pointer.{Pointer}
 use Rattle.fv_model.specs.Trees.{fan}
 use Rattle.fv_tree.specs.declared.kept.Tree.{Tree}
 use Rattle.fv_tree.specs.Standing.{cell_in, IsSameButCells}
@@ -23,6 +24,12 @@ pub record HoldsCell (old new : Tree) (i : ℕ) (block : List ℕ) : Type 0 wher
   pub own : ((is_some (cell_in old i) ≡ true) × (maps.get nat_cmp new.cells i ≡ maps.get nat_cmp old.cells i))
       ⊎ ((maps.get nat_cmp old.cells i ≡ None) × (maps.get nat_cmp new.cells i ≡ Some (record { block = block; changed = false; placed = true })))
   pub others : (j : ℕ) → j ≢ i → maps.get nat_cmp new.cells j ≡ maps.get nat_cmp old.cells j
+
+-- The pointer over a cell from one level to the next, as the root and the nodes in memory have it. It leads somewhere only if the pointer
+-- `over` it does.
+pub record IsChildOver (t : Tree) (level i : ℕ) (over p : Pointer) : Type 0 where
+  pub is : pointer_in t (level - 1) (i / fan ^ (level - 1)) ≡ p
+  pub leads : p.stamp ≢ 0 → over.stamp ≢ 0
 
 -- each cell that is ready stays so
 abbrev pub KeepsReady : Tree → Tree → Type 0

@@ -36,6 +36,24 @@ pub record AreBare (t : Tree) (i lost : ℕ) : Type 0 where
 abbrev pub cleared_in : ℕ → List Pointer → List Pointer
 cleared_in slot xs = slice_set xs slot hole
 
+-- the root and each pointer on the way to a cell, from a level up, have this stamp, where their nodes are in memory
+pub record StampsAbove (old new : Tree) (i lowest s : ℕ) : Type 0 where
+  pub owner : new.owner ≡ old.owner
+  pub levels : new.levels ≡ old.levels
+  pub cells : new.cells ≡ old.cells
+  pub root : new.root ≡ stamped old.root s
+  pub way : (level : ℕ) → lowest < level → level ≤ old.levels → node_in new level (i / fan ^ level) ≡ option_map (stamped_in (slot_of i level) s) (node_in old level (i / fan ^ level))
+  pub others : (level place : ℕ) → (level ≤ lowest) ⊎ (place ≢ i / fan ^ level) → node_in new level place ≡ node_in old level place
+
+-- nothing leads to so many nodes over a cell any more, the lowest, and what is above them has this stamp
+pub record CutsWay (old new : Tree) (i lost s : ℕ) : Type 0 where
+  pub owner : new.owner ≡ old.owner
+  pub levels : new.levels ≡ old.levels
+  pub root : new.root ≡ stamped old.root s
+  pub lowest : node_in new (lost + 1) (i / fan ^ (lost + 1)) ≡ option_map (cleared_in (slot_of i (lost + 1))) (node_in old (lost + 1) (i / fan ^ (lost + 1)))
+  pub above : (level : ℕ) → lost + 1 < level → level ≤ old.levels → node_in new level (i / fan ^ level) ≡ option_map (stamped_in (slot_of i level) s) (node_in old level (i / fan ^ level))
+  pub others : (level place : ℕ) → place ≢ i / fan ^ level → node_in new level place ≡ node_in old level place
+
 -- the cell and that many nodes over it are no longer led to, and the marks above them are stamped; where no mark is above them, the
 -- tree is empty
 pub record Unlinks (old new : Tree) (i lost start s : ℕ) : Type 0 where

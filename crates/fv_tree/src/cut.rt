@@ -1,21 +1,16 @@
 //! Cutting a tree: all its cells from a length on go.
 
-ghost use Rattle.std.specs.Prelude.{◌≡◌, ◌≢◌, ◌≤◌, ◌<◌, ◌+◌, ◌-◌, ◌*◌, ◌/◌, ◌^◌, ℕ, nat_le, List, ◌++◌, ◌∷◌, [], OnOk, OnErr, IfOk, IfErr};
+ghost use Rattle.std.specs.Prelude.{◌≡◌, ◌≤◌, ◌<◌, ◌+◌, ◌-◌, ◌*◌, ◌/◌, ◌^◌, ℕ, nat_le, ◌++◌, ◌∷◌, [], OnOk, IfOk, IfErr};
 ghost use Rattle.fv_model.specs.Trees.{fan};
 ghost use Rattle.fv_tree.specs.Spelled.{Under};
-ghost use Rattle.fv_tree.specs.Sources.{Counts, IsUntouched};
-ghost use Rattle.fv_tree.specs.Standing.{standing, under, Fails, IsSameBut};
-ghost use Rattle.fv_tree.specs.Keeping.{IsSame};
-ghost use Rattle.fv_tree.specs.Carried.{MarksNoMore};
+ghost use Rattle.fv_tree.specs.Standing.{standing, under};
 ghost use Rattle.fv_tree.specs.Erasing.{HoldsCells, StandsAt};
-ghost use Rattle.fv_tree.specs.Releasing.{KeepsBlocks, Removes};
-ghost use Rattle.fv_tree.specs.Altering.{Leaves};
-ghost use Rattle.fv_tree.specs.Flushing.{loaded, Stands};
-ghost use Rattle.fv_tree.specs.Counting.{positions_of};
-ghost use Rattle.fv_tree.specs.Leading.{Carries};
+ghost use Rattle.fv_tree.specs.Releasing.{Removes};
+ghost use Rattle.fv_tree.specs.Flushing.{Stands};
 ghost use Rattle.fv_tree.specs.Removal.{Removal};
-ghost use Rattle.fv_tree.specs.Costs.{cells_held, changes_in, pending};
-ghost use Rattle.fv_tree.specs.Collecting.{AreBelow, IsRising, IsPast, Collects, IsHeld, StillHeld, AreHeld, Extends, IsAdded, IsChildPast, IsUnder};
+ghost use Rattle.fv_tree.specs.Costs.{pending};
+ghost use Rattle.fv_tree.specs.Collecting.{AllBelow, IsRising, Collects, IsHeld, StillHeld, AreHeld, Extends, IsAdded, IsChildPast, IsUnder};
+ghost use Rattle.fv_tree.specs.Calls.{Loading, Removing};
 ghost use Rattle.fv_disk.specs.declared.fault.BlockFault.TheVariants.{Memory};
 
 use crate::blocks::{Blocks, TreeFault};
@@ -64,20 +59,8 @@ fn cut_cells<B: Blocks>(
 ) -> Result<u32, TreeFault>
     requires start { start ≤ 3 }
     requires stamp { 1 ≤ stamp }
-    ensures done { B.told → OnOk result (Removes (B.shown blocks.old) (B.shown blocks.new) tree.old tree.new (nat_le most) start stamp) }
-    ensures count { B.told → IfOk result (λ count. positions_of (standing (under (B.shown blocks.old)) tree.old) ≡ positions_of (standing (under (B.shown blocks.old)) tree.new) + count) }
-    ensures failed { B.told → OnErr result (IsSame (standing (under (B.shown blocks.old)) tree.old) (standing (under (B.shown blocks.new)) tree.new)) }
-    ensures owner { tree.new.owner ≡ tree.old.owner }
-    ensures stays { B.told → OnErr result (Carries (B.shown blocks.old) (B.shown blocks.new) tree.old tree.new) }
-    ensures leaves { B.told → OnErr result (Leaves (loaded (B.shown blocks.old) tree.old) (loaded (B.shown blocks.new) tree.new)) }
-    ensures untouched { OnErr result (IsUntouched (B.shown blocks.old) (B.shown blocks.new)) }
-    ensures room { (B.shown blocks.old).room ≤ (B.shown blocks.new).room }
-    ensures still { OnErr result (pending tree.new ≤ pending tree.old) }
-    ensures held { cells_held tree.new ≤ cells_held tree.old }
     ensures pending { B.told → OnOk result (Stands (B.shown blocks.old) tree.old → HoldsCells (standing (under (B.shown blocks.old)) tree.old) → pending tree.new ≤ pending tree.old + 3) }
-    ensures calls { B.goes blocks.old blocks.new }
-    ensures counts { Counts (B.shown blocks.old) (B.shown blocks.new) result }
-    ensures cause { IfErr result (Fails B.told (standing (under (B.shown blocks.old)) tree.old) (B.shown blocks.old) (B.shown blocks.new)) }
+    ensures removing { Removing B.told (B.goes blocks.old blocks.new) (B.shown blocks.old) (B.shown blocks.new) tree.old tree.new (nat_le most) start stamp result }
 {
     let cells = keep_past(tree, blocks, most)?;
     let mut count: u32 = 0;
@@ -92,18 +75,8 @@ fn cut_cells<B: Blocks>(
 fn keep_past<B: Blocks>(tree: &mut Tree, blocks: &mut B, most: u32) -> Result<Vec<u32>, TreeFault>
     ensures cells { B.told → IfOk result (λ cells. Collects (standing (under (B.shown blocks.old)) tree.old) 0 most cells.items) }
     ensures nodes { B.told → OnOk result (AreHeld tree.new (standing (under (B.shown blocks.old)) tree.old) 0 most) }
-    ensures bound { IfOk result (λ cells. AreBelow cells.items (fan ^ 3)) }
-    ensures fields { IsSameBut tree.old tree.new }
-    ensures same { B.told → IsSame (standing (under (B.shown blocks.old)) tree.old) (standing (under (B.shown blocks.new)) tree.new) }
-    ensures blocks { B.told → KeepsBlocks (under (B.shown blocks.old)) tree.old tree.new }
-    ensures leaves { B.told → Leaves (loaded (B.shown blocks.old) tree.old) (loaded (B.shown blocks.new) tree.new) }
-    ensures stands { B.told → Stands (B.shown blocks.old) tree.old → Stands (B.shown blocks.new) tree.new }
-    ensures changes { changes_in tree.new.nodes ≤ changes_in tree.old.nodes }
-    ensures marks { B.told → MarksNoMore tree.old tree.new }
-    ensures untouched { IsUntouched (B.shown blocks.old) (B.shown blocks.new) }
-    ensures reads { B.reads blocks.old blocks.new }
-    ensures counts { Counts (B.shown blocks.old) (B.shown blocks.new) result }
-    ensures cause { IfErr result (Fails B.told (standing (under (B.shown blocks.old)) tree.old) (B.shown blocks.old) (B.shown blocks.new)) }
+    ensures bound { IfOk result (λ cells. AllBelow cells.items (fan ^ 3)) }
+    ensures loading { Loading B.told (B.reads blocks.old blocks.new) (B.shown blocks.old) (B.shown blocks.new) tree.old tree.new result }
 {
     let mut level = tree.levels;
     let mut places = top_places(tree, most)?;
@@ -117,7 +90,7 @@ fn keep_past<B: Blocks>(tree: &mut Tree, blocks: &mut B, most: u32) -> Result<Ve
 /// The one range of the tree's levels, where it stands and has an index from a length on.
 fn top_places(tree: &Tree, most: u32) -> Result<Vec<u32>, TreeFault>
     ensures places { (held : Under) → IfOk result (λ places. Collects (standing held tree.now) tree.now.levels most places.items) }
-    ensures bound { IfOk result (λ places. AreBelow places.items (fan ^ (3 - tree.now.levels))) }
+    ensures bound { IfOk result (λ places. AllBelow places.items (fan ^ (3 - tree.now.levels))) }
     ensures memory { IfErr result (λ e. e ≡ Memory) }
 {
     let mut places = Vec::new(tree.alloc);
@@ -155,21 +128,11 @@ fn keep_level<B: Blocks>(
     requires high { level ≤ tree.old.levels }
     requires places { B.told → Collects (standing (under (B.shown blocks.old)) tree.old) level most places.now }
     requires nodes { B.told → AreHeld tree.old (standing (under (B.shown blocks.old)) tree.old) level most }
-    requires bound { AreBelow places.now (fan ^ (3 - level)) }
+    requires bound { AllBelow places.now (fan ^ (3 - level)) }
     ensures places { B.told → IfOk result (λ below. Collects (standing (under (B.shown blocks.old)) tree.old) (level - 1) most below.items) }
     ensures nodes { B.told → OnOk result (AreHeld tree.new (standing (under (B.shown blocks.old)) tree.old) (level - 1) most) }
-    ensures bound { IfOk result (λ below. AreBelow below.items (fan ^ (3 - (level - 1)))) }
-    ensures fields { IsSameBut tree.old tree.new }
-    ensures same { B.told → IsSame (standing (under (B.shown blocks.old)) tree.old) (standing (under (B.shown blocks.new)) tree.new) }
-    ensures blocks { B.told → KeepsBlocks (under (B.shown blocks.old)) tree.old tree.new }
-    ensures leaves { B.told → Leaves (loaded (B.shown blocks.old) tree.old) (loaded (B.shown blocks.new) tree.new) }
-    ensures stands { B.told → Stands (B.shown blocks.old) tree.old → Stands (B.shown blocks.new) tree.new }
-    ensures changes { changes_in tree.new.nodes ≤ changes_in tree.old.nodes }
-    ensures marks { B.told → MarksNoMore tree.old tree.new }
-    ensures untouched { IsUntouched (B.shown blocks.old) (B.shown blocks.new) }
-    ensures reads { B.reads blocks.old blocks.new }
-    ensures counts { Counts (B.shown blocks.old) (B.shown blocks.new) result }
-    ensures cause { IfErr result (Fails B.told (standing (under (B.shown blocks.old)) tree.old) (B.shown blocks.old) (B.shown blocks.new)) }
+    ensures bound { IfOk result (λ below. AllBelow below.items (fan ^ (3 - (level - 1)))) }
+    ensures loading { Loading B.told (B.reads blocks.old blocks.new) (B.shown blocks.old) (B.shown blocks.new) tree.old tree.new result }
 {
     let mut below = Vec::new(tree.alloc);
     for place in places {
@@ -194,21 +157,11 @@ fn keep_range<B: Blocks>(
     requires node { B.told → level < tree.old.levels → IsHeld tree.old (level + 1) (place / fan) }
     requires range { place < fan ^ (3 - level) }
     ensures added { B.told → OnOk result (Extends (IsUnder (standing (under (B.shown blocks.old)) tree.old) level most place) below.old.items below.new.items) }
-    ensures rising { OnOk result (IsRising below.old.items → AreBelow below.old.items (place * fan) → IsRising below.new.items × AreBelow below.new.items ((place + 1) * fan)) }
-    ensures bound { OnOk result ((bound : ℕ) → (place + 1) * fan ≤ bound → AreBelow below.old.items bound → AreBelow below.new.items bound) }
+    ensures rising { OnOk result (IsRising below.old.items → AllBelow below.old.items (place * fan) → IsRising below.new.items × AllBelow below.new.items ((place + 1) * fan)) }
+    ensures bound { OnOk result ((bound : ℕ) → (place + 1) * fan ≤ bound → AllBelow below.old.items bound → AllBelow below.new.items bound) }
     ensures node { B.told → OnOk result (IsHeld tree.new level place) }
-    ensures fields { IsSameBut tree.old tree.new }
     ensures nodes { B.told → StillHeld tree.old tree.new }
-    ensures same { B.told → IsSame (standing (under (B.shown blocks.old)) tree.old) (standing (under (B.shown blocks.new)) tree.new) }
-    ensures blocks { B.told → KeepsBlocks (under (B.shown blocks.old)) tree.old tree.new }
-    ensures leaves { B.told → Leaves (loaded (B.shown blocks.old) tree.old) (loaded (B.shown blocks.new) tree.new) }
-    ensures stands { B.told → Stands (B.shown blocks.old) tree.old → Stands (B.shown blocks.new) tree.new }
-    ensures changes { changes_in tree.new.nodes ≤ changes_in tree.old.nodes }
-    ensures marks { B.told → MarksNoMore tree.old tree.new }
-    ensures untouched { IsUntouched (B.shown blocks.old) (B.shown blocks.new) }
-    ensures reads { B.reads blocks.old blocks.new }
-    ensures counts { Counts (B.shown blocks.old) (B.shown blocks.new) result }
-    ensures cause { IfErr result (Fails B.told (standing (under (B.shown blocks.old)) tree.old) (B.shown blocks.old) (B.shown blocks.new)) }
+    ensures loading { Loading B.told (B.reads blocks.old blocks.new) (B.shown blocks.old) (B.shown blocks.new) tree.old tree.new result }
 {
     let pointer = pointer_in(tree, level, place);
     let children = keep_node(tree, blocks, level, place, &pointer)?;
@@ -227,8 +180,8 @@ fn add_ranges(
     requires high { level ≤ 3 }
     requires range { place < 16384 }
     ensures added { OnOk result (Extends (IsChildPast children.now level most place) below.old.items below.new.items) }
-    ensures rising { OnOk result (IsRising below.old.items → AreBelow below.old.items (place * fan) → IsRising below.new.items × AreBelow below.new.items ((place + 1) * fan)) }
-    ensures bound { OnOk result ((bound : ℕ) → (place + 1) * fan ≤ bound → AreBelow below.old.items bound → AreBelow below.new.items bound) }
+    ensures rising { OnOk result (IsRising below.old.items → AllBelow below.old.items (place * fan) → IsRising below.new.items × AllBelow below.new.items ((place + 1) * fan)) }
+    ensures bound { OnOk result ((bound : ℕ) → (place + 1) * fan ≤ bound → AllBelow below.old.items bound → AllBelow below.new.items bound) }
     ensures memory { IfErr result (λ e. e ≡ Memory) }
 {
     let far = most / width(level - 1);
@@ -241,8 +194,8 @@ fn add_ranges(
 /// Adds a range, where the pointer to it isn't a hole and it has an index from a length on.
 fn add_range(pointer: &Pointer, far: u32, place: u32, below: &mut Vec<u32>) -> Result<(), TreeFault>
     ensures added { OnOk result (Extends (IsAdded pointer.now far place) below.old.items below.new.items) }
-    ensures rising { OnOk result (IsRising below.old.items → AreBelow below.old.items place → IsRising below.new.items × AreBelow below.new.items (place + 1)) }
-    ensures bound { OnOk result ((bound : ℕ) → place < bound → AreBelow below.old.items bound → AreBelow below.new.items bound) }
+    ensures rising { OnOk result (IsRising below.old.items → AllBelow below.old.items place → IsRising below.new.items × AllBelow below.new.items (place + 1)) }
+    ensures bound { OnOk result ((bound : ℕ) → place < bound → AllBelow below.old.items bound → AllBelow below.new.items bound) }
     ensures memory { IfErr result (λ e. e ≡ Memory) }
 {
     if pointer.stamp != 0 && far <= place {

@@ -7,17 +7,17 @@ ghost use Rattle.std.specs.BTreeMap as tree_map;
 ghost use Rattle.fv_codec.specs.declared.pointer.Pointer.{Pointer};
 ghost use Rattle.fv_model.specs.Trees.{fan, spot_cmp};
 ghost use Rattle.fv_tree.specs.Spelled.{Under, hole};
-ghost use Rattle.fv_tree.specs.Sources.{Drops, IsCalm};
-ghost use Rattle.fv_tree.specs.Standing.{standing, node_in, cell_in, children_in};
-ghost use Rattle.fv_tree.specs.Writing.{stamped, stamped_in, slot_of};
+ghost use Rattle.fv_tree.specs.Sources.{IsCalm};
+ghost use Rattle.fv_tree.specs.Standing.{standing, node_in, children_in};
+ghost use Rattle.fv_tree.specs.Writing.{stamped, slot_of};
 ghost use Rattle.fv_tree.specs.Erasing.{StandsAt};
-ghost use Rattle.fv_tree.specs.Releasing.{Releases, IsDropped};
-ghost use Rattle.fv_tree.specs.Flushing.{placed_in, placed_of, changed_in, changed_of, IsSound, loaded_over};
-ghost use Rattle.fv_tree.specs.Counting.{positions_of};
+ghost use Rattle.fv_tree.specs.Releasing.{Releases};
+ghost use Rattle.fv_tree.specs.Flushing.{placed_in, placed_of, changed_in};
 ghost use Rattle.fv_tree.specs.Costs.{cells_changed, cells_held, changes_in, pending};
-ghost use Rattle.fv_tree.specs.Unlinking.{HasWay, HasNoOther, HasOther, AreBare, Unlinks, CellGoes, cleared_in, IsNamed, IsOnWay, IsOver, MarksOnly, NamesOnce};
+ghost use Rattle.fv_tree.specs.Unlinking.{HasWay, HasNoOther, HasOther, AreBare, Unlinks, cleared_in, IsNamed, IsOnWay, IsOver, MarksOnly, NamesOnce, CutsWay, StampsAbove};
 ghost use Rattle.fv_tree.specs.Carried.{MarksNoMore};
 ghost use Rattle.fv_tree.specs.Readying.{IsReady, KeepsOthersReady};
+ghost use Rattle.fv_tree.specs.Calls.{ErasesCell};
 
 use crate::blocks::Blocks;
 use crate::kept::{HOLE, KeptNode, Tree};
@@ -40,10 +40,6 @@ pub fn erase_cell<B: Blocks>(
     requires start { start ≤ 3 }
     requires stamp { 1 ≤ stamp }
     ensures owner { tree.new.owner ≡ tree.old.owner }
-    ensures goes { HasWay tree.old index → (held : Under) → StandsAt (standing held tree.old) 0 index → CellGoes held tree.old tree.new index start stamp }
-    ensures released { HasWay tree.old index → (held : Under) → StandsAt (standing held tree.old) 0 index → Releases (B.shown blocks.old) (B.shown blocks.new) (IsDropped held tree.old tree.new) }
-    ensures strays { HasWay tree.old index → (held : Under) → StandsAt (standing held tree.old) 0 index → IsSound (B.shown blocks.old).used (loaded_over held tree.old) → (B.shown blocks.new).strays ≡ (B.shown blocks.old).strays }
-    ensures count { HasWay tree.old index → (held : Under) → StandsAt (standing held tree.old) 0 index → positions_of (standing held tree.old) ≡ positions_of (standing held tree.new) + result }
     ensures few { result ≤ 4 }
     ensures others_ready { IsReady tree.old index → KeepsOthersReady tree.old tree.new index }
     ensures pending { pending tree.new ≤ pending tree.old + 3 }
@@ -51,6 +47,7 @@ pub fn erase_cell<B: Blocks>(
     ensures room { (B.shown blocks.old).room ≤ (B.shown blocks.new).room }
     ensures calm { IsCalm (B.shown blocks.old) (B.shown blocks.new) }
     ensures calls { B.goes blocks.old blocks.new }
+    ensures erases { HasWay tree.old index → (held : Under) → StandsAt (standing held tree.old) 0 index → ErasesCell held (B.shown blocks.old) (B.shown blocks.new) tree.old tree.new index start stamp result }
 {
     let lost = bare_levels(tree, index);
     name_way(tree, blocks, index, lost);
@@ -177,12 +174,6 @@ fn cut_way(tree: &mut Tree, index: u32, lost: u8, stamp: u64)
     requires bare { AreBare tree.old index lost }
     requires some { lost < tree.old.levels }
     requires stamp { 1 ≤ stamp }
-    ensures owner { tree.new.owner ≡ tree.old.owner }
-    ensures levels { tree.new.levels ≡ tree.old.levels }
-    ensures root { tree.new.root ≡ stamped tree.old.root stamp }
-    ensures lowest { node_in tree.new (lost + 1) (index / fan ^ (lost + 1)) ≡ option_map (cleared_in (slot_of index (lost + 1))) (node_in tree.old (lost + 1) (index / fan ^ (lost + 1))) }
-    ensures above { (level : ℕ) → lost + 1 < level → level ≤ tree.old.levels → node_in tree.new level (index / fan ^ level) ≡ option_map (stamped_in (slot_of index level) stamp) (node_in tree.old level (index / fan ^ level)) }
-    ensures others { (level place : ℕ) → place ≢ index / fan ^ level → node_in tree.new level place ≡ node_in tree.old level place }
     ensures cells { (i : ℕ) → i ≢ index → tree_map.get nat_cmp tree.new.cells i ≡ tree_map.get nat_cmp tree.old.cells i }
     ensures placed { (level place : ℕ) → (lost < level) ⊎ (place ≢ index / fan ^ level) → placed_in tree.new.nodes level place ≡ placed_in tree.old.nodes level place }
     ensures changed { (level : ℕ) → lost < level → level ≤ tree.old.levels → is_some (tree_map.get spot_cmp tree.old.nodes (level, index / fan ^ level)) ≡ true → changed_in tree.new.nodes level (index / fan ^ level) ≡ true }
@@ -190,6 +181,7 @@ fn cut_way(tree: &mut Tree, index: u32, lost: u8, stamp: u64)
     ensures gone { (level : ℕ) → 1 ≤ level → level ≤ lost → tree_map.get spot_cmp tree.new.nodes (level, index / fan ^ level) ≡ None }
     ensures pending { pending tree.new ≤ pending tree.old + (tree.old.levels - lost) }
     ensures differs { MarksOnly tree.old tree.new index }
+    ensures cuts { CutsWay tree.old tree.new index lost stamp }
 {
     forget_way(tree, index, lost);
     let place = index / width(lost + 1);
@@ -249,18 +241,13 @@ fn clear_child(node: &mut KeptNode, slot: u32)
 /// Gives the root and each pointer on the way to a cell, from a level up, a stamp.
 fn stamp_above(tree: &mut Tree, index: u32, lowest: u8, stamp: u64)
     requires stamp { 1 ≤ stamp }
-    ensures owner { tree.new.owner ≡ tree.old.owner }
-    ensures levels { tree.new.levels ≡ tree.old.levels }
-    ensures cells { tree.new.cells ≡ tree.old.cells }
-    ensures root { tree.new.root ≡ stamped tree.old.root stamp }
-    ensures way { (level : ℕ) → lowest < level → level ≤ tree.old.levels → node_in tree.new level (index / fan ^ level) ≡ option_map (stamped_in (slot_of index level) stamp) (node_in tree.old level (index / fan ^ level)) }
-    ensures others { (level place : ℕ) → (level ≤ lowest) ⊎ (place ≢ index / fan ^ level) → node_in tree.new level place ≡ node_in tree.old level place }
     ensures placed { (level place : ℕ) → placed_in tree.new.nodes level place ≡ placed_in tree.old.nodes level place }
     ensures changed { (level : ℕ) → lowest < level → level ≤ tree.old.levels → is_some (tree_map.get spot_cmp tree.old.nodes (level, index / fan ^ level)) ≡ true → changed_in tree.new.nodes level (index / fan ^ level) ≡ true }
     ensures same { (level place : ℕ) → (level ≤ lowest) ⊎ (place ≢ index / fan ^ level) → tree_map.get spot_cmp tree.new.nodes (level, place) ≡ tree_map.get spot_cmp tree.old.nodes (level, place) }
     ensures changes { lowest ≤ tree.old.levels → changes_in tree.new.nodes ≤ changes_in tree.old.nodes + (tree.old.levels - lowest) }
     ensures marks { lowest ≤ tree.old.levels → (level place : ℕ) → changed_in tree.new.nodes level place ≡ true → (changed_in tree.old.nodes level place ≡ true) ⊎ IsOver index level place }
     ensures ordered { tree_map.IsOrdered spot_cmp tree.old.nodes → tree_map.IsOrdered spot_cmp tree.new.nodes }
+    ensures stamps { StampsAbove tree.old tree.new index lowest stamp }
 {
     let levels = tree.levels;
     tree.root = stamped(&tree.root, stamp);

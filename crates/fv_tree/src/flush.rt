@@ -1,17 +1,16 @@
 //! Placing what changed, from the cells up.
 
-ghost use Rattle.std.specs.Prelude.{◌≡◌, ◌≢◌, ◌≤◌, ◌<◌, ◌+◌, ◌-◌, ◌/◌, ◌⊎◌, ℕ, true, false, Some, IfOk, IfErr, OnOk, OnErr};
+ghost use Rattle.std.specs.Prelude.{◌≡◌, ◌≢◌, ◌≤◌, ◌<◌, ◌+◌, ◌-◌, ◌/◌, ℕ, true, false, Some, IfOk, OnOk, OnErr};
 ghost use Rattle.std.specs.BTreeMap as maps;
 ghost use Rattle.fv_codec.specs.Blocks.{IsPointer};
-ghost use Rattle.fv_model.specs.Trees.{fan, spot_cmp};
+ghost use Rattle.fv_model.specs.Trees.{fan};
 ghost use Rattle.fv_tree.specs.Spelled.{stored};
-ghost use Rattle.fv_tree.specs.Sources.{Counts, HasCause, IsDamaged, IsUntouched, WasFree};
 ghost use Rattle.fv_tree.specs.Standing.{standing, under};
 ghost use Rattle.fv_tree.specs.Writing.{Remains};
-ghost use Rattle.fv_tree.specs.Flushing.{changed_in, loaded, pointer_in, Flushes, HoldsAsMuch, IsCellStep, IsLeft, IsNodeStep, IsPlaced, KeepsOthers, NamesUsed, ReachesOnce, Stands};
-ghost use Rattle.fv_tree.specs.Altering.{PlacesAnew};
-ghost use Rattle.fv_tree.specs.Stored.{IsStoredWell, HasPlaces, KeepsPlaces};
-ghost use Rattle.fv_tree.specs.Costs.{changes_in, pending, Fits, IsEnough};
+ghost use Rattle.fv_tree.specs.Flushing.{changed_in, loaded, pointer_in, HoldsAsMuch, IsCellStep, IsNodeStep, KeepsOthers, NamesUsed, ReachesOnce, Stands};
+ghost use Rattle.fv_tree.specs.Stored.{IsStoredWell, HasPlaces};
+ghost use Rattle.fv_tree.specs.Costs.{changes_in, pending};
+ghost use Rattle.fv_tree.specs.Calls.{PlacesChanged, PlacesOne};
 
 use crate::blocks::{Blocks, TreeFault};
 use crate::kept::{KeptCell, KeptNode, Tree};
@@ -22,19 +21,8 @@ use fv_codec::Pointer;
 
 /// Places the cells in memory that changed.
 fn flush_cells<B: Blocks>(tree: &mut Tree, blocks: &mut B) -> Result<(), TreeFault>
-    ensures flushes { B.told → Stands (B.shown blocks.old) tree.old → Flushes (loaded (B.shown blocks.old) tree.old) (B.shown blocks.old).used (loaded (B.shown blocks.new) tree.new) (B.shown blocks.new).used }
-    ensures anew { B.told → Stands (B.shown blocks.old) tree.old → PlacesAnew (loaded (B.shown blocks.old) tree.old) (WasFree B.shown B.goes blocks.old blocks.new) (loaded (B.shown blocks.new) tree.new) }
-    ensures keeps { B.told → Stands (B.shown blocks.old) tree.old → (v : ℕ) → (IsPlaced (loaded (B.shown blocks.old) tree.old) (loaded (B.shown blocks.new) tree.new) v → ⊥) → B.keeps v blocks.old blocks.new }
-    ensures strays { B.told → Stands (B.shown blocks.old) tree.old → (B.shown blocks.new).strays ≡ (B.shown blocks.old).strays }
-    ensures left { IsLeft tree.old tree.new }
-    ensures fits { B.told → Stands (B.shown blocks.old) tree.old → Fits (B.shown blocks.old) tree.old (B.shown blocks.new) tree.new }
-    ensures enough { B.told → Stands (B.shown blocks.old) tree.old → IsEnough (pending tree.old) (B.shown blocks.old).room result }
-    ensures spent { (B.shown blocks.new).spent ≡ (B.shown blocks.old).spent }
     ensures none { OnOk result (maps.btree_map_len tree.new.cells ≡ 0) }
-    ensures places { B.known → KeepsPlaces (B.shown blocks.old) (B.shown blocks.new) }
-    ensures calls { B.goes blocks.old blocks.new }
-    ensures counts { Counts (B.shown blocks.old) (B.shown blocks.new) result }
-    ensures cause { IfErr result (HasCause (B.shown blocks.old) (B.shown blocks.new)) }
+    ensures flushing { PlacesChanged B.told B.known B.shown B.goes B.keeps blocks.old blocks.new tree.old tree.new result }
 {
     for _ in 0..tree.cells.len() {
         flush_first_cell(tree, blocks)?;
@@ -45,20 +33,9 @@ fn flush_cells<B: Blocks>(tree: &mut Tree, blocks: &mut B) -> Result<(), TreeFau
 /// Places the nodes in memory that changed, the lowest first.
 fn flush_nodes<B: Blocks>(tree: &mut Tree, blocks: &mut B) -> Result<(), TreeFault>
     requires { maps.btree_map_len tree.old.cells ≡ 0 }
-    ensures flushes { B.told → Stands (B.shown blocks.old) tree.old → Flushes (loaded (B.shown blocks.old) tree.old) (B.shown blocks.old).used (loaded (B.shown blocks.new) tree.new) (B.shown blocks.new).used }
-    ensures anew { B.told → Stands (B.shown blocks.old) tree.old → PlacesAnew (loaded (B.shown blocks.old) tree.old) (WasFree B.shown B.goes blocks.old blocks.new) (loaded (B.shown blocks.new) tree.new) }
-    ensures keeps { B.told → Stands (B.shown blocks.old) tree.old → (v : ℕ) → (IsPlaced (loaded (B.shown blocks.old) tree.old) (loaded (B.shown blocks.new) tree.new) v → ⊥) → B.keeps v blocks.old blocks.new }
-    ensures strays { B.told → Stands (B.shown blocks.old) tree.old → (B.shown blocks.new).strays ≡ (B.shown blocks.old).strays }
-    ensures left { IsLeft tree.old tree.new }
-    ensures fits { B.told → Stands (B.shown blocks.old) tree.old → Fits (B.shown blocks.old) tree.old (B.shown blocks.new) tree.new }
-    ensures enough { B.told → Stands (B.shown blocks.old) tree.old → IsEnough (pending tree.old) (B.shown blocks.old).room result }
-    ensures spent { (B.shown blocks.new).spent ≡ (B.shown blocks.old).spent }
     ensures cells { tree.new.cells ≡ tree.old.cells }
     ensures none { OnOk result (maps.btree_map_len tree.new.nodes ≡ 0) }
-    ensures places { B.known → KeepsPlaces (B.shown blocks.old) (B.shown blocks.new) }
-    ensures calls { B.goes blocks.old blocks.new }
-    ensures counts { Counts (B.shown blocks.old) (B.shown blocks.new) result }
-    ensures cause { IfErr result (HasCause (B.shown blocks.old) (B.shown blocks.new)) }
+    ensures flushing { PlacesChanged B.told B.known B.shown B.goes B.keeps blocks.old blocks.new tree.old tree.new result }
 {
     for _ in 0..tree.nodes.len() {
         flush_first_node(tree, blocks)?;
@@ -68,19 +45,8 @@ fn flush_nodes<B: Blocks>(tree: &mut Tree, blocks: &mut B) -> Result<(), TreeFau
 
 /// Places the first cell in memory, where it changed.
 fn flush_first_cell<B: Blocks>(tree: &mut Tree, blocks: &mut B) -> Result<(), TreeFault>
-    ensures flushes { B.told → Stands (B.shown blocks.old) tree.old → Flushes (loaded (B.shown blocks.old) tree.old) (B.shown blocks.old).used (loaded (B.shown blocks.new) tree.new) (B.shown blocks.new).used }
-    ensures anew { B.told → Stands (B.shown blocks.old) tree.old → PlacesAnew (loaded (B.shown blocks.old) tree.old) (WasFree B.shown B.goes blocks.old blocks.new) (loaded (B.shown blocks.new) tree.new) }
-    ensures keeps { B.told → Stands (B.shown blocks.old) tree.old → (v : ℕ) → (IsPlaced (loaded (B.shown blocks.old) tree.old) (loaded (B.shown blocks.new) tree.new) v → ⊥) → B.keeps v blocks.old blocks.new }
-    ensures strays { B.told → Stands (B.shown blocks.old) tree.old → (B.shown blocks.new).strays ≡ (B.shown blocks.old).strays }
-    ensures left { IsLeft tree.old tree.new }
-    ensures fits { B.told → Stands (B.shown blocks.old) tree.old → Fits (B.shown blocks.old) tree.old (B.shown blocks.new) tree.new }
-    ensures enough { B.told → Stands (B.shown blocks.old) tree.old → IsEnough (pending tree.old) (B.shown blocks.old).room result }
-    ensures spent { (B.shown blocks.new).spent ≡ (B.shown blocks.old).spent }
     ensures fewer { OnOk result (maps.btree_map_len tree.new.cells ≡ maps.btree_map_len tree.old.cells - 1) }
-    ensures places { B.known → KeepsPlaces (B.shown blocks.old) (B.shown blocks.new) }
-    ensures calls { B.goes blocks.old blocks.new }
-    ensures counts { Counts (B.shown blocks.old) (B.shown blocks.new) result }
-    ensures cause { IfErr result (HasCause (B.shown blocks.old) (B.shown blocks.new)) }
+    ensures flushing { PlacesChanged B.told B.known B.shown B.goes B.keeps blocks.old blocks.new tree.old tree.new result }
 {
     match first_cell(tree) {
         None => Ok(()),
@@ -105,15 +71,8 @@ fn flush_cell<B: Blocks>(
     ensures failed { OnErr result (tree.new ≡ tree.old) }
     ensures changed { OnErr result (cell.now.changed ≡ true) }
     ensures changes { (cell.now.changed ≡ true → (pointer_in tree.old 0 index).stamp ≢ 0 → 0 < tree.old.levels → changed_in tree.old.nodes 1 (index / fan) ≡ true) → changes_in tree.new.nodes ≤ changes_in tree.old.nodes }
-    ensures room { OnOk result ((B.shown blocks.old).room ≤ (B.shown blocks.new).room + 1) }
     ensures still_room { cell.now.changed ≡ false → (B.shown blocks.old).room ≤ (B.shown blocks.new).room }
-    ensures enough { (B.shown blocks.old).room ≢ 0 → IfErr result (λ e. IsDamaged e → ⊥) }
-    ensures spent { (B.shown blocks.new).spent ≡ (B.shown blocks.old).spent }
-    ensures untouched { OnErr result (IsUntouched (B.shown blocks.old) (B.shown blocks.new)) }
-    ensures places { B.known → KeepsPlaces (B.shown blocks.old) (B.shown blocks.new) }
-    ensures calls { B.goes blocks.old blocks.new }
-    ensures counts { Counts (B.shown blocks.old) (B.shown blocks.new) result }
-    ensures cause { IfErr result (HasCause (B.shown blocks.old) (B.shown blocks.new)) }
+    ensures one { PlacesOne B.known (B.goes blocks.old blocks.new) (B.shown blocks.old) (B.shown blocks.new) result }
 {
     if cell.changed {
         replace(tree, blocks, (0, index), &cell.block, cell.placed, true)
@@ -125,20 +84,9 @@ fn flush_cell<B: Blocks>(
 /// Places the first node in memory, where it changed.
 fn flush_first_node<B: Blocks>(tree: &mut Tree, blocks: &mut B) -> Result<(), TreeFault>
     requires { maps.btree_map_len tree.old.cells ≡ 0 }
-    ensures flushes { B.told → Stands (B.shown blocks.old) tree.old → Flushes (loaded (B.shown blocks.old) tree.old) (B.shown blocks.old).used (loaded (B.shown blocks.new) tree.new) (B.shown blocks.new).used }
-    ensures anew { B.told → Stands (B.shown blocks.old) tree.old → PlacesAnew (loaded (B.shown blocks.old) tree.old) (WasFree B.shown B.goes blocks.old blocks.new) (loaded (B.shown blocks.new) tree.new) }
-    ensures keeps { B.told → Stands (B.shown blocks.old) tree.old → (v : ℕ) → (IsPlaced (loaded (B.shown blocks.old) tree.old) (loaded (B.shown blocks.new) tree.new) v → ⊥) → B.keeps v blocks.old blocks.new }
-    ensures strays { B.told → Stands (B.shown blocks.old) tree.old → (B.shown blocks.new).strays ≡ (B.shown blocks.old).strays }
-    ensures left { IsLeft tree.old tree.new }
-    ensures fits { B.told → Stands (B.shown blocks.old) tree.old → Fits (B.shown blocks.old) tree.old (B.shown blocks.new) tree.new }
-    ensures enough { B.told → Stands (B.shown blocks.old) tree.old → IsEnough (pending tree.old) (B.shown blocks.old).room result }
-    ensures spent { (B.shown blocks.new).spent ≡ (B.shown blocks.old).spent }
     ensures cells { tree.new.cells ≡ tree.old.cells }
     ensures fewer { OnOk result (maps.btree_map_len tree.new.nodes ≡ maps.btree_map_len tree.old.nodes - 1) }
-    ensures places { B.known → KeepsPlaces (B.shown blocks.old) (B.shown blocks.new) }
-    ensures calls { B.goes blocks.old blocks.new }
-    ensures counts { Counts (B.shown blocks.old) (B.shown blocks.new) result }
-    ensures cause { IfErr result (HasCause (B.shown blocks.old) (B.shown blocks.new)) }
+    ensures flushing { PlacesChanged B.told B.known B.shown B.goes B.keeps blocks.old blocks.new tree.old tree.new result }
 {
     match first_node(tree) {
         None => Ok(()),
@@ -165,15 +113,8 @@ fn flush_node<B: Blocks>(
     ensures changed { OnErr result (node.now.changed ≡ true) }
     ensures changes { (1 ≤ level → node.now.changed ≡ true → (pointer_in tree.old level place).stamp ≢ 0 → level < tree.old.levels → changed_in tree.old.nodes (level + 1) (place / fan) ≡ true) → changes_in tree.new.nodes ≤ changes_in tree.old.nodes }
     ensures own { changed_in tree.new.nodes level place ≡ changed_in tree.old.nodes level place }
-    ensures room { OnOk result ((B.shown blocks.old).room ≤ (B.shown blocks.new).room + 1) }
     ensures still_room { node.now.changed ≡ false → (B.shown blocks.old).room ≤ (B.shown blocks.new).room }
-    ensures enough { (B.shown blocks.old).room ≢ 0 → IfErr result (λ e. IsDamaged e → ⊥) }
-    ensures spent { (B.shown blocks.new).spent ≡ (B.shown blocks.old).spent }
-    ensures untouched { OnErr result (IsUntouched (B.shown blocks.old) (B.shown blocks.new)) }
-    ensures places { B.known → KeepsPlaces (B.shown blocks.old) (B.shown blocks.new) }
-    ensures calls { B.goes blocks.old blocks.new }
-    ensures counts { Counts (B.shown blocks.old) (B.shown blocks.new) result }
-    ensures cause { IfErr result (HasCause (B.shown blocks.old) (B.shown blocks.new)) }
+    ensures one { PlacesOne B.known (B.goes blocks.old blocks.new) (B.shown blocks.old) (B.shown blocks.new) result }
 {
     if node.changed && 1 <= level && level <= tree.levels {
         let block = spelled(tree.owner, level, place, node);
@@ -198,26 +139,15 @@ impl Tree {
     ///
     /// As `place` of the `Blocks` answers them.
     pub fn flush<B: Blocks>(&mut self, blocks: &mut B) -> Result<Pointer, TreeFault>
-        ensures flushes { B.told → Stands (B.shown blocks.old) self.old → Flushes (loaded (B.shown blocks.old) self.old) (B.shown blocks.old).used (loaded (B.shown blocks.new) self.new) (B.shown blocks.new).used }
-        ensures anew { B.told → Stands (B.shown blocks.old) self.old → PlacesAnew (loaded (B.shown blocks.old) self.old) (WasFree B.shown B.goes blocks.old blocks.new) (loaded (B.shown blocks.new) self.new) }
-        ensures keeps { B.told → Stands (B.shown blocks.old) self.old → (v : ℕ) → (IsPlaced (loaded (B.shown blocks.old) self.old) (loaded (B.shown blocks.new) self.new) v → ⊥) → B.keeps v blocks.old blocks.new }
-        ensures strays { B.told → Stands (B.shown blocks.old) self.old → (B.shown blocks.new).strays ≡ (B.shown blocks.old).strays }
         ensures remains { B.told → Stands (B.shown blocks.old) self.old → Remains (standing (under (B.shown blocks.old)) self.old) (standing (under (B.shown blocks.new)) self.new) }
-        ensures left { IsLeft self.old self.new }
         ensures stored_well { B.told → Stands (B.shown blocks.old) self.old → HasPlaces (B.shown blocks.new).used → IsStoredWell (loaded (B.shown blocks.old) self.old) → IsStoredWell (loaded (B.shown blocks.new) self.new) }
-        ensures fits { B.told → Stands (B.shown blocks.old) self.old → Fits (B.shown blocks.old) self.old (B.shown blocks.new) self.new }
-        ensures enough { B.told → Stands (B.shown blocks.old) self.old → IsEnough (pending self.old) (B.shown blocks.old).room result }
-        ensures spent { (B.shown blocks.new).spent ≡ (B.shown blocks.old).spent }
         ensures pending { OnOk result (pending self.new ≡ 0) }
         ensures done { OnOk result ((level place : ℕ) → (loaded (B.shown blocks.new) self.new).changed level place ≡ false) }
         ensures root { IfOk result (λ root. root ≡ self.new.root) }
         ensures pointer { IfOk result IsPointer }
         ensures stored { IfOk result (λ root. standing (under (B.shown blocks.new)) self.new ≡ stored (under (B.shown blocks.new)) self.old.owner self.old.levels root) }
         ensures reaches { B.told → IfOk result (λ root. Stands (B.shown blocks.old) self.old → ReachesOnce (B.shown blocks.new).used (stored (under (B.shown blocks.new)) self.old.owner self.old.levels root)) }
-        ensures places { B.known → KeepsPlaces (B.shown blocks.old) (B.shown blocks.new) }
-        ensures calls { B.goes blocks.old blocks.new }
-        ensures counts { Counts (B.shown blocks.old) (B.shown blocks.new) result }
-        ensures cause { IfErr result (HasCause (B.shown blocks.old) (B.shown blocks.new)) }
+        ensures flushing { PlacesChanged B.told B.known B.shown B.goes B.keeps blocks.old blocks.new self.old self.new result }
     {
         flush_cells(self, blocks)?;
         flush_nodes(self, blocks)?;

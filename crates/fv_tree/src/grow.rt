@@ -5,7 +5,7 @@ ghost use Rattle.fv_codec.specs.Blocks.{IsPointer};
 ghost use Rattle.fv_model.specs.Trees.{fan, least_levels};
 ghost use Rattle.fv_tree.specs.Spelled.{hole};
 ghost use Rattle.fv_tree.specs.Standing.{node_in, IsSameBut};
-ghost use Rattle.fv_tree.specs.Carried.{kept_at, BringsNew, IsBlank, IsTop};
+ghost use Rattle.fv_tree.specs.Carried.{MarksFew, kept_at, BringsNew, IsBlank, IsTop};
 ghost use Rattle.fv_tree.specs.Writing.{HasNewLevels, HasOldNodes, IsGrownNode, new_child};
 ghost use Rattle.fv_tree.specs.Costs.{changes_in};
 ghost use Rattle.fv_disk.specs.declared.fault.BlockFault.TheVariants.{Memory};
@@ -113,10 +113,9 @@ pub fn keep_new_levels(tree: &mut Tree, levels: u8, index: u32, stamp: u64) -> R
     ensures failed { OnErr result (HasOldNodes tree.old tree.new index) }
     ensures brings { BringsNew tree.old tree.new index }
     ensures blank { OnOk result ((level : ℕ) → 1 ≤ level → level ≤ levels → (level < levels) ⊎ (tree.old.root.stamp ≡ 0) → IsBlank (kept_at tree.new level (index / fan ^ level))) }
-    ensures changes { changes_in tree.new.nodes ≤ changes_in tree.old.nodes + 3 }
-    ensures unchanged { tree.old.root.stamp ≡ 0 → changes_in tree.new.nodes ≤ changes_in tree.old.nodes }
     ensures tops { OnOk result (tree.old.root.stamp ≢ 0 → (level : ℕ) → tree.old.levels < level → level ≤ levels → IsTop tree.new level) }
     ensures memory { IfErr result (λ e. e ≡ Memory) }
+    ensures few_marks { MarksFew tree.old tree.new }
 {
     keep_new_path(tree, levels, index)?;
     if tree.root.stamp == 0 {

@@ -4,18 +4,16 @@ ghost use Rattle.std.specs.Prelude.{◌≡◌, ◌≢◌, ◌≤◌, ◌<◌, �
 ghost use Rattle.std.specs.List.{All};
 ghost use Rattle.fv_codec.specs.Blocks.{IsPointer};
 ghost use Rattle.fv_model.specs.Trees.{fan};
-ghost use Rattle.fv_tree.specs.Spelled.{hole, pointers_at, pointer_below, pointer_at};
-ghost use Rattle.fv_tree.specs.Sources.{Counts, IsUntouched};
-ghost use Rattle.fv_tree.specs.Standing.{standing, under, node_in, IsSameBut, Fails, LoadFails};
-ghost use Rattle.fv_tree.specs.Releasing.{KeepsBlocks};
-ghost use Rattle.fv_tree.specs.Keeping.{IsKept, Keeps, IsSame, KeepsBelow};
-ghost use Rattle.fv_tree.specs.Flushing.{loaded, placed_in, pointer_in};
-ghost use Rattle.fv_tree.specs.Altering.{Leaves};
+ghost use Rattle.fv_tree.specs.Spelled.{hole, pointers_at, pointer_at};
+ghost use Rattle.fv_tree.specs.Standing.{standing, under, node_in, IsSameBut, LoadFails};
+ghost use Rattle.fv_tree.specs.Keeping.{IsKept, Keeps, KeepsBelow};
+ghost use Rattle.fv_tree.specs.Flushing.{placed_in, pointer_in};
 ghost use Rattle.fv_tree.specs.Carried.{kept_at, Brings, IsBlank};
-ghost use Rattle.fv_tree.specs.Readying.{HoldsWay, KeepsReady};
+ghost use Rattle.fv_tree.specs.Readying.{HoldsWay, IsChildOver, KeepsReady};
 ghost use Rattle.fv_tree.specs.Unlinking.{HasWay};
 ghost use Rattle.fv_tree.specs.Leading.{Carries};
 ghost use Rattle.fv_tree.specs.Costs.{changes_in};
+ghost use Rattle.fv_tree.specs.Calls.{Loading, LoadsFrom};
 ghost use Rattle.fv_disk.specs.declared.fault.BlockFault.TheVariants.{Memory};
 
 use crate::blocks::{Blocks, TreeFault};
@@ -37,16 +35,8 @@ pub fn keep_path<B: Blocks>(
     ensures way { IfOk result (λ p. p.stamp ≢ 0 → HoldsWay tree.new index) }
     ensures keeps_ready { KeepsReady tree.old tree.new }
     ensures held { HasWay tree.old index → IfErr result (λ e. e ≡ Memory) }
-    ensures changes { changes_in tree.new.nodes ≤ changes_in tree.old.nodes }
-    ensures fields { IsSameBut tree.old tree.new }
     ensures carries { B.told → Carries (B.shown blocks.old) (B.shown blocks.new) tree.old tree.new }
-    ensures same { B.told → IsSame (standing (under (B.shown blocks.old)) tree.old) (standing (under (B.shown blocks.new)) tree.new) }
-    ensures blocks { B.told → KeepsBlocks (under (B.shown blocks.old)) tree.old tree.new }
-    ensures leaves { B.told → Leaves (loaded (B.shown blocks.old) tree.old) (loaded (B.shown blocks.new) tree.new) }
-    ensures untouched { IsUntouched (B.shown blocks.old) (B.shown blocks.new) }
-    ensures reads { B.reads blocks.old blocks.new }
-    ensures counts { Counts (B.shown blocks.old) (B.shown blocks.new) result }
-    ensures cause { IfErr result (Fails B.told (standing (under (B.shown blocks.old)) tree.old) (B.shown blocks.old) (B.shown blocks.new)) }
+    ensures loading { Loading B.told (B.reads blocks.old blocks.new) (B.shown blocks.old) (B.shown blocks.new) tree.old tree.new result }
 {
     let mut level = tree.levels;
     let mut pointer = tree.root;
@@ -72,20 +62,11 @@ fn keep_step<B: Blocks>(
     ensures keeps { B.told → OnOk result (IsKept (standing (under (B.shown blocks.new)) tree.new) level (index / fan ^ level)) }
     ensures brings { B.told → Brings (under (B.shown blocks.old)) tree.old tree.new level (index / fan ^ level) pointer.now }
     ensures blank { OnOk result (pointer.now.stamp ≡ 0 → IsBlank (kept_at tree.new level (index / fan ^ level))) }
-    ensures leads { IfOk result (λ p. p.stamp ≢ 0 → pointer.now.stamp ≢ 0) }
-    ensures child { IfOk result (λ p. pointer_in tree.new (level - 1) (index / fan ^ (level - 1)) ≡ p) }
     ensures keeps_ready { pointer.now ≡ pointer_in tree.old level (index / fan ^ level) → KeepsReady tree.old tree.new }
     ensures held { is_some (kept_at tree.old level (index / fan ^ level)) ≡ true → IfErr result (λ e. e ≡ Memory) }
-    ensures changes { changes_in tree.new.nodes ≤ changes_in tree.old.nodes }
-    ensures fields { IsSameBut tree.old tree.new }
     ensures others { KeepsBelow (standing (under (B.shown blocks.old)) tree.old) (standing (under (B.shown blocks.new)) tree.new) level }
-    ensures same { B.told → IsSame (standing (under (B.shown blocks.old)) tree.old) (standing (under (B.shown blocks.new)) tree.new) }
-    ensures blocks { B.told → KeepsBlocks (under (B.shown blocks.old)) tree.old tree.new }
-    ensures leaves { B.told → Leaves (loaded (B.shown blocks.old) tree.old) (loaded (B.shown blocks.new) tree.new) }
-    ensures untouched { IsUntouched (B.shown blocks.old) (B.shown blocks.new) }
-    ensures reads { B.reads blocks.old blocks.new }
-    ensures counts { Counts (B.shown blocks.old) (B.shown blocks.new) result }
-    ensures cause { IfErr result (Fails B.told (standing (under (B.shown blocks.old)) tree.old) (B.shown blocks.old) (B.shown blocks.new)) }
+    ensures child { IfOk result (IsChildOver tree.new level index pointer.now) }
+    ensures loading { Loading B.told (B.reads blocks.old blocks.new) (B.shown blocks.old) (B.shown blocks.new) tree.old tree.new result }
 {
     let place = index / width(level);
     let slot = index / width(level - 1) % FAN;
@@ -112,10 +93,7 @@ pub fn keep_node<B: Blocks>(
     ensures long { IfOk result (λ xs. length xs ≡ 128) }
     ensures changes { changes_in tree.new.nodes ≤ changes_in tree.old.nodes }
     ensures kept { IfOk result (λ xs. (standing (under (B.shown blocks.new)) tree.new).nodes level place ≡ Some xs) }
-    ensures untouched { IsUntouched (B.shown blocks.old) (B.shown blocks.new) }
-    ensures reads { B.reads blocks.old blocks.new }
-    ensures counts { Counts (B.shown blocks.old) (B.shown blocks.new) result }
-    ensures cause { IfErr result (LoadFails B.told (B.shown blocks.old) (B.shown blocks.new) pointer.now) }
+    ensures loads { LoadsFrom (B.reads blocks.old blocks.new) (LoadFails B.told (B.shown blocks.old) (B.shown blocks.new) pointer.now) (B.shown blocks.old) (B.shown blocks.new) result }
 {
     if pointer.stamp == 0 {
         return keep(tree, level, place, empty_node());

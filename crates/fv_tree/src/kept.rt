@@ -9,11 +9,7 @@ use std::alloc::Global;
 use std::collections::BTreeMap;
 
 /// A pointer that leads to nothing.
-pub const HOLE: Pointer = Pointer {
-    vvbn: 0,
-    pvbn: 0,
-    stamp: 0,
-};
+pub const HOLE: Pointer = Pointer::HOLE;
 
 /// A node in memory.
 #[derive(Clone, Copy)]

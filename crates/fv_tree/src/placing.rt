@@ -1,16 +1,16 @@
 //! The steps of a flush: placing one block, and what its pointer and the memory are like afterwards.
 
-ghost use Rattle.std.specs.Prelude.{◌≡◌, ◌≢◌, ◌≤◌, ◌<◌, ◌⊎◌, ◌+◌, ◌/◌, ℕ, Bool, true, false, Ok, Some, None, is_some, slice_set, IfOk, IfErr, IfSome, IfNone, OnOk, OnErr};
+ghost use Rattle.std.specs.Prelude.{◌≡◌, ◌≢◌, ◌≤◌, ◌<◌, ◌⊎◌, ◌+◌, ◌/◌, ℕ, true, false, Ok, Some, None, is_some, slice_set, IfOk, IfSome, IfNone, OnOk, OnErr};
 ghost use Rattle.std.specs.BTreeMap as maps;
 ghost use Rattle.std.specs.Ordering.{nat_cmp};
 ghost use Rattle.std.specs.Option.{option_map};
 ghost use Rattle.fv_codec.specs.Blocks.{IsPointer, last_place, node_at};
 ghost use Rattle.fv_model.specs.Trees.{fan, spot_cmp};
-ghost use Rattle.fv_tree.specs.Sources.{Counts, Drops, HasCause, IsCalm, IsDamaged, IsKind, IsUntouched};
+ghost use Rattle.fv_tree.specs.Sources.{Drops, IsCalm, IsKind, IsUntouched};
 ghost use Rattle.fv_tree.specs.Standing.{children_in};
 ghost use Rattle.fv_tree.specs.Costs.{cells_changed, changes_in};
-ghost use Rattle.fv_tree.specs.Stored.{KeepsPlaces};
 ghost use Rattle.fv_tree.specs.Flushing.{all_known, cell_changed, changed_in, is_unknown, kind_for, placed_in, pointer_in, ForgetsCell, ForgetsNode, HoldsAsMuch, IsHidden, IsMoved, KeepsOthers, NamesUsed, Points, Swaps};
+ghost use Rattle.fv_tree.specs.Calls.{PlacesOne};
 
 use crate::blocks::{Blocks, Placed, TreeFault};
 use crate::kept::{HOLE, KeptCell, KeptNode, Tree};
@@ -132,14 +132,7 @@ pub fn replace<B: Blocks>(
     ensures failed { OnErr result (tree.new ≡ tree.old) }
     ensures changes { ((pointer_in tree.old spot.0 spot.1).stamp ≢ 0 → spot.0 < tree.old.levels → changed_in tree.old.nodes (spot.0 + 1) (spot.1 / fan) ≡ true) → changes_in tree.new.nodes ≤ changes_in tree.old.nodes }
     ensures own { changed_in tree.new.nodes spot.0 spot.1 ≡ changed_in tree.old.nodes spot.0 spot.1 }
-    ensures places { B.known → KeepsPlaces (B.shown blocks.old) (B.shown blocks.new) }
-    ensures room { OnOk result ((B.shown blocks.old).room ≤ (B.shown blocks.new).room + 1) }
-    ensures enough { (B.shown blocks.old).room ≢ 0 → IfErr result (λ e. IsDamaged e → ⊥) }
-    ensures spent { (B.shown blocks.new).spent ≡ (B.shown blocks.old).spent }
-    ensures untouched { OnErr result (IsUntouched (B.shown blocks.old) (B.shown blocks.new)) }
-    ensures calls { B.goes blocks.old blocks.new }
-    ensures counts { Counts (B.shown blocks.old) (B.shown blocks.new) result }
-    ensures cause { IfErr result (HasCause (B.shown blocks.old) (B.shown blocks.new)) }
+    ensures one { PlacesOne B.known (B.goes blocks.old blocks.new) (B.shown blocks.old) (B.shown blocks.new) result }
 {
     let (level, place) = spot;
     let old = pointer_in(tree, level, place);
@@ -169,14 +162,7 @@ fn swap<B: Blocks>(
     ensures keeps { B.told → NamesUsed (B.shown blocks.old) placed old.now → KeepsOthers (λ v. B.keeps v blocks.old blocks.new) (B.shown blocks.old) (B.shown blocks.new) }
     ensures stamp { IfOk result (λ p. p.stamp ≡ old.now.stamp) }
     ensures pointer { IfOk result IsPointer }
-    ensures places { B.known → KeepsPlaces (B.shown blocks.old) (B.shown blocks.new) }
-    ensures room { OnOk result ((B.shown blocks.old).room ≤ (B.shown blocks.new).room + 1) }
-    ensures enough { (B.shown blocks.old).room ≢ 0 → IfErr result (λ e. IsDamaged e → ⊥) }
-    ensures spent { (B.shown blocks.new).spent ≡ (B.shown blocks.old).spent }
-    ensures untouched { OnErr result (IsUntouched (B.shown blocks.old) (B.shown blocks.new)) }
-    ensures calls { B.goes blocks.old blocks.new }
-    ensures counts { Counts (B.shown blocks.old) (B.shown blocks.new) result }
-    ensures cause { IfErr result (HasCause (B.shown blocks.old) (B.shown blocks.new)) }
+    ensures one { PlacesOne B.known (B.goes blocks.old blocks.new) (B.shown blocks.old) (B.shown blocks.new) result }
 {
     let at = blocks.place(kind, block)?;
     name_gone(blocks, placed, old.vvbn as u32);

@@ -5,18 +5,16 @@ ghost use Rattle.std.specs.BTreeMap as maps;
 ghost use Rattle.fv_codec.specs.declared.pointer.Pointer.{Pointer};
 ghost use Rattle.fv_codec.specs.Blocks.{all_holes};
 ghost use Rattle.fv_model.specs.Trees.{spot_cmp};
-ghost use Rattle.fv_tree.specs.Sources.{Counts, IsUntouched};
-ghost use Rattle.fv_tree.specs.Standing.{standing, under, node_in, children_in, Fails, IsSameBut};
+ghost use Rattle.fv_tree.specs.Standing.{standing, under, node_in, children_in, IsSameBut};
 ghost use Rattle.fv_tree.specs.Writing.{IsAlike, Remains};
 ghost use Rattle.fv_disk.specs.declared.fault.BlockFault.TheVariants.{Memory};
-ghost use Rattle.fv_tree.specs.Readying.{IsReady, KeepsReady};
+ghost use Rattle.fv_tree.specs.Readying.{IsReady};
 ghost use Rattle.fv_tree.specs.Refilling.{IsFilledWay, IsRefilled, Refills};
 ghost use Rattle.fv_tree.specs.Flushing.{changed_in, loaded, placed_in, Stands, changed_of};
 ghost use Rattle.fv_tree.specs.Altering.{Leaves};
-ghost use Rattle.fv_tree.specs.Stored.{IsStoredWell};
-ghost use Rattle.fv_tree.specs.Leading.{Carries, LeadsNoMore};
 ghost use Rattle.fv_tree.specs.Carried.{Marks};
-ghost use Rattle.fv_tree.specs.Costs.{changes_in, pending, Rises};
+ghost use Rattle.fv_tree.specs.Costs.{changes_in, pending};
+ghost use Rattle.fv_tree.specs.Calls.{Steady};
 
 use crate::blocks::{Blocks, TreeFault};
 use crate::keep::keep_path;
@@ -45,22 +43,12 @@ impl Tree {
         ensures place_by_place { B.told → IfOk result (IsRefilled (standing (under (B.shown blocks.old)) self.old) (standing (under (B.shown blocks.new)) self.new) index block.now) }
         ensures failed { B.told → OnErr result (Remains (standing (under (B.shown blocks.old)) self.old) (standing (under (B.shown blocks.new)) self.new)) }
         ensures ready { IfOk result (λ there. there ≡ true → IsReady self.new index) }
-        ensures keeps_ready { KeepsReady self.old self.new }
         ensures held { IsReady self.old index → IfErr result (λ e. e ≡ Memory) }
-        ensures owner { self.new.owner ≡ self.old.owner }
         ensures levels { self.new.levels ≡ self.old.levels }
-        ensures stands { B.told → Stands (B.shown blocks.old) self.old → Stands (B.shown blocks.new) self.new }
-        ensures leads { B.told → LeadsNoMore (loaded (B.shown blocks.old) self.old) (loaded (B.shown blocks.new) self.new) }
-        ensures keeps { B.told → LeadsNoMore (loaded (B.shown blocks.new) self.new) (loaded (B.shown blocks.old) self.old) }
         ensures leaves { B.told → Stands (B.shown blocks.old) self.old → changed_of self.old 0 index ≡ true → Leaves (loaded (B.shown blocks.old) self.old) (loaded (B.shown blocks.new) self.new) }
         ensures unchanged { B.told → OnErr result (Leaves (loaded (B.shown blocks.old) self.old) (loaded (B.shown blocks.new) self.new)) }
-        ensures stored_well { B.told → IsStoredWell (loaded (B.shown blocks.old) self.old) → IsStoredWell (loaded (B.shown blocks.new) self.new) }
-        ensures rises { Rises self.old self.new 4 1 }
         ensures still { OnErr result (pending self.new ≤ pending self.old) }
-        ensures untouched { IsUntouched (B.shown blocks.old) (B.shown blocks.new) }
-        ensures reads { B.reads blocks.old blocks.new }
-        ensures counts { Counts (B.shown blocks.old) (B.shown blocks.new) result }
-        ensures cause { IfErr result (Fails B.told (standing (under (B.shown blocks.old)) self.old) (B.shown blocks.old) (B.shown blocks.new)) }
+        ensures steady { Steady B.told (B.reads blocks.old blocks.new) (B.shown blocks.old) (B.shown blocks.new) self.old self.new 4 1 result }
     {
         refill_cell(self, blocks, index, block)
     }
@@ -76,19 +64,12 @@ pub fn refill_cell<B: Blocks>(
     ensures done { B.told → IfOk result (IsRefilled (standing (under (B.shown blocks.old)) tree.old) (standing (under (B.shown blocks.new)) tree.new) index block.now) }
     ensures failed { B.told → OnErr result (IsAlike (standing (under (B.shown blocks.old)) tree.old) (standing (under (B.shown blocks.new)) tree.new)) }
     ensures ready { IfOk result (λ there. there ≡ true → IsReady tree.new index) }
-    ensures keeps_ready { KeepsReady tree.old tree.new }
     ensures held { IsReady tree.old index → IfErr result (λ e. e ≡ Memory) }
-    ensures owner { tree.new.owner ≡ tree.old.owner }
     ensures levels { tree.new.levels ≡ tree.old.levels }
-    ensures carries { B.told → Carries (B.shown blocks.old) (B.shown blocks.new) tree.old tree.new }
     ensures leaves { B.told → Stands (B.shown blocks.old) tree.old → changed_of tree.old 0 index ≡ true → Leaves (loaded (B.shown blocks.old) tree.old) (loaded (B.shown blocks.new) tree.new) }
     ensures unchanged { B.told → OnErr result (Leaves (loaded (B.shown blocks.old) tree.old) (loaded (B.shown blocks.new) tree.new)) }
-    ensures rises { Rises tree.old tree.new 4 1 }
     ensures still { OnErr result (pending tree.new ≤ pending tree.old) }
-    ensures untouched { IsUntouched (B.shown blocks.old) (B.shown blocks.new) }
-    ensures reads { B.reads blocks.old blocks.new }
-    ensures counts { Counts (B.shown blocks.old) (B.shown blocks.new) result }
-    ensures cause { IfErr result (Fails B.told (standing (under (B.shown blocks.old)) tree.old) (B.shown blocks.old) (B.shown blocks.new)) }
+    ensures steady { Steady B.told (B.reads blocks.old blocks.new) (B.shown blocks.old) (B.shown blocks.new) tree.old tree.new 4 1 result }
 {
     if index >= width(tree.levels) {
         return Ok(false);

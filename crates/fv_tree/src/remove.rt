@@ -1,17 +1,11 @@
 //! Removing a cell.
 
-ghost use Rattle.std.specs.Prelude.{◌≡◌, ◌≤◌, ◌+◌, nat_eq, Ok, IfOk, OnOk, OnErr, IfErr};
-ghost use Rattle.fv_tree.specs.Altering.{Leaves};
-ghost use Rattle.fv_tree.specs.Flushing.{loaded};
-ghost use Rattle.fv_tree.specs.Sources.{Counts, IsUntouched};
-ghost use Rattle.fv_tree.specs.Standing.{standing, under, Fails};
-ghost use Rattle.fv_tree.specs.Keeping.{IsSame};
+ghost use Rattle.std.specs.Prelude.{◌≤◌, ◌+◌, nat_eq, Ok};
 ghost use Rattle.fv_tree.specs.Releasing.{Removes};
-ghost use Rattle.fv_tree.specs.Leading.{Carries};
-ghost use Rattle.fv_tree.specs.Counting.{positions_of};
 ghost use Rattle.fv_tree.specs.Readying.{IsReady, KeepsOthersReady};
 ghost use Rattle.fv_tree.specs.Removal.{Removal};
 ghost use Rattle.fv_tree.specs.Costs.{pending, Rises};
+ghost use Rattle.fv_tree.specs.Calls.{Removing};
 
 use crate::blocks::{Blocks, TreeFault};
 use crate::erase::erase_cell;
@@ -68,19 +62,8 @@ fn remove_cell<B: Blocks>(
 ) -> Result<u32, TreeFault>
     requires start { start ≤ 3 }
     requires stamp { 1 ≤ stamp }
-    ensures done { B.told → OnOk result (Removes (B.shown blocks.old) (B.shown blocks.new) tree.old tree.new (nat_eq index) start stamp) }
-    ensures count { B.told → IfOk result (λ count. positions_of (standing (under (B.shown blocks.old)) tree.old) ≡ positions_of (standing (under (B.shown blocks.old)) tree.new) + count) }
-    ensures failed { B.told → OnErr result (IsSame (standing (under (B.shown blocks.old)) tree.old) (standing (under (B.shown blocks.new)) tree.new)) }
-    ensures owner { tree.new.owner ≡ tree.old.owner }
-    ensures stays { B.told → OnErr result (Carries (B.shown blocks.old) (B.shown blocks.new) tree.old tree.new) }
-    ensures leaves { B.told → OnErr result (Leaves (loaded (B.shown blocks.old) tree.old) (loaded (B.shown blocks.new) tree.new)) }
-    ensures untouched { OnErr result (IsUntouched (B.shown blocks.old) (B.shown blocks.new)) }
-    ensures room { (B.shown blocks.old).room ≤ (B.shown blocks.new).room }
     ensures rises { Rises tree.old tree.new 3 0 }
-    ensures still { OnErr result (pending tree.new ≤ pending tree.old) }
-    ensures calls { B.goes blocks.old blocks.new }
-    ensures counts { Counts (B.shown blocks.old) (B.shown blocks.new) result }
-    ensures cause { IfErr result (Fails B.told (standing (under (B.shown blocks.old)) tree.old) (B.shown blocks.old) (B.shown blocks.new)) }
+    ensures removing { Removing B.told (B.goes blocks.old blocks.new) (B.shown blocks.old) (B.shown blocks.new) tree.old tree.new (nat_eq index) start stamp result }
 {
     if index >= width(tree.levels) {
         return Ok(0);

@@ -1,21 +1,19 @@
 //! Writing a cell that is in memory with the nodes over it, which can't fail.
 
-ghost use Rattle.std.specs.Prelude.{◌≡◌, ◌≢◌, ◌≤◌, ◌+◌, ℕ, Option, true, is_some, cond, nat_eq, Some, IfOk, IfErr, OnOk, OnErr};
+ghost use Rattle.std.specs.Prelude.{◌≡◌, ◌≢◌, ◌≤◌, ◌+◌, ℕ, true, is_some, cond, nat_eq, Some, IfOk, IfErr, OnOk, OnErr};
 ghost use Rattle.std.specs.BTreeMap as maps;
 ghost use Rattle.std.specs.Ordering.{nat_cmp};
 ghost use Rattle.std.specs.Option.{option_map};
 ghost use Rattle.fv_tree.specs.declared.kept.KeptCell.{KeptCell};
 ghost use Rattle.fv_tree.specs.Spelled.{Under, pointer_at, stamp_in, block_at};
-ghost use Rattle.fv_tree.specs.Sources.{Counts, IsUntouched};
-ghost use Rattle.fv_tree.specs.Standing.{standing, under, cell_in, Fails, IsSameButCells};
+ghost use Rattle.fv_tree.specs.Standing.{standing, under, cell_in, IsSameButCells};
 ghost use Rattle.fv_tree.specs.Writing.{IsAlike, IsWritten, Remains, Writes};
-ghost use Rattle.fv_tree.specs.Flushing.{cell_changed, cell_placed, changed_of, loaded, Stands};
-ghost use Rattle.fv_tree.specs.Stored.{IsStoredWell};
+ghost use Rattle.fv_tree.specs.Flushing.{cell_changed, cell_placed, changed_of, loaded};
 ghost use Rattle.fv_tree.specs.Altering.{AltersHeld, Leaves};
-ghost use Rattle.fv_tree.specs.Leading.{Carries, LeadsNoMore};
-ghost use Rattle.fv_tree.specs.Readying.{HoldsCell, IsReady, KeepsReady};
+ghost use Rattle.fv_tree.specs.Readying.{HoldsCell, IsReady};
 ghost use Rattle.fv_disk.specs.declared.fault.BlockFault.TheVariants.{Memory};
 ghost use Rattle.fv_tree.specs.Costs.{cells_changed, cells_held, Rises};
+ghost use Rattle.fv_tree.specs.Calls.{Steady};
 
 use crate::blocks::{Blocks, TreeFault};
 use crate::keep::keep_path;
@@ -40,19 +38,9 @@ impl Tree {
         ensures there { B.told → IfOk result (λ there. is_some (stamp_in (pointer_at (standing (under (B.shown blocks.old)) self.old) 0 index)) ≡ there) }
         ensures alike { B.told → IsAlike (standing (under (B.shown blocks.old)) self.old) (standing (under (B.shown blocks.new)) self.new) }
         ensures remains { B.told → Remains (standing (under (B.shown blocks.old)) self.old) (standing (under (B.shown blocks.new)) self.new) }
-        ensures keeps_ready { KeepsReady self.old self.new }
-        ensures owner { self.new.owner ≡ self.old.owner }
         ensures levels { self.new.levels ≡ self.old.levels }
-        ensures stands { B.told → Stands (B.shown blocks.old) self.old → Stands (B.shown blocks.new) self.new }
-        ensures leads { B.told → LeadsNoMore (loaded (B.shown blocks.old) self.old) (loaded (B.shown blocks.new) self.new) }
-        ensures keeps { B.told → LeadsNoMore (loaded (B.shown blocks.new) self.new) (loaded (B.shown blocks.old) self.old) }
-        ensures stored_well { B.told → IsStoredWell (loaded (B.shown blocks.old) self.old) → IsStoredWell (loaded (B.shown blocks.new) self.new) }
         ensures leaves { B.told → Leaves (loaded (B.shown blocks.old) self.old) (loaded (B.shown blocks.new) self.new) }
-        ensures rises { Rises self.old self.new 0 1 }
-        ensures untouched { IsUntouched (B.shown blocks.old) (B.shown blocks.new) }
-        ensures reads { B.reads blocks.old blocks.new }
-        ensures counts { Counts (B.shown blocks.old) (B.shown blocks.new) result }
-        ensures cause { IfErr result (Fails B.told (standing (under (B.shown blocks.old)) self.old) (B.shown blocks.old) (B.shown blocks.new)) }
+        ensures steady { Steady B.told (B.reads blocks.old blocks.new) (B.shown blocks.old) (B.shown blocks.new) self.old self.new 0 1 result }
     {
         ready_cell(self, blocks, index)
     }
@@ -88,16 +76,9 @@ fn ready_cell<B: Blocks>(tree: &mut Tree, blocks: &mut B, index: u32) -> Result<
     ensures ready { IfOk result (λ there. there ≡ true → IsReady tree.new index) }
     ensures there { B.told → IfOk result (λ there. is_some (stamp_in (pointer_at (standing (under (B.shown blocks.old)) tree.old) 0 index)) ≡ there) }
     ensures alike { B.told → IsAlike (standing (under (B.shown blocks.old)) tree.old) (standing (under (B.shown blocks.new)) tree.new) }
-    ensures keeps_ready { KeepsReady tree.old tree.new }
-    ensures owner { tree.new.owner ≡ tree.old.owner }
     ensures levels { tree.new.levels ≡ tree.old.levels }
-    ensures carries { B.told → Carries (B.shown blocks.old) (B.shown blocks.new) tree.old tree.new }
     ensures leaves { B.told → Leaves (loaded (B.shown blocks.old) tree.old) (loaded (B.shown blocks.new) tree.new) }
-    ensures rises { Rises tree.old tree.new 0 1 }
-    ensures untouched { IsUntouched (B.shown blocks.old) (B.shown blocks.new) }
-    ensures reads { B.reads blocks.old blocks.new }
-    ensures counts { Counts (B.shown blocks.old) (B.shown blocks.new) result }
-    ensures cause { IfErr result (Fails B.told (standing (under (B.shown blocks.old)) tree.old) (B.shown blocks.old) (B.shown blocks.new)) }
+    ensures steady { Steady B.told (B.reads blocks.old blocks.new) (B.shown blocks.old) (B.shown blocks.new) tree.old tree.new 0 1 result }
 {
     if index >= width(tree.levels) {
         return Ok(false);

@@ -11,11 +11,9 @@ ghost use Rattle.fv_tree.specs.Sources.{Counts, Use, IsUntouched};
 ghost use Rattle.fv_tree.specs.Standing.{standing, under, Shows, Fails};
 ghost use Rattle.fv_tree.specs.Writing.{IsWritten, Writes, Remains};
 ghost use Rattle.fv_tree.specs.Flushing.{changed_of, loaded, loaded_over, IsSound, ReachesOnce, Stands};
-ghost use Rattle.fv_tree.specs.Readying.{KeepsReady};
 ghost use Rattle.fv_tree.specs.Altering.{Alters, Leaves};
-ghost use Rattle.fv_tree.specs.Stored.{IsStoredWell};
-ghost use Rattle.fv_tree.specs.Leading.{LeadsNoMore};
-ghost use Rattle.fv_tree.specs.Costs.{pending, way_cost, Rises};
+ghost use Rattle.fv_tree.specs.Costs.{pending, way_cost};
+ghost use Rattle.fv_tree.specs.Calls.{Steady};
 
 use crate::blocks::{Blocks, TreeFault};
 use crate::kept::{HOLE, Tree};
@@ -105,20 +103,10 @@ impl Tree {
         ensures written { B.told → OnOk result (Writes (standing (under (B.shown blocks.old)) self.old) (standing (under (B.shown blocks.new)) self.new) index stamp block.now) }
         ensures place_by_place { B.told → OnOk result (IsWritten (standing (under (B.shown blocks.old)) self.old) (standing (under (B.shown blocks.new)) self.new) index stamp block.now) }
         ensures failed { B.told → OnErr result (Remains (standing (under (B.shown blocks.old)) self.old) (standing (under (B.shown blocks.new)) self.new)) }
-        ensures owner { self.new.owner ≡ self.old.owner }
-        ensures stands { B.told → Stands (B.shown blocks.old) self.old → Stands (B.shown blocks.new) self.new }
-        ensures leads { B.told → LeadsNoMore (loaded (B.shown blocks.old) self.old) (loaded (B.shown blocks.new) self.new) }
-        ensures keeps { B.told → LeadsNoMore (loaded (B.shown blocks.new) self.new) (loaded (B.shown blocks.old) self.old) }
         ensures alters { B.told → Alters stamp (loaded (B.shown blocks.old) self.old) (loaded (B.shown blocks.new) self.new) }
         ensures leaves { B.told → OnErr result (Leaves (loaded (B.shown blocks.old) self.old) (loaded (B.shown blocks.new) self.new)) }
         ensures marked { OnOk result (changed_of self.new 0 index ≡ true) }
-        ensures stored_well { B.told → IsStoredWell (loaded (B.shown blocks.old) self.old) → IsStoredWell (loaded (B.shown blocks.new) self.new) }
-        ensures keeps_ready { KeepsReady self.old self.new }
-        ensures rises { Rises self.old self.new 6 1 }
-        ensures untouched { IsUntouched (B.shown blocks.old) (B.shown blocks.new) }
-        ensures reads { B.reads blocks.old blocks.new }
-        ensures counts { Counts (B.shown blocks.old) (B.shown blocks.new) result }
-        ensures cause { IfErr result (Fails B.told (standing (under (B.shown blocks.old)) self.old) (B.shown blocks.old) (B.shown blocks.new)) }
+        ensures steady { Steady B.told (B.reads blocks.old blocks.new) (B.shown blocks.old) (B.shown blocks.new) self.old self.new 6 1 result }
     {
         write_cell(self, blocks, index, block, stamp)
     }

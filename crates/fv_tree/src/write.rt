@@ -1,20 +1,18 @@
 //! Writing a cell: its content, and the stamps on the way to it.
 
-ghost use Rattle.std.specs.Prelude.{◌≡◌, ◌≢◌, ◌≤◌, ◌<◌, ◌+◌, ◌-◌, ◌/◌, ◌^◌, ◌⊎◌, ◌&&◌, ℕ, Option, true, is_some, cond, nat_eq, Some, IfErr, OnOk, OnErr};
+ghost use Rattle.std.specs.Prelude.{◌≡◌, ◌≢◌, ◌≤◌, ◌<◌, ◌+◌, ◌-◌, ◌/◌, ◌^◌, ◌⊎◌, ◌&&◌, ℕ, true, is_some, cond, nat_eq, Some, IfErr, OnOk, OnErr};
 ghost use Rattle.std.specs.BTreeMap as maps;
 ghost use Rattle.std.specs.Ordering.{nat_cmp};
 ghost use Rattle.std.specs.Option.{option_map};
 ghost use Rattle.fv_model.specs.Trees.{fan, spot_cmp};
-ghost use Rattle.fv_tree.specs.Standing.{standing, under, children_in, cell_in, IsSameButCells, Fails};
+ghost use Rattle.fv_tree.specs.Standing.{standing, under, children_in, cell_in, IsSameButCells};
 ghost use Rattle.fv_tree.specs.Spelled.{Under};
-ghost use Rattle.fv_tree.specs.Sources.{Counts, Use, IsUntouched};
-ghost use Rattle.fv_tree.specs.Flushing.{cell_changed, cell_placed, changed_in, changed_of, loaded, loaded_over, placed_in, IsSound};
+ghost use Rattle.fv_tree.specs.Flushing.{cell_changed, cell_placed, changed_in, changed_of, loaded, loaded_over, placed_in};
 ghost use Rattle.fv_tree.specs.Altering.{Alters, Leaves};
-ghost use Rattle.fv_tree.specs.Leading.{Carries, KeepsHints, LeadsNoMore};
-ghost use Rattle.fv_tree.specs.Readying.{KeepsReady};
 ghost use Rattle.fv_tree.specs.Carried.{Marks};
 ghost use Rattle.fv_tree.specs.Writing.{stamped, stamped_in, new_child, Stamps, IsAlike, IsWritten};
-ghost use Rattle.fv_tree.specs.Costs.{cells_changed, cells_held, changes_in, Rises};
+ghost use Rattle.fv_tree.specs.Costs.{cells_changed, cells_held, changes_in};
+ghost use Rattle.fv_tree.specs.Calls.{Steady, SteadyHeld};
 ghost use Rattle.fv_disk.specs.declared.fault.BlockFault.TheVariants.{Memory};
 
 use crate::blocks::{Blocks, TreeFault};
@@ -143,17 +141,10 @@ pub fn write_within<B: Blocks>(
     requires stamp { 1 ≤ stamp }
     ensures done { B.told → OnOk result (IsWritten (standing (under (B.shown blocks.old)) tree.old) (standing (under (B.shown blocks.new)) tree.new) index stamp block.now) }
     ensures failed { B.told → OnErr result (IsAlike (standing (under (B.shown blocks.old)) tree.old) (standing (under (B.shown blocks.new)) tree.new)) }
-    ensures owner { tree.new.owner ≡ tree.old.owner }
-    ensures carries { B.told → Carries (B.shown blocks.old) (B.shown blocks.new) tree.old tree.new }
     ensures alters { B.told → Alters stamp (loaded (B.shown blocks.old) tree.old) (loaded (B.shown blocks.new) tree.new) }
     ensures leaves { B.told → OnErr result (Leaves (loaded (B.shown blocks.old) tree.old) (loaded (B.shown blocks.new) tree.new)) }
     ensures marked { OnOk result (changed_of tree.new 0 index ≡ true) }
-    ensures keeps_ready { KeepsReady tree.old tree.new }
-    ensures rises { Rises tree.old tree.new 6 1 }
-    ensures untouched { IsUntouched (B.shown blocks.old) (B.shown blocks.new) }
-    ensures reads { B.reads blocks.old blocks.new }
-    ensures counts { Counts (B.shown blocks.old) (B.shown blocks.new) result }
-    ensures cause { IfErr result (Fails B.told (standing (under (B.shown blocks.old)) tree.old) (B.shown blocks.old) (B.shown blocks.new)) }
+    ensures steady { Steady B.told (B.reads blocks.old blocks.new) (B.shown blocks.old) (B.shown blocks.new) tree.old tree.new 6 1 result }
 {
     let pointer = keep_path(tree, blocks, index)?;
     keep_cell(tree, index, block, pointer.stamp != 0)?;
@@ -173,17 +164,11 @@ pub fn write_past(
     requires stamp { 1 ≤ stamp }
     ensures done { (blocks : Under) → OnOk result (IsWritten (standing blocks tree.old) (standing blocks tree.new) index stamp block.now) }
     ensures failed { (blocks : Under) → OnErr result (IsAlike (standing blocks tree.old) (standing blocks tree.new)) }
-    ensures owner { tree.new.owner ≡ tree.old.owner }
-    ensures stands { (blocks : Under) (used : ℕ → Option Use) → IsSound used (loaded_over blocks tree.old) → IsSound used (loaded_over blocks tree.new) }
-    ensures leads { (blocks : Under) → LeadsNoMore (loaded_over blocks tree.old) (loaded_over blocks tree.new) }
-    ensures keeps { (blocks : Under) → LeadsNoMore (loaded_over blocks tree.new) (loaded_over blocks tree.old) }
-    ensures hints { (blocks : Under) → KeepsHints (loaded_over blocks tree.old) (loaded_over blocks tree.new) }
     ensures alters { (blocks : Under) → Alters stamp (loaded_over blocks tree.old) (loaded_over blocks tree.new) }
     ensures leaves { (blocks : Under) → OnErr result (Leaves (loaded_over blocks tree.old) (loaded_over blocks tree.new)) }
     ensures marked { OnOk result (changed_of tree.new 0 index ≡ true) }
-    ensures keeps_ready { KeepsReady tree.old tree.new }
-    ensures rises { Rises tree.old tree.new 6 1 }
     ensures memory { IfErr result (λ e. e ≡ Memory) }
+    ensures steady { SteadyHeld tree.old tree.new 6 1 }
 {
     let levels = levels_over(index);
     keep_new_levels(tree, levels, index, stamp)?;
@@ -218,17 +203,10 @@ pub fn write_cell<B: Blocks>(
     requires stamp { 1 ≤ stamp }
     ensures done { B.told → OnOk result (IsWritten (standing (under (B.shown blocks.old)) tree.old) (standing (under (B.shown blocks.new)) tree.new) index stamp block.now) }
     ensures failed { B.told → OnErr result (IsAlike (standing (under (B.shown blocks.old)) tree.old) (standing (under (B.shown blocks.new)) tree.new)) }
-    ensures owner { tree.new.owner ≡ tree.old.owner }
-    ensures carries { B.told → Carries (B.shown blocks.old) (B.shown blocks.new) tree.old tree.new }
     ensures alters { B.told → Alters stamp (loaded (B.shown blocks.old) tree.old) (loaded (B.shown blocks.new) tree.new) }
     ensures leaves { B.told → OnErr result (Leaves (loaded (B.shown blocks.old) tree.old) (loaded (B.shown blocks.new) tree.new)) }
     ensures marked { OnOk result (changed_of tree.new 0 index ≡ true) }
-    ensures keeps_ready { KeepsReady tree.old tree.new }
-    ensures rises { Rises tree.old tree.new 6 1 }
-    ensures untouched { IsUntouched (B.shown blocks.old) (B.shown blocks.new) }
-    ensures reads { B.reads blocks.old blocks.new }
-    ensures counts { Counts (B.shown blocks.old) (B.shown blocks.new) result }
-    ensures cause { IfErr result (Fails B.told (standing (under (B.shown blocks.old)) tree.old) (B.shown blocks.old) (B.shown blocks.new)) }
+    ensures steady { Steady B.told (B.reads blocks.old blocks.new) (B.shown blocks.old) (B.shown blocks.new) tree.old tree.new 6 1 result }
 {
     if index < width(tree.levels) {
         write_within(tree, blocks, index, block, stamp)

@@ -34,7 +34,7 @@ use Rattle.fv_volume.specs.OneVolume.{blocks_in, shows, standing_by, table_for, 
 use Rattle.fv_volume.specs.Sharing.{AreShared}
 use Rattle.fv_volume.specs.Placing.{AreLedBy, AreStoredBy, IsLedTo, IsStoredWell}
 use Rattle.fv_volume.proofs.OverBlocks.{over_keeps, over_reached, over_stored}
-use Rattle.fv_volume.proofs.Reaches.{active_has, active_uses}
+use Rattle.fv_volume.proofs.ActiveSlot.{active_has, active_uses}
 use Rattle.fv_volume.proofs.Shows.{use_none}
 use Rattle.fv_volume.proofs.SnapReads.{slot_held}
 

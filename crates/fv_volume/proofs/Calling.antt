@@ -29,10 +29,9 @@ use Rattle.fv_volume.specs.OneVolume.{shows, standing_for, table_for, trees_for,
 use Rattle.fv_files.specs.Altering.{AltersTrees}
 use Rattle.fv_volume.proofs.CallCauses.{not_refused}
 use Rattle.fv_volume.proofs.Changed.{failed_standing, failed_volume}
-use Rattle.fv_volume.proofs.OneVolumes.{still_ready, still_standing, still_volume}
+use Rattle.fv_volume.proofs.OneVolumes.{still_led, still_ready, still_standing, still_volume, still_well}
 use Rattle.fv_volume.proofs.ReadyAgain.{ready_again}
 use Rattle.fv_volume.proofs.SharedChanges.{PlacesAltered}
-use Rattle.fv_volume.proofs.Standings.{still_led, still_well}
 
 -- a fault of blocks is no refusal
 pub no_refusal : (T : Type 0) (m : Machine) (c : Command) (b : BlockFault) → Agrees {T = T} m c (Err (of_block b))

@@ -10,6 +10,7 @@ use Rattle.fv_laws.specs.Paths.{cut_path, new_path, put_path}
 use Rattle.fv_laws.specs.Positions.{rm_places, staying, taken_by_cut, taken_by_rm}
 use Rattle.fv_laws.specs.WellFormed.{IsWellTable}
 use Rattle.fv_laws.proofs.PathCharges.{none_stay}
+use Rattle.fv_tables.specs.Spelled.{Under}
 use Rattle.fv_tables.specs.Told.{Standing, file_at, file_in, table_told}
 use Rattle.fv_tables.proofs.Tables.{files_told}
 use Rattle.fv_tree.specs.declared.taken.Taken.{Taken}
@@ -39,7 +40,8 @@ use Rattle.fv_volume.specs.Calls.{CallFails, HasBeside, HasWithin, Reads}
 use Rattle.fv_volume.specs.Changing.{AcceptsCut, AcceptsRemoval, IsDeltaBy, MovesIn, RefusedIn}
 use Rattle.fv_volume.specs.Charging.{CutMoves, MovesBlocks, RemovalMoves, StaysByNew, StaysByPut}
 use Rattle.fv_volume.specs.Lending.{lent_for}
-use Rattle.fv_volume.specs.OneVolume.{home_in, shows, standing_for, table_for, trees_for, volume_for, IsReady, IsStanding}
+use Rattle.fv_volume.specs.OneVolume.{home_in, shows, standing_by, standing_for, table_for, trees_for, volume_for, IsReady, IsStanding}
+use Rattle.fv_volume.specs.Sharing.{trees_by}
 use Rattle.fv_volume.proofs.CallCauses.{fails_later}
 use Rattle.fv_volume.proofs.FileCounts.{least_is}
 use Rattle.fv_volume.proofs.OneVolumes.{still_standing, still_table, still_volume}
@@ -62,14 +64,20 @@ module _ (d : Disk) (p : Pool) (x : VolumeState) (none : x.snapshots ≡ []) whe
 -- ---- a table that was taken out
 
 -- The ids that stay charged are those whose blocks are shared.
-pub settles : (d : Disk) (p : Pool) (x : VolumeState) → IsReady d p x → IsStanding d p x → (f : Files) → AreAlike (loaded_trees (under (shows d p x)) f) (trees_for d p x)
+settles : (d : Disk) (p : Pool) (x : VolumeState) → IsReady d p x → IsStanding d p x → (f : Files) → AreAlike (loaded_trees (under (shows d p x)) f) (trees_for d p x)
     → SettlesShared (volume_for d p x) (loaded_trees (under (shows d p x)) f) (is_in_snapshot x.map)
 settles d p x ready is f alike = settles_alike (volume_for d p x) (loaded_trees (under (shows d p x)) f) (trees_for d p x) (is_in_snapshot x.map) alike (settled_for d p x is ready.labelled)
 
 -- ---- by the calls of the table
 
-module _ (d : Disk) (p : Pool) (x : VolumeState) (is : IsStanding d p x) (f : Files) (table : table_in (shows d p x) f ≡ standing_for d p x)
-    (are : SettlesShared (volume_for d p x) (loaded_trees (under (shows d p x)) f) (is_in_snapshot x.map)) where
+module _ (d : Disk) (p : Pool) (x : VolumeState) (ready : IsReady d p x) (is : IsStanding d p x) (f : Files) (takes : (blocks : Under) → standing_in blocks (changed f) ≡ standing_by blocks x.active x.files)
+    (alike : (blocks : Under) → AreAlike (loaded_trees blocks f) (trees_by blocks x.active x.files)) where
+  table : table_in (shows d p x) f ≡ standing_for d p x
+  table = takes (under (shows d p x))
+
+  are : SettlesShared (volume_for d p x) (loaded_trees (under (shows d p x)) f) (is_in_snapshot x.map)
+  are = settles d p x ready is f (alike (under (shows d p x)))
+
   told : table_for d p x ≡ table_told (standing_in (under (shows d p x)) (changed f))
   told = ap table_told (sym table)
 

@@ -57,6 +57,10 @@ pub record IsMore (l : Ledger) (count : ℕ) (by : Delta) : Type 0 where
   pub kind : by.kind ≡ l.kind
   pub can : CanChange l by
 
+-- so it is of the volume of before, where what was asked meanwhile left that
+pub more_is : (x y : VolumeState) → y ≡ x → (count : ℕ) (by : Delta) → by.charge ≡ pos count → by.need ≡ pos 0 → by.size ≡ y.ledger.size → by.kind ≡ y.ledger.kind → CanChange y.ledger by → IsMore x.ledger count by
+more_is x y same count by charge need size kind can = subst (λ (z : VolumeState). IsMore z.ledger count by) same (record { charge = charge; need = need; size = size; kind = kind; can = can })
+
 -- a ledger without a need can be changed by few blocks more, or by some fewer
 pub can_more : (l : Ledger) (d : Delta) (r : ℤ) → d.charge ≡ r → (count : ℕ) → l.charge ≤ greatest_charge → l.need ≡ 0 → count ≤ 14 → r ≡ pos count → d.need ≡ pos 0 → CanChange l d
 can_more l d r same count low none few charge need = record {

@@ -1,9 +1,10 @@
 -- What a read of a table finds that a command asks, a snapshot's among them: each of its trees stands whole on the blocks that the volume holds.
-use Rattle.std.proofs.Common.{◌≡◌, ◌≤◌, ℕ, List, [], ◌∷◌, Option, Some, None, refl, sym, ap, subst, ◌∙◌}
-use Rattle.std.specs.Prelude.{All, map, unwrap_or}
+use Rattle.std.proofs.Common.{◌≡◌, ◌≤◌, ◌/◌, ℕ, List, [], ◌∷◌, Option, Some, None, refl, sym, ap, subst, ◌∙◌}
+use Rattle.std.specs.Prelude.{All, map, unwrap_or, Result, Err}
 use Rattle.std.specs.Option.{option_map}
 use Rattle.std.proofs.lemmas.List.Elements.{All-cons, All-head, All-nil, All-tail}
 use Rattle.fv_disk.specs.Shown.{Shown as Disk}
+use Rattle.fv_disk.specs.declared.fault.BlockFault.{BlockFault}
 use Rattle.fv_disk.specs.declared.fault.BlockFault.TheVariants as block
 use Rattle.fv_codec.specs.declared.inode.InodeRecord.{InodeRecord}
 use Rattle.fv_codec.specs.declared.pointer.Pointer.{Pointer}
@@ -11,7 +12,7 @@ use Rattle.fv_codec.specs.Blocks.{greatest_word, IsPointer}
 use Rattle.fv_model.specs.Spelling.{is_same_name}
 use Rattle.fv_tables.specs.Kept.{AgreeOnTree}
 use Rattle.fv_tables.specs.Spelled.{Rooted as Spelled, Under, pointer_at, stored}
-use Rattle.fv_tables.specs.Told.{Standing, file_at, standing_at}
+use Rattle.fv_tables.specs.Told.{Standing, file_at, records_each, standing_at, table_told}
 use Rattle.fv_tables.proofs.Tables.{same_record}
 use Rattle.fv_tree.specs.Beside.{loaded_on, unread, IsLaid}
 use Rattle.fv_tree.specs.Costs.{way_cost}
@@ -23,6 +24,8 @@ use Rattle.fv_tree.proofs.Beside.{beside_alike, beside_leads, beside_pointers, b
 use Rattle.fv_inode.specs.declared.info.Info.{Info}
 use Rattle.fv_inode.proofs.Indexed.{alike_indexes}
 use Rattle.fv_files.specs.Apart.{StoredIn}
+use Rattle.fv_files.specs.Calls.{path_cost}
+use Rattle.fv_files.specs.Numbering.{AreNumbersIf}
 use Rattle.fv_files.specs.Tables.{tree_known, IsInfoOf}
 use Rattle.fv_files.proofs.Tables.{file_tree}
 use Rattle.fv_volmap.specs.Slots.{has, slot_at}
@@ -32,16 +35,19 @@ use Rattle.fv_volume.specs.declared.state.Snap.{Snap}
 use Rattle.fv_volume.specs.declared.state.VolumeState.{VolumeState}
 use Rattle.fv_volume.specs.declared.tables.TableAsked.{TableAsked}
 use Rattle.fv_volume.specs.declared.tables.TableAsked.TheVariants.{Active, Kept}
-use Rattle.fv_volume.specs.Asking.{snap_named, standing_asked, standing_of, standing_read, table_named, IsTableOf}
-use Rattle.fv_volume.specs.Calls.{Reads, TableFails}
+use Rattle.fv_volume.specs.Asking.{numbers_asked, root_asked, snap_named, standing_asked, standing_of, standing_read, table_named, IsTableOf}
+use Rattle.fv_volume.specs.Calls.{CallCause, Reads, TableFails}
+use Rattle.fv_volume.specs.Causes.{of_block}
+use Rattle.fv_volume.specs.declared.fault.VolumeFault.{VolumeFault}
+use Rattle.fv_volume.proofs.CallCauses.{failed_cause}
 use Rattle.fv_volume.specs.Lending.{lent_for}
 use Rattle.fv_volume.specs.OneVolume.{blocks_in, home_in, shows, standing_for, uses_in, IsKeptTable, IsReady, IsStanding}
-use Rattle.fv_volume.specs.Paths.{unknown_to}
+use Rattle.fv_volume.specs.Paths.{unknown_over, unknown_to}
 use Rattle.fv_volume.specs.Placing.{IsStoredWell}
 use Rattle.fv_volume.specs.SnapRecords.{IsSayableSnap}
 use Rattle.fv_volume.specs.States.{snap_in}
-use Rattle.fv_volume.proofs.Followed.{steps_way}
-use Rattle.fv_volume.proofs.OneVolumes.{still_standing, still_table, still_under, stood_before}
+use Rattle.fv_volume.proofs.Followed.{file_way, inode_way, steps_way}
+use Rattle.fv_volume.proofs.OneVolumes.{levels_fit, root_fits, still_standing, still_table, still_under, stood_before}
 use Rattle.fv_volume.proofs.SnapReads.{found_among, slot_held}
 use Rattle.fv_volume.proofs.Undamaged.{active_holds, none_damaged, HoldsWell, TableHolds}
 
@@ -79,6 +85,15 @@ module _ (disk : Disk) (pool : Pool) (x : VolumeState) (ready : IsReady disk poo
 
   pub kept_levels_fit : root.levels ≤ 2
   kept_levels_fit = subst (λ (r : Rooted). r.levels ≤ 2) said.table said.has.levels
+
+-- the root of the table that is asked fits a pointer, too
+pub asked_root_fits : (d : Disk) (p : Pool) (x : VolumeState) → IsReady d p x → (t : TableAsked) → IsTableOf x t → IsPointer (root_asked x.active t).root
+asked_root_fits d p x ready Active of = root_fits d p x ready
+asked_root_fits d p x ready (Kept root) of = kept_root_fits d p x ready root of
+
+pub asked_levels_fit : (d : Disk) (p : Pool) (x : VolumeState) → IsReady d p x → (t : TableAsked) → IsTableOf x t → (root_asked x.active t).levels ≤ 2
+asked_levels_fit d p x ready Active of = levels_fit d p x ready
+asked_levels_fit d p x ready (Kept root) of = kept_levels_fit d p x ready root of
 
 -- A tree that stands whole on the blocks of a slot does so on all that the volume holds.
 module _ (d : Disk) (p : Pool) (x : VolumeState) (k owner levels : ℕ) (root : Pointer) (reaches : ReachesOnce (uses_in p x k) (stored (blocks_in d p x k) owner levels root))
@@ -169,6 +184,16 @@ module _ (d : Disk) (p : Pool) (x : VolumeState) (is : IsStanding d p x) where
 
   -- ---- the table that is asked
 
+  -- What the path to a block costs are the unknown pointers on it.
+  pub asked_path : (t : TableAsked) → IsTableOf x t → (info : Info) → IsInfoOf (standing_of d p x t).inode info → (i : ℕ) → path_cost (shows d p x).cost (standing_of d p x t) info i ≡ unknown_over (standing_of d p x t) info i
+  asked_path Active of info known i = rw (inode_way d p x is (info.number / records_each), file_way d p x is info known i) refl
+  asked_path (Kept root) of info known i = rw (kept_inode_way root of (info.number / records_each), kept_file_way root of info known i) refl
+
+  -- and the numbers that are known of it are its own
+  pub asked_numbers : (t : TableAsked) → AreNumbersIf (numbers_asked t x.numbers) (table_told (standing_of d p x t))
+  asked_numbers Active = is.numbers
+  asked_numbers (Kept root) = tt
+
   -- A table stands whole on the blocks that the volume holds, some of which are in use.
   pub record HoldsTable (t : Standing) : Type 0 where
     pub uses : ℕ → Option Use
@@ -203,6 +228,12 @@ module _ (d : Disk) (p : Pool) (x : VolumeState) (s : Option (List ℕ)) where
 
     pub read_is : standing_of d p x t ≡ standing_read d p x s
     read_is = sym (ap (λ (o : Option Standing). unwrap_or o (standing_for d p x)) asked_is)
+
+    -- the cause of a call that a fault of blocks of this table ended
+    pub asked_cause : {T : Type 0} (steps left : ℕ) (e : BlockFault) (r : Result T VolumeFault) → r ≡ Err (of_block e)
+        → TableFails (IsStanding d p x) (standing_of d p x t) (lent_for p x.map d steps (home_in x) 0) left e → CallCause (IsStanding d p x) (standing_read d p x s) (lent_for p x.map d steps (home_in x) 0) left r
+    asked_cause steps left e r failed cause = subst (λ (u : Standing). CallCause (IsStanding d p x) u (lent_for p x.map d steps (home_in x) 0) left r) read_is
+        (failed_cause (IsStanding d p x) (standing_of d p x t) (lent_for p x.map d steps (home_in x) 0) left e r failed cause)
 
 -- ---- after reads
 

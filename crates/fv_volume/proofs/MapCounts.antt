@@ -4,6 +4,7 @@ use Rattle.std.specs.Prelude.{nat_le, nat_lt}
 use Rattle.std.proofs.Math.Nat.{mul-le-mul_right}
 use Rattle.std.proofs.lemmas.Bool.Decides.{nat_tests}
 use Rattle.fv_bits.proofs.Counts.{none_pass, passing, passing-add, passing-suc, passing_le, passing_same}
+use Rattle.fv_model.specs.Numbers.{most_snapshot_blocks}
 use Rattle.fv_model.specs.Space.{map_blocks}
 use Rattle.fv_image.specs.Views.{entry_count, map_vvbn}
 use Rattle.fv_volmap.specs.Slots.{stored_count}
@@ -121,5 +122,5 @@ waiting_counted x count slot from to is =
     omega (arith, is, ap (passing (is_rewritten x) 1) all, first_counted x)
 
 -- maps that wait have few blocks
-pub few_blocks : (count blocks : ℕ) → count ≤ 24 → blocks ≤ 32 → count * blocks ≤ 768
+pub few_blocks : (count blocks : ℕ) → count ≤ 24 → blocks ≤ 32 → count * blocks ≤ most_snapshot_blocks
 few_blocks count blocks few short = omega (arith, mul-le-mul_right {m = count} {n = 24} blocks few, short)

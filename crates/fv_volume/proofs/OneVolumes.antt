@@ -28,6 +28,7 @@ use Rattle.fv_volume.specs.Labels.{label_said}
 use Rattle.fv_volume.specs.Lending.{IsTold, use_of, use_under}
 use Rattle.fv_volume.specs.LendingLaws.{apart_by}
 use Rattle.fv_volume.specs.OneVolume.{blocks_in, shows, snaps_by, standing_by, standing_for, trees_for, uses_in, volume_as, volume_for, AreLaidBy, AreSoundBy, IsKeptTable, IsReady, IsStanding, IsTableIn}
+use Rattle.fv_volume.specs.Placing.{AreLedBy, AreStoredBy, IsLedTo, IsStoredWell}
 use Rattle.fv_volume.specs.Sharing.{trees_by, AreShared}
 use Rattle.fv_volume.proofs.Failing.{blocks_of}
 
@@ -156,3 +157,12 @@ module _ (d e : Disk) (p q : Pool) (reads : Reads d p e q) (x : VolumeState) whe
   -- and what is known of its table before is known after
   pub said_after : (y : VolumeState) → y ≡ x → (says : Standing → Type 0) → (IsStanding d p x → says (standing_for d p x)) → IsStanding e q y → says (standing_for e q y)
   said_after y same says known is = subst (λ (z : VolumeState). says (standing_for e q z)) (sym same) (subst says (sym still_table) (known (stood_before (subst (λ (z : VolumeState). IsStanding e q z) same is))))
+
+-- After reads what is in use is led to still.
+pub still_led : (d e : Disk) (p q : Pool) → Reads d p e q → (x : VolumeState) → IsLedTo d p x → IsLedTo e q x
+still_led d e p q reads x led = subst (λ (uses : ℕ → Option Use). AreLedBy (under (shows e q x)) uses x.active x.files) (sym (still_used d e p q reads x))
+    (subst (λ (blocks : Under). AreLedBy blocks (shows d p x).used x.active x.files) (sym (still_under d e p q reads x)) led)
+
+-- And its blocks are stored well still.
+pub still_well : (d e : Disk) (p q : Pool) → Reads d p e q → (x : VolumeState) → IsStoredWell d p x → IsStoredWell e q x
+still_well d e p q reads x well = subst (λ (blocks : Under). AreStoredBy blocks x.active x.files) (sym (still_under d e p q reads x)) well

@@ -1,13 +1,16 @@
 -- A table of which nothing is in memory, over other blocks that agree wherever it leads: it stands on them, and is stored well in them, as in
 -- its own.
 use Rattle.std.proofs.Common.{◌≡◌, ℕ, Option, Some, None, refl, sym, ap, subst, ◌∙◌}
-use Rattle.std.specs.Option.{option_map}
+use Rattle.std.specs.Option.{option_map, option_map_or}
 use Rattle.fv_codec.specs.declared.inode.InodeRecord.{InodeRecord}
 use Rattle.fv_codec.specs.declared.pointer.Pointer.{Pointer}
 use Rattle.fv_codec.specs.Blocks.{greatest_word}
+use Rattle.fv_model.specs.Places.{Owner, InodeFile, OfFile}
 use Rattle.fv_tables.specs.Kept.{AgreeOnTable, AgreeOnTree}
-use Rattle.fv_tables.specs.Spelled.{Rooted as Tree, Under, stored}
+use Rattle.fv_tables.specs.Spelled.{Rooted as Tree, Under, hole, pointer_at, stored}
 use Rattle.fv_tables.specs.Told.{file_at}
+use Rattle.fv_tables.proofs.Pointers.{same_pointer}
+use Rattle.fv_tables.proofs.TablePlaces.{pointer_in}
 use Rattle.fv_tables.proofs.Tables.{same_record}
 use Rattle.fv_tree.specs.Beside.{unread}
 use Rattle.fv_tree.specs.Flushing.{Leads, IsNodeOf, ReachesOnce}
@@ -93,3 +96,17 @@ module _ (m n : Under) (levels : ℕ) (root : Pointer) (agree : AgreeOnTable m n
           by : (o : Option InodeRecord) → file_at inode k ≡ o → StoredIn (option_map (λ r. unread (stored m k r.levels r.root)) o) → StoredIn (option_map (λ r. unread (stored n k r.levels r.root)) o)
           by None e well = tt
           by (Some r) e well = tree_stored m n k r.levels r.root (agree.files k r e) well
+
+-- ---- the same places over other blocks
+
+module _ (m n : Under) (levels : ℕ) (root : Pointer) (agree : AgreeOnTable m n levels root) where
+  pub same_place : (o : Owner) (level index : ℕ) → pointer_in n levels root o level index ≡ pointer_in m levels root o level index
+  same_place InodeFile level index = same_pointer (stored m greatest_word levels root) n agree.inode level index
+  same_place (OfFile k) level index =
+      ap (λ (o : Option InodeRecord). option_map_or (λ r. pointer_at (stored n k r.levels r.root) level index) o hole) (same_record (stored m greatest_word levels root) n agree.inode k)
+      ∙ so (file_at (stored m greatest_word levels root) k) refl
+    where
+      so : (o : Option InodeRecord) → file_at (stored m greatest_word levels root) k ≡ o
+          → option_map_or (λ r. pointer_at (stored n k r.levels r.root) level index) o hole ≡ option_map_or (λ r. pointer_at (stored m k r.levels r.root) level index) o hole
+      so None e = refl
+      so (Some r) e = same_pointer (stored m k r.levels r.root) n (agree.files k r e) level index

@@ -35,7 +35,7 @@ use Rattle.fv_volume.proofs.MapSlots.{same_sayable, same_slots, slots_kept}
 use Rattle.fv_volume.specs.Labels.{label_said}
 use Rattle.fv_volume.specs.Lending.{IsTold, KeepsSlots, lent_by, lent_for, sees}
 use Rattle.fv_volume.specs.OneVolume.{blocks_in, home_in, shows, snaps_by, standing_by, standing_for, table_for, volume_for, AreLaidBy, AreSoundBy, IsKeptTable, IsReady, IsStanding}
-use Rattle.fv_volume.specs.Placing.{AreLedBy, AreStoredBy, Goes, IsLedTo, IsStoredWell, IsUnkept, PlacesTable, pending_of}
+use Rattle.fv_volume.specs.Placing.{AreLedBy, AreStoredBy, Goes, IsLedTo, IsStoredWell, IsInNoSnap, PlacesTable, pending_of}
 use Rattle.fv_volume.specs.Sharing.{trees_by, AreShared}
 use Rattle.fv_volume.proofs.KeptTables.{kept_shared, kept_snaps, kept_tables}
 use Rattle.fv_volume.proofs.SnapRecords.{all_said}
@@ -197,7 +197,7 @@ module _ (d e : Disk) (p q : Pool) (x : VolumeState) (f : Files) (held : x.files
 
   -- placed whole
   module _ (root : Pointer) (active : Rooted) (files : Option Files) (rooted : active ≡ record { levels = min g.inode.tree.levels 2; root = root }) (none : files ≡ None)
-      (table : PlacesTable (Told d p x f) (shows d p x) (under after) after.used (IsUnkept d p x.map x.slot) f g (Ok root)) (is : IsStanding d p x) where
+      (table : PlacesTable (Told d p x f) (shows d p x) (under after) after.used (IsInNoSnap d p x.map x.slot) f g (Ok root)) (is : IsStanding d p x) where
     told : Told d p x f
     told = was_told d p x f held is
 
@@ -234,7 +234,7 @@ module _ (d e : Disk) (p q : Pool) (x : VolumeState) (f : Files) (held : x.files
         (subst (λ n. IsStoredUnder (under after) n root) (sym few) (table.stored_well told told.1 (was_led d p x f held led) (was_well d p x f held well))))
 
   -- placed in part
-  module _ (fault : BlockFault) (table : PlacesTable (Told d p x f) (shows d p x) (under after) after.used (IsUnkept d p x.map x.slot) f g (Err fault)) (is : IsStanding d p x) where
+  module _ (fault : BlockFault) (table : PlacesTable (Told d p x f) (shows d p x) (under after) after.used (IsInNoSnap d p x.map x.slot) f g (Err fault)) (is : IsStanding d p x) where
     told_then : Told d p x f
     told_then = was_told d p x f held is
 

@@ -22,15 +22,15 @@ use Rattle.fv_volume.specs.declared.state.VolumeState.{VolumeState}
 use Rattle.fv_volume.specs.BlocksOver.{held_block, AreApart}
 use Rattle.fv_volume.specs.Lending.{blocks_held, GoesOver, Lent}
 use Rattle.fv_volume.specs.OneVolume.{blocks_in, shows, AreLaidBy, IsKeptTable, IsStanding}
-use Rattle.fv_volume.specs.Placing.{IsUnkept}
-use Rattle.fv_volume.specs.Sharing.{trees_by, trees_kept, AreShared, StandsUnder}
+use Rattle.fv_volume.specs.Placing.{IsInNoSnap}
+use Rattle.fv_volume.specs.Sharing.{trees_by, trees_kept, AreShared, StandsInBlock}
 use Rattle.fv_volume.proofs.SharedChanges.{shared_placed}
 use Rattle.fv_volume.proofs.Shows.{get_held}
 
 -- ---- what was free while blocks were placed
 
 -- Where at some moment no block was held under a VVBN, no other slot had one under it.
-pub was_unkept : (old moment : Lent) → GoesOver old moment → AreApart old.pool old.map old.home.slot → (v : ℕ) → fin.get (blocks_held moment.map moment.pool moment.home.slot moment.disk.reads) v ≡ None → IsUnkept old.disk old.pool old.map old.home.slot v
+pub was_unkept : (old moment : Lent) → GoesOver old moment → AreApart old.pool old.map old.home.slot → (v : ℕ) → fin.get (blocks_held moment.map moment.pool moment.home.slot moment.disk.reads) v ≡ None → IsInNoSnap old.disk old.pool old.map old.home.slot v
 was_unkept old moment goes apart v free k other here =
     sym ((goes.keeps apart).blocks k v other here old.disk.reads)
     ∙ (λ i. held_block moment.map moment.pool (sym goes.home i).slot (sym goes.only_reads.stays.reads i) v)
@@ -54,25 +54,25 @@ placed_free free other x y so places a = by (x a) (y a) (places a)
 
 module _ (d : Disk) (p : Pool) (x : VolumeState) (f : Files) (held : x.files ≡ Some f) (is : IsStanding d p x) where
   -- a snapshot's table stands in blocks of its slot
-  stands_held : (q : Snap) → IsKeptTable d p x q → (u : Option ℕ) (k i v : ℕ) → StandsUnder (trees_kept (blocks_in d p x) q u) k i v → is_some (blocks_in d p x q.slot v) ≡ true
+  stands_held : (q : Snap) → IsKeptTable d p x q → (u : Option ℕ) (k i v : ℕ) → StandsInBlock (trees_kept (blocks_in d p x) q u) k i v → is_some (blocks_in d p x q.slot v) ≡ true
   stands_held q kept None k i v stands = subst (λ (n : ℕ). is_some (blocks_in d p x q.slot n) ≡ true) stands.vvbn (kept.1.trees.inode.held k i stands.some)
   stands_held q kept (Some n) k i v stands = by (file_at (stored (blocks_in d p x q.slot) greatest_word q.table.levels q.table.root) n) refl stands
     where
-      by : (o : Option InodeRecord) → file_at (stored (blocks_in d p x q.slot) greatest_word q.table.levels q.table.root) n ≡ o → StandsUnder (option_map (λ r. unread (stored (blocks_in d p x q.slot) n r.levels r.root)) o) k i v
+      by : (o : Option InodeRecord) → file_at (stored (blocks_in d p x q.slot) greatest_word q.table.levels q.table.root) n ≡ o → StandsInBlock (option_map (λ r. unread (stored (blocks_in d p x q.slot) n r.levels r.root)) o) k i v
           → is_some (blocks_in d p x q.slot v) ≡ true
       by None e stands = absurd (stands.some refl)
       by (Some r) e stands = subst (λ (n : ℕ). is_some (blocks_in d p x q.slot n) ≡ true) stands.vvbn ((kept.1.trees.files n r e).held k i stands.some)
 
   -- so in none that was free
-  stands_apart : (q : Snap) → IsKeptTable d p x q → (v : ℕ) → IsUnkept d p x.map x.slot v → (u : Option ℕ) (k i : ℕ) → StandsUnder (trees_kept (blocks_in d p x) q u) k i v → ⊥
+  stands_apart : (q : Snap) → IsKeptTable d p x q → (v : ℕ) → IsInNoSnap d p x.map x.slot v → (u : Option ℕ) (k i : ℕ) → StandsInBlock (trees_kept (blocks_in d p x) q u) k i v → ⊥
   stands_apart q kept v free u k i stands = by (has v (slot_at x.map q.slot)) refl (stands_held q kept u k i v stands)
     where
       by : (b : Bool) → has v (slot_at x.map q.slot) ≡ b → is_some (cond b (held_block x.map p x.slot d.reads v) None) ≡ true → ⊥
       by true member some = let none : is_some (held_block x.map p x.slot d.reads v) ≡ false = ap is_some (free q.slot kept.0 member) in cc
       by false member some = cc
 
-  pub placed_shared : (c : Trees) → PlacesTrees (IsUnkept d p x.map x.slot) (loaded_trees (under (shows d p x)) f) c → AreShared c (blocks_in d p x) x.snapshots
-  placed_shared c places = shared_placed (IsUnkept d p x.map x.slot) (loaded_trees (under (shows d p x)) f) c (blocks_in d p x) x.snapshots (λ n q lt. stands_apart (slice_index_or x.snapshots n q) (is.kept n q lt)) places
+  pub placed_shared : (c : Trees) → PlacesTrees (IsInNoSnap d p x.map x.slot) (loaded_trees (under (shows d p x)) f) c → AreShared c (blocks_in d p x) x.snapshots
+  placed_shared c places = shared_placed (IsInNoSnap d p x.map x.slot) (loaded_trees (under (shows d p x)) f) c (blocks_in d p x) x.snapshots (λ n q lt. stands_apart (slice_index_or x.snapshots n q) (is.kept n q lt)) places
       (subst (λ (o : Option Files). AreShared (trees_by (under (shows d p x)) x.active o) (blocks_in d p x) x.snapshots) held is.shared)
 
   pub was_laid : AreLaid (under (shows d p x)) f

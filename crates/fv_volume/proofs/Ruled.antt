@@ -14,12 +14,12 @@ use Rattle.fv_model.specs.Machines.{first_block}
 use Rattle.fv_tables.specs.Reached.{Item, items}
 use Rattle.fv_tables.proofs.Lists.{all_flat}
 use Rattle.fv_image.specs.Chains.{place}
-use Rattle.fv_image.specs.HintRules.{is_in_label, is_splitting, is_true_hint}
+use Rattle.fv_image.specs.HintRules.{is_in_label, is_splitting, is_true_hint, is_unknown}
 use Rattle.fv_image.specs.ReachRules.{block_is, is_hint, is_of_position, is_same_position, kind_of, shape_for}
 use Rattle.fv_image.specs.Seen.{Based, Reached, Root, base_seen, reached_at, root_seen, roots_of, volume_seen}
-use Rattle.fv_image.specs.Sound.{agree, is_fine, is_unknown, kind_at}
+use Rattle.fv_image.specs.BlockRules.{agree, is_fine}
 use Rattle.fv_image.specs.TableRules.{all_items, has_same_id, is_below_mark}
-use Rattle.fv_image.specs.Views.{Footing, Head, Placed, Rooted, View}
+use Rattle.fv_image.specs.Views.{Footing, Head, Placed, Rooted, View, kind_at}
 use Rattle.fv_image.specs.Volumes.{standing_of}
 
 -- ---- what is known of a pointer

@@ -8,7 +8,7 @@ use Rattle.fv_tables.specs.Spelled.{Under}
 use Rattle.fv_tree.specs.Flushing.{Loaded}
 use Rattle.fv_files.specs.Apart.{Trees}
 use Rattle.fv_volume.specs.declared.state.Snap.{Snap}
-use Rattle.fv_volume.specs.Sharing.{differs_in, pointer_in, trees_kept, AreShared, IsOneBlock, IsOnePlace, SharesWith, StandsUnder}
+use Rattle.fv_volume.specs.Sharing.{differs_in, pointer_in, trees_kept, AreShared, IsOneBlock, IsOnePlace, SharesWith, StandsInBlock}
 
 -- ---- one place of a table
 
@@ -20,18 +20,18 @@ pub record IsAlike (old new : Option Loaded) (level place : ℕ) : Type 0 where
 -- A place shares nothing with a table: this has another stamp there, or none, and stands in no block with it.
 pub record IsUnshared (a b : Trees) (o : Option ℕ) (level place : ℕ) : Type 0 where
   pub stamp : (pointer_in (b o) level place).stamp ≢ (pointer_in (a o) level place).stamp
-  pub block : (u : Option ℕ) (k q v : ℕ) → StandsUnder (a o) level place v → StandsUnder (b u) k q v → ⊥
+  pub block : (u : Option ℕ) (k q v : ℕ) → StandsInBlock (a o) level place v → StandsInBlock (b u) k q v → ⊥
 
 -- What a table shares with another stays so where each place of it that leads somewhere is as it was, or shares nothing.
 module _ (a b c : Trees) (is : SharesWith a b) (places : (o : Option ℕ) (level place : ℕ) → ((pointer_in (c o) level place).stamp ≡ 0) ⊎ (IsUnshared c b o level place ⊎ IsAlike (a o) (c o) level place)) where
-  stood_alike : (s t : Option Loaded) (level place v : ℕ) → IsAlike s t level place → StandsUnder s level place v → StandsUnder t level place v
+  stood_alike : (s t : Option Loaded) (level place v : ℕ) → IsAlike s t level place → StandsInBlock s level place v → StandsInBlock t level place v
   stood_alike s t level place v alike stands = record {
     some = λ none. stands.some (ap (λ (p : Pointer). p.stamp) (sym alike.pointer) ∙ none);
     same = alike.differs ∙ stands.same;
     vvbn = ap (λ (p : Pointer). p.vvbn) alike.pointer ∙ stands.vvbn;
   }
 
-  back_alike : (s t : Option Loaded) (level place v : ℕ) → IsAlike s t level place → StandsUnder t level place v → StandsUnder s level place v
+  back_alike : (s t : Option Loaded) (level place v : ℕ) → IsAlike s t level place → StandsInBlock t level place v → StandsInBlock s level place v
   back_alike s t level place v alike stands = record {
     some = λ none. stands.some (ap (λ (p : Pointer). p.stamp) alike.pointer ∙ none);
     same = sym alike.differs ∙ stands.same;
@@ -51,7 +51,7 @@ module _ (a b c : Trees) (is : SharesWith a b) (places : (o : Option ℕ) (level
             record { vvbn = one.vvbn; first = stood_alike (a o) (c o) level place one.vvbn alike one.first; second = one.second })
       ]
 
-      back_by : (o u : Option ℕ) (level place k q v : ℕ) → StandsUnder (c o) level place v → StandsUnder (b u) k q v → IsOnePlace c b o level place u k q
+      back_by : (o u : Option ℕ) (level place k q v : ℕ) → StandsInBlock (c o) level place v → StandsInBlock (b u) k q v → IsOnePlace c b o level place u k q
       back_by o u level place k q v first second = elim (places o level place) [
         | inl none ↦ absurd (first.some none)
         | inr (inl unshared) ↦ absurd (unshared.block u k q v first second)
@@ -63,7 +63,7 @@ module _ (a b c : Trees) (is : SharesWith a b) (places : (o : Option ℕ) (level
 -- ---- a change, and a flush
 
 -- a place that differs from its block stands in none
-stands_in_none : (s : Option Loaded) (level place v : ℕ) → differs_in s level place ≡ true → StandsUnder s level place v → ⊥
+stands_in_none : (s : Option Loaded) (level place v : ℕ) → differs_in s level place ≡ true → StandsInBlock s level place v → ⊥
 stands_in_none s level place v differs stands = let wrong : true ≡ false = sym differs ∙ stands.same in cc
 
 -- A place that a change stamped with a later stamp than the other table has shares nothing with it.
@@ -75,12 +75,12 @@ changed_unshared a b o level place stamp stamped differs less = record {
 
 -- So does one that differed from its block and was placed, under the stamp that it had, where the other table stands in no block.
 pub placed_unshared : (a b c : Trees) → SharesWith a b → (o : Option ℕ) (level place : ℕ) → (pointer_in (c o) level place).stamp ≢ 0 → (pointer_in (c o) level place).stamp ≡ (pointer_in (a o) level place).stamp → differs_in (a o) level place ≡ true
-    → ((u : Option ℕ) (k q : ℕ) → StandsUnder (b u) k q (pointer_in (c o) level place).vvbn → ⊥) → IsUnshared c b o level place
+    → ((u : Option ℕ) (k q : ℕ) → StandsInBlock (b u) k q (pointer_in (c o) level place).vvbn → ⊥) → IsUnshared c b o level place
 placed_unshared a b c is o level place some stamp differed free = record {
   stamp = λ same.
       let one = is.same o level place (λ none. some (stamp ∙ none)) (same ∙ stamp) in
       stands_in_none (a o) level place one.vvbn differed one.first;
-  block = λ u k q v first second. free u k q (subst (λ (w : ℕ). StandsUnder (b u) k q w) (sym first.vvbn) second);
+  block = λ u k q v first second. free u k q (subst (λ (w : ℕ). StandsInBlock (b u) k q w) (sym first.vvbn) second);
 }
 
 -- ---- the other way round

@@ -16,7 +16,7 @@ use Rattle.fv_volume.specs.declared.pool.Pool.{Pool}
 use Rattle.fv_volume.specs.declared.state.Snap.{Snap}
 use Rattle.fv_volume.specs.declared.state.VolumeState.{VolumeState}
 use Rattle.fv_volume.specs.OneVolume.{shows, standing_kept, trees_for, AreLaidBy}
-use Rattle.fv_volume.specs.Sharing.{differs_in, pointer_in, trees_by, trees_kept, AreShared, SharesWith, StandsUnder}
+use Rattle.fv_volume.specs.Sharing.{differs_in, pointer_in, trees_by, trees_kept, AreShared, SharesWith, StandsInBlock}
 use Rattle.fv_volume.proofs.KeptStamps.{stored_stamp}
 use Rattle.fv_volume.proofs.Shared.{changed_unshared, placed_unshared, shared_by, shares_by, IsAlike, IsUnshared}
 
@@ -70,7 +70,7 @@ moved free (Some s) (Some t) places level place = elim (places level place) [
 ]
 
 -- A flush of a table that gives new blocks VVBNs in which another table stands nowhere leaves what it shares with that.
-pub shares_placed : (free : ℕ → Type 0) (a b c : Trees) → PlacesTrees free a c → ((v : ℕ) → free v → (u : Option ℕ) (k q : ℕ) → StandsUnder (b u) k q v → ⊥) → SharesWith a b → SharesWith c b
+pub shares_placed : (free : ℕ → Type 0) (a b c : Trees) → PlacesTrees free a c → ((v : ℕ) → free v → (u : Option ℕ) (k q : ℕ) → StandsInBlock (b u) k q v → ⊥) → SharesWith a b → SharesWith c b
 shares_placed free a b c places apart is = shares_by a b c is (λ o level place. elim (moved free (a o) (c o) (places o) level place) [
   | inl none ↦ inl none
   | inr (inl now) ↦ placed o level place now
@@ -92,6 +92,6 @@ shared_altered now stamp a c blocks snaps later well alters is = shared_by a c b
     below : (q : Snap) → IsWellTable now (table_told (standing_kept blocks q)) → (o : Option ℕ) (level place : ℕ) → (pointer_in (trees_kept blocks q o) level place).stamp < stamp
     below q told o level place = let past = stored_stamp now (blocks q.slot) q.table.levels q.table.root told o level place in omega (arith, past, later)
 
-pub shared_placed : (free : ℕ → Type 0) (a c : Trees) (blocks : ℕ → Under) (snaps : List Snap) → All (λ (q : Snap). (v : ℕ) → free v → (u : Option ℕ) (k i : ℕ) → StandsUnder (trees_kept blocks q u) k i v → ⊥) snaps → PlacesTrees free a c
+pub shared_placed : (free : ℕ → Type 0) (a c : Trees) (blocks : ℕ → Under) (snaps : List Snap) → All (λ (q : Snap). (v : ℕ) → free v → (u : Option ℕ) (k i : ℕ) → StandsInBlock (trees_kept blocks q u) k i v → ⊥) snaps → PlacesTrees free a c
     → AreShared a blocks snaps → AreShared c blocks snaps
 shared_placed free a c blocks snaps apart places is = shared_by a c blocks snaps is (λ n q lt. shares_placed free a (trees_kept blocks (slice_index_or snaps n q)) c places (apart n q lt))

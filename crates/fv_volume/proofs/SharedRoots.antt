@@ -21,7 +21,7 @@ use Rattle.fv_files.specs.Apart.{Trees, stored_trees}
 use Rattle.fv_files.specs.Sharing.{owner_in}
 use Rattle.fv_image.specs.Chains.{under}
 use Rattle.fv_image.specs.Seen.{Based, Reached, Root, base_seen, reached_at, root_seen, roots_of, seen, volume_seen}
-use Rattle.fv_image.specs.Sound.{agree}
+use Rattle.fv_image.specs.BlockRules.{agree}
 use Rattle.fv_image.specs.TableRules.{all_items, has_one_to_one, has_same_id}
 use Rattle.fv_image.specs.Views.{Head, Rooted, View}
 use Rattle.fv_image.specs.Volumes.{standing_of}

@@ -9,6 +9,7 @@ use Rattle.std.specs.FinMap.{put}
 use Rattle.std.specs.FinMap.Entries.{by_order}
 use Rattle.fv_model.specs.Spelling.{name_cmp}
 use Rattle.fv_laws.proofs.Orders.{name_total}
+use Rattle.fv_image.specs.Views.{Snap as Named}
 use Rattle.fv_image.proofs.Uses.{no_entries}
 use Rattle.fv_tables.specs.Spelled.{Under}
 use Rattle.fv_model.specs.Tables.{Table}
@@ -16,6 +17,7 @@ use Rattle.fv_volmap.specs.Slots.{Slot, Volume as Maps, slot_at, with_slot}
 use Rattle.fv_volume.specs.declared.state.Snap.{Snap}
 use Rattle.fv_volume.specs.OneVolume.{snap_by, snaps_by}
 use Rattle.fv_volume.specs.Snaps.{names_kept}
+use Rattle.fv_volume.specs.States.{snap_in}
 
 -- ---- names
 
@@ -79,3 +81,8 @@ set_twice (s ∷ ss) (suc j) x free = ap (λ (rest : List Slot). s ∷ rest) (se
 -- a slot that was free is so again
 pub slot_back : (m : Maps) (j : ℕ) (x : Slot) → slot_at m j ≡ None → with_slot (with_slot m j x) j None ≡ m
 slot_back m j x free = ap (λ (slots : List Slot). record { span = m.span; slots = slots }) (set_twice m.slots j x free)
+
+-- a head has the names of its snapshots
+pub names_in : (snaps : List Snap) → map (λ (q : Snap). q.name) snaps ≡ map (λ (p : Named). p.name) (map snap_in snaps)
+names_in [] = refl
+names_in (q ∷ qs) = ap (λ (ns : List (List ℕ)). q.name ∷ ns) (names_in qs)

@@ -1,15 +1,15 @@
 -- What a change of a volume's table by a call over what is lent leaves: the table was taken, changed and put back.
-use Rattle.std.proofs.Common.{◌≡◌, ◌+◌, ℕ, Some, IfOk, OnErr, OnOk, true, refl, sym, subst, arith}
+use Rattle.std.proofs.Common.{◌≡◌, ◌+◌, ℕ, Option, Some, IfOk, OnErr, OnOk, true, refl, sym, subst, arith}
 use Rattle.std.specs.Prelude.{Result, IfSome}
 use Rattle.fv_disk.specs.Shown.{Shown as Disk}
 use Rattle.fv_disk.specs.declared.fault.BlockFault.{BlockFault}
-use Rattle.fv_laws.specs.WellFormed.{IsWellTable}
 use Rattle.fv_tables.specs.Told.{Standing, table_told}
-use Rattle.fv_inode.specs.Files.{rooted}
-use Rattle.fv_inode.specs.declared.info.Info.{Info}
 use Rattle.fv_files.specs.declared.files.Files.{Files}
-use Rattle.fv_files.specs.Apart.{Trees}
-use Rattle.fv_files.specs.Tables.{loaded_trees, table_in, AreStanding, IsInfoOf, IsLed, IsStored}
+use Rattle.fv_files.specs.Tables.{changed, loaded_trees, table_in, AreSound, AreStanding, IsStored, IsStoredOn}
+use Rattle.fv_files.specs.Trees.{standing_in}
+use Rattle.fv_files.specs.Apart.{AreLed, Trees}
+use Rattle.fv_tables.specs.Spelled.{Under}
+use Rattle.fv_tree.specs.Sources.{Use}
 use Rattle.fv_tree.specs.Standing.{under}
 use Rattle.fv_files.specs.Altering.{AltersTrees}
 use Rattle.fv_files.specs.Pending.{pending_in}
@@ -19,46 +19,71 @@ use Rattle.fv_volume.specs.declared.state.VolumeState.{VolumeState}
 use Rattle.fv_volume.specs.Calls.{BlockCause, GivesUp, LeavesTable, Reads}
 use Rattle.fv_volume.specs.Changing.{AltersTable}
 use Rattle.fv_volume.specs.Lending.{IsTold, lent_for, sees}
-use Rattle.fv_volume.specs.OneVolume.{home_in, shows, standing_for, IsStanding}
-use Rattle.fv_volume.specs.Placing.{pending_of, IsLedTo, IsStoredWell}
+use Rattle.fv_volume.specs.OneVolume.{home_in, shows, standing_by, standing_for, AreSoundBy, IsStanding}
+use Rattle.fv_volume.specs.Placing.{pending_of, AreLedBy, AreStoredBy}
 use Rattle.fv_volume.proofs.CallCauses.{cause_for}
-use Rattle.fv_volume.proofs.Calling.{ifok_with, onok_with}
+use Rattle.fv_volume.proofs.Calling.{ifok_with, onok_with, same_maps}
+use Rattle.fv_volume.proofs.OneVolumes.{still_told}
 use Rattle.fv_volume.proofs.TakenTrees.{taken_laid, taken_trees}
 
-module _ (d : Disk) (p : Pool) (x : VolumeState) (f : Files) (info : Info) (table : table_in (shows d p x) f ≡ standing_for d p x) (there : IsStanding d p x → IsInfoOf (standing_for d p x).inode info) where
-  -- what is told of the table that was taken
-  abbrev pub IsGiven : Type 0
-  IsGiven = IsTold d p x.map x.slot × IsInfoOf (rooted (shows d p x) f.inode) info × ((now : ℕ) × IsWellTable now (table_told (table_in (shows d p x) f)))
+module _ (d : Disk) (p : Pool) (x : VolumeState) (f : Files) (takes : (blocks : Under) → standing_in blocks (changed f) ≡ standing_by blocks x.active x.files) where
+  table : table_in (shows d p x) f ≡ standing_for d p x
+  table = takes (under (shows d p x))
 
-  pub is_given : IsStanding d p x → IsGiven
-  is_given is = (is.told, subst (λ (s : Standing). IsInfoOf s.inode info) (sym table) (there is), (x.now, subst (λ (s : Standing). IsWellTable x.now (table_told s)) (sym table) is.table))
-
-  pub taken_cause : {T : Type 0} (faults : ℕ) (result : Result T BlockFault) → BlockCause IsGiven (table_in (shows d p x) f) (lent_for p x.map d 0 (home_in x) 0) faults result
+  -- the cause of a call that is told of the disk and the entries alone
+  pub told_cause : {T : Type 0} (faults : ℕ) (result : Result T BlockFault) → BlockCause (IsTold d p x.map x.slot) (table_in (shows d p x) f) (lent_for p x.map d 0 (home_in x) 0) faults result
       → BlockCause (IsStanding d p x) (standing_for d p x) (lent_for p x.map d 0 (home_in x) 0) faults result
-  taken_cause faults result cause = cause_for (IsStanding d p x) IsGiven is_given (lent_for p x.map d 0 (home_in x) 0) faults (table_in (shows d p x) f) (standing_for d p x) result table cause
+  told_cause faults result cause = cause_for (IsStanding d p x) (IsTold d p x.map x.slot) (λ is. is.told) (lent_for p x.map d 0 (home_in x) 0) faults (table_in (shows d p x) f) (standing_for d p x) result table cause
 
-  module _ (sound : IsStanding d p x → AreStanding (shows d p x) f) {T : Type 0} (result : Result T BlockFault) where
+  -- Or of something that is known of the table, too.
+  module _ (Known : Standing → Type 0) (known : IsStanding d p x → Known (standing_for d p x)) where
+    abbrev pub IsGiven : Type 0
+    IsGiven = IsTold d p x.map x.slot × Known (table_in (shows d p x) f)
+
+    pub is_given : IsStanding d p x → IsGiven
+    is_given is = (is.told, subst Known (sym table) (known is))
+
+    pub given_cause : {T : Type 0} (faults : ℕ) (result : Result T BlockFault) → BlockCause IsGiven (table_in (shows d p x) f) (lent_for p x.map d 0 (home_in x) 0) faults result
+        → BlockCause (IsStanding d p x) (standing_for d p x) (lent_for p x.map d 0 (home_in x) 0) faults result
+    given_cause faults result cause = cause_for (IsStanding d p x) IsGiven is_given (lent_for p x.map d 0 (home_in x) 0) faults (table_in (shows d p x) f) (standing_for d p x) result table cause
+
     -- what is said of the table that was taken is said of the volume's
-    pub taken_says : (says : Standing → Type 0) → (IsGiven → OnOk result (AreStanding (shows d p x) f → says (table_in (shows d p x) f))) → IsStanding d p x → OnOk result (says (standing_for d p x))
-    taken_says says made is = subst (λ (s : Standing). OnOk result (says s)) table (onok_with _ result (sound is) (made (is_given is)))
+    pub given_says : (says : Standing → Type 0) → (IsGiven → says (table_in (shows d p x) f)) → IsStanding d p x → says (standing_for d p x)
+    given_says says made is = subst says table (made (is_given is))
 
-    pub taken_counts : (says : Standing → T → Type 0) → (IsGiven → IfOk result (λ n. AreStanding (shows d p x) f → says (table_in (shows d p x) f) n)) → IsStanding d p x → IfOk result (says (standing_for d p x))
-    taken_counts says made is = subst (λ (s : Standing). IfOk result (says s)) table (ifok_with _ result (sound is) (made (is_given is)))
+    module _ (trees : (blocks : Under) (used : ℕ → Option Use) → AreSoundBy blocks used x.active x.files → AreSound blocks used f) {T : Type 0} (result : Result T BlockFault) where
+      sound : IsStanding d p x → AreStanding (shows d p x) f
+      sound is = trees (under (shows d p x)) (shows d p x).used is.trees
 
-    -- the volume with the table and the map that the call left
-    pub taken_alters : (held : IfSome x.files (λ g. f ≡ g)) (led : IsLedTo d p x → IsLed (shows d p x) f) (well : IsStoredWell d p x → IsStored (shows d p x) f) (taken : pending_in f ≡ pending_of x.files) (e : Disk) (q : Pool) (map : Maps) (g : Files)
-        → LeavesTable IsGiven (shows d p x) (sees p map d (home_in x)) f g (x.now + 1) result → GivesUp x.map map → Reads d p e q → (IsGiven → IsTold e q map x.slot)
-        → AltersTable d p e q x (record x { map = map; files = Some g; changed = true }) result
-    taken_alters held led well taken e q map g leaves maps reads told = record {
-      same = refl;
-      maps = maps;
-      reads = reads;
-      told = λ is. told (is_given is);
-      trees = λ is. leaves.stands (is_given is) (sound is);
-      alters = λ is. subst (λ (t : Trees). AltersTrees (x.now + 1) t (loaded_trees (under (sees p map d (home_in x))) g)) (taken_trees (under (shows d p x)) x.active x.files f table held) (leaves.alters (is_given is) (sound is));
-      laid = λ is. leaves.laid (is_given is) (sound is) (taken_laid (under (shows d p x)) x.active x.files f table held is.laid);
-      failed = λ is. subst (λ (s : Standing). OnErr result (table_told (table_in (sees p map d (home_in x)) g) ≡ table_told s)) table (leaves.failed (is_given is));
-      led = λ is was. leaves.led (is_given is) (sound is) (led was);
-      well = λ is was. leaves.well (is_given is) (sound is) (well was);
-      room = λ is. let grown = leaves.room (is_given is) (sound is) in omega (arith, taken, grown);
-    }
+      pub taken_says : (says : Standing → Type 0) → (IsGiven → OnOk result (AreStanding (shows d p x) f → says (table_in (shows d p x) f))) → IsStanding d p x → OnOk result (says (standing_for d p x))
+      taken_says says made is = subst (λ (s : Standing). OnOk result (says s)) table (onok_with _ result (sound is) (made (is_given is)))
+
+      pub taken_counts : (says : Standing → T → Type 0) → (IsGiven → IfOk result (λ n. AreStanding (shows d p x) f → says (table_in (shows d p x) f) n)) → IsStanding d p x → IfOk result (says (standing_for d p x))
+      taken_counts says made is = subst (λ (s : Standing). IfOk result (says s)) table (ifok_with _ result (sound is) (made (is_given is)))
+
+      -- the volume with the table and the map that the call left
+      pub taken_alters : (held : IfSome x.files (λ g. f ≡ g)) (led : (blocks : Under) (used : ℕ → Option Use) → AreLedBy blocks used x.active x.files → AreLed used (loaded_trees blocks f))
+          (well : (blocks : Under) → AreStoredBy blocks x.active x.files → IsStoredOn blocks f) (taken : pending_in f ≡ pending_of x.files) (e : Disk) (q : Pool) (map : Maps) (g : Files)
+          → LeavesTable IsGiven (shows d p x) (sees p map d (home_in x)) f g (x.now + 1) result → GivesUp x.map map → Reads d p e q → (IsGiven → IsTold e q map x.slot)
+          → AltersTable d p e q x (record x { map = map; files = Some g; changed = true }) result
+      taken_alters held led well taken e q map g leaves maps reads told = record {
+        same = refl;
+        maps = maps;
+        reads = reads;
+        told = λ is. told (is_given is);
+        trees = λ is. leaves.stands (is_given is) (sound is);
+        alters = λ is. subst (λ (t : Trees). AltersTrees (x.now + 1) t (loaded_trees (under (sees p map d (home_in x))) g)) (taken_trees (under (shows d p x)) x.active x.files f table held) (leaves.alters (is_given is) (sound is));
+        laid = λ is. leaves.laid (is_given is) (sound is) (taken_laid (under (shows d p x)) x.active x.files f table held is.laid);
+        failed = λ is. subst (λ (s : Standing). OnErr result (table_told (table_in (sees p map d (home_in x)) g) ≡ table_told s)) table (leaves.failed (is_given is));
+        led = λ is was. leaves.led (is_given is) (sound is) (led (under (shows d p x)) (shows d p x).used was);
+        well = λ is was. leaves.well (is_given is) (sound is) (well (under (shows d p x)) was);
+        room = λ is. let grown = leaves.room (is_given is) (sound is) in omega (arith, taken, grown);
+      }
+
+      -- a change that leaves the maps
+      pub kept_alters : (held : IfSome x.files (λ g. f ≡ g)) (led : (blocks : Under) (used : ℕ → Option Use) → AreLedBy blocks used x.active x.files → AreLed used (loaded_trees blocks f))
+          (well : (blocks : Under) → AreStoredBy blocks x.active x.files → IsStoredOn blocks f) (taken : pending_in f ≡ pending_of x.files) (e : Disk) (q : Pool) (map : Maps) (g : Files)
+          → LeavesTable IsGiven (shows d p x) (sees p map d (home_in x)) f g (x.now + 1) result → map ≡ x.map → Reads d p e q
+          → AltersTable d p e q x (record x { map = map; files = Some g; changed = true }) result
+      kept_alters held led well taken e q map g leaves same reads = taken_alters held led well taken e q map g leaves (same_maps x.map map same) reads
+          (λ given. subst (λ (m : Maps). IsTold e q m x.slot) (sym same) (still_told d e p q reads x given.0))

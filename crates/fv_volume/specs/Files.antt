@@ -19,7 +19,7 @@ use Rattle.fv_volume.specs.Labels.{label_said}
 use Rattle.fv_volume.specs.SnapRecords.{AreSayable}
 use Rattle.fv_volume.specs.States.{States, state_at, head_in, view_over}
 use Rattle.fv_volume.specs.Trees.{Trees, active_in, volume_now, machine_in}
--- The forms of volumes that there are: no snapshot, no base and no unknown place.
+-- The forms of volumes that there are: any snapshots, no base and no unknown place.
 pub use Rattle.fv_image.specs.WholeMachine.{has_form}
 
 -- Of the slots of a volume's maps those of its snapshots are used beside the active one, and none for a base.

@@ -22,12 +22,10 @@ ghost use Rattle.fv_volume.specs.Paths.{unknown_over, unknown_to, StepsTo};
 ghost use Rattle.fv_volume.specs.declared.fault.VolumeFault.TheVariants.{Refused};
 ghost use Rattle.fv_volume.specs.OneVolume.{home_in, standing_for, volume_as, volume_for, Content, IsReady, IsStanding};
 
-use crate::blocks::Home;
 use crate::fault::VolumeFault;
-use crate::lent_files::{block_told, find_told, kept_table, list_told, record_told, take_table};
 use crate::pool::Pool;
 use crate::state::VolumeState;
-use crate::tables::{TableAsked, copy_in, find_in, follow_in, list_in, table_asked};
+use crate::tables::{TableAsked, find_in, list_in, read_in, table_asked};
 use fv_container::Steps;
 use fv_disk::{Block, BlockFault, Disk};
 use fv_inode::Info;
@@ -173,7 +171,6 @@ impl VolumeState {
 }
 
 /// What is known of the file of a name; `None` exactly where no file has it.
-#[tactic(auto, using(crate::proofs::OneVolumes::root_fits, crate::proofs::OneVolumes::levels_fit))]
 pub(crate) fn find_file<D: Disk>(
     volume: &mut VolumeState,
     alloc: Global,
@@ -189,162 +186,5 @@ pub(crate) fn find_file<D: Disk>(
     ensures cause { BlockCause (IsStanding (D.shown disk.old) pool.old volume.old) (standing_for (D.shown disk.old) pool.old volume.old)
         (lent_for pool.old volume.old.map (D.shown disk.old) 0 (home_in volume.old) 0) (D.shown disk.new).faults result }
 {
-    let held = volume.files.is_some();
-    let home = Home {
-        slot: volume.slot,
-        label: volume.label,
-    };
-    let mut files = take_table(&mut volume.files, &volume.active, alloc);
-    let found = find_told::<Brand, D, Brand>(
-        &mut files,
-        pool,
-        disk,
-        &mut volume.map,
-        &home,
-        Blank::new(1),
-        &volume.numbers,
-        name,
-    );
-    volume.files = kept_table(held, files);
-    found
-}
-
-/// The names of all files.
-#[tactic(auto, using(crate::proofs::OneVolumes::root_fits, crate::proofs::OneVolumes::levels_fit))]
-pub(crate) fn list_files<D: Disk>(
-    volume: &mut VolumeState,
-    alloc: Global,
-    pool: &mut Pool,
-    disk: &mut D,
-) -> Result<Names, BlockFault>
-    requires ready { IsReady (D.shown disk.old) pool.old volume.old }
-    ensures names { IsStanding (D.shown disk.old) pool.old volume.old → IfOk result (λ names. names ≡ fin.keys (names_told (standing_for (D.shown disk.old) pool.old volume.old).inode)) }
-    ensures same { volume.new ≡ volume.old }
-    ensures reads { Reads (D.shown disk.old) pool.old (D.shown disk.new) pool.new }
-    ensures cause { BlockCause (IsStanding (D.shown disk.old) pool.old volume.old) (standing_for (D.shown disk.old) pool.old volume.old)
-        (lent_for pool.old volume.old.map (D.shown disk.old) 0 (home_in volume.old) 0) (D.shown disk.new).faults result }
-{
-    let held = volume.files.is_some();
-    let home = Home {
-        slot: volume.slot,
-        label: volume.label,
-    };
-    let mut files = take_table(&mut volume.files, &volume.active, alloc);
-    let names = list_told::<Brand, D, Brand>(
-        &mut files,
-        pool,
-        disk,
-        &mut volume.map,
-        &home,
-        Blank::new(1),
-    );
-    volume.files = kept_table(held, files);
-    names
-}
-
-/// A block of the file of which this is known in a table, or zeros, with the steps of the whole path to it.
-fn read_in<D: Disk, L: Ledger>(
-    volume: &mut VolumeState,
-    alloc: Global,
-    pool: &mut Pool,
-    disk: &mut D,
-    table: &TableAsked,
-    info: &Info,
-    index: u32,
-    into: &mut Block,
-    steps: &mut Steps<L>,
-) -> Result<(), BlockFault>
-    requires ready { IsReady (D.shown disk.old) pool.old volume.old }
-    requires of { IsTableOf volume.old table.now }
-    requires range { IsInfo info.now }
-    requires there { IsStanding (D.shown disk.old) pool.old volume.old → IsInfoOf (standing_of (D.shown disk.old) pool.old volume.old table.now).inode info.now }
-    ensures block { IsStanding (D.shown disk.old) pool.old volume.old → OnOk result (GivesCell (standing_of (D.shown disk.old) pool.old volume.old table.now) info.now.number index into.new) }
-    ensures steps { IsStanding (D.shown disk.old) pool.old volume.old → OnOk result (steps.new ≡ steps.old + unknown_over (standing_of (D.shown disk.old) pool.old volume.old table.now) info.now index) }
-    ensures same { volume.new ≡ volume.old }
-    ensures reads { Reads (D.shown disk.old) pool.old (D.shown disk.new) pool.new }
-    ensures cause { BlockCause (IsStanding (D.shown disk.old) pool.old volume.old) (standing_of (D.shown disk.old) pool.old volume.old table.now)
-        (lent_for pool.old volume.old.map (D.shown disk.old) steps.old (home_in volume.old) 0) (D.shown disk.new).faults result }
-{
-    follow_in(volume, alloc, pool, disk, table, info.number, steps)?;
-    copy_in(volume, alloc, pool, disk, table, info, index, into, steps)?;
-    Ok(())
-}
-
-/// Follows the path from the root of a volume's table to the record of a file, for its steps.
-#[tactic(auto, using(crate::proofs::OneVolumes::root_fits, crate::proofs::OneVolumes::levels_fit))]
-pub(crate) fn follow_record<D: Disk, L: Ledger>(
-    volume: &mut VolumeState,
-    alloc: Global,
-    pool: &mut Pool,
-    disk: &mut D,
-    number: u32,
-    steps: &mut Steps<L>,
-) -> Result<(), BlockFault>
-    requires ready { IsReady (D.shown disk.old) pool.old volume.old }
-    ensures steps { IsStanding (D.shown disk.old) pool.old volume.old → OnOk result (steps.new ≡ steps.old + unknown_to (standing_for (D.shown disk.old) pool.old volume.old).inode (number / records_each)) }
-    ensures same { volume.new ≡ volume.old }
-    ensures reads { Reads (D.shown disk.old) pool.old (D.shown disk.new) pool.new }
-    ensures cause { BlockCause (IsStanding (D.shown disk.old) pool.old volume.old) (standing_for (D.shown disk.old) pool.old volume.old)
-        (lent_for pool.old volume.old.map (D.shown disk.old) steps.old (home_in volume.old) 0) (D.shown disk.new).faults result }
-{
-    let held = volume.files.is_some();
-    let home = Home {
-        slot: volume.slot,
-        label: volume.label,
-    };
-    let mut files = take_table(&mut volume.files, &volume.active, alloc);
-    let followed = record_told::<Brand, D, L>(
-        &mut files,
-        pool,
-        disk,
-        &mut volume.map,
-        steps,
-        &home,
-        number,
-    );
-    volume.files = kept_table(held, files);
-    followed
-}
-
-/// A block of the file of which this is known, or zeros, with the steps of the path in its tree.
-#[tactic(auto, using(crate::proofs::OneVolumes::root_fits, crate::proofs::OneVolumes::levels_fit))]
-pub(crate) fn copy_block<D: Disk, L: Ledger>(
-    volume: &mut VolumeState,
-    alloc: Global,
-    pool: &mut Pool,
-    disk: &mut D,
-    info: &Info,
-    index: u32,
-    into: &mut Block,
-    steps: &mut Steps<L>,
-) -> Result<(), BlockFault>
-    requires ready { IsReady (D.shown disk.old) pool.old volume.old }
-    requires range { IsInfo info.now }
-    requires there { IsStanding (D.shown disk.old) pool.old volume.old → IsInfoOf (standing_for (D.shown disk.old) pool.old volume.old).inode info.now }
-    ensures block { IsStanding (D.shown disk.old) pool.old volume.old → OnOk result (GivesCell (standing_for (D.shown disk.old) pool.old volume.old) info.now.number index into.new) }
-    ensures steps { IsStanding (D.shown disk.old) pool.old volume.old → OnOk result (steps.new ≡ steps.old + unknown_to (tree_known (standing_for (D.shown disk.old) pool.old volume.old) info.now) index) }
-    ensures same { volume.new ≡ volume.old }
-    ensures reads { Reads (D.shown disk.old) pool.old (D.shown disk.new) pool.new }
-    ensures cause { BlockCause (IsStanding (D.shown disk.old) pool.old volume.old) (standing_for (D.shown disk.old) pool.old volume.old)
-        (lent_for pool.old volume.old.map (D.shown disk.old) steps.old (home_in volume.old) 0) (D.shown disk.new).faults result }
-{
-    let held = volume.files.is_some();
-    let home = Home {
-        slot: volume.slot,
-        label: volume.label,
-    };
-    let mut files = take_table(&mut volume.files, &volume.active, alloc);
-    let read = block_told::<Brand, D, L>(
-        &mut files,
-        pool,
-        disk,
-        &mut volume.map,
-        steps,
-        &home,
-        info,
-        index,
-        into,
-    );
-    volume.files = kept_table(held, files);
-    read
+    find_in(volume, alloc, pool, disk, &TableAsked::Active, name)
 }

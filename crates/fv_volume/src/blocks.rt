@@ -16,6 +16,7 @@ ghost use Rattle.fv_tree.specs.Sources.{IsKind};
 ghost use Rattle.fv_volmap.specs.Slots.{IsVolume, active_of, has, taken_in, with_slot};
 ghost use Rattle.fv_volume.specs.BlocksOver.{HoldsMore, IsLooseFault, LacksPlace, LeavesPool, LeavesRoom, PlacesBlock, SetsEntry, Takes, block_of, entries_in, given_back, held_entry, place_of, steps_by};
 
+use crate::known::known_maps;
 use crate::pool::Pool;
 use fv_aggmap::AggMap;
 use fv_bits::BitMap;
@@ -144,8 +145,7 @@ fn take_numbers(
     ensures leaves { IfOk result (λ placed. LeavesRoom space.old map.old space.new map.new) }
     ensures valid { IsVolume map.old }
 {
-    // What the slots are known to be is needed where a number is given back.
-    let _ = map.active();
+    known_maps(map);
     let Some(vvbn) = map.allocate() else {
         return Err(lacking(u64::from(label)));
     };
@@ -258,8 +258,7 @@ fn find_entry<D: Disk, L: Ledger>(
 pub(crate) fn is_taken(map: &VolMap, vvbn: u32) -> bool
     ensures { result ≡ taken_in map.now.slots vvbn }
 {
-    // What the slots are known to be is needed of them.
-    let _ = map.active();
+    known_maps(map);
     map.held(vvbn) || has_number(map.snapshot(BASE), vvbn)
 }
 

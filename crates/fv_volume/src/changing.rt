@@ -25,7 +25,7 @@ use crate::asking::find_file;
 use crate::blocks::Home;
 use crate::fault::VolumeFault;
 use crate::lent_changes::{added_told, write_told};
-use crate::lent_files::{kept_table, take_table};
+use crate::lent_files::{over_table, take_table};
 use crate::moving::count_staying;
 use crate::pool::Pool;
 use crate::state::VolumeState;
@@ -60,9 +60,7 @@ impl VolumeState {
     ///
     /// `Refused` as the machine refuses `put`, in this order: the index passes 2,097,151; no file has the name; the volume has
     /// counted 2^62 changes; it would use more than its size; all volumes would commit more than the aggregate's capacity.
-    /// `DiskFault` only where a read failed in this call. `Damaged` for a pointer to a VVBN that isn't held, at the place of the
-    /// volume's label with 1 and 0, and for a node or an inode block without its shape: its place, and its first field that isn't
-    /// as said. `Memory` where memory ran out. After each of them the volume stands for what it stood for.
+    /// `DiskFault`, `Damaged` and `Memory` as `length`. After each of them the volume stands for what it stood for.
     ///
     /// Costs what `length` does, then a block for each node over the cell and for the file's inode block with the nodes over it,
     /// as far as they aren't in memory. `docs/MACHINE.md` has the command, and `docs/SPACE.md` what it is charged for.
@@ -232,24 +230,20 @@ fn count_added<D: Disk>(
     ensures cause { BlockCause (IsStanding (D.shown disk.old) pool.old volume.old) (standing_for (D.shown disk.old) pool.old volume.old)
         (lent_for pool.old volume.old.map (D.shown disk.old) 0 (home_in volume.old) 0) (D.shown disk.new).faults result }
 {
-    let held = volume.files.is_some();
-    let home = Home {
-        slot: volume.slot,
-        label: volume.label,
-    };
-    let mut files = take_table(&mut volume.files, &volume.active, alloc);
-    let added = added_told::<Brand, D, Brand>(
-        &mut files,
-        pool,
-        disk,
-        &mut volume.map,
-        &home,
-        Blank::new(1),
-        info,
-        index,
-    );
-    volume.files = kept_table(held, files);
-    added
+    over_table!(
+        volume,
+        alloc,
+        |files, home| added = added_told::<Brand, D, Brand>(
+            &mut files,
+            pool,
+            disk,
+            &mut volume.map,
+            &home,
+            Blank::new(1),
+            info,
+            index,
+        )
+    )
 }
 
 /// Writes a cell of the file of which this is known, stamped with the number of the next change.

@@ -21,11 +21,7 @@ use fv_model::{Kind, Name};
 use fv_store::Store;
 
 /// A pointer that leads nowhere.
-pub(crate) const HOLE: Pointer = Pointer {
-    vvbn: 0,
-    pvbn: 0,
-    stamp: 0,
-};
+pub(crate) const HOLE: Pointer = Pointer::HOLE;
 
 /// The record of a snapshot that isn't there.
 pub(crate) const FREE: SnapRecord = SnapRecord {
@@ -192,12 +188,14 @@ fn filled(bytes: &[u8]) -> [u8; 64]
     field
 }
 
-/// Reads the label at a place.
-pub(crate) fn read_label<D: Disk>(
-    store: &mut Store,
-    disk: &mut D,
-    place: u32,
-) -> Result<Label, BlockFault>
+/// Reads the label at a PVBN. It is in range, and says a volume without a base whose places are all known.
+///
+/// # Errors
+/// `Damaged` comes only where the block that was read there isn't such a label: it lacks the shape of one, or says a base or unknown
+/// places, which can't be loaded. `DiskFault` comes only where the read failed.
+///
+/// Costs at most one block, and takes no memory. `docs/FORMAT.md` has the label.
+pub fn read_label<D: Disk>(store: &mut Store, disk: &mut D, place: u32) -> Result<Label, BlockFault>
     requires { StandsOn (D.shown disk.old) store.old.pairs }
     ensures label { IsTrue (D.shown disk.old).tells → IfOk result (λ l. label_at ((D.shown disk.old).reads place) ≡ Ok l) }
     ensures range { IfOk result IsLabel }

@@ -12,16 +12,14 @@ ghost use Rattle.fv_volume.specs.Calls.{BlockCause, LeavesTable, Reads};
 ghost use Rattle.fv_volume.specs.Lending.{CanLend, IsLedger, IsTold, lent_for, sees};
 
 use crate::blocks::Home;
-use crate::noted::Noted;
 use crate::pool::Pool;
-use crate::volume_blocks::{Guard, VolumeBlocks};
+use crate::volume_blocks::{Guard, VolumeBlocks, lend_blocks};
 use fv_container::Steps;
 use fv_disk::{Block, BlockFault, Disk};
 use fv_files::Files;
 use fv_inode::Info;
 use fv_model::Name;
 use fv_volmap::VolMap;
-use std::marker::PhantomData;
 use std::sync::ledger::{Blank, Ledger};
 
 /// How many positions a write of a cell adds to the file of which this is known.
@@ -50,17 +48,9 @@ pub(crate) fn added_told<K: Guard, D: Disk, L: Ledger>(
     ensures cause { BlockCause K.told (table_in (sees pool.old map.old (D.shown disk.old) home.now) files.old) (lent_for pool.old map.old (D.shown disk.old) 0 home.now 0) (D.shown disk.new).faults result }
 {
     let mut steps: Steps<L> = Steps::open(blank);
-    let mut blocks: VolumeBlocks<'_, '_, '_, '_, K, D, L> = VolumeBlocks {
-        pool,
-        disk,
-        map,
-        steps: &mut steps,
-        home: *home,
-        room: 0,
-        strays: 0,
-        noted: Noted::NONE,
-        of: PhantomData,
-    };
+    let mut blocks: VolumeBlocks<'_, '_, '_, '_, K, D, L> = lend_blocks!(
+        pool, disk, map, &mut steps, home
+    );
     files.added(&mut blocks, info, index)
 }
 
@@ -92,17 +82,9 @@ pub(crate) fn write_told<K: Guard, D: Disk, L: Ledger>(
     ensures cause { BlockCause K.told (table_in (sees pool.old map.old (D.shown disk.old) home.now) files.old) (lent_for pool.old map.old (D.shown disk.old) 0 home.now 0) (D.shown disk.new).faults result }
 {
     let mut steps: Steps<L> = Steps::open(blank);
-    let mut blocks: VolumeBlocks<'_, '_, '_, '_, K, D, L> = VolumeBlocks {
-        pool,
-        disk,
-        map,
-        steps: &mut steps,
-        home: *home,
-        room: 0,
-        strays: 0,
-        noted: Noted::NONE,
-        of: PhantomData,
-    };
+    let mut blocks: VolumeBlocks<'_, '_, '_, '_, K, D, L> = lend_blocks!(
+        pool, disk, map, &mut steps, home
+    );
     files.write(&mut blocks, info, index, block, stamp)
 }
 
@@ -127,17 +109,9 @@ pub(crate) fn number_told<K: Guard, D: Disk, L: Ledger>(
     ensures cause { BlockCause K.told (table_in (sees pool.old map.old (D.shown disk.old) home.now) files.old) (lent_for pool.old map.old (D.shown disk.old) 0 home.now 0) (D.shown disk.new).faults result }
 {
     let mut steps: Steps<L> = Steps::open(blank);
-    let mut blocks: VolumeBlocks<'_, '_, '_, '_, K, D, L> = VolumeBlocks {
-        pool,
-        disk,
-        map,
-        steps: &mut steps,
-        home: *home,
-        room: 0,
-        strays: 0,
-        noted: Noted::NONE,
-        of: PhantomData,
-    };
+    let mut blocks: VolumeBlocks<'_, '_, '_, '_, K, D, L> = lend_blocks!(
+        pool, disk, map, &mut steps, home
+    );
     files.free_number(&mut blocks)
 }
 
@@ -164,17 +138,9 @@ pub(crate) fn room_told<K: Guard, D: Disk, L: Ledger>(
     ensures cause { BlockCause K.told (table_in (sees pool.old map.old (D.shown disk.old) home.now) files.old) (lent_for pool.old map.old (D.shown disk.old) 0 home.now 0) (D.shown disk.new).faults result }
 {
     let mut steps: Steps<L> = Steps::open(blank);
-    let mut blocks: VolumeBlocks<'_, '_, '_, '_, K, D, L> = VolumeBlocks {
-        pool,
-        disk,
-        map,
-        steps: &mut steps,
-        home: *home,
-        room: 0,
-        strays: 0,
-        noted: Noted::NONE,
-        of: PhantomData,
-    };
+    let mut blocks: VolumeBlocks<'_, '_, '_, '_, K, D, L> = lend_blocks!(
+        pool, disk, map, &mut steps, home
+    );
     files.added_by_new(&mut blocks, number)
 }
 
@@ -206,16 +172,8 @@ pub(crate) fn create_told<K: Guard, D: Disk, L: Ledger>(
     ensures cause { BlockCause K.told (table_in (sees pool.old map.old (D.shown disk.old) home.now) files.old) (lent_for pool.old map.old (D.shown disk.old) 0 home.now 0) (D.shown disk.new).faults result }
 {
     let mut steps: Steps<L> = Steps::open(blank);
-    let mut blocks: VolumeBlocks<'_, '_, '_, '_, K, D, L> = VolumeBlocks {
-        pool,
-        disk,
-        map,
-        steps: &mut steps,
-        home: *home,
-        room: 0,
-        strays: 0,
-        noted: Noted::NONE,
-        of: PhantomData,
-    };
+    let mut blocks: VolumeBlocks<'_, '_, '_, '_, K, D, L> = lend_blocks!(
+        pool, disk, map, &mut steps, home
+    );
     files.create(&mut blocks, number, name, reserve, stamp)
 }

@@ -1,20 +1,19 @@
 //! The table of one volume over what a session lends: each call of the table, over the volume's blocks.
 
-ghost use Rattle.std.specs.Prelude.{◌≡◌, ◌≤◌, ◌+◌, ◌/◌, ℕ, cond, IfOk, OnOk, IfSome, Option, Some, None};
+ghost use Rattle.std.specs.Prelude.{◌≡◌, ◌≤◌, ◌+◌, ℕ, cond, IfOk, OnOk, IfSome, Option, Some, None};
 ghost use Rattle.std.specs.FinMap as fin;
 ghost use Rattle.fv_codec.specs.Blocks.{IsPointer};
 ghost use Rattle.fv_laws.specs.WellFormed.{IsWellTable};
 ghost use Rattle.fv_tables.specs.Spelled.{Under};
-ghost use Rattle.fv_tables.specs.Told.{records_each, table_told};
-ghost use Rattle.fv_tree.specs.Costs.{way_cost};
+ghost use Rattle.fv_tables.specs.Told.{table_told};
 ghost use Rattle.fv_tree.specs.Sources.{Use};
 ghost use Rattle.fv_inode.specs.Files.{rooted, Finds, IsInfo, IsInfoIf};
 ghost use Rattle.fv_inode.specs.Listing.{names_told};
-ghost use Rattle.fv_files.specs.Calls.{GivesCell};
+ghost use Rattle.fv_files.specs.Calls.{path_cost, GivesCell};
 ghost use Rattle.fv_files.specs.Apart.{AreAlike, AreLed};
 ghost use Rattle.fv_files.specs.Numbering.{AreNumbersIf, AreNumbersOf};
 ghost use Rattle.fv_files.specs.Pending.{pending_in};
-ghost use Rattle.fv_files.specs.Tables.{changed, loaded_trees, table_in, tree_known, AreSound, IsInfoOf, IsStoredOn};
+ghost use Rattle.fv_files.specs.Tables.{changed, loaded_trees, table_in, AreSound, IsInfoOf, IsStoredOn};
 ghost use Rattle.fv_files.specs.Trees.{standing_in};
 ghost use Rattle.fv_volume.specs.Calls.{BlockCause, Reads};
 ghost use Rattle.fv_volume.specs.Lending.{CanLend, IsLedger, IsTold, lent_for, sees};
@@ -23,10 +22,9 @@ ghost use Rattle.fv_volume.specs.Placing.{pending_of, AreLedBy, AreStoredBy};
 ghost use Rattle.fv_volume.specs.Sharing.{trees_by};
 
 use crate::blocks::Home;
-use crate::noted::Noted;
 use crate::pool::Pool;
 use crate::state::Rooted;
-use crate::volume_blocks::{Guard, VolumeBlocks};
+use crate::volume_blocks::{Guard, VolumeBlocks, lend_blocks};
 use fv_container::Steps;
 use fv_disk::{Block, BlockFault, Disk};
 use fv_files::{FileNumbers, Files};
@@ -34,7 +32,7 @@ use fv_inode::Info;
 use fv_model::{Name, Names};
 use fv_volmap::VolMap;
 use std::alloc::Global;
-use std::marker::{Brand, PhantomData};
+use std::marker::Brand;
 use std::sync::ledger::{Blank, Ledger};
 
 /// Takes the table out of a volume. One that isn't in memory is the one under the active root.
@@ -63,6 +61,25 @@ pub(crate) fn kept_table(held: bool, files: Files) -> Option<Files>
     if held { Some(files) } else { None }
 }
 
+/// What a call of a volume's active table answers over the volume's blocks: takes the table out of the volume, makes the call, and puts the
+/// table back where it was in memory. It is a macro, so that each call has its own words of what it lends.
+macro_rules! over_table {
+    ($volume:ident, $alloc:ident, |$files:ident, $home:ident| $answer:ident = $call:expr) => {{
+        let held = $volume.files.is_some();
+        let $home = $crate::blocks::Home {
+            slot: $volume.slot,
+            label: $volume.label,
+        };
+        let mut $files =
+            $crate::lent_files::take_table(&mut $volume.files, &$volume.active, $alloc);
+        let $answer = $call;
+        $volume.files = $crate::lent_files::kept_table(held, $files);
+        $answer
+    }};
+}
+
+pub(crate) use over_table;
+
 /// What is known of the file of a name, by the numbers of files where these are in memory; `None` exactly where no file has it.
 #[tactic(auto, using(crate::proofs::CallCauses::lent_reads, crate::proofs::CallCauses::lent_map))]
 pub(crate) fn find_told<K: Guard, D: Disk, L: Ledger>(
@@ -87,17 +104,9 @@ pub(crate) fn find_told<K: Guard, D: Disk, L: Ledger>(
     ensures cause { BlockCause K.told (table_in (sees pool.old map.old (D.shown disk.old) home.now) files.old) (lent_for pool.old map.old (D.shown disk.old) 0 home.now 0) (D.shown disk.new).faults result }
 {
     let mut steps: Steps<L> = Steps::open(blank);
-    let mut blocks: VolumeBlocks<'_, '_, '_, '_, K, D, L> = VolumeBlocks {
-        pool,
-        disk,
-        map,
-        steps: &mut steps,
-        home: *home,
-        room: 0,
-        strays: 0,
-        noted: Noted::NONE,
-        of: PhantomData,
-    };
+    let mut blocks: VolumeBlocks<'_, '_, '_, '_, K, D, L> = lend_blocks!(
+        pool, disk, map, &mut steps, home
+    );
     match numbers {
         Some(numbers) => files.find_by(&mut blocks, numbers, name),
         None => files.find(&mut blocks, name),
@@ -125,17 +134,9 @@ pub(crate) fn numbers_told<K: Guard, D: Disk, L: Ledger>(
     ensures cause { BlockCause K.told (table_in (sees pool.old map.old (D.shown disk.old) home.now) files.old) (lent_for pool.old map.old (D.shown disk.old) 0 home.now 0) (D.shown disk.new).faults result }
 {
     let mut steps: Steps<L> = Steps::open(blank);
-    let mut blocks: VolumeBlocks<'_, '_, '_, '_, K, D, L> = VolumeBlocks {
-        pool,
-        disk,
-        map,
-        steps: &mut steps,
-        home: *home,
-        room: 0,
-        strays: 0,
-        noted: Noted::NONE,
-        of: PhantomData,
-    };
+    let mut blocks: VolumeBlocks<'_, '_, '_, '_, K, D, L> = lend_blocks!(
+        pool, disk, map, &mut steps, home
+    );
     files.numbers(&mut blocks)
 }
 
@@ -159,57 +160,15 @@ pub(crate) fn list_told<K: Guard, D: Disk, L: Ledger>(
     ensures cause { BlockCause K.told (table_in (sees pool.old map.old (D.shown disk.old) home.now) files.old) (lent_for pool.old map.old (D.shown disk.old) 0 home.now 0) (D.shown disk.new).faults result }
 {
     let mut steps: Steps<L> = Steps::open(blank);
-    let mut blocks: VolumeBlocks<'_, '_, '_, '_, K, D, L> = VolumeBlocks {
-        pool,
-        disk,
-        map,
-        steps: &mut steps,
-        home: *home,
-        room: 0,
-        strays: 0,
-        noted: Noted::NONE,
-        of: PhantomData,
-    };
+    let mut blocks: VolumeBlocks<'_, '_, '_, '_, K, D, L> = lend_blocks!(
+        pool, disk, map, &mut steps, home
+    );
     files.list(&mut blocks)
 }
 
-/// Looks the record of a file up, for the steps of the path to it.
+/// A block of the file of which this is known, or zeros, with the steps of the whole path to it from the root of the table.
 #[tactic(auto, using(crate::proofs::CallCauses::lent_reads, crate::proofs::CallCauses::lent_map))]
-pub(crate) fn record_told<K: Guard, D: Disk, L: Ledger>(
-    files: &mut Files,
-    pool: &mut Pool,
-    disk: &mut D,
-    map: &mut VolMap,
-    steps: &mut Steps<L>,
-    home: &Home,
-    number: u32,
-) -> Result<(), BlockFault>
-    requires lent { CanLend pool.old map.old (D.shown disk.old) home.now.slot }
-    requires told { K.told → IsTold (D.shown disk.old) pool.old map.old home.now.slot }
-    ensures steps { K.told → OnOk result (steps.new ≡ steps.old + way_cost (sees pool.old map.old (D.shown disk.old) home.now).cost (rooted (sees pool.old map.old (D.shown disk.old) home.now) files.old.inode) (number / records_each)) }
-    ensures files { files.new ≡ files.old }
-    ensures map { map.new ≡ map.old }
-    ensures reads { Reads (D.shown disk.old) pool.old (D.shown disk.new) pool.new }
-    ensures cause { BlockCause K.told (table_in (sees pool.old map.old (D.shown disk.old) home.now) files.old) (lent_for pool.old map.old (D.shown disk.old) steps.old home.now 0) (D.shown disk.new).faults result }
-{
-    let mut blocks: VolumeBlocks<'_, '_, '_, '_, K, D, L> = VolumeBlocks {
-        pool,
-        disk,
-        map,
-        steps,
-        home: *home,
-        room: 0,
-        strays: 0,
-        noted: Noted::NONE,
-        of: PhantomData,
-    };
-    files.look(&mut blocks, number)?;
-    Ok(())
-}
-
-/// A block of the file of which this is known, or zeros.
-#[tactic(auto, using(crate::proofs::CallCauses::lent_reads, crate::proofs::CallCauses::lent_map))]
-pub(crate) fn block_told<K: Guard, D: Disk, L: Ledger>(
+pub(crate) fn cell_told<K: Guard, D: Disk, L: Ledger>(
     files: &mut Files,
     pool: &mut Pool,
     disk: &mut D,
@@ -225,22 +184,14 @@ pub(crate) fn block_told<K: Guard, D: Disk, L: Ledger>(
     requires range { IsInfo info.now }
     requires there { K.told → IsInfoOf (rooted (sees pool.old map.old (D.shown disk.old) home.now) files.old.inode) info.now }
     ensures block { K.told → OnOk result (GivesCell (table_in (sees pool.old map.old (D.shown disk.old) home.now) files.old) info.now.number index into.new) }
-    ensures steps { K.told → OnOk result (steps.new ≡ steps.old + way_cost (sees pool.old map.old (D.shown disk.old) home.now).cost (tree_known (table_in (sees pool.old map.old (D.shown disk.old) home.now) files.old) info.now) index) }
+    ensures steps { K.told → OnOk result (steps.new ≡ steps.old + path_cost (sees pool.old map.old (D.shown disk.old) home.now).cost (table_in (sees pool.old map.old (D.shown disk.old) home.now) files.old) info.now index) }
     ensures files { files.new ≡ files.old }
     ensures map { map.new ≡ map.old }
     ensures reads { Reads (D.shown disk.old) pool.old (D.shown disk.new) pool.new }
     ensures cause { BlockCause K.told (table_in (sees pool.old map.old (D.shown disk.old) home.now) files.old) (lent_for pool.old map.old (D.shown disk.old) steps.old home.now 0) (D.shown disk.new).faults result }
 {
-    let mut blocks: VolumeBlocks<'_, '_, '_, '_, K, D, L> = VolumeBlocks {
-        pool,
-        disk,
-        map,
-        steps,
-        home: *home,
-        room: 0,
-        strays: 0,
-        noted: Noted::NONE,
-        of: PhantomData,
-    };
-    files.read(&mut blocks, info, index, into)
+    let mut blocks: VolumeBlocks<'_, '_, '_, '_, K, D, L> = lend_blocks!(
+        pool, disk, map, steps, home
+    );
+    files.read_by_path(&mut blocks, info, index, into)
 }

@@ -12,16 +12,14 @@ ghost use Rattle.fv_volume.specs.Calls.{BlockCause, Reads};
 ghost use Rattle.fv_volume.specs.Lending.{CanLend, IsLedger, IsTold, lent_for, sees};
 
 use crate::blocks::Home;
-use crate::noted::Noted;
 use crate::pool::Pool;
-use crate::volume_blocks::{Guard, VolumeBlocks};
+use crate::volume_blocks::{Guard, VolumeBlocks, lend_blocks};
 use fv_container::Steps;
 use fv_disk::{BlockFault, Disk};
 use fv_files::Files;
 use fv_inode::Info;
 use fv_tree::Taken;
 use fv_volmap::VolMap;
-use std::marker::PhantomData;
 use std::sync::ledger::{Blank, Ledger};
 
 /// How many blocks that a write of a cell of the file of which this is known replaces stay charged.
@@ -49,17 +47,9 @@ pub(crate) fn staying_told<K: Guard, D: Disk, L: Ledger>(
     ensures cause { BlockCause K.told (table_in (sees pool.old map.old (D.shown disk.old) home.now) files.old) (lent_for pool.old map.old (D.shown disk.old) 0 home.now 0) (D.shown disk.new).faults result }
 {
     let mut steps: Steps<L> = Steps::open(blank);
-    let mut blocks: VolumeBlocks<'_, '_, '_, '_, K, D, L> = VolumeBlocks {
-        pool,
-        disk,
-        map,
-        steps: &mut steps,
-        home: *home,
-        room: 0,
-        strays: 0,
-        noted: Noted::NONE,
-        of: PhantomData,
-    };
+    let mut blocks: VolumeBlocks<'_, '_, '_, '_, K, D, L> = lend_blocks!(
+        pool, disk, map, &mut steps, home
+    );
     files.staying(&mut blocks, info, index)
 }
 
@@ -85,17 +75,9 @@ pub(crate) fn staying_new_told<K: Guard, D: Disk, L: Ledger>(
     ensures cause { BlockCause K.told (table_in (sees pool.old map.old (D.shown disk.old) home.now) files.old) (lent_for pool.old map.old (D.shown disk.old) 0 home.now 0) (D.shown disk.new).faults result }
 {
     let mut steps: Steps<L> = Steps::open(blank);
-    let mut blocks: VolumeBlocks<'_, '_, '_, '_, K, D, L> = VolumeBlocks {
-        pool,
-        disk,
-        map,
-        steps: &mut steps,
-        home: *home,
-        room: 0,
-        strays: 0,
-        noted: Noted::NONE,
-        of: PhantomData,
-    };
+    let mut blocks: VolumeBlocks<'_, '_, '_, '_, K, D, L> = lend_blocks!(
+        pool, disk, map, &mut steps, home
+    );
     files.staying_by_new(&mut blocks, number)
 }
 
@@ -124,17 +106,9 @@ pub(crate) fn taken_cut_told<K: Guard, D: Disk, L: Ledger>(
     ensures cause { BlockCause K.told (table_in (sees pool.old map.old (D.shown disk.old) home.now) files.old) (lent_for pool.old map.old (D.shown disk.old) 0 home.now 0) (D.shown disk.new).faults result }
 {
     let mut steps: Steps<L> = Steps::open(blank);
-    let mut blocks: VolumeBlocks<'_, '_, '_, '_, K, D, L> = VolumeBlocks {
-        pool,
-        disk,
-        map,
-        steps: &mut steps,
-        home: *home,
-        room: 0,
-        strays: 0,
-        noted: Noted::NONE,
-        of: PhantomData,
-    };
+    let mut blocks: VolumeBlocks<'_, '_, '_, '_, K, D, L> = lend_blocks!(
+        pool, disk, map, &mut steps, home
+    );
     files.taken_by_cut(&mut blocks, info, length)
 }
 
@@ -162,16 +136,8 @@ pub(crate) fn taken_removal_told<K: Guard, D: Disk, L: Ledger>(
     ensures cause { BlockCause K.told (table_in (sees pool.old map.old (D.shown disk.old) home.now) files.old) (lent_for pool.old map.old (D.shown disk.old) 0 home.now 0) (D.shown disk.new).faults result }
 {
     let mut steps: Steps<L> = Steps::open(blank);
-    let mut blocks: VolumeBlocks<'_, '_, '_, '_, K, D, L> = VolumeBlocks {
-        pool,
-        disk,
-        map,
-        steps: &mut steps,
-        home: *home,
-        room: 0,
-        strays: 0,
-        noted: Noted::NONE,
-        of: PhantomData,
-    };
+    let mut blocks: VolumeBlocks<'_, '_, '_, '_, K, D, L> = lend_blocks!(
+        pool, disk, map, &mut steps, home
+    );
     files.taken_by_removal(&mut blocks, info)
 }

@@ -20,7 +20,7 @@ use crate::blocks::Home;
 use crate::changing::{MOST_CHANGES, admit_change, more_blocks};
 use crate::fault::VolumeFault;
 use crate::lent_changes::{create_told, number_told, room_told};
-use crate::lent_files::{kept_table, take_table};
+use crate::lent_files::{over_table, take_table};
 use crate::moving::count_staying_new;
 use crate::numbering::count_made;
 use crate::pool::Pool;
@@ -197,22 +197,18 @@ fn seek_number<D: Disk>(
     ensures cause { BlockCause (IsStanding (D.shown disk.old) pool.old volume.old) (standing_for (D.shown disk.old) pool.old volume.old)
         (lent_for pool.old volume.old.map (D.shown disk.old) 0 (home_in volume.old) 0) (D.shown disk.new).faults result }
 {
-    let held = volume.files.is_some();
-    let home = Home {
-        slot: volume.slot,
-        label: volume.label,
-    };
-    let mut files = take_table(&mut volume.files, &volume.active, alloc);
-    let number = number_told::<Brand, D, Brand>(
-        &mut files,
-        pool,
-        disk,
-        &mut volume.map,
-        &home,
-        Blank::new(1),
-    );
-    volume.files = kept_table(held, files);
-    number
+    over_table!(
+        volume,
+        alloc,
+        |files, home| number = number_told::<Brand, D, Brand>(
+            &mut files,
+            pool,
+            disk,
+            &mut volume.map,
+            &home,
+            Blank::new(1),
+        )
+    )
 }
 
 /// How many blocks more a volume is charged for once it has a new file under a number, the least that is free: one for each position that comes, and
@@ -256,23 +252,19 @@ fn count_room<D: Disk>(
     ensures cause { BlockCause (IsStanding (D.shown disk.old) pool.old volume.old) (standing_for (D.shown disk.old) pool.old volume.old)
         (lent_for pool.old volume.old.map (D.shown disk.old) 0 (home_in volume.old) 0) (D.shown disk.new).faults result }
 {
-    let held = volume.files.is_some();
-    let home = Home {
-        slot: volume.slot,
-        label: volume.label,
-    };
-    let mut files = take_table(&mut volume.files, &volume.active, alloc);
-    let added = room_told::<Brand, D, Brand>(
-        &mut files,
-        pool,
-        disk,
-        &mut volume.map,
-        &home,
-        Blank::new(1),
-        number,
-    );
-    volume.files = kept_table(held, files);
-    added
+    over_table!(
+        volume,
+        alloc,
+        |files, home| added = room_told::<Brand, D, Brand>(
+            &mut files,
+            pool,
+            disk,
+            &mut volume.map,
+            &home,
+            Blank::new(1),
+            number,
+        )
+    )
 }
 
 /// Makes a file, stamped with the number of the next change.

@@ -10,8 +10,7 @@ ghost use Rattle.fv_volume.specs.Charging.{CutMoves, RemovalMoves, StaysByNew, S
 ghost use Rattle.fv_volume.specs.Lending.{lent_for};
 ghost use Rattle.fv_volume.specs.OneVolume.{home_in, standing_for, IsReady, IsStanding};
 
-use crate::blocks::Home;
-use crate::lent_files::{kept_table, take_table};
+use crate::lent_files::over_table;
 use crate::lent_staying::{staying_new_told, staying_told, taken_cut_told, taken_removal_told};
 use crate::pool::Pool;
 use crate::state::VolumeState;
@@ -45,24 +44,20 @@ pub(crate) fn count_staying<D: Disk>(
     if volume.snapshots.len() == 0 {
         return Ok(0);
     }
-    let held = volume.files.is_some();
-    let home = Home {
-        slot: volume.slot,
-        label: volume.label,
-    };
-    let mut files = take_table(&mut volume.files, &volume.active, alloc);
-    let counted = staying_told::<Brand, D, Brand>(
-        &mut files,
-        pool,
-        disk,
-        &mut volume.map,
-        &home,
-        Blank::new(1),
-        info,
-        index,
-    );
-    volume.files = kept_table(held, files);
-    counted
+    over_table!(
+        volume,
+        alloc,
+        |files, home| counted = staying_told::<Brand, D, Brand>(
+            &mut files,
+            pool,
+            disk,
+            &mut volume.map,
+            &home,
+            Blank::new(1),
+            info,
+            index,
+        )
+    )
 }
 
 /// How many blocks that a new file under a number, the least that is free, replaces stay charged.
@@ -85,23 +80,19 @@ pub(crate) fn count_staying_new<D: Disk>(
     if volume.snapshots.len() == 0 {
         return Ok(0);
     }
-    let held = volume.files.is_some();
-    let home = Home {
-        slot: volume.slot,
-        label: volume.label,
-    };
-    let mut files = take_table(&mut volume.files, &volume.active, alloc);
-    let counted = staying_new_told::<Brand, D, Brand>(
-        &mut files,
-        pool,
-        disk,
-        &mut volume.map,
-        &home,
-        Blank::new(1),
-        number,
-    );
-    volume.files = kept_table(held, files);
-    counted
+    over_table!(
+        volume,
+        alloc,
+        |files, home| counted = staying_new_told::<Brand, D, Brand>(
+            &mut files,
+            pool,
+            disk,
+            &mut volume.map,
+            &home,
+            Blank::new(1),
+            number,
+        )
+    )
 }
 
 /// What a cut of the file of which this is known to a length takes, and what of that stays charged. It walks the nodes over what goes.
@@ -124,24 +115,20 @@ pub(crate) fn count_cut<D: Disk>(
     ensures cause { BlockCause (IsStanding (D.shown disk.old) pool.old volume.old) (standing_for (D.shown disk.old) pool.old volume.old)
         (lent_for pool.old volume.old.map (D.shown disk.old) 0 (home_in volume.old) 0) (D.shown disk.new).faults result }
 {
-    let held = volume.files.is_some();
-    let home = Home {
-        slot: volume.slot,
-        label: volume.label,
-    };
-    let mut files = take_table(&mut volume.files, &volume.active, alloc);
-    let counted = taken_cut_told::<Brand, D, Brand>(
-        &mut files,
-        pool,
-        disk,
-        &mut volume.map,
-        &home,
-        Blank::new(1),
-        info,
-        length,
-    );
-    volume.files = kept_table(held, files);
-    counted
+    over_table!(
+        volume,
+        alloc,
+        |files, home| counted = taken_cut_told::<Brand, D, Brand>(
+            &mut files,
+            pool,
+            disk,
+            &mut volume.map,
+            &home,
+            Blank::new(1),
+            info,
+            length,
+        )
+    )
 }
 
 /// What the removal of the file of which this is known takes, and what of that stays charged. It walks the nodes over all of the file.
@@ -163,21 +150,17 @@ pub(crate) fn count_removal<D: Disk>(
     ensures cause { BlockCause (IsStanding (D.shown disk.old) pool.old volume.old) (standing_for (D.shown disk.old) pool.old volume.old)
         (lent_for pool.old volume.old.map (D.shown disk.old) 0 (home_in volume.old) 0) (D.shown disk.new).faults result }
 {
-    let held = volume.files.is_some();
-    let home = Home {
-        slot: volume.slot,
-        label: volume.label,
-    };
-    let mut files = take_table(&mut volume.files, &volume.active, alloc);
-    let counted = taken_removal_told::<Brand, D, Brand>(
-        &mut files,
-        pool,
-        disk,
-        &mut volume.map,
-        &home,
-        Blank::new(1),
-        info,
-    );
-    volume.files = kept_table(held, files);
-    counted
+    over_table!(
+        volume,
+        alloc,
+        |files, home| counted = taken_removal_told::<Brand, D, Brand>(
+            &mut files,
+            pool,
+            disk,
+            &mut volume.map,
+            &home,
+            Blank::new(1),
+            info,
+        )
+    )
 }

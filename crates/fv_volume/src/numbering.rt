@@ -11,9 +11,8 @@ ghost use Rattle.fv_volume.specs.Lending.{lent_for};
 ghost use Rattle.fv_volume.specs.Numbering.{LacksFile, TellsFile};
 ghost use Rattle.fv_volume.specs.OneVolume.{home_in, standing_for, table_for, IsReady, IsStanding};
 
-use crate::blocks::Home;
 use crate::changing::count_change;
-use crate::lent_files::{kept_table, numbers_told, take_table};
+use crate::lent_files::{numbers_told, over_table};
 use crate::making::Making;
 use crate::pool::Pool;
 use crate::state::VolumeState;
@@ -79,22 +78,18 @@ fn count_files<D: Disk>(
     ensures cause { BlockCause (IsStanding (D.shown disk.old) pool.old volume.old) (standing_for (D.shown disk.old) pool.old volume.old)
         (lent_for pool.old volume.old.map (D.shown disk.old) 0 (home_in volume.old) 0) (D.shown disk.new).faults result }
 {
-    let held = volume.files.is_some();
-    let home = Home {
-        slot: volume.slot,
-        label: volume.label,
-    };
-    let mut files = take_table(&mut volume.files, &volume.active, alloc);
-    let numbers = numbers_told::<Brand, D, Brand>(
-        &mut files,
-        pool,
-        disk,
-        &mut volume.map,
-        &home,
-        Blank::new(1),
-    );
-    volume.files = kept_table(held, files);
-    numbers
+    over_table!(
+        volume,
+        alloc,
+        |files, home| numbers = numbers_told::<Brand, D, Brand>(
+            &mut files,
+            pool,
+            disk,
+            &mut volume.map,
+            &home,
+            Blank::new(1),
+        )
+    )
 }
 
 /// Counts a new file of a volume, changes its ledger by it, and keeps the numbers.

@@ -10,10 +10,11 @@ ghost use Rattle.fv_volmap.specs.Slots.{IsVolume};
 ghost use Rattle.fv_volume.specs.Held.{IsPlaceFault, IsPlacedAs, MayFail};
 ghost use Rattle.fv_volume.specs.Lending.{CanLend, IsTold, lent_for, sees};
 ghost use Rattle.fv_volume.specs.OneVolume.{home_in, IsReady, IsStanding};
-ghost use Rattle.fv_volume.specs.Placing.{FlushFails, Goes, IsUnkept, KeepsPlaced, KeepsUnused, LeavesOthers, PlaceFails, PlacesTable, PlacesVolume, TakesRoom};
+ghost use Rattle.fv_volume.specs.Placing.{FlushFails, Goes, IsInNoSnap, KeepsPlaced, KeepsUnused, LeavesOthers, PlaceFails, PlacesFiles, PlacesTable, PlacesVolume, TakesRoom};
 
 use crate::blocks::Home;
 use crate::fault::VolumeFault;
+use crate::known::known_maps;
 use crate::noted::Noted;
 use crate::pool::Pool;
 use crate::state::{Rooted, VolumeState};
@@ -52,17 +53,14 @@ impl VolumeState {
         requires ready { IsReady (D.shown disk.now) pool.old self.old }
         requires free { HasRoom pool.old.map self.old.map room.old }
         ensures places { IsStanding (D.shown disk.now) pool.old self.old → PlacesVolume (D.shown disk.now) pool.old self.old room.old (D.shown disk.now) pool.new self.new room.new result }
-        ensures none { OnOk result (self.new.files ≡ None) }
+        ensures files { PlacesFiles self.old self.new result }
         ensures ready { IsReady (D.shown disk.now) pool.new self.new }
         ensures keeps { KeepsPlaced self.old self.new }
-        ensures changed { is_some self.old.files ≡ true → self.new.changed ≡ true }
         ensures idle { self.old.files ≡ None → (pool.new ≡ pool.old) × ((self.new ≡ self.old) × (room.new ≡ room.old)) }
         ensures goes { Goes (lent_for pool.old self.old.map (D.shown disk.now) 0 (home_in self.old) room.old) pool.new self.new.map (D.shown disk.now) room.new }
-        ensures others { LeavesOthers (D.shown disk.now) pool.old self.old.slot (D.shown disk.now) pool.new }
         ensures unused { IsStanding (D.shown disk.now) pool.old self.old → KeepsUnused pool.old.containers pool.new.containers self.old.slot self.new.map }
         ensures free { HasRoom pool.new.map self.new.map room.new }
         ensures cause { IfErr result (FlushFails (IsStanding (D.shown disk.now) pool.old self.old) (lent_for pool.old self.old.map (D.shown disk.now) 0 (home_in self.old) room.old) room.new) }
-        ensures filed { IfErr result (λ e. is_some self.old.files ≡ true) }
     {
         let Some(mut files) = self.files.take() else {
             return Ok(());
@@ -102,8 +100,7 @@ impl VolumeState {
     {
         let mut room = self.room_to_place(pool);
         let flushed = self.flush(pool, disk, &mut room);
-        // What is known of every map is needed of this one.
-        let _ = self.map.active();
+        known_maps(&self.map);
         flushed
     }
 }
@@ -122,7 +119,7 @@ fn place_table<K: Guard, D: Disk>(
     requires told { K.told → IsTold (D.shown disk.now) pool.old map.old home.now.slot }
     requires stands { K.told → AreStanding (sees pool.old map.old (D.shown disk.now) home.now) files.old }
     ensures table { PlacesTable K.told (sees pool.old map.old (D.shown disk.now) home.now)
-        (under (sees pool.new map.new (D.shown disk.now) home.now)) (sees pool.new map.new (D.shown disk.now) home.now).used (IsUnkept (D.shown disk.now) pool.old map.old home.now.slot) files.old files.new result }
+        (under (sees pool.new map.new (D.shown disk.now) home.now)) (sees pool.new map.new (D.shown disk.now) home.now).used (IsInNoSnap (D.shown disk.now) pool.old map.old home.now.slot) files.old files.new result }
     ensures unused { K.told → AreLaid (under (sees pool.old map.old (D.shown disk.now) home.now)) files.old → KeepsUnused pool.old.containers pool.new.containers home.now.slot map.new }
     ensures goes { Goes (lent_for pool.old map.old (D.shown disk.now) 0 home.now room.old) pool.new map.new (D.shown disk.now) room.new }
     ensures room { TakesRoom K.told files.old files.new room.old room.new result }

@@ -8,11 +8,9 @@ ghost use Rattle.fv_store.specs.Held.{StandsOn};
 ghost use Rattle.fv_root.specs.Finding.{IsInRange};
 ghost use Rattle.fv_disk.specs.Sparing.{Spares};
 ghost use Rattle.fv_volume.specs.BlocksOver.{LeavesPool};
-ghost use Rattle.fv_volume.specs.Causes.{WithBlockFault};
 ghost use Rattle.fv_volume.specs.Keeping.{IsUnkept, seen};
 ghost use Rattle.fv_volume.specs.Opening.{OpensPool};
 
-use crate::fault::VolumeFault;
 use crate::kept::Kept;
 use fv_aggmap::AggMap;
 use fv_container::Containers;
@@ -21,7 +19,8 @@ use fv_root::Found;
 use fv_store::Store;
 use std::alloc::{AllocError, Global};
 
-/// How many blocks the cache holds: 4 MiB of them, which bounds the memory for reads whatever the aggregate's size.
+/// How many blocks the cache holds: 4 MiB of them, which bounds the memory for reads whatever the aggregate's size. The way to a block of a
+/// file has at most seven blocks, so the ways of more than a hundred files stay in memory (`docs/SPACE.md`).
 const CACHED: usize = 1024;
 
 /// What the volumes of an aggregate share.
@@ -63,14 +62,6 @@ impl Pool {
             kept: Kept::new(alloc),
             found,
         })
-    }
-
-    /// As `open`, with its fault as one of volumes; nothing is `Refused`.
-    pub fn load<D: Disk>(alloc: Global, disk: &mut D, found: Found) -> Result<Pool, VolumeFault>
-        requires range { IsInRange found }
-        ensures { WithBlockFault (OpensPool (D.shown disk.old) found (D.shown disk.new)) result }
-    {
-        Ok(Pool::open(alloc, disk, found)?)
     }
 
     /// Reads the block of a PVBN: the kept one without a disk call, and else what the store reads there.

@@ -1,7 +1,6 @@
 //! The size and the kind of guarantee of a volume.
 
-ghost use Rattle.std.specs.Prelude.{◌≡◌, ◌<◌, ◌≤◌, ◌-◌, ◌^◌, ◌&&◌, ℕ, List, OnOk, OnErr, IfSome, nat_le, option_copied};
-ghost use Rattle.fv_container.specs.Chains.{slot_count};
+ghost use Rattle.std.specs.Prelude.{◌≡◌, ◌<◌, ◌≤◌, ◌-◌, ◌^◌, ◌&&◌, ℕ, List, OnOk, OnErr, nat_le};
 ghost use Rattle.fv_model.specs.declared.commands.Command.{Command};
 ghost use Rattle.fv_model.specs.declared.commands.Command.TheVariants.{VolGuarantee, VolResize};
 ghost use Rattle.fv_model.specs.Machines.{Machine, capacity};
@@ -11,12 +10,9 @@ ghost use Rattle.fv_charge.specs.Changes.{IsLeft};
 ghost use Rattle.fv_root.specs.Formatted.{IsSize};
 ghost use Rattle.fv_volume.specs.Files.{IsLabelled};
 ghost use Rattle.fv_volume.specs.OneVolume.{IsBooked, greatest_charge};
-ghost use Rattle.fv_volume.specs.Promising.{FitsBeside, Promises, PromisesAt, PromisesOne, promised, promised_ledger, refusal_of};
-ghost use Rattle.fv_volume.specs.Slots.{committed_by, sum_of};
-ghost use Rattle.fv_volume.specs.States.{state_at};
+ghost use Rattle.fv_volume.specs.Promising.{FitsBeside, Promises, promised, promised_ledger, refusal_of};
 
 use crate::state::VolumeState;
-use crate::volumes::Volumes;
 use fv_charge::{Delta, Ledger};
 use fv_model::{Kind, Name, Refusal, in_size};
 use fv_root::capacity;
@@ -63,103 +59,6 @@ impl VolumeState {
     {
         let size = self.size;
         promise(self, blocks, others, size, kind)
-    }
-}
-
-impl Volumes {
-    /// Sets the size of the volume of a name, in blocks, in an aggregate of so many blocks. The other volumes stay, and so does what the
-    /// volume holds.
-    ///
-    /// # Errors
-    /// The refusal comes exactly where the machine refuses `vol resize`, and is its refusal: a size that isn't 1 to 500,000, no such volume,
-    /// a size past the volume's greatest, less than it uses, and commits that would pass the capacity, in this order. Nothing changes then.
-    ///
-    /// Costs a comparison and a step for each volume, takes no memory and makes no call of a disk.
-    pub fn resize(&mut self, blocks: u32, name: &Name, size: u32) -> Result<(), Refusal>
-        requires each { (s : ℕ) → IfSome (state_at self.old s) (IsLabelled s) }
-        requires booked { (s : ℕ) → IfSome (state_at self.old s) IsBooked }
-        requires blocks { IsSize blocks }
-        ensures { PromisesOne self.old blocks (VolResize name.now size) name.now (λ x. size) (λ x. x.kind) self.new result }
-    {
-        if !in_size(u64::from(size)) {
-            return Err(Refusal::Range);
-        }
-        match self.find(name) {
-            Some(slot) => self.resize_at(blocks, slot, size),
-            None => Err(Refusal::NoVolume),
-        }
-    }
-
-    /// Sets the kind of guarantee of the volume of a name, in an aggregate of so many blocks. The other volumes stay, and so does what the
-    /// volume holds.
-    ///
-    /// # Errors
-    /// The refusal comes exactly where the machine refuses `vol guarantee`, and is its refusal: no such volume, a size less than it uses, and
-    /// commits that would pass the capacity, in this order. Nothing changes then.
-    ///
-    /// Costs a comparison and a step for each volume, takes no memory and makes no call of a disk.
-    pub fn guarantee(&mut self, blocks: u32, name: &Name, kind: Kind) -> Result<(), Refusal>
-        requires each { (s : ℕ) → IfSome (state_at self.old s) (IsLabelled s) }
-        requires booked { (s : ℕ) → IfSome (state_at self.old s) IsBooked }
-        requires blocks { IsSize blocks }
-        ensures { PromisesOne self.old blocks (VolGuarantee name.now kind) name.now (λ x. x.size) (λ x. kind) self.new result }
-    {
-        match self.find(name) {
-            Some(slot) => self.guarantee_at(blocks, slot, kind),
-            None => Err(Refusal::NoVolume),
-        }
-    }
-
-    /// What all volumes but that of a slot commit together, in blocks. Costs a step for each slot.
-    pub fn commits_beside(&self, slot: u8) -> u64
-        requires slot { slot < slot_count }
-        requires each { (s : ℕ) → IfSome (state_at self.now s) (IsLabelled s) }
-        ensures sum { result ≡ sum_of self.now - committed_by (state_at self.now slot) }
-        ensures most { result ≤ 2 ^ 62 }
-    {
-        let own = commit_of(self.get(slot));
-        self.commits().saturating_sub(own)
-    }
-
-    /// Sets the size of the volume of a slot.
-    fn resize_at(&mut self, blocks: u32, slot: u8, size: u32) -> Result<(), Refusal>
-        requires slot { slot < slot_count }
-        requires each { (s : ℕ) → IfSome (state_at self.old s) (IsLabelled s) }
-        requires booked { IfSome (state_at self.old slot) IsBooked }
-        requires blocks { IsSize blocks }
-        ensures { PromisesAt self.old blocks slot (state_at self.old slot) (λ x. VolResize x.name size) (λ x. size) (λ x. x.kind) self.new result }
-    {
-        let others = self.commits_beside(slot);
-        match self.get_mut(slot) {
-            Some(state) => state.resize(blocks, others, size),
-            None => Err(Refusal::NoVolume),
-        }
-    }
-
-    /// Sets the kind of guarantee of the volume of a slot.
-    fn guarantee_at(&mut self, blocks: u32, slot: u8, kind: Kind) -> Result<(), Refusal>
-        requires slot { slot < slot_count }
-        requires each { (s : ℕ) → IfSome (state_at self.old s) (IsLabelled s) }
-        requires booked { IfSome (state_at self.old slot) IsBooked }
-        requires blocks { IsSize blocks }
-        ensures { PromisesAt self.old blocks slot (state_at self.old slot) (λ x. VolGuarantee x.name kind) (λ x. x.size) (λ x. kind) self.new result }
-    {
-        let others = self.commits_beside(slot);
-        match self.get_mut(slot) {
-            Some(state) => state.guarantee(blocks, others, kind),
-            None => Err(Refusal::NoVolume),
-        }
-    }
-}
-
-/// What the volume of a slot commits; nothing for a free one.
-fn commit_of(state: Option<&VolumeState>) -> u64
-    requires { IfSome (option_copied state) (λ x. x.ledger.span ≤ greatest_span) }
-    ensures { result ≡ committed_by (option_copied state.entry) }
-{
-    match state {
-        Some(state) => state.ledger.commit(),
-        None => 0,
     }
 }
 

@@ -9,7 +9,7 @@ ghost use Rattle.fv_inode.specs.Files.{IsFirst, IsInfo};
 ghost use Rattle.fv_files.specs.Calls.{CutsFile, RemovesFile, TakesByCut, TakesByRemoval};
 ghost use Rattle.fv_files.specs.Tables.{IsInfoOf};
 ghost use Rattle.fv_volume.specs.Calls.{BlockCause, CallCause, Changes, HasBeside, HasWithin, KeepsHead, Reads};
-ghost use Rattle.fv_volume.specs.Changing.{AcceptsCut, AcceptsRemoval, AltersTable, FitsLedger, IsDeltaBy, KeepsTable, RefusedIn};
+ghost use Rattle.fv_volume.specs.Changing.{AcceptsCut, AcceptsRemoval, AltersTable, CutsWithin, FitsLedger, IsDeltaBy, KeepsTable, RefusedIn};
 ghost use Rattle.fv_volume.specs.Lending.{lent_for};
 ghost use Rattle.fv_volume.specs.OneVolume.{greatest_charge, home_in, standing_for, volume_for, IsReady, IsStanding};
 
@@ -221,8 +221,7 @@ fn admit_cut<D: Disk>(
     requires others { others ≤ 2 ^ 62 }
     requires range { IsInfo info.now }
     requires more { volume.old.now < most_changes }
-    requires near { length ≤ 2097152 }
-    requires low { length ≤ info.now.length }
+    requires within { CutsWithin info.now length }
     requires first { IsStanding (D.shown disk.old) pool.old volume.old → IsFirst (standing_for (D.shown disk.old) pool.old volume.old).inode file.now info.now }
     ensures refused { IsStanding (D.shown disk.old) pool.old volume.old
         → IfErr result (RefusedIn (HasBeside volume.old.name (volume_for (D.shown disk.old) pool.old volume.old) others pool.old.found.blocks) (Cut volume.old.name file.now length)) }

@@ -14,9 +14,9 @@ ghost use Rattle.fv_volume.specs.Loading.{HasCounted};
 ghost use Rattle.fv_volume.specs.OneVolume.{greatest_charge, snaps_by};
 ghost use Rattle.fv_volume.specs.Snaps.{names_kept, turned_to, with_snapshot, without_snapshot};
 
-use crate::sizes::map_blocks;
+use crate::known::known_name;
 use crate::state::{Rooted, Snap, VolumeState, count_ledger};
-use fv_model::{Name, Names};
+use fv_model::{Name, Names, map_blocks};
 use std::alloc::{AllocError, Global};
 use std::collections::BTreeSet;
 
@@ -59,8 +59,7 @@ impl VolumeState {
         ensures waits { OnOk result (get_or self.new.fresh slot false ≡ true) }
         ensures named { is_name name.now ≡ true }
     {
-        // What the bytes are known to be is what a label needs of them.
-        let _ = name.as_bytes();
+        known_name(name);
         self.map.keep(slot)?;
         let snap = Snap {
             slot,

@@ -2,7 +2,7 @@
 
 ghost use Rattle.std.specs.Prelude.{◌≡◌, ◌<◌, ◌≤◌, ◌+◌, ◌*◌, ◌-◌, ◌∷◌, ◌++◌, [], Bool, false, true, nat_lt, length, position, take, drop, All, None, IfSome, IfNone, IfOk, OnOk, OnErr, option_copied, replicate};
 ghost use Rattle.std.specs.List.{position_or_len};
-ghost use Rattle.fv_model.specs.Numbers.{greatest_span, most_snapshots};
+ghost use Rattle.fv_model.specs.Numbers.{greatest_span, most_snapshots, most_asked};
 ghost use Rattle.fv_codec.specs.Blocks.{IsLabel, IsSnapRecord};
 ghost use Rattle.fv_image.specs.Views.{head_of, snaps_from};
 ghost use Rattle.fv_model.specs.Spelling.{is_name};
@@ -13,16 +13,16 @@ ghost use Rattle.fv_volume.specs.Files.{has_form};
 ghost use Rattle.fv_volume.specs.Snapshots.{FindsSnap, IsLeastFree, AreSlotsFull, has_slot, added};
 ghost use Rattle.fv_volume.specs.Loading.{HasCounted, IsCounted, form_in};
 ghost use Rattle.fv_volume.specs.SnapRecords.{snaps_recorded};
-ghost use Rattle.fv_volume.specs.States.{empty_head, head_in, ledger_of_empty, snaps_in, IsLaid};
+ghost use Rattle.fv_volume.specs.States.{empty_head, head_in, ledger_of_empty, snaps_in, IsAtFirst, IsLaid};
 ghost use Rattle.fv_volume.specs.Stored.{is_rewritten};
 ghost use Rattle.fv_volume.specs.Writing.{asked, map_count};
 
+use crate::known::known_name;
 use crate::label::{HOLE, kind_number, kind_of, name_field, name_of, records_of, snap_of};
-use crate::sizes::map_blocks;
 use fv_charge::{Ledger, overhead};
 use fv_codec::{Label, Pointer, SnapRecord};
 use fv_files::{FileNumbers, Files};
-use fv_model::{Kind, Name};
+use fv_model::{Kind, Name, map_blocks};
 use fv_volmap::VolMap;
 use std::alloc::{AllocError, Global};
 use std::marker::Model;
@@ -83,12 +83,9 @@ impl Snapshots {
         }
     }
 
-    /// The snapshots that the used ones of 24 records say, of the map slots from 1 on. The one error is want of
-    /// memory. Costs a step for each record.
-    pub(crate) fn of_records(
-        alloc: Global,
-        records: &[SnapRecord; 24],
-    ) -> Result<Snapshots, AllocError>
+    /// The snapshots that the used ones of a label's 24 records say, of the map slots from 1 on: record 0 is that of slot 1. The one error
+    /// is want of memory. Costs a step for each record, and memory for each snapshot. `docs/FORMAT.md` has the records.
+    pub fn of_records(alloc: Global, records: &[SnapRecord; 24]) -> Result<Snapshots, AllocError>
         requires { All IsSnapRecord records.now }
         ensures said { IfOk result (λ snaps. snaps_in snaps ≡ snaps_from 1 records.entry.now) }
         ensures long { length records.entry.now ≡ 24 }
@@ -153,7 +150,7 @@ impl Snapshots {
     }
 
     /// Whether a snapshot has this slot. Costs a step for each snapshot.
-    pub(crate) fn has_slot(&self, slot: u8) -> bool
+    pub fn has_slot(&self, slot: u8) -> bool
         ensures { result ≡ has_slot self.now slot }
     {
         self.snaps.iter().any(|snap| snap.slot == slot)
@@ -256,8 +253,11 @@ pub struct VolumeState {
 }
 
 impl VolumeState {
-    /// A new empty volume of this size, for a slot. The one error is want of memory.
-    pub(crate) fn empty(
+    /// A new empty volume of this size in blocks and kind, with so many VVBNs for data, for a slot below 64. It may get twice the size, has
+    /// no snapshot, no file and no label yet, and waits to be written.
+    ///
+    /// The one error is want of memory. Costs a step for each 64 numbers of the span, and takes memory for the bits of its active map.
+    pub fn empty(
         alloc: Global,
         slot: u8,
         name: &Name,
@@ -272,14 +272,10 @@ impl VolumeState {
         ensures map { IfOk result (λ state. state.map ≡ empty_volume span) }
         ensures label { IfOk result (λ state. state.label ≡ 0) }
         ensures changed { IfOk result (λ state. state.changed ≡ true) }
-        ensures base { IfOk result (λ state. state.base ≡ None) }
-        ensures files { IfOk result (λ state. state.files ≡ None) }
-        ensures numbers { IfOk result (λ state. state.numbers ≡ None) }
-        ensures fresh { IfOk result (λ state. state.fresh ≡ replicate stored_count false) }
+        ensures rests { IfOk result IsAtFirst }
         ensures named { is_name name.now ≡ true }
     {
-        // What the bytes are known to be is what a label needs of them.
-        let _ = name.as_bytes();
+        known_name(name);
         Ok(VolumeState {
             slot,
             name: *name,
@@ -305,9 +301,11 @@ impl VolumeState {
         })
     }
 
-    /// The volume that a label at this PVBN says, for a slot, with its snapshots, with the maps of its tables, from which
-    /// its ledger is counted. It hasn't changed. The label has no form that can't be loaded.
-    pub(crate) fn of_label(
+    /// The volume that a label at this PVBN says, for a slot below 64, with its snapshots, with the maps of its tables, from which
+    /// its ledger is counted. It hasn't changed, and no file is in memory. The label has no form that can't be loaded.
+    ///
+    /// Costs a step for each word of 64 numbers of each used slot of the maps, and takes no memory.
+    pub fn of_label(
         slot: u8,
         place: u32,
         label: &Label,
@@ -322,10 +320,7 @@ impl VolumeState {
         ensures laid { IsLaid result slot place map }
         ensures head { head_in result ≡ head_of label.entry.now }
         ensures span { result.span ≡ label.entry.now.span }
-        ensures base { result.base ≡ None }
-        ensures files { result.files ≡ None }
-        ensures numbers { result.numbers ≡ None }
-        ensures fresh { result.fresh ≡ replicate stored_count false }
+        ensures rests { IsAtFirst result }
         ensures named { is_name result.name ≡ true }
         ensures counted { IsCounted result }
         ensures ledger { result.ledger.span ≡ label.entry.now.span }
@@ -373,9 +368,9 @@ impl VolumeState {
         self.changed
     }
 
-    /// Whether the next consistency point writes the map of a slot: that of the active table, and one that was kept since the last
-    /// point.
-    pub(crate) fn is_rewritten(&self, slot: u8) -> bool
+    /// Whether the next consistency point writes the map of a slot below 25: that of the active table, slot 0, and one that was kept since
+    /// the last point. Costs a step.
+    pub fn is_rewritten(&self, slot: u8) -> bool
         requires { slot < stored_count }
         ensures { result ≡ is_rewritten self.entry.now slot }
     {
@@ -402,7 +397,7 @@ impl VolumeState {
     pub fn asked(&self) -> u64
         requires { self.now.span ≤ greatest_span }
         ensures value { result ≡ asked self.entry.now }
-        ensures most { result ≤ 4919 }
+        ensures most { result ≤ most_asked }
     {
         u64::from(overhead(self.span) + self.waiting_maps() * map_blocks(self.span))
     }
@@ -477,8 +472,8 @@ pub(crate) fn count_ledger(
     Ledger::counted(map.united(), None, snapshots, 0, span, size, kind)
 }
 
-/// The ledger of an empty volume.
-pub(crate) fn new_ledger(size: u32, kind: Kind, span: u32) -> Ledger
+/// The ledger of an empty volume of this size and kind, with so many VVBNs for data: nothing is charged, and nothing needed. Costs a step.
+pub fn new_ledger(size: u32, kind: Kind, span: u32) -> Ledger
     ensures { result ≡ ledger_of_empty size kind span }
 {
     Ledger {

@@ -2,27 +2,28 @@
 //!
 //! The active table may have trees in memory. Of a snapshot's table nothing is, and the numbers of files in memory aren't its.
 
-ghost use Rattle.std.specs.Prelude.{◌≡◌, ◌≤◌, ◌+◌, ◌/◌, IfOk, OnOk, option_copied};
+ghost use Rattle.std.specs.Prelude.{◌≡◌, ◌≤◌, ◌+◌, IfOk, OnOk, None, is_some, option_copied};
 ghost use Rattle.std.specs.FinMap as fin;
 ghost use Rattle.fv_inode.specs.Files.{Finds, IsInfo, IsInfoIf};
 ghost use Rattle.fv_inode.specs.Listing.{names_told};
 ghost use Rattle.fv_files.specs.Calls.{GivesCell};
-ghost use Rattle.fv_files.specs.Tables.{tree_known, IsInfoOf};
-ghost use Rattle.fv_tables.specs.Told.{records_each};
-ghost use Rattle.fv_volume.specs.Asking.{standing_of, table_named, IsTableOf};
+ghost use Rattle.fv_files.specs.Tables.{changed, IsInfoOf};
+ghost use Rattle.fv_files.specs.Trees.{standing_in};
+ghost use Rattle.fv_codec.specs.Blocks.{IsPointer};
+ghost use Rattle.fv_tables.specs.Spelled.{Under};
+ghost use Rattle.fv_volume.specs.Asking.{closed, numbers_asked, root_asked, standing_of, standing_opened, table_named, IsTableOf};
 ghost use Rattle.fv_volume.specs.Calls.{BlockCause, Reads};
 ghost use Rattle.fv_volume.specs.Lending.{lent_for};
 ghost use Rattle.fv_volume.specs.OneVolume.{home_in, IsReady, IsStanding};
-ghost use Rattle.fv_volume.specs.Paths.{unknown_to};
+ghost use Rattle.fv_volume.specs.Paths.{unknown_over};
 
-use crate::asking::{copy_block, find_file, follow_record, list_files};
 use crate::blocks::Home;
-use crate::lent_files::{block_told, find_told, list_told, record_told};
+use crate::lent_files::{cell_told, find_told, kept_table, list_told, take_table};
 use crate::pool::Pool;
 use crate::state::{Rooted, VolumeState};
 use fv_container::Steps;
 use fv_disk::{Block, BlockFault, Disk};
-use fv_files::Files;
+use fv_files::{FileNumbers, Files};
 use fv_inode::Info;
 use fv_model::{Name, Names};
 use std::alloc::Global;
@@ -52,6 +53,65 @@ pub(crate) fn table_asked(volume: &VolumeState, snapshot: Option<&Name>) -> Opti
     }
 }
 
+/// Takes the table that a command asks out of a volume, with all of it that is in memory: the active one by what the volume has in memory and
+/// by its root, that of a snapshot by its root alone.
+pub(crate) fn open_table(
+    files: &mut Option<Files>,
+    active: &Rooted,
+    table: &TableAsked,
+    alloc: Global,
+) -> Files
+    requires levels { (root_asked active.now table.now).levels ≤ 2 }
+    requires root { IsPointer (root_asked active.now table.now).root }
+    ensures table { (blocks : Under) → standing_in blocks (changed result) ≡ standing_opened blocks active.now files.old table.now }
+    ensures again { closed table.now (is_some files.old) result files.new ≡ files.old }
+{
+    match table {
+        TableAsked::Active => take_table(files, active, alloc),
+        TableAsked::Kept(root) => Files::at(alloc, root.levels, root.root),
+    }
+}
+
+/// Puts a table back that was opened: the active one where it was in memory.
+pub(crate) fn close_table(files: &mut Option<Files>, held: bool, table: &TableAsked, opened: Files)
+    ensures { files.new ≡ closed table.now held opened files.old }
+{
+    match table {
+        TableAsked::Active => *files = kept_table(held, opened),
+        TableAsked::Kept(_) => {}
+    }
+}
+
+/// The numbers of files in memory, where they are those of the table that is asked: those of the active one.
+fn numbers_for<'a>(
+    table: &TableAsked,
+    numbers: &'a Option<FileNumbers>,
+    none: &'a Option<FileNumbers>,
+) -> &'a Option<FileNumbers>
+    requires none { none.now ≡ None }
+    ensures { result.now ≡ numbers_asked table.now numbers.now }
+{
+    match table {
+        TableAsked::Active => numbers,
+        TableAsked::Kept(_) => none,
+    }
+}
+
+/// What a call of the table that a command asks answers over the volume's blocks: opens the table, makes the call, and closes it.
+macro_rules! over_asked {
+    ($volume:ident, $alloc:ident, $table:ident, |$files:ident, $home:ident| $answer:ident = $call:expr) => {{
+        let held = $volume.files.is_some();
+        let $home = Home {
+            slot: $volume.slot,
+            label: $volume.label,
+        };
+        let mut $files = open_table(&mut $volume.files, &$volume.active, $table, $alloc);
+        let $answer = $call;
+        close_table(&mut $volume.files, held, $table, $files);
+        $answer
+    }};
+}
+
 /// What is known of the file of a name in a table; `None` exactly where no file of it has the name.
 pub(crate) fn find_in<D: Disk>(
     volume: &mut VolumeState,
@@ -70,26 +130,22 @@ pub(crate) fn find_in<D: Disk>(
     ensures cause { BlockCause (IsStanding (D.shown disk.old) pool.old volume.old) (standing_of (D.shown disk.old) pool.old volume.old table.now)
         (lent_for pool.old volume.old.map (D.shown disk.old) 0 (home_in volume.old) 0) (D.shown disk.new).faults result }
 {
-    match table {
-        TableAsked::Active => find_file(volume, alloc, pool, disk, name),
-        TableAsked::Kept(root) => {
-            let home = Home {
-                slot: volume.slot,
-                label: volume.label,
-            };
-            let mut files = Files::at(alloc, root.levels, root.root);
-            find_told::<Brand, D, Brand>(
-                &mut files,
-                pool,
-                disk,
-                &mut volume.map,
-                &home,
-                Blank::new(1),
-                &None,
-                name,
-            )
-        }
-    }
+    let none = None;
+    over_asked!(
+        volume,
+        alloc,
+        table,
+        |files, home| found = find_told::<Brand, D, Brand>(
+            &mut files,
+            pool,
+            disk,
+            &mut volume.map,
+            &home,
+            Blank::new(1),
+            numbers_for(table, &volume.numbers, &none),
+            name,
+        )
+    )
 }
 
 /// The names of all files of a table.
@@ -108,68 +164,23 @@ pub(crate) fn list_in<D: Disk>(
     ensures cause { BlockCause (IsStanding (D.shown disk.old) pool.old volume.old) (standing_of (D.shown disk.old) pool.old volume.old table.now)
         (lent_for pool.old volume.old.map (D.shown disk.old) 0 (home_in volume.old) 0) (D.shown disk.new).faults result }
 {
-    match table {
-        TableAsked::Active => list_files(volume, alloc, pool, disk),
-        TableAsked::Kept(root) => {
-            let home = Home {
-                slot: volume.slot,
-                label: volume.label,
-            };
-            let mut files = Files::at(alloc, root.levels, root.root);
-            list_told::<Brand, D, Brand>(
-                &mut files,
-                pool,
-                disk,
-                &mut volume.map,
-                &home,
-                Blank::new(1),
-            )
-        }
-    }
+    over_asked!(
+        volume,
+        alloc,
+        table,
+        |files, home| names = list_told::<Brand, D, Brand>(
+            &mut files,
+            pool,
+            disk,
+            &mut volume.map,
+            &home,
+            Blank::new(1),
+        )
+    )
 }
 
-/// Follows the path from the root of a table to the record of a file, for its steps.
-pub(crate) fn follow_in<D: Disk, L: Ledger>(
-    volume: &mut VolumeState,
-    alloc: Global,
-    pool: &mut Pool,
-    disk: &mut D,
-    table: &TableAsked,
-    number: u32,
-    steps: &mut Steps<L>,
-) -> Result<(), BlockFault>
-    requires ready { IsReady (D.shown disk.old) pool.old volume.old }
-    requires of { IsTableOf volume.old table.now }
-    ensures steps { IsStanding (D.shown disk.old) pool.old volume.old
-        → OnOk result (steps.new ≡ steps.old + unknown_to (standing_of (D.shown disk.old) pool.old volume.old table.now).inode (number / records_each)) }
-    ensures same { volume.new ≡ volume.old }
-    ensures reads { Reads (D.shown disk.old) pool.old (D.shown disk.new) pool.new }
-    ensures cause { BlockCause (IsStanding (D.shown disk.old) pool.old volume.old) (standing_of (D.shown disk.old) pool.old volume.old table.now)
-        (lent_for pool.old volume.old.map (D.shown disk.old) steps.old (home_in volume.old) 0) (D.shown disk.new).faults result }
-{
-    match table {
-        TableAsked::Active => follow_record(volume, alloc, pool, disk, number, steps),
-        TableAsked::Kept(root) => {
-            let home = Home {
-                slot: volume.slot,
-                label: volume.label,
-            };
-            let mut files = Files::at(alloc, root.levels, root.root);
-            record_told::<Brand, D, L>(
-                &mut files,
-                pool,
-                disk,
-                &mut volume.map,
-                steps,
-                &home,
-                number,
-            )
-        }
-    }
-}
-
-/// A block of the file of which this is known in a table, or zeros, with the steps of the path in its tree.
-pub(crate) fn copy_in<D: Disk, L: Ledger>(
+/// A block of the file of which this is known in a table, or zeros, with the steps of the whole path to it.
+pub(crate) fn read_in<D: Disk, L: Ledger>(
     volume: &mut VolumeState,
     alloc: Global,
     pool: &mut Pool,
@@ -185,32 +196,26 @@ pub(crate) fn copy_in<D: Disk, L: Ledger>(
     requires range { IsInfo info.now }
     requires there { IsStanding (D.shown disk.old) pool.old volume.old → IsInfoOf (standing_of (D.shown disk.old) pool.old volume.old table.now).inode info.now }
     ensures block { IsStanding (D.shown disk.old) pool.old volume.old → OnOk result (GivesCell (standing_of (D.shown disk.old) pool.old volume.old table.now) info.now.number index into.new) }
-    ensures steps { IsStanding (D.shown disk.old) pool.old volume.old
-        → OnOk result (steps.new ≡ steps.old + unknown_to (tree_known (standing_of (D.shown disk.old) pool.old volume.old table.now) info.now) index) }
+    ensures steps { IsStanding (D.shown disk.old) pool.old volume.old → OnOk result (steps.new ≡ steps.old + unknown_over (standing_of (D.shown disk.old) pool.old volume.old table.now) info.now index) }
     ensures same { volume.new ≡ volume.old }
     ensures reads { Reads (D.shown disk.old) pool.old (D.shown disk.new) pool.new }
     ensures cause { BlockCause (IsStanding (D.shown disk.old) pool.old volume.old) (standing_of (D.shown disk.old) pool.old volume.old table.now)
         (lent_for pool.old volume.old.map (D.shown disk.old) steps.old (home_in volume.old) 0) (D.shown disk.new).faults result }
 {
-    match table {
-        TableAsked::Active => copy_block(volume, alloc, pool, disk, info, index, into, steps),
-        TableAsked::Kept(root) => {
-            let home = Home {
-                slot: volume.slot,
-                label: volume.label,
-            };
-            let mut files = Files::at(alloc, root.levels, root.root);
-            block_told::<Brand, D, L>(
-                &mut files,
-                pool,
-                disk,
-                &mut volume.map,
-                steps,
-                &home,
-                info,
-                index,
-                into,
-            )
-        }
-    }
+    over_asked!(
+        volume,
+        alloc,
+        table,
+        |files, home| read = cell_told::<Brand, D, L>(
+            &mut files,
+            pool,
+            disk,
+            &mut volume.map,
+            steps,
+            &home,
+            info,
+            index,
+            into,
+        )
+    )
 }

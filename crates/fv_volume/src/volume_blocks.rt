@@ -68,6 +68,26 @@ pub struct VolumeBlocks<'p, 'd, 'v, 's, K: Guard, D: Disk, L: Ledger> {
     ghost apart: { K.told → AreApart pool.now map.now home.slot },
 }
 
+/// The blocks of a volume over what a session lends, with room for no block and no damage so far. It is a macro and no function, so that a
+/// proof sees in each field what is lent, and where the borrow ends finds it there.
+macro_rules! lend_blocks {
+    ($pool:expr, $disk:expr, $map:expr, $steps:expr, $home:expr) => {
+        $crate::volume_blocks::VolumeBlocks {
+            pool: $pool,
+            disk: $disk,
+            map: $map,
+            steps: $steps,
+            home: *$home,
+            room: 0,
+            strays: 0,
+            noted: $crate::noted::Noted::NONE,
+            of: std::marker::PhantomData,
+        }
+    };
+}
+
+pub(crate) use lend_blocks;
+
 impl<'p, 'd, 'v, 's, K: Guard, D: Disk, L: Ledger> Blocks
     for VolumeBlocks<'p, 'd, 'v, 's, K, D, L> {
     ghost use Rattle.std.specs.Prelude.{refl};

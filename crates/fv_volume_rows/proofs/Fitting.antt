@@ -22,8 +22,8 @@ use Rattle.fv_volume.specs.declared.state.Base.{Base}
 use Rattle.fv_volume.specs.declared.state.VolumeState.{VolumeState}
 use Rattle.fv_volume.specs.BlocksOver.{entries_in}
 use Rattle.fv_volume.specs.Calls.{Reads}
-use Rattle.fv_volume.specs.Creating.{IsMade, IsNew, with_holes}
-use Rattle.fv_volume.proofs.Housing.{housed_with}
+use Rattle.fv_volumes.specs.Creating.{IsMade, IsNew, with_holes}
+use Rattle.fv_volumes.proofs.Housing.{housed_with}
 use Rattle.fv_volume.specs.Files.{IsLabelled}
 use Rattle.fv_volume.specs.Keeping.{Blocks, IsUnkept}
 use Rattle.fv_volume.specs.Lending.{GoesOver, MayTake, lent_by, lent_for}
@@ -183,8 +183,8 @@ fit_left d e p q xs slot x y was within there same labelled leaves = fit_with d 
 -- a new volume beside those that were, or none
 pub made_fit : {E : Type 0} (d : Disk) (p q : Pool) (xs ys : States) (name : List ℕ) (size : ℕ) (kind : Kind) (r : Result ℕ E) → AreFit d p xs → IfOk r (λ slot. IsMade xs slot name size kind ys)
     → IfOk r (λ slot. IsNew (state_at ys slot) (container_at q.containers slot) name size kind) → IfOk r (λ slot. q ≡ with_holes p slot size) → OnOk r ((s : ℕ) → IfSome (state_at ys s) (IsLabelled s))
-    → OnErr r (ys ≡ xs) → OnErr r (q ≡ p) → AreFit d q ys
-made_fit d p q xs ys name size kind (Ok slot) was made new holes each same same_pool = subst (λ (w : Pool). AreFit d w ys) (sym holes) (record {
+    → OnErr r ((ys ≡ xs) × (q ≡ p)) → AreFit d q ys
+made_fit d p q xs ys name size kind (Ok slot) was made new holes each same = subst (λ (w : Pool). AreFit d w ys) (sym holes) (record {
   fit = record {
     range = was.fit.range;
     size = was.fit.size;
@@ -193,7 +193,7 @@ made_fit d p q xs ys name size kind (Ok slot) was made new holes each same same_
   };
   root = was.root;
 })
-made_fit d p q xs ys name size kind (Err e) was made new holes each same same_pool = subst (λ (w : Pool). AreFit d w ys) (sym same_pool) (subst (λ (ss : States). AreFit d p ss) (sym same) was)
+made_fit d p q xs ys name size kind (Err e) was made new holes each same = subst (λ (w : Pool). AreFit d w ys) (sym same.1) (subst (λ (ss : States). AreFit d p ss) (sym same.0) was)
 
 -- a root that was found on a settled disk, after reads
 pub root_on : (b c d e : Disk) (found : Found) → IsSettled b → IsFound b.reads found → OnlyReads b c → OnlyReads c d → OnlyReads d e → IsFoundOn e found

@@ -12,8 +12,9 @@ use crate::opened::Opened;
 use fv_container::Steps;
 use fv_disk::{Block, Disk};
 use fv_model::{Command, Kind, Name, Refusal, Reply};
-use fv_snapshot::{create as create_snapshot, delete, restore};
-use fv_volume::{Pool, VolumeFault, VolumeState, Volumes};
+use fv_snapshot::{create as make_snapshot, delete, judge_create, restore};
+use fv_volume::{Pool, VolumeFault, VolumeState};
+use fv_volumes::Volumes;
 use std::alloc::Global;
 use std::marker::Brand;
 use std::sync::ledger::{Blank, Ledger};
@@ -77,6 +78,25 @@ fn on_snapshots<D: Disk>(
     match volumes.get_mut(slot) {
         None => Err(VolumeFault::Refused(Refusal::NoVolume)),
         Some(volume) => done(change_snapshots(volume, pool, disk, others, command)),
+    }
+}
+
+/// Makes a snapshot of a volume where it is granted.
+fn create_snapshot<D: Disk>(
+    volume: &mut VolumeState,
+    pool: &mut Pool,
+    disk: &mut D,
+    others: u64,
+    name: &Name,
+) -> Result<(), VolumeFault>
+    requires ready { IsReady (D.shown disk.old) pool.old volume.old }
+    requires others { others ≤ 2 ^ 62 }
+    ensures ready { IsReady (D.shown disk.new) pool.new volume.new }
+    ensures leaves { LeavesPlace (D.shown disk.old) (D.shown disk.new) pool.old pool.new volume.old volume.new }
+{
+    match judge_create(volume, pool.found.blocks, others, name) {
+        Ok(granted) => make_snapshot(volume, pool, disk, granted, name),
+        Err(refusal) => Err(VolumeFault::Refused(refusal)),
     }
 }
 

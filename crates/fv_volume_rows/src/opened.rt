@@ -9,7 +9,8 @@ use crate::wrong::Wrong;
 use fv_disk::{Block, Disk};
 use fv_memdisk::{Call, MemHost, Tear};
 use fv_root::{Found, find_root, format};
-use fv_volume::{Pool, Volumes};
+use fv_volume::Pool;
+use fv_volumes::Volumes;
 use std::alloc::{AllocError, Global};
 use std::marker::Model;
 

@@ -14,7 +14,7 @@ use Rattle.fv_store.specs.Held.{StandsOn}
 use Rattle.fv_volume.specs.declared.pool.Pool.{Pool}
 use Rattle.fv_volume.specs.declared.state.VolumeState.{VolumeState}
 use Rattle.fv_volume.specs.BlocksOver.{entries_in}
-use Rattle.fv_volume.specs.Creating.{IsNew, with_holes}
+use Rattle.fv_volumes.specs.Creating.{IsNew, with_holes}
 use Rattle.fv_volume.specs.Files.{IsLabelled}
 use Rattle.fv_volume.specs.OneVolume.{IsReady}
 use Rattle.fv_volume.specs.Slots.{IsFirstFree}

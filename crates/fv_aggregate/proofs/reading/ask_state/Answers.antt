@@ -3,7 +3,7 @@ use Rattle.std.specs.Prelude.{ℕ}
 use Rattle.fv_model.specs.Numbers.{is_index}
 use Rattle.fv_model.specs.declared.answers.Reply.TheVariants.{Content, Number, Names}
 use Rattle.fv_model.specs.declared.commands.Command.TheVariants.{Get, Len, Ls}
-use Rattle.fv_volume.proofs.KnownSteps.{known_get}
+use Rattle.fv_volumes.proofs.KnownSteps.{known_get}
 use Rattle.fv_aggregate.specs.Commands.{has_range, snapshot_asked}
 use Rattle.fv_aggregate.specs.Looking.{AsksState}
 use Rattle.fv_aggregate.proofs.Asked.{of_get, of_len, of_ls, state_answered, state_failed}

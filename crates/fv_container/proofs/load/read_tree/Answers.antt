@@ -23,10 +23,10 @@ returns-in_err-level-clause-fault g c = λ tells.
     let j = (g.D.Disk.shown c.read_root.new.disk).reads in
     let n = length c.args.entries.now in
     let root = c.in_ok-top.ensures in
-    let told : IsTrue (g.D.Disk.shown c.read_root.new.disk).tells = rw root.only_reads.stays.tells tells in
+    let told : IsTrue (g.D.Disk.shown c.read_root.new.disk).tells = rw root.read.only_reads.stays.tells tells in
     let inner : (q : ℕ) → q < level_width n 1 → get_or c.read_root.new.places (c.leaf_count-leaves.result + q) 0 ≡ node_below i c.args.root (c.args.height - 1) q = rw (← c.inner_count-inner.ensures) (root.inner tells) in
     let bad : IsLevelFault j 1 c.read_root.new.places c.leaf_count-leaves.result (level_width n 1) c.in_err-level.field-0.0 = rw (← c.inner_count-inner.ensures) (c.in_err-level.ensures.fault told) in
-    let good = fault_level i j c.args.root c.args.height n 1 c.leaf_count-leaves.result c.read_root.new.places c.in_err-level.field-0.0 root.only_reads.stays.reads c.requires.least inner bad in
+    let good = fault_level i j c.args.root c.args.height n 1 c.leaf_count-leaves.result c.read_root.new.places c.in_err-level.field-0.0 root.read.only_reads.stays.reads c.requires.least inner bad in
     let p = err_from_is_err_and c.from_residual-in_err-level.result c.from_residual-in_err-level.ensures.1 in
     rw (p.1, p.2) good
 
@@ -42,10 +42,10 @@ returns-clause-spelled g c = λ tells dirty.
     let level = c.in_ok-level.ensures in
     let low = c.in_ok-low.ensures in
     let long : length es ≡ n = c.read_leaves.ensures.len in
-    let up : above ≡ i = root.only_reads.stays.reads in
-    let same : j ≡ i = level.only_reads.stays.reads ∙ up in
-    let told_up : IsTrue (g.D.Disk.shown c.read_root.new.disk).tells = rw root.only_reads.stays.tells tells in
-    let told : IsTrue (g.D.Disk.shown c.read_level.new.disk).tells = rw (level.only_reads.stays.tells, root.only_reads.stays.tells) tells in
+    let up : above ≡ i = root.read.only_reads.stays.reads in
+    let same : j ≡ i = level.read.only_reads.stays.reads ∙ up in
+    let told_up : IsTrue (g.D.Disk.shown c.read_root.new.disk).tells = rw root.read.only_reads.stays.tells tells in
+    let told : IsTrue (g.D.Disk.shown c.read_level.new.disk).tells = rw (level.read.only_reads.stays.tells, root.read.only_reads.stays.tells) tells in
     let inner_above : AreShaped above 1 c.read_root.new.places (level_width n 0) (level_width n 1) = rw (← c.inner_count-inner.ensures, ← c.leaf_count-leaves.ensures) (level.shaped told_up) in
     let past : (m : ℕ) → level_width n 0 ≤ m → get_or places m 0 ≡ get_or c.read_root.new.places m 0 = rw (← c.leaf_count-leaves.ensures) level.past in
     let inner : AreShaped i 1 places (level_width n 0) (level_width n 1) = shaped_at i above 1 (level_width n 0) (level_width n 1) c.read_root.new.places places up past inner_above in
@@ -53,10 +53,10 @@ returns-clause-spelled g c = λ tells dirty.
     let read : (v : ℕ) → v < n → pair_of (get_or es v None) ≡ entry_in (lying leaf_at i (get_or places (v / 256) 0)) (v % 256) = rw (← same) (low.entries told) in
     let at_n : TreeAt (g.D.Disk.shown c.args.disk.now).reads c.args.root c.args.height (length c.args.entries.now) c.read_level.new.places =
     tree_read (g.D.Disk.shown c.args.disk.now).reads (g.D.Disk.shown c.read_root.new.disk).reads c.args.root c.args.height (length c.args.entries.now) c.read_root.new.places c.read_level.new.places c.requires.blank.few c.requires.least c.requires.greatest
-    (c.in_ok-level.ensures.len ∙ c.in_ok-top.ensures.len ∙ c.requires.blank.nodes) c.in_ok-top.ensures.only_reads.stays.reads
+    (c.in_ok-level.ensures.len ∙ c.in_ok-top.ensures.len ∙ c.requires.blank.nodes) c.in_ok-top.ensures.read.only_reads.stays.reads
     (rw (← c.inner_count-inner.ensures, ← c.leaf_count-leaves.ensures) (c.in_ok-top.ensures.inner tells))
     (rw (← c.inner_count-inner.ensures, ← c.leaf_count-leaves.ensures) c.in_ok-top.ensures.top)
-    (rw (← c.leaf_count-leaves.ensures) (c.in_ok-level.ensures.leaves (rw c.in_ok-top.ensures.only_reads.stays.tells tells)))
+    (rw (← c.leaf_count-leaves.ensures) (c.in_ok-level.ensures.leaves (rw c.in_ok-top.ensures.read.only_reads.stays.tells tells)))
     (rw (← c.leaf_count-leaves.ensures) c.in_ok-level.ensures.past) in
     let at : TreeAt i c.args.root c.args.height (length es) places = rw long at_n in
     spelled i c.args.root c.args.height es places at (shaped_tree i c.args.root c.args.height es places at (rw long leaves) (rw long inner) (root.shaped tells)) (rw long read) dirty
@@ -75,10 +75,10 @@ returns-clause-whole g c = λ tells is.
     let first = and_parts c.in_ok-top.top c.both-below.result (sym c.both.ensures ∙ is) in
     let second = and_parts c.in_ok-level.level c.in_ok-low.low (sym c.both-below.ensures ∙ first.1) in
     let long : length es ≡ n = c.read_leaves.ensures.len in
-    let up : above ≡ i = root.only_reads.stays.reads in
-    let same : j ≡ i = level.only_reads.stays.reads ∙ up in
-    let told_up : IsTrue (g.D.Disk.shown c.read_root.new.disk).tells = rw root.only_reads.stays.tells tells in
-    let told : IsTrue (g.D.Disk.shown c.read_level.new.disk).tells = rw (level.only_reads.stays.tells, root.only_reads.stays.tells) tells in
+    let up : above ≡ i = root.read.only_reads.stays.reads in
+    let same : j ≡ i = level.read.only_reads.stays.reads ∙ up in
+    let told_up : IsTrue (g.D.Disk.shown c.read_root.new.disk).tells = rw root.read.only_reads.stays.tells tells in
+    let told : IsTrue (g.D.Disk.shown c.read_level.new.disk).tells = rw (level.read.only_reads.stays.tells, root.read.only_reads.stays.tells) tells in
     let inner_above : StandInner above c.read_root.new.places (level_width n 0) (level_width n 1) = rw (← c.inner_count-inner.ensures, ← c.leaf_count-leaves.ensures) (level.whole told_up second.0) in
     let past : (m : ℕ) → level_width n 0 ≤ m → get_or places m 0 ≡ get_or c.read_root.new.places m 0 = rw (← c.leaf_count-leaves.ensures) level.past in
     let inner : StandInner i places (level_width n 0) (level_width n 1) = stand_at i above (level_width n 0) (level_width n 1) c.read_root.new.places places up past inner_above in
@@ -87,10 +87,10 @@ returns-clause-whole g c = λ tells is.
     let top : c.args.height ≡ 2 → c.args.root ≢ 0 → StandsInner i c.args.root 2 0 (level_width n 1) = rw (← c.inner_count-inner.ensures) (root.whole tells first.0) in
     let at_n : TreeAt (g.D.Disk.shown c.args.disk.now).reads c.args.root c.args.height (length c.args.entries.now) c.read_level.new.places =
     tree_read (g.D.Disk.shown c.args.disk.now).reads (g.D.Disk.shown c.read_root.new.disk).reads c.args.root c.args.height (length c.args.entries.now) c.read_root.new.places c.read_level.new.places c.requires.blank.few c.requires.least c.requires.greatest
-    (c.in_ok-level.ensures.len ∙ c.in_ok-top.ensures.len ∙ c.requires.blank.nodes) c.in_ok-top.ensures.only_reads.stays.reads
+    (c.in_ok-level.ensures.len ∙ c.in_ok-top.ensures.len ∙ c.requires.blank.nodes) c.in_ok-top.ensures.read.only_reads.stays.reads
     (rw (← c.inner_count-inner.ensures, ← c.leaf_count-leaves.ensures) (c.in_ok-top.ensures.inner tells))
     (rw (← c.inner_count-inner.ensures, ← c.leaf_count-leaves.ensures) c.in_ok-top.ensures.top)
-    (rw (← c.leaf_count-leaves.ensures) (c.in_ok-level.ensures.leaves (rw c.in_ok-top.ensures.only_reads.stays.tells tells)))
+    (rw (← c.leaf_count-leaves.ensures) (c.in_ok-level.ensures.leaves (rw c.in_ok-top.ensures.read.only_reads.stays.tells tells)))
     (rw (← c.leaf_count-leaves.ensures) c.in_ok-level.ensures.past) in
     let at : TreeAt i c.args.root c.args.height (length es) places = rw long at_n in
     read_over i c.args.root c.args.height es places at (rw long read) (rw long leaves) (rw long inner) (rw long top)
@@ -102,14 +102,14 @@ returns-in_err-low-clause-fault g c = λ tells.
     let n = length c.args.entries.now in
     let level = c.in_ok-level.ensures in
     let root = c.in_ok-top.ensures in
-    let same : j ≡ i = level.only_reads.stays.reads ∙ root.only_reads.stays.reads in
-    let told : IsTrue (g.D.Disk.shown c.read_level.new.disk).tells = rw (level.only_reads.stays.tells, root.only_reads.stays.tells) tells in
+    let same : j ≡ i = level.read.only_reads.stays.reads ∙ root.read.only_reads.stays.reads in
+    let told : IsTrue (g.D.Disk.shown c.read_level.new.disk).tells = rw (level.read.only_reads.stays.tells, root.read.only_reads.stays.tells) tells in
     let at_n : TreeAt (g.D.Disk.shown c.args.disk.now).reads c.args.root c.args.height (length c.args.entries.now) c.read_level.new.places =
     tree_read (g.D.Disk.shown c.args.disk.now).reads (g.D.Disk.shown c.read_root.new.disk).reads c.args.root c.args.height (length c.args.entries.now) c.read_root.new.places c.read_level.new.places c.requires.blank.few c.requires.least c.requires.greatest
-    (c.in_ok-level.ensures.len ∙ c.in_ok-top.ensures.len ∙ c.requires.blank.nodes) c.in_ok-top.ensures.only_reads.stays.reads
+    (c.in_ok-level.ensures.len ∙ c.in_ok-top.ensures.len ∙ c.requires.blank.nodes) c.in_ok-top.ensures.read.only_reads.stays.reads
     (rw (← c.inner_count-inner.ensures, ← c.leaf_count-leaves.ensures) (c.in_ok-top.ensures.inner tells))
     (rw (← c.inner_count-inner.ensures, ← c.leaf_count-leaves.ensures) c.in_ok-top.ensures.top)
-    (rw (← c.leaf_count-leaves.ensures) (c.in_ok-level.ensures.leaves (rw c.in_ok-top.ensures.only_reads.stays.tells tells)))
+    (rw (← c.leaf_count-leaves.ensures) (c.in_ok-level.ensures.leaves (rw c.in_ok-top.ensures.read.only_reads.stays.tells tells)))
     (rw (← c.leaf_count-leaves.ensures) c.in_ok-level.ensures.past) in
     let good = fault_level i j c.args.root c.args.height n 0 0 c.read_level.new.places c.in_err-low.field-0.0 same (omega arith) (λ q within. at_first c.read_level.new.places q ∙ at_n.leaf q within) (c.in_err-low.ensures.fault told) in
     let p = err_from_is_err_and c.from_residual-in_err-low.result c.from_residual-in_err-low.ensures.1 in

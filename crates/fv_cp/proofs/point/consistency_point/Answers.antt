@@ -1,10 +1,10 @@
 use Rattle.std.proofs.Common.{◌≡◌, ◌≤◌, ◌<◌, ℕ, ◌∙◌, arith}
 use Rattle.fv_cp.specs.Choosing.{holdings}
 use Rattle.fv_cp.specs.Planning.{is_set, taken}
+use Rattle.fv_cp.proofs.ByPlan.{moments_by, point_by}
 use Rattle.fv_cp.proofs.Crashing.{rests, writing}
-use Rattle.fv_cp.proofs.Ending.{found_left, goes_on, moments, point}
-use Rattle.fv_cp.proofs.Marking.{asked_now, fit_marked, lent_marked}
-use Rattle.fv_cp.proofs.Pointing.{come_chosen, marked_chosen, none_left}
+use Rattle.fv_cp.proofs.Ending.{found_left, goes_on}
+use Rattle.fv_cp.proofs.Marking.{asked_now, fit_marked}
 use Rattle.fv_cp.proofs.point.consistency_point.Goals as goal
 
 -- as many blocks are free as were asked for
@@ -44,45 +44,23 @@ switch-requires-clause-found g c =
 
 pub returns-in_err-switch-clause-any_moment : goal.returns-in_err-switch-clause-any_moment
 returns-in_err-switch-clause-any_moment g c = λ tells before lent can.
-    let disk = g.D.Disk.shown c.args.disk.now in
-    let pool = c.args.pool.now in
-    let given = c.args.volumes.now in
-    let now = c.mark.new.volumes in
-    let plan = c.choose-plan.result in
-    let marked = c.mark.ensures.marked in
-    let fit = fit_marked given now (is_set plan.due) marked pool c.mark.ensures.long c.requires.fit in
-    moments disk pool now before (lent_marked given now (is_set plan.due) marked disk pool before lent) fit c.write_volumes.new.labels c.write_volumes.new.pool (g.D.Disk.shown c.write_volumes.new.disk) given c.args.want
-    (come_chosen disk pool given before lent c.requires.fit c.args.want c.args.delays.now can plan c.choose-plan.ensures.planned now marked fit.housed c.write_volumes.new.labels c.write_volumes.new.pool (g.D.Disk.shown c.write_volumes.new.disk) c.in_ok-write_volumes.ensures.come)
-    tells (marked_chosen disk pool given before lent c.requires.fit c.args.want c.args.delays.now can plan c.choose-plan.ensures.planned now marked) c.requires.fit.housed.long (g.D.Disk.shown c.switch.new.disk) c.switch.ensures.any_moment
+    moments_by (g.D.Disk.shown c.args.disk.now) c.args.pool.now c.args.volumes.now before lent c.requires.fit c.args.want c.args.delays.now can c.choose-plan.result c.choose-plan.ensures.planned
+    c.mark.new.volumes c.mark.ensures.marked c.mark.ensures.long c.write_volumes.new.labels c.write_volumes.new.pool (g.D.Disk.shown c.write_volumes.new.disk) c.in_ok-write_volumes.ensures.come tells
+    (g.D.Disk.shown c.switch.new.disk) c.switch.ensures.any_moment
 
 pub returns-clause-any_moment : goal.returns-clause-any_moment
 returns-clause-any_moment g c = λ tells before lent can.
-    let disk = g.D.Disk.shown c.args.disk.now in
-    let pool = c.args.pool.now in
-    let given = c.args.volumes.now in
-    let now = c.mark.new.volumes in
-    let plan = c.choose-plan.result in
-    let marked = c.mark.ensures.marked in
-    let fit = fit_marked given now (is_set plan.due) marked pool c.mark.ensures.long c.requires.fit in
-    moments disk pool now before (lent_marked given now (is_set plan.due) marked disk pool before lent) fit c.write_volumes.new.labels c.write_volumes.new.pool (g.D.Disk.shown c.write_volumes.new.disk) given c.args.want
-    (come_chosen disk pool given before lent c.requires.fit c.args.want c.args.delays.now can plan c.choose-plan.ensures.planned now marked fit.housed c.write_volumes.new.labels c.write_volumes.new.pool (g.D.Disk.shown c.write_volumes.new.disk) c.in_ok-write_volumes.ensures.come)
-    tells (marked_chosen disk pool given before lent c.requires.fit c.args.want c.args.delays.now can plan c.choose-plan.ensures.planned now marked) c.requires.fit.housed.long (g.D.Disk.shown c.switch.new.disk) c.switch.ensures.any_moment
+    moments_by (g.D.Disk.shown c.args.disk.now) c.args.pool.now c.args.volumes.now before lent c.requires.fit c.args.want c.args.delays.now can c.choose-plan.result c.choose-plan.ensures.planned
+    c.mark.new.volumes c.mark.ensures.marked c.mark.ensures.long c.write_volumes.new.labels c.write_volumes.new.pool (g.D.Disk.shown c.write_volumes.new.disk) c.in_ok-write_volumes.ensures.come tells
+    (g.D.Disk.shown c.switch.new.disk) c.switch.ensures.any_moment
 
 pub returns-clause-point : goal.returns-clause-point
 returns-clause-point g c = λ tells before lent can.
-    let disk = g.D.Disk.shown c.args.disk.now in
-    let pool = c.args.pool.now in
-    let given = c.args.volumes.now in
-    let now = c.mark.new.volumes in
-    let plan = c.choose-plan.result in
-    let marked = c.mark.ensures.marked in
-    let fit = fit_marked given now (is_set plan.due) marked pool c.mark.ensures.long c.requires.fit in
     let did = c.in_ok-switch.ensures in
-    point disk pool now before (lent_marked given now (is_set plan.due) marked disk pool before lent) fit c.write_volumes.new.labels c.write_volumes.new.pool (g.D.Disk.shown c.write_volumes.new.disk) given c.args.want
-    (come_chosen disk pool given before lent c.requires.fit c.args.want c.args.delays.now can plan c.choose-plan.ensures.planned now marked fit.housed c.write_volumes.new.labels c.write_volumes.new.pool (g.D.Disk.shown c.write_volumes.new.disk) c.in_ok-write_volumes.ensures.come)
-    tells (marked_chosen disk pool given before lent c.requires.fit c.args.want c.args.delays.now can plan c.choose-plan.ensures.planned now marked) c.requires.fit.housed.long
+    point_by (g.D.Disk.shown c.args.disk.now) c.args.pool.now c.args.volumes.now before lent c.requires.fit c.args.want c.args.delays.now can c.choose-plan.result c.choose-plan.ensures.planned
+    c.mark.new.volumes c.mark.ensures.marked c.mark.ensures.long c.write_volumes.new.labels c.write_volumes.new.pool (g.D.Disk.shown c.write_volumes.new.disk) c.in_ok-write_volumes.ensures.come tells
     (g.D.Disk.shown c.switch.new.disk) did.committed c.switch.new.pool c.settle.new.volumes did.switched did.containers did.kept c.settle.ensures.settled
-    c.write_volumes.new.delays (none_left disk pool given before lent c.requires.fit c.args.want c.args.delays.now can plan c.choose-plan.ensures.planned now marked c.write_volumes.new.delays c.in_ok-write_volumes.ensures.delays)
+    c.write_volumes.new.delays c.in_ok-write_volumes.ensures.delays
 
 pub returns-clause-goes_on : goal.returns-clause-goes_on
 returns-clause-goes_on g c =

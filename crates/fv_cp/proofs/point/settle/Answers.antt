@@ -1,5 +1,5 @@
 use Rattle.std.proofs.Common.{arith}
-use Rattle.fv_volume.proofs.Settling.{settled_all, settled_more, settled_none}
+use Rattle.fv_volumes.proofs.Settling.{settled_all, settled_more, settled_none}
 use Rattle.fv_cp.proofs.point.settle.Goals as goal
 
 pub loop-slot-init : goal.loop-slot-init

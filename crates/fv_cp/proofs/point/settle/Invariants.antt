@@ -1,4 +1,4 @@
-use Rattle.fv_volume.specs.Housed.{AreSettledTo}
+use Rattle.fv_volumes.specs.Housed.{AreSettledTo}
 use Rattle.fv_cp.proofs.point.settle.Given as goal
 
 abbrev pub invariant-loop-slot : goal.invariant-loop-slot

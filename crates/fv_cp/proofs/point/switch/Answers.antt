@@ -1,4 +1,4 @@
-use Rattle.fv_volume.proofs.RootFound.{stands_behind}
+use Rattle.fv_volumes.proofs.RootFound.{stands_behind}
 use Rattle.fv_cp.proofs.point.switch.Goals as goal
 
 pub returns-in_err-commit-clause-stands : goal.returns-in_err-commit-clause-stands

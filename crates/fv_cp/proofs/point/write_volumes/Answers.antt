@@ -9,7 +9,7 @@ use Rattle.fv_cp.proofs.Plans.{delays_begin, delays_more}
 use Rattle.fv_cp.specs.Course.{HasCome}
 use Rattle.fv_volume.specs.Writing.{IsTaken, on_disk}
 use Rattle.fv_cp.proofs.Stepping.{asked_on, come_first, come_more, past_alike, spares_on}
-use Rattle.fv_volume.proofs.Sparing.{failed_as, spares_fewer}
+use Rattle.fv_volumes.proofs.Sparing.{failed_as, spares_fewer}
 use Rattle.fv_cp.proofs.point.write_volumes.Goals as goal
 
 pub loop-slot-init : goal.loop-slot-init

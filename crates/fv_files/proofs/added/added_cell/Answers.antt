@@ -1,8 +1,8 @@
 use Rattle.std.proofs.Common.{◌≡◌, sym, subst, ◌∙◌}
-use Rattle.std.specs.Prelude.{IfOk, IfErr}
+use Rattle.std.specs.Prelude.{IfOk}
 use Rattle.fv_tree.specs.Counting.{added_at}
-use Rattle.fv_tree.specs.Standing.{under, Fails}
-use Rattle.fv_files.proofs.Tables.{stored_known}
+use Rattle.fv_tree.specs.Standing.{under, standing}
+use Rattle.fv_files.proofs.Tables.{stored_known, stored_cause}
 use Rattle.fv_files.proofs.added.added_cell.Goals as goal
 
 pub returns-in-None-clause-added : goal.returns-in-None-clause-added
@@ -13,6 +13,5 @@ returns-in-None-clause-added g c = λ told.
 
 pub returns-in-None-clause-cause : goal.returns-in-None-clause-cause
 returns-in-None-clause-cause g c =
-    let old = g.B.Blocks.shown c.args.blocks.now in
-    subst (λ t. IfErr c.added-in-None.result (Fails g.B.Blocks.told t old (g.B.Blocks.shown c.added-in-None.new.blocks)))
-    (c.stored_tree-tree.ensures.stored (under old) ∙ sym (stored_known (under old) c.args.files.now c.args.info.now (sym c.in-None.ensures.value))) c.added-in-None.ensures.cause
+    stored_cause g.B.Blocks.told (g.B.Blocks.shown c.args.blocks.now) (g.B.Blocks.shown c.added-in-None.new.blocks) c.args.files.now c.args.info.now (standing (under (g.B.Blocks.shown c.args.blocks.now)) c.stored_tree-tree.result) c.added-in-None.result
+    (c.stored_tree-tree.ensures.stored (under (g.B.Blocks.shown c.args.blocks.now))) (sym c.in-None.ensures.value) c.added-in-None.ensures.cause

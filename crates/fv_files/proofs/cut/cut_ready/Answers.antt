@@ -1,6 +1,7 @@
 use Rattle.std.proofs.Common.{ap, subst, arith, ◌/◌, sym, ◌∙◌}
+use Rattle.fv_tree.specs.Beside.{LeadsTo, Spares}
 use Rattle.fv_tables.specs.Told.{records_each}
-use Rattle.fv_tree.specs.Flushing.{changed_of}
+use Rattle.fv_tree.specs.Flushing.{changed_of, Stands, loaded}
 use Rattle.fv_inode.specs.declared.info.Info.{Info}
 use Rattle.std.specs.Option.{option_map}
 use Rattle.std.proofs.lemmas.Result.{err_from_is_err_and}
@@ -10,11 +11,12 @@ use Rattle.fv_tree.specs.Erasing.{HoldsCells}
 use Rattle.fv_tree.specs.Standing.{standing, under}
 use Rattle.fv_tree.proofs.Causes.{at_err}
 use Rattle.fv_inode.specs.Files.{with_info}
-use Rattle.fv_files.specs.Tables.{table_in}
+use Rattle.fv_files.specs.Tables.{table_in, AreStanding}
 use Rattle.fv_files.proofs.Counted.{tree_holds}
 use Rattle.fv_files.specs.Calls.{shortened}
-use Rattle.fv_files.proofs.Steps.{cut_failed, cut_done, cut_led, cut_led_failed, cut_pending, cut_pending_done, cut_spares, cut_stood, cut_table_done, cut_table_failed}
+use Rattle.fv_files.proofs.Steps.{cut_failed, cut_done, cut_led, cut_led_failed, cut_pending, cut_pending_done, cut_spares, cut_stood, cut_table_done, cut_table_failed, Restates}
 use Rattle.fv_files.proofs.Wrote.{rewrites_as, cut_table, cut_takes}
+use Rattle.fv_files.proofs.cut.cut_ready.Given as given
 use Rattle.fv_files.proofs.cut.cut_ready.Goals as goal
 
 pub returns-in_err-count-clause-changes : goal.returns-in_err-count-clause-changes
@@ -23,43 +25,39 @@ returns-in_err-count-clause-changes g c =
     rw (p.1, p.2) (cut_failed g.B.Blocks.told (g.B.Blocks.goes c.args.blocks.now c.cut_kept.new.blocks) (Unit {0}) (g.B.Blocks.shown c.args.blocks.now) (g.B.Blocks.shown c.cut_kept.new.blocks) c.args.files.now c.cut_kept.new.trees c.args.info.now.number c.args.length
     c.least_levels-start.result c.args.stamp c.in_err-count.field-0.0 c.in_err-count.ensures)
 
+-- the record that the file gets
+restated : (g : given.Over) (c : goal.After-rewrite g) → Restates c.args.files.now c.rewrite.new.self c.args.info.now.number c.args.stamp (with_info (shortened c.args.info.now c.args.length))
+restated g c = record {
+  rewrites = rewrites_as c.args.files.now.inode c.rewrite.new.self c.args.stamp c.shortened.result (shortened c.args.info.now c.args.length) c.shortened.ensures.is c.rewrite.ensures.rewrites;
+  alters = c.rewrite.ensures.alters;
+  marked = ap (λ (v : Info). changed_of c.rewrite.new.self.tree 0 (v.number / records_each)) (sym c.shortened.ensures.is) ∙ c.rewrite.ensures.marked;
+}
+
+-- the tree stood, and its cut spares the others
+stood : (g : given.Over) (c : goal.After-rewrite g) → g.B.Blocks.told → AreStanding (g.B.Blocks.shown c.args.blocks.now) c.args.files.now → Stands (g.B.Blocks.shown c.args.blocks.now) c.in_ok-count.ensures.tree
+stood g c = cut_stood g.B.Blocks.told (g.B.Blocks.goes c.args.blocks.now c.cut_kept.new.blocks) (Unit {0}) (g.B.Blocks.shown c.args.blocks.now) (g.B.Blocks.shown c.cut_kept.new.blocks) c.args.files.now c.cut_kept.new.trees c.args.info.now.number c.args.length c.least_levels-start.result c.args.stamp c.in_ok-count.count c.in_ok-count.ensures
+
+spared : (g : given.Over) (c : goal.After-rewrite g) → g.B.Blocks.told → AreStanding (g.B.Blocks.shown c.args.blocks.now) c.args.files.now → Spares (g.B.Blocks.shown c.args.blocks.now) (g.B.Blocks.shown c.cut_kept.new.blocks) (LeadsTo (loaded (g.B.Blocks.shown c.args.blocks.now) c.in_ok-count.ensures.tree)) (LeadsTo (loaded (g.B.Blocks.shown c.cut_kept.new.blocks) c.in_ok-count.ensures.next))
+spared g c = cut_spares g.B.Blocks.told (g.B.Blocks.goes c.args.blocks.now c.cut_kept.new.blocks) (Unit {0}) (g.B.Blocks.shown c.args.blocks.now) (g.B.Blocks.shown c.cut_kept.new.blocks) c.args.files.now c.cut_kept.new.trees c.args.info.now.number c.args.length c.least_levels-start.result c.args.stamp c.in_ok-count.count c.in_ok-count.ensures
+
 pub returns-clause-cut : goal.returns-clause-cut
 returns-clause-cut g c = λ told sound.
     let cuts = c.in_ok-count.ensures in
-    let old = g.B.Blocks.shown c.args.blocks.now in
-    let new = g.B.Blocks.shown c.cut_kept.new.blocks in
-    let f = c.args.files.now in
-    let info = c.args.info.now in
-    let start = c.least_levels-start.result in
-    cut_table old new f c.cut_kept.new.trees c.rewrite.new.self info c.args.stamp cuts.tree cuts.next cuts.becomes (c.requires.there told) sound
-    (cut_spares g.B.Blocks.told (g.B.Blocks.goes c.args.blocks.now c.cut_kept.new.blocks) (Unit {0}) old new f c.cut_kept.new.trees info.number c.args.length start c.args.stamp c.in_ok-count.count cuts told sound) c.args.length start c.least_levels-start.ensures.least
-    (rewrites_as f.inode c.rewrite.new.self c.args.stamp c.shortened.result (shortened info c.args.length) c.shortened.ensures.is c.rewrite.ensures.rewrites)
-    (cuts.removal.erased told (cut_stood g.B.Blocks.told (g.B.Blocks.goes c.args.blocks.now c.cut_kept.new.blocks) (Unit {0}) old new f c.cut_kept.new.trees info.number c.args.length start c.args.stamp c.in_ok-count.count cuts told sound))
+    cut_table (g.B.Blocks.shown c.args.blocks.now) (g.B.Blocks.shown c.cut_kept.new.blocks) c.args.files.now c.cut_kept.new.trees c.rewrite.new.self c.args.info.now c.args.stamp cuts.tree cuts.next cuts.becomes (c.requires.prepared.there told) sound (spared g c told sound)
+    c.args.length c.least_levels-start.result c.least_levels-start.ensures.least (restated g c).rewrites (cuts.removal.erased told (stood g c told sound))
 
 pub returns-clause-counted : goal.returns-clause-counted
 returns-clause-counted g c = λ told sound.
     let cuts = c.in_ok-count.ensures in
-    let old = g.B.Blocks.shown c.args.blocks.now in
-    let new = g.B.Blocks.shown c.cut_kept.new.blocks in
-    let f = c.args.files.now in
-    let info = c.args.info.now in
-    let start = c.least_levels-start.result in
-    cut_takes old new f c.cut_kept.new.trees c.rewrite.new.self info c.args.stamp cuts.tree cuts.next cuts.becomes (c.requires.there told) sound
-    (cut_spares g.B.Blocks.told (g.B.Blocks.goes c.args.blocks.now c.cut_kept.new.blocks) (Unit {0}) old new f c.cut_kept.new.trees info.number c.args.length start c.args.stamp c.in_ok-count.count cuts told sound) c.args.length start c.least_levels-start.ensures.least
-    (rewrites_as f.inode c.rewrite.new.self c.args.stamp c.shortened.result (shortened info c.args.length) c.shortened.ensures.is c.rewrite.ensures.rewrites)
-    (cuts.removal.erased told (cut_stood g.B.Blocks.told (g.B.Blocks.goes c.args.blocks.now c.cut_kept.new.blocks) (Unit {0}) old new f c.cut_kept.new.trees info.number c.args.length start c.args.stamp c.in_ok-count.count cuts told sound))
-    c.in_ok-count.count (cuts.removal.count told (cut_stood g.B.Blocks.told (g.B.Blocks.goes c.args.blocks.now c.cut_kept.new.blocks) (Unit {0}) old new f c.cut_kept.new.trees info.number c.args.length start c.args.stamp c.in_ok-count.count cuts told sound))
+    cut_takes (g.B.Blocks.shown c.args.blocks.now) (g.B.Blocks.shown c.cut_kept.new.blocks) c.args.files.now c.cut_kept.new.trees c.rewrite.new.self c.args.info.now c.args.stamp cuts.tree cuts.next cuts.becomes (c.requires.prepared.there told) sound (spared g c told sound)
+    c.args.length c.least_levels-start.result c.least_levels-start.ensures.least (restated g c).rewrites (cuts.removal.erased told (stood g c told sound)) c.in_ok-count.count (cuts.removal.count told (stood g c told sound))
 
 pub returns-clause-changes : goal.returns-clause-changes
 returns-clause-changes g c =
     let f = c.args.files.now in
     let info = c.args.info.now in
     cut_done g.B.Blocks.told (g.B.Blocks.goes c.args.blocks.now c.cut_kept.new.blocks) (Unit {0}) (g.B.Blocks.shown c.args.blocks.now) (g.B.Blocks.shown c.cut_kept.new.blocks) f c.cut_kept.new.trees info.number c.args.length
-    c.least_levels-start.result c.args.stamp c.rewrite.new.self (with_info (shortened info c.args.length)) c.in_ok-count.count c.in_ok-count.ensures (record {
-      rewrites = rewrites_as f.inode c.rewrite.new.self c.args.stamp c.shortened.result (shortened info c.args.length) c.shortened.ensures.is c.rewrite.ensures.rewrites;
-      alters = c.rewrite.ensures.alters;
-      marked = ap (λ (v : Info). changed_of c.rewrite.new.self.tree 0 (v.number / records_each)) (sym c.shortened.ensures.is) ∙ c.rewrite.ensures.marked;
-    })
+    c.least_levels-start.result c.args.stamp c.rewrite.new.self (with_info (shortened info c.args.length)) c.in_ok-count.count c.in_ok-count.ensures (restated g c)
 
 pub returns-in_err-count-clause-led : goal.returns-in_err-count-clause-led
 returns-in_err-count-clause-led g c =
@@ -69,11 +67,7 @@ pub returns-clause-led : goal.returns-clause-led
 returns-clause-led g c =
     let f = c.args.files.now in
     let info = c.args.info.now in
-    cut_led g.B.Blocks.told (g.B.Blocks.goes c.args.blocks.now c.cut_kept.new.blocks) (Unit {0}) (g.B.Blocks.shown c.args.blocks.now) (g.B.Blocks.shown c.cut_kept.new.blocks) c.args.files.now c.cut_kept.new.trees c.args.info.now.number c.args.length c.least_levels-start.result c.args.stamp c.rewrite.new.self (with_info (shortened info c.args.length)) c.in_ok-count.count c.in_ok-count.ensures (record {
-      rewrites = rewrites_as f.inode c.rewrite.new.self c.args.stamp c.shortened.result (shortened info c.args.length) c.shortened.ensures.is c.rewrite.ensures.rewrites;
-      alters = c.rewrite.ensures.alters;
-      marked = ap (λ (v : Info). changed_of c.rewrite.new.self.tree 0 (v.number / records_each)) (sym c.shortened.ensures.is) ∙ c.rewrite.ensures.marked;
-    })
+    cut_led g.B.Blocks.told (g.B.Blocks.goes c.args.blocks.now c.cut_kept.new.blocks) (Unit {0}) (g.B.Blocks.shown c.args.blocks.now) (g.B.Blocks.shown c.cut_kept.new.blocks) c.args.files.now c.cut_kept.new.trees c.args.info.now.number c.args.length c.least_levels-start.result c.args.stamp c.rewrite.new.self (with_info (shortened info c.args.length)) c.in_ok-count.count c.in_ok-count.ensures (restated g c)
 
 pub returns-in_err-count-clause-pending : goal.returns-in_err-count-clause-pending
 returns-in_err-count-clause-pending g c =
@@ -85,7 +79,7 @@ returns-clause-pending_done g c = λ told sound now well.
     let f = c.args.files.now in
     let info = c.args.info.now in
     let old = g.B.Blocks.shown c.args.blocks.now in
-    let is = c.requires.there told in
+    let is = c.requires.prepared.there told in
     let cuts = c.in_ok-count.ensures in
     let holds = subst HoldsCells (ap (λ o. tree_or (option_map (standing (under old)) o) (stored (under old) info.number is.file.levels is.file.root)) cuts.becomes.was) (tree_holds (table_in old f) info.number is.file is.there now well) in
     let most = cut_pending_done g.B.Blocks.told (g.B.Blocks.goes c.args.blocks.now c.cut_kept.new.blocks) (Unit {0}) (g.B.Blocks.shown c.args.blocks.now) (g.B.Blocks.shown c.cut_kept.new.blocks) c.args.files.now c.cut_kept.new.trees c.args.info.now.number c.args.length c.least_levels-start.result c.args.stamp c.in_ok-count.count cuts told sound holds in
@@ -102,8 +96,4 @@ returns-clause-alters g c =
     let f = c.args.files.now in
     let info = c.args.info.now in
     cut_table_done g.B.Blocks.told (g.B.Blocks.goes c.args.blocks.now c.cut_kept.new.blocks) (Unit {0}) (g.B.Blocks.shown c.args.blocks.now) (g.B.Blocks.shown c.cut_kept.new.blocks) f c.cut_kept.new.trees info.number c.args.length
-    c.least_levels-start.result c.args.stamp c.rewrite.new.self (with_info (shortened info c.args.length)) c.in_ok-count.count c.in_ok-count.ensures (record {
-      rewrites = rewrites_as f.inode c.rewrite.new.self c.args.stamp c.shortened.result (shortened info c.args.length) c.shortened.ensures.is c.rewrite.ensures.rewrites;
-      alters = c.rewrite.ensures.alters;
-      marked = ap (λ (v : Info). changed_of c.rewrite.new.self.tree 0 (v.number / records_each)) (sym c.shortened.ensures.is) ∙ c.rewrite.ensures.marked;
-    })
+    c.least_levels-start.result c.args.stamp c.rewrite.new.self (with_info (shortened info c.args.length)) c.in_ok-count.count c.in_ok-count.ensures (restated g c)

@@ -1,4 +1,4 @@
-use Rattle.std.proofs.Common.{◌≡◌, true, Err, Ok, ap, sym, subst, ◌∙◌}
+use Rattle.std.proofs.Common.{◌≡◌, true, Err, ap, sym, subst, ◌∙◌}
 use Rattle.std.specs.Prelude.{is_some}
 use Rattle.std.specs.FinMap as fin
 use Rattle.std.proofs.lemmas.Result.{err_from_is_err_and}
@@ -12,10 +12,8 @@ use Rattle.fv_files.specs.Flushing.{HasRoot}
 use Rattle.fv_files.proofs.Looked.{Held}
 use Rattle.fv_files.proofs.Changed.{own_ready, with_trees}
 use Rattle.fv_files.proofs.Kept.{stored_on_blocks}
-use Rattle.fv_files.proofs.Laid.{lays_then, places_then, stores_then}
 use Rattle.fv_files.proofs.Flushed.{lays_failed, lays_astray, look_lays, look_none, look_places, places_astray, strayed}
-use Rattle.fv_files.proofs.Passed.{root_told}
-use Rattle.fv_files.proofs.Unplaced.{keeps_then}
+use Rattle.fv_files.proofs.Passed.{root_told, found_lays, found_stores, found_places, found_keeps}
 use Rattle.fv_files.proofs.flush.flush_file.Goals as goal
 
 pub returns-in_err-look-clause-lays : goal.returns-in_err-look-clause-lays
@@ -49,12 +47,7 @@ lay_file-requires-clause-there g c = λ told.
 
 pub returns-in-Some-clause-lays : goal.returns-in-Some-clause-lays
 returns-in-Some-clause-lays g c =
-    let old = g.B.Blocks.shown c.args.blocks.now in
-    let mid = g.B.Blocks.shown c.look.new.blocks in
-    let new = g.B.Blocks.shown c.lay_file.new.blocks in
-    let f = c.args.files.now in
-    lays_then g.B.Blocks.told old mid new f f c.lay_file.new.files c.in_ok-look.field-0 c.lay_file.result (look_lays g.B.Blocks.told old mid f (Ok c.in_ok-look.field-0) c.in_ok-look.ensures.looks (λ told sound. tt))
-    c.lay_file.ensures.lays
+    found_lays g.B.Blocks.told (g.B.Blocks.shown c.args.blocks.now) (g.B.Blocks.shown c.look.new.blocks) (g.B.Blocks.shown c.lay_file.new.blocks) c.args.files.now c.lay_file.new.files c.in_ok-look.field-0 c.lay_file.result c.in_ok-look.ensures.looks c.lay_file.ensures.lays
 
 pub returns-in_err-look-clause-stored_well : goal.returns-in_err-look-clause-stored_well
 returns-in_err-look-clause-stored_well g c = λ told known sound led.
@@ -68,11 +61,7 @@ returns-in-None-clause-stored_well g c = λ told known sound.
 
 pub returns-in-Some-clause-stored_well : goal.returns-in-Some-clause-stored_well
 returns-in-Some-clause-stored_well g c = λ told known.
-    let old = g.B.Blocks.shown c.args.blocks.now in
-    let mid = g.B.Blocks.shown c.look.new.blocks in
-    let f = c.args.files.now in
-    stores_then g.B.Blocks.told old mid (g.B.Blocks.shown c.lay_file.new.blocks) f f c.lay_file.new.files c.in_ok-look.field-0 (look_lays g.B.Blocks.told old mid f (Ok c.in_ok-look.field-0) c.in_ok-look.ensures.looks (λ told sound. tt)) told
-    (λ sound led. stored_on_blocks f old mid c.in_ok-look.ensures.looks.untouched.held) (c.lay_file.ensures.stored_well told known)
+    found_stores g.B.Blocks.told (g.B.Blocks.shown c.args.blocks.now) (g.B.Blocks.shown c.look.new.blocks) (g.B.Blocks.shown c.lay_file.new.blocks) c.args.files.now c.lay_file.new.files c.in_ok-look.field-0 c.lay_file.result c.in_ok-look.ensures.looks c.lay_file.ensures.lays told (c.lay_file.ensures.stored_well told known)
 
 pub returns-in_err-look-clause-places : goal.returns-in_err-look-clause-places
 returns-in_err-look-clause-places g c =
@@ -88,15 +77,9 @@ returns-in-None-clause-places g c =
 
 pub returns-in-Some-clause-places : goal.returns-in-Some-clause-places
 returns-in-Some-clause-places g c =
-    let old = g.B.Blocks.shown c.args.blocks.now in
-    let mid = g.B.Blocks.shown c.look.new.blocks in
-    let new = g.B.Blocks.shown c.lay_file.new.blocks in
-    let f = c.args.files.now in
-    let free = WasFree g.B.Blocks.shown g.B.Blocks.goes c.args.blocks.now c.lay_file.new.blocks in
-    places_then g.B.Blocks.told free (WasFree g.B.Blocks.shown g.B.Blocks.goes c.look.new.blocks c.lay_file.new.blocks) free (λ v is. is)
-    (free_later g.B.Blocks.shown g.B.Blocks.goes g.met.B.Blocks.goes_on c.args.blocks.now c.look.new.blocks c.lay_file.new.blocks (g.met.B.Blocks.reads_go c.args.blocks.now c.look.new.blocks c.in_ok-look.ensures.reads))
-    old mid new f f c.lay_file.new.files c.in_ok-look.field-0 (look_lays g.B.Blocks.told old mid f (Ok c.in_ok-look.field-0) c.in_ok-look.ensures.looks (λ told sound. tt))
-    (look_places g.B.Blocks.told free old mid f (Ok c.in_ok-look.field-0) c.in_ok-look.ensures.looks) c.lay_file.ensures.places
+    found_places g.B.Blocks.told (g.B.Blocks.shown c.args.blocks.now) (g.B.Blocks.shown c.look.new.blocks) (g.B.Blocks.shown c.lay_file.new.blocks) c.args.files.now c.lay_file.new.files c.in_ok-look.field-0 c.lay_file.result c.in_ok-look.ensures.looks c.lay_file.ensures.lays
+    (WasFree g.B.Blocks.shown g.B.Blocks.goes c.look.new.blocks c.lay_file.new.blocks) (WasFree g.B.Blocks.shown g.B.Blocks.goes c.args.blocks.now c.lay_file.new.blocks)
+    (free_later g.B.Blocks.shown g.B.Blocks.goes g.met.B.Blocks.goes_on c.args.blocks.now c.look.new.blocks c.lay_file.new.blocks (g.met.B.Blocks.reads_go c.args.blocks.now c.look.new.blocks c.in_ok-look.ensures.reads)) c.lay_file.ensures.places
 
 pub returns-in_err-look-clause-keeps : goal.returns-in_err-look-clause-keeps
 returns-in_err-look-clause-keeps g c = λ told sound laid v none. g.met.B.Blocks.reads_keep v c.args.blocks.now c.look.new.blocks c.in_err-look.ensures.reads
@@ -106,14 +89,7 @@ returns-in-None-clause-keeps g c = λ told sound laid v none. g.met.B.Blocks.rea
 
 pub returns-in-Some-clause-keeps : goal.returns-in-Some-clause-keeps
 returns-in-Some-clause-keeps g c =
-    let old = g.B.Blocks.shown c.args.blocks.now in
-    let mid = g.B.Blocks.shown c.look.new.blocks in
-    let new = g.B.Blocks.shown c.lay_file.new.blocks in
-    let f = c.args.files.now in
-    let later = WasFree g.B.Blocks.shown g.B.Blocks.goes c.look.new.blocks c.lay_file.new.blocks in
     let keeps = g.B.Blocks.keeps in
-    keeps_then g.B.Blocks.told later later (λ v. keeps v c.args.blocks.now c.look.new.blocks) (λ v. keeps v c.look.new.blocks c.lay_file.new.blocks) (λ v. keeps v c.args.blocks.now c.lay_file.new.blocks)
-    (λ v. g.met.B.Blocks.keeps_on v c.args.blocks.now c.look.new.blocks c.lay_file.new.blocks) old mid new f f c.lay_file.new.files c.in_ok-look.field-0 c.lay_file.result
-    (look_lays g.B.Blocks.told old mid f (Ok c.in_ok-look.field-0) c.in_ok-look.ensures.looks (λ told sound. tt)) c.lay_file.ensures.lays
-    (look_places g.B.Blocks.told later old mid f (Ok c.in_ok-look.field-0) c.in_ok-look.ensures.looks) c.lay_file.ensures.places
-    (λ told sound laid v none. g.met.B.Blocks.reads_keep v c.args.blocks.now c.look.new.blocks c.in_ok-look.ensures.reads) c.lay_file.ensures.keeps
+    found_keeps g.B.Blocks.told (g.B.Blocks.shown c.args.blocks.now) (g.B.Blocks.shown c.look.new.blocks) (g.B.Blocks.shown c.lay_file.new.blocks) c.args.files.now c.lay_file.new.files c.in_ok-look.field-0 c.lay_file.result c.in_ok-look.ensures.looks c.lay_file.ensures.lays
+    (WasFree g.B.Blocks.shown g.B.Blocks.goes c.look.new.blocks c.lay_file.new.blocks) (λ v. keeps v c.args.blocks.now c.look.new.blocks) (λ v. keeps v c.look.new.blocks c.lay_file.new.blocks) (λ v. keeps v c.args.blocks.now c.lay_file.new.blocks)
+    (λ v. g.met.B.Blocks.keeps_on v c.args.blocks.now c.look.new.blocks c.lay_file.new.blocks) c.lay_file.ensures.places (λ v. g.met.B.Blocks.reads_keep v c.args.blocks.now c.look.new.blocks c.in_ok-look.ensures.reads) c.lay_file.ensures.keeps

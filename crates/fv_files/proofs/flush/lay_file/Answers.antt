@@ -1,19 +1,33 @@
-use Rattle.std.proofs.Common.{◌≡◌, ℕ, Err, Ok, sym, ap, ◌∙◌}
+use Rattle.std.proofs.Common.{◌≡◌, ℕ, Err, sym, ap, ◌∙◌, Some}
+use Rattle.fv_files.specs.Flushing.{HasRoot}
 use Rattle.fv_codec.specs.declared.inode.InodeRecord.{InodeRecord}
 use Rattle.fv_tree.specs.Sources.{WasFree}
-use Rattle.fv_tree.specs.Writing.{IsAlike}
 use Rattle.fv_tree.proofs.Anew.{free_sooner}
-use Rattle.std.specs.Prelude.{is_some}
 use Rattle.std.proofs.lemmas.Result.{err_from_is_err_and}
 use Rattle.fv_tables.specs.Told.{file_at}
 use Rattle.fv_inode.specs.Files.{rooted}
-use Rattle.fv_files.proofs.Tables.{alike, some_same}
-use Rattle.fv_files.proofs.Changed.{own_ready, with_trees, with_inode}
-use Rattle.fv_files.proofs.Laid.{lays_then, places_then, stores_then}
-use Rattle.fv_files.proofs.Flushed.{kept_keeps, kept_lays, kept_places, kept_stores, lay_done, lay_keeps, lay_places, lay_stores, lays_failed, ready_lays, ready_places, ready_stores}
-use Rattle.fv_files.proofs.Passed.{pass_done, pass_keeps, pass_places, pass_stores, same_root}
-use Rattle.fv_files.proofs.Unplaced.{keeps_then}
+use Rattle.fv_files.proofs.Tables.{some_same}
+use Rattle.fv_files.proofs.Changed.{with_trees}
+use Rattle.fv_files.proofs.Flushed.{kept_keeps, kept_lays, kept_places, kept_stores, lay_done, lay_keeps, lay_places, lay_stores, lays_failed}
+use Rattle.fv_files.proofs.Passed.{pass_done, pass_keeps, pass_places, pass_stores, same_root, unset_lays, unset_stores, unset_places, unset_keeps}
+use Rattle.fv_files.proofs.flush.lay_file.Given as given
 use Rattle.fv_files.proofs.flush.lay_file.Goals as goal
+
+-- the table has the root that the tree has, or another
+told_root : (g : given.Over) (c : goal.After-forget g) → g.B.Blocks.told → HasRoot (file_at (rooted (g.B.Blocks.shown c.args.blocks.now) c.args.files.now.inode) c.args.number) c.kept_levels-levels.result c.in_ok-root.root
+told_root g c told =
+    let same = c.has_root.ensures.same c.if-has_root.true in
+    same_root (file_at (rooted (g.B.Blocks.shown c.args.blocks.now) c.args.files.now.inode) c.args.number) c.args.info.now c.kept_levels-levels.result c.in_ok-root.root same.0 same.1 (c.requires.there told)
+
+other_root : (g : given.Over) (c : goal.After-forget-2 g) (r : InodeRecord) → file_at (rooted (g.B.Blocks.shown c.args.blocks.now) c.args.files.now.inode) c.args.number ≡ Some r → r.levels ≡ c.kept_levels-levels.result → r.root ≡ c.in_ok-root.root → g.B.Blocks.told → ⊥
+other_root g c r at levels root told =
+    let has = c.requires.there told in
+    let it : r ≡ has.file = some_same r has.file (sym at ∙ has.is) in
+    c.has_root.ensures.other c.if-has_root.false (sym has.levels_is ∙ ap (λ (q : InodeRecord). q.levels) (sym it) ∙ levels) (sym has.root_is ∙ ap (λ (q : InodeRecord). q.root) (sym it) ∙ root)
+
+-- what was free while the tree was placed was free
+sooner : (g : given.Over) (c : goal.After-forget-2 g) (v : ℕ) → WasFree g.B.Blocks.shown g.B.Blocks.goes c.args.blocks.now c.flush_kept.new.blocks v → WasFree g.B.Blocks.shown g.B.Blocks.goes c.args.blocks.now c.set_root.new.blocks v
+sooner g c = free_sooner g.B.Blocks.shown g.B.Blocks.goes g.met.B.Blocks.goes_on c.args.blocks.now c.flush_kept.new.blocks c.set_root.new.blocks (g.met.B.Blocks.reads_go c.flush_kept.new.blocks c.set_root.new.blocks c.in_ok-set_root.ensures.reads)
 
 pub returns-in_err-root-clause-lays : goal.returns-in_err-root-clause-lays
 returns-in_err-root-clause-lays g c =
@@ -26,17 +40,9 @@ returns-in_err-root-clause-lays g c =
 
 pub returns-in_err-set_root-clause-lays : goal.returns-in_err-set_root-clause-lays
 returns-in_err-set_root-clause-lays g c =
-    let old = g.B.Blocks.shown c.args.blocks.now in
-    let mid = g.B.Blocks.shown c.flush_kept.new.blocks in
-    let new = g.B.Blocks.shown c.set_root.new.blocks in
-    let f = c.args.files.now in
-    let two = with_trees f c.flush_kept.new.trees in
-    let e = c.in_err-set_root.field-0.0 in
-    let loads = c.in_err-set_root.ensures.loads in
     let p = err_from_is_err_and c.from_residual-in_err-set_root.result c.from_residual-in_err-set_root.ensures.1 in
-    rw (p.1, p.2) (lays_then g.B.Blocks.told old mid new f two (with_inode two c.set_root.new.self) c.in_ok-root.root (Err e) (kept_lays g.B.Blocks.told old mid f c.flush_kept.new.trees c.args.number (Ok c.in_ok-root.root) c.in_ok-root.ensures.flushes)
-    (ready_lays g.B.Blocks.told mid new two c.set_root.new.self (Err e) loads (λ told. alike (rooted mid f.inode) (rooted new c.set_root.new.self) (loads.failed told)) c.in_err-set_root.ensures.still
-    (λ told sound. c.in_err-set_root.ensures.held told (own_ready mid two c.args.number (ap is_some c.in_ok-root.ensures.flushes.becomes.now) sound))))
+    rw (p.1, p.2) (unset_lays g.B.Blocks.told (g.B.Blocks.shown c.args.blocks.now) (g.B.Blocks.shown c.flush_kept.new.blocks) (g.B.Blocks.shown c.set_root.new.blocks) c.args.files.now c.flush_kept.new.trees c.set_root.new.self c.args.number c.in_ok-root.root c.in_err-set_root.field-0.0
+    c.in_ok-root.ensures.flushes c.in_err-set_root.ensures.loads c.in_err-set_root.ensures.still c.in_err-set_root.ensures.held)
 
 pub returns-clause-lays : goal.returns-clause-lays
 returns-clause-lays g c =
@@ -50,18 +56,8 @@ returns-in_err-root-clause-stored_well g c = λ told known.
 
 pub returns-in_err-set_root-clause-stored_well : goal.returns-in_err-set_root-clause-stored_well
 returns-in_err-set_root-clause-stored_well g c = λ told known.
-    let old = g.B.Blocks.shown c.args.blocks.now in
-    let mid = g.B.Blocks.shown c.flush_kept.new.blocks in
-    let new = g.B.Blocks.shown c.set_root.new.blocks in
-    let f = c.args.files.now in
-    let two = with_trees f c.flush_kept.new.trees in
-    let e = c.in_err-set_root.field-0.0 in
-    let kept = c.in_ok-root.ensures.flushes in
-    let loads = c.in_err-set_root.ensures.loads in
-    stores_then g.B.Blocks.told old mid new f two (with_inode two c.set_root.new.self) c.in_ok-root.root (kept_lays g.B.Blocks.told old mid f c.flush_kept.new.trees c.args.number (Ok c.in_ok-root.root) kept) told
-    (kept_stores g.B.Blocks.told old mid f c.flush_kept.new.trees c.args.number (Ok c.in_ok-root.root) kept told (c.in_ok-root.ensures.places known))
-    (ready_stores g.B.Blocks.told mid new two c.set_root.new.self (Err e) loads (λ told. alike (rooted mid f.inode) (rooted new c.set_root.new.self) (loads.failed told)) c.in_err-set_root.ensures.still
-    (λ told sound. c.in_err-set_root.ensures.held told (own_ready mid two c.args.number (ap is_some kept.becomes.now) sound)) told)
+    unset_stores g.B.Blocks.told (g.B.Blocks.shown c.args.blocks.now) (g.B.Blocks.shown c.flush_kept.new.blocks) (g.B.Blocks.shown c.set_root.new.blocks) c.args.files.now c.flush_kept.new.trees c.set_root.new.self c.args.number c.in_ok-root.root c.in_err-set_root.field-0.0
+    c.in_ok-root.ensures.flushes c.in_err-set_root.ensures.loads c.in_err-set_root.ensures.still c.in_err-set_root.ensures.held told (c.in_ok-root.ensures.places known)
 
 pub returns-clause-stored_well : goal.returns-clause-stored_well
 returns-clause-stored_well g c = λ told known.
@@ -70,21 +66,15 @@ returns-clause-stored_well g c = λ told known.
 
 pub returns-then-has_root-clause-lays : goal.returns-then-has_root-clause-lays
 returns-then-has_root-clause-lays g c =
-    let old = g.B.Blocks.shown c.args.blocks.now in
-    let f = c.args.files.now in
-    let same = c.has_root.ensures.same c.if-has_root.true in
-    pass_done g.B.Blocks.told old (g.B.Blocks.shown c.flush_kept.new.blocks) f c.flush_kept.new.trees c.forget.new.trees c.args.number c.kept_levels-levels.result c.in_ok-root.root
+    pass_done g.B.Blocks.told (g.B.Blocks.shown c.args.blocks.now) (g.B.Blocks.shown c.flush_kept.new.blocks) c.args.files.now c.flush_kept.new.trees c.forget.new.trees c.args.number c.kept_levels-levels.result c.in_ok-root.root
     c.in_ok-root.ensures.flushes c.kept_levels-levels.ensures.levels
-    (λ told. same_root (file_at (rooted old f.inode) c.args.number) c.args.info.now c.kept_levels-levels.result c.in_ok-root.root same.0 same.1 (c.requires.there told)) c.forget.ensures.gone c.forget.ensures.cost
+    (told_root g c) c.forget.ensures.gone c.forget.ensures.cost
 
 pub returns-then-has_root-clause-stored_well : goal.returns-then-has_root-clause-stored_well
 returns-then-has_root-clause-stored_well g c = λ told known.
-    let old = g.B.Blocks.shown c.args.blocks.now in
-    let f = c.args.files.now in
-    let same = c.has_root.ensures.same c.if-has_root.true in
-    pass_stores g.B.Blocks.told old (g.B.Blocks.shown c.flush_kept.new.blocks) f c.flush_kept.new.trees c.forget.new.trees c.args.number c.kept_levels-levels.result c.in_ok-root.root
+    pass_stores g.B.Blocks.told (g.B.Blocks.shown c.args.blocks.now) (g.B.Blocks.shown c.flush_kept.new.blocks) c.args.files.now c.flush_kept.new.trees c.forget.new.trees c.args.number c.kept_levels-levels.result c.in_ok-root.root
     c.in_ok-root.ensures.flushes c.kept_levels-levels.ensures.levels
-    (λ tells. same_root (file_at (rooted old f.inode) c.args.number) c.args.info.now c.kept_levels-levels.result c.in_ok-root.root same.0 same.1 (c.requires.there tells)) c.forget.ensures.gone c.forget.ensures.cost told (c.in_ok-root.ensures.places known)
+    (told_root g c) c.forget.ensures.gone c.forget.ensures.cost told (c.in_ok-root.ensures.places known)
 
 pub returns-in_err-root-clause-places : goal.returns-in_err-root-clause-places
 returns-in_err-root-clause-places g c =
@@ -93,21 +83,9 @@ returns-in_err-root-clause-places g c =
 
 pub returns-in_err-set_root-clause-places : goal.returns-in_err-set_root-clause-places
 returns-in_err-set_root-clause-places g c =
-    let old = g.B.Blocks.shown c.args.blocks.now in
-    let mid = g.B.Blocks.shown c.flush_kept.new.blocks in
-    let new = g.B.Blocks.shown c.set_root.new.blocks in
-    let f = c.args.files.now in
-    let two = with_trees f c.flush_kept.new.trees in
-    let e = c.in_err-set_root.field-0.0 in
-    let kept = c.in_ok-root.ensures.flushes in
-    let loads = c.in_err-set_root.ensures.loads in
-    let first = WasFree g.B.Blocks.shown g.B.Blocks.goes c.args.blocks.now c.flush_kept.new.blocks in
-    let free = WasFree g.B.Blocks.shown g.B.Blocks.goes c.args.blocks.now c.set_root.new.blocks in
-    let sooner = free_sooner g.B.Blocks.shown g.B.Blocks.goes g.met.B.Blocks.goes_on c.args.blocks.now c.flush_kept.new.blocks c.set_root.new.blocks (g.met.B.Blocks.reads_go c.flush_kept.new.blocks c.set_root.new.blocks c.in_err-set_root.ensures.reads) in
-    places_then g.B.Blocks.told first first free sooner sooner old mid new f two (with_inode two c.set_root.new.self) c.in_ok-root.root (kept_lays g.B.Blocks.told old mid f c.flush_kept.new.trees c.args.number (Ok c.in_ok-root.root) kept)
-    (kept_places g.B.Blocks.told old mid f c.flush_kept.new.trees c.args.number (Ok c.in_ok-root.root) kept first c.in_ok-root.ensures.anew)
-    (ready_places g.B.Blocks.told mid new two c.set_root.new.self (Err e) loads (λ told. alike (rooted mid f.inode) (rooted new c.set_root.new.self) (loads.failed told)) c.in_err-set_root.ensures.still
-    (λ told sound. c.in_err-set_root.ensures.held told (own_ready mid two c.args.number (ap is_some kept.becomes.now) sound)) first loads.leaves)
+    unset_places g.B.Blocks.told (g.B.Blocks.shown c.args.blocks.now) (g.B.Blocks.shown c.flush_kept.new.blocks) (g.B.Blocks.shown c.set_root.new.blocks) c.args.files.now c.flush_kept.new.trees c.set_root.new.self c.args.number c.in_ok-root.root c.in_err-set_root.field-0.0
+    c.in_ok-root.ensures.flushes c.in_err-set_root.ensures.loads c.in_err-set_root.ensures.still c.in_err-set_root.ensures.held (WasFree g.B.Blocks.shown g.B.Blocks.goes c.args.blocks.now c.flush_kept.new.blocks) (WasFree g.B.Blocks.shown g.B.Blocks.goes c.args.blocks.now c.set_root.new.blocks)
+    (free_sooner g.B.Blocks.shown g.B.Blocks.goes g.met.B.Blocks.goes_on c.args.blocks.now c.flush_kept.new.blocks c.set_root.new.blocks (g.met.B.Blocks.reads_go c.flush_kept.new.blocks c.set_root.new.blocks c.in_err-set_root.ensures.reads)) c.in_ok-root.ensures.anew
 
 pub returns-clause-places : goal.returns-clause-places
 returns-clause-places g c =
@@ -118,21 +96,15 @@ returns-clause-places g c =
     lay_places g.B.Blocks.told old mid new c.args.files.now c.flush_kept.new.trees c.forget-2.new.trees c.set_root.new.self c.args.number c.kept_levels-levels.result c.in_ok-root.root
     c.in_ok-root.ensures.flushes c.kept_levels-levels.ensures.levels did.loads did.set did.rises.pending c.forget-2.ensures.gone c.forget-2.ensures.cost
     (WasFree g.B.Blocks.shown g.B.Blocks.goes c.args.blocks.now c.flush_kept.new.blocks) (WasFree g.B.Blocks.shown g.B.Blocks.goes c.args.blocks.now c.set_root.new.blocks) c.in_ok-root.ensures.anew
-    (free_sooner g.B.Blocks.shown g.B.Blocks.goes g.met.B.Blocks.goes_on c.args.blocks.now c.flush_kept.new.blocks c.set_root.new.blocks (g.met.B.Blocks.reads_go c.flush_kept.new.blocks c.set_root.new.blocks did.reads))
-    (λ r at levels root told.
-    let has = c.requires.there told in
-    let it : r ≡ has.file = some_same r has.file (sym at ∙ has.is) in
-    c.has_root.ensures.other c.if-has_root.false (sym has.levels_is ∙ ap (λ (q : InodeRecord). q.levels) (sym it) ∙ levels) (sym has.root_is ∙ ap (λ (q : InodeRecord). q.root) (sym it) ∙ root))
+    (sooner g c)
+    (other_root g c)
     did.leaves
 
 pub returns-then-has_root-clause-places : goal.returns-then-has_root-clause-places
 returns-then-has_root-clause-places g c =
-    let old = g.B.Blocks.shown c.args.blocks.now in
-    let f = c.args.files.now in
-    let same = c.has_root.ensures.same c.if-has_root.true in
-    pass_places g.B.Blocks.told old (g.B.Blocks.shown c.flush_kept.new.blocks) f c.flush_kept.new.trees c.forget.new.trees c.args.number c.kept_levels-levels.result c.in_ok-root.root
+    pass_places g.B.Blocks.told (g.B.Blocks.shown c.args.blocks.now) (g.B.Blocks.shown c.flush_kept.new.blocks) c.args.files.now c.flush_kept.new.trees c.forget.new.trees c.args.number c.kept_levels-levels.result c.in_ok-root.root
     c.in_ok-root.ensures.flushes c.kept_levels-levels.ensures.levels
-    (λ told. same_root (file_at (rooted old f.inode) c.args.number) c.args.info.now c.kept_levels-levels.result c.in_ok-root.root same.0 same.1 (c.requires.there told)) c.forget.ensures.gone c.forget.ensures.cost
+    (told_root g c) c.forget.ensures.gone c.forget.ensures.cost
     (WasFree g.B.Blocks.shown g.B.Blocks.goes c.args.blocks.now c.flush_kept.new.blocks) c.in_ok-root.ensures.anew
 
 pub returns-in_err-root-clause-keeps : goal.returns-in_err-root-clause-keeps
@@ -142,25 +114,10 @@ returns-in_err-root-clause-keeps g c =
 
 pub returns-in_err-set_root-clause-keeps : goal.returns-in_err-set_root-clause-keeps
 returns-in_err-set_root-clause-keeps g c =
-    let old = g.B.Blocks.shown c.args.blocks.now in
-    let mid = g.B.Blocks.shown c.flush_kept.new.blocks in
-    let new = g.B.Blocks.shown c.set_root.new.blocks in
-    let f = c.args.files.now in
-    let two = with_trees f c.flush_kept.new.trees in
-    let e = c.in_err-set_root.field-0.0 in
-    let kept = c.in_ok-root.ensures.flushes in
-    let loads = c.in_err-set_root.ensures.loads in
-    let free = WasFree g.B.Blocks.shown g.B.Blocks.goes c.args.blocks.now c.flush_kept.new.blocks in
-    let first : ℕ → Type 0 = λ v. g.B.Blocks.keeps v c.args.blocks.now c.flush_kept.new.blocks in
-    let same : g.B.Blocks.told → IsAlike (rooted mid f.inode) (rooted new c.set_root.new.self) = λ told. alike (rooted mid f.inode) (rooted new c.set_root.new.self) (loads.failed told) in
-    keeps_then g.B.Blocks.told free free first (λ v. g.B.Blocks.keeps v c.flush_kept.new.blocks c.set_root.new.blocks) (λ v. g.B.Blocks.keeps v c.args.blocks.now c.set_root.new.blocks)
-    (λ v. g.met.B.Blocks.keeps_on v c.args.blocks.now c.flush_kept.new.blocks c.set_root.new.blocks) old mid new f two (with_inode two c.set_root.new.self) c.in_ok-root.root (Err e)
-    (kept_lays g.B.Blocks.told old mid f c.flush_kept.new.trees c.args.number (Ok c.in_ok-root.root) kept)
-    (ready_lays g.B.Blocks.told mid new two c.set_root.new.self (Err e) loads same c.in_err-set_root.ensures.still (λ told sound. c.in_err-set_root.ensures.held told (own_ready mid two c.args.number (ap is_some kept.becomes.now) sound)))
-    (kept_places g.B.Blocks.told old mid f c.flush_kept.new.trees c.args.number (Ok c.in_ok-root.root) kept free c.in_ok-root.ensures.anew)
-    (ready_places g.B.Blocks.told mid new two c.set_root.new.self (Err e) loads same c.in_err-set_root.ensures.still (λ told sound. c.in_err-set_root.ensures.held told (own_ready mid two c.args.number (ap is_some kept.becomes.now) sound)) free loads.leaves)
-    (kept_keeps g.B.Blocks.told old mid f c.flush_kept.new.trees c.args.number (Ok c.in_ok-root.root) kept first c.in_ok-root.ensures.keeps)
-    (λ told sound laid v none. g.met.B.Blocks.reads_keep v c.flush_kept.new.blocks c.set_root.new.blocks c.in_err-set_root.ensures.reads)
+    unset_keeps g.B.Blocks.told (g.B.Blocks.shown c.args.blocks.now) (g.B.Blocks.shown c.flush_kept.new.blocks) (g.B.Blocks.shown c.set_root.new.blocks) c.args.files.now c.flush_kept.new.trees c.set_root.new.self c.args.number c.in_ok-root.root c.in_err-set_root.field-0.0
+    c.in_ok-root.ensures.flushes c.in_err-set_root.ensures.loads c.in_err-set_root.ensures.still c.in_err-set_root.ensures.held (WasFree g.B.Blocks.shown g.B.Blocks.goes c.args.blocks.now c.flush_kept.new.blocks)
+    (λ v. g.B.Blocks.keeps v c.args.blocks.now c.flush_kept.new.blocks) (λ v. g.B.Blocks.keeps v c.flush_kept.new.blocks c.set_root.new.blocks) (λ v. g.B.Blocks.keeps v c.args.blocks.now c.set_root.new.blocks)
+    (λ v. g.met.B.Blocks.keeps_on v c.args.blocks.now c.flush_kept.new.blocks c.set_root.new.blocks) c.in_ok-root.ensures.anew c.in_ok-root.ensures.keeps (λ v. g.met.B.Blocks.reads_keep v c.flush_kept.new.blocks c.set_root.new.blocks c.in_err-set_root.ensures.reads)
 
 pub returns-clause-keeps : goal.returns-clause-keeps
 returns-clause-keeps g c =
@@ -171,21 +128,15 @@ returns-clause-keeps g c =
     lay_keeps g.B.Blocks.told old mid new c.args.files.now c.flush_kept.new.trees c.forget-2.new.trees c.set_root.new.self c.args.number c.kept_levels-levels.result c.in_ok-root.root
     c.in_ok-root.ensures.flushes c.kept_levels-levels.ensures.levels did.loads did.set did.rises.pending c.forget-2.ensures.gone c.forget-2.ensures.cost
     (WasFree g.B.Blocks.shown g.B.Blocks.goes c.args.blocks.now c.flush_kept.new.blocks) (WasFree g.B.Blocks.shown g.B.Blocks.goes c.args.blocks.now c.set_root.new.blocks) c.in_ok-root.ensures.anew
-    (free_sooner g.B.Blocks.shown g.B.Blocks.goes g.met.B.Blocks.goes_on c.args.blocks.now c.flush_kept.new.blocks c.set_root.new.blocks (g.met.B.Blocks.reads_go c.flush_kept.new.blocks c.set_root.new.blocks did.reads))
-    (λ r at levels root told.
-    let has = c.requires.there told in
-    let it : r ≡ has.file = some_same r has.file (sym at ∙ has.is) in
-    c.has_root.ensures.other c.if-has_root.false (sym has.levels_is ∙ ap (λ (q : InodeRecord). q.levels) (sym it) ∙ levels) (sym has.root_is ∙ ap (λ (q : InodeRecord). q.root) (sym it) ∙ root))
+    (sooner g c)
+    (other_root g c)
     did.leaves
     (λ v. g.B.Blocks.keeps v c.args.blocks.now c.flush_kept.new.blocks) (λ v. g.B.Blocks.keeps v c.flush_kept.new.blocks c.set_root.new.blocks) (λ v. g.B.Blocks.keeps v c.args.blocks.now c.set_root.new.blocks)
     (λ v. g.met.B.Blocks.keeps_on v c.args.blocks.now c.flush_kept.new.blocks c.set_root.new.blocks) c.in_ok-root.ensures.keeps (λ v. g.met.B.Blocks.reads_keep v c.flush_kept.new.blocks c.set_root.new.blocks did.reads)
 
 pub returns-then-has_root-clause-keeps : goal.returns-then-has_root-clause-keeps
 returns-then-has_root-clause-keeps g c =
-    let old = g.B.Blocks.shown c.args.blocks.now in
-    let f = c.args.files.now in
-    let same = c.has_root.ensures.same c.if-has_root.true in
-    pass_keeps g.B.Blocks.told old (g.B.Blocks.shown c.flush_kept.new.blocks) f c.flush_kept.new.trees c.forget.new.trees c.args.number c.kept_levels-levels.result c.in_ok-root.root
+    pass_keeps g.B.Blocks.told (g.B.Blocks.shown c.args.blocks.now) (g.B.Blocks.shown c.flush_kept.new.blocks) c.args.files.now c.flush_kept.new.trees c.forget.new.trees c.args.number c.kept_levels-levels.result c.in_ok-root.root
     c.in_ok-root.ensures.flushes c.kept_levels-levels.ensures.levels
-    (λ told. same_root (file_at (rooted old f.inode) c.args.number) c.args.info.now c.kept_levels-levels.result c.in_ok-root.root same.0 same.1 (c.requires.there told)) c.forget.ensures.gone c.forget.ensures.cost
+    (told_root g c) c.forget.ensures.gone c.forget.ensures.cost
     (WasFree g.B.Blocks.shown g.B.Blocks.goes c.args.blocks.now c.flush_kept.new.blocks) c.in_ok-root.ensures.anew (λ v. g.B.Blocks.keeps v c.args.blocks.now c.flush_kept.new.blocks) c.in_ok-root.ensures.keeps

@@ -8,25 +8,17 @@ use Rattle.fv_files.proofs.hold.prepare.Goals as goal
 
 pub returns-in_err-ready-clause-prepares : goal.returns-in_err-ready-clause-prepares
 returns-in_err-ready-clause-prepares g c =
-    let old = g.B.Blocks.shown c.args.blocks.now in
-    let new = g.B.Blocks.shown c.ready.new.blocks in
-    let f = c.args.files.now in
     let is = c.in_err-ready.ensures in
-    let e = c.in_err-ready.field-0.0 in
     let p = err_from_is_err_and c.from_residual.result c.from_residual.ensures.1 in
-    rw (p.1, p.2) (half_prepares g.B.Blocks.told old new f c.ready.new.self f.trees c.args.info.now (Err e) is.loads is.alike is.leaves (λ k. refl) c.requires.there (Err e)
-    (looks_inode g.B.Blocks.told (table_in old f) old new (Err e) is.loads.looks) (λ told. tt) tt tt)
+    rw (p.1, p.2) (half_prepares g.B.Blocks.told (g.B.Blocks.shown c.args.blocks.now) (g.B.Blocks.shown c.ready.new.blocks) c.args.files.now c.ready.new.self c.args.files.now.trees c.args.info.now (Err c.in_err-ready.field-0.0) is.loads is.alike is.leaves (λ k. refl) c.requires.there (Err c.in_err-ready.field-0.0)
+    (looks_inode g.B.Blocks.told (table_in (g.B.Blocks.shown c.args.blocks.now) c.args.files.now) (g.B.Blocks.shown c.args.blocks.now) (g.B.Blocks.shown c.ready.new.blocks) (Err c.in_err-ready.field-0.0) is.loads.looks) (λ told. tt) tt tt)
 
 pub returns-in_err-hold-clause-prepares : goal.returns-in_err-hold-clause-prepares
 returns-in_err-hold-clause-prepares g c =
-    let old = g.B.Blocks.shown c.args.blocks.now in
-    let new = g.B.Blocks.shown c.ready.new.blocks in
-    let f = c.args.files.now in
     let is = c.in_ok-ready.ensures in
-    let e = c.in_err-hold.field-0.0 in
     let p = err_from_is_err_and c.from_residual-in_err-hold.result c.from_residual-in_err-hold.ensures.1 in
-    rw (p.1, p.2) (half_prepares g.B.Blocks.told old new f c.ready.new.self c.hold.new.trees c.args.info.now (Ok c.in_ok-ready.field-0) is.loads is.alike is.leaves c.in_err-hold.ensures.failed c.requires.there (Err e)
-    (looks_memory g.B.Blocks.told (table_in old f) old new c.in_ok-ready.field-0 e is.loads.looks.untouched is.loads.looks.counts c.in_err-hold.ensures.memory) (λ told. tt) tt tt)
+    rw (p.1, p.2) (half_prepares g.B.Blocks.told (g.B.Blocks.shown c.args.blocks.now) (g.B.Blocks.shown c.ready.new.blocks) c.args.files.now c.ready.new.self c.hold.new.trees c.args.info.now (Ok c.in_ok-ready.field-0) is.loads is.alike is.leaves c.in_err-hold.ensures.failed c.requires.there (Err c.in_err-hold.field-0.0)
+    (looks_memory g.B.Blocks.told (table_in (g.B.Blocks.shown c.args.blocks.now) c.args.files.now) (g.B.Blocks.shown c.args.blocks.now) (g.B.Blocks.shown c.ready.new.blocks) c.in_ok-ready.field-0 c.in_err-hold.field-0.0 is.loads.looks.untouched is.loads.looks.counts c.in_err-hold.ensures.memory) (λ told. tt) tt tt)
 
 pub returns-clause-prepares : goal.returns-clause-prepares
 returns-clause-prepares g c =

@@ -1,9 +1,9 @@
 use Rattle.std.proofs.Common.{◌≡◌, ◌+◌, sym, subst, ◌∙◌}
-use Rattle.std.specs.Prelude.{cond, Some, None, IfOk, IfErr, OnOk}
+use Rattle.std.specs.Prelude.{cond, Some, None, IfOk, OnOk}
 use Rattle.fv_tables.specs.Spelled.{block_at}
 use Rattle.fv_tree.specs.Costs.{way_cost}
-use Rattle.fv_tree.specs.Standing.{under, Fails}
-use Rattle.fv_files.proofs.Tables.{stored_known}
+use Rattle.fv_tree.specs.Standing.{under, standing}
+use Rattle.fv_files.proofs.Tables.{stored_known, stored_cause}
 use Rattle.fv_files.proofs.read.read_cell.Goals as goal
 
 pub returns-in-None-clause-cell : goal.returns-in-None-clause-cell
@@ -14,9 +14,8 @@ returns-in-None-clause-cell g c = λ told.
 
 pub returns-in-None-clause-cause : goal.returns-in-None-clause-cause
 returns-in-None-clause-cause g c =
-    let old = g.B.Blocks.shown c.args.blocks.now in
-    subst (λ t. IfErr c.read_tree-in-None.result (Fails g.B.Blocks.told t old (g.B.Blocks.shown c.read_tree-in-None.new.blocks)))
-    (c.stored_tree-tree.ensures.stored (under old) ∙ sym (stored_known (under old) c.args.files.now c.args.info.now (sym c.in-None.ensures.value))) c.read_tree-in-None.ensures.cause
+    stored_cause g.B.Blocks.told (g.B.Blocks.shown c.args.blocks.now) (g.B.Blocks.shown c.read_tree-in-None.new.blocks) c.args.files.now c.args.info.now (standing (under (g.B.Blocks.shown c.args.blocks.now)) c.stored_tree-tree.result) c.read_tree-in-None.result
+    (c.stored_tree-tree.ensures.stored (under (g.B.Blocks.shown c.args.blocks.now))) (sym c.in-None.ensures.value) c.read_tree-in-None.ensures.cause
 
 pub returns-in-None-clause-spent : goal.returns-in-None-clause-spent
 returns-in-None-clause-spent g c = λ told.

@@ -17,13 +17,13 @@ returns-in_err-own-clause-changes g c =
 
 pub returns-clause-removed : goal.returns-clause-removed
 returns-clause-removed g c = λ told sound.
-    let is = c.requires.there told in
+    let is = c.requires.prepared.there told in
     remove_table g.B.Blocks.told (g.B.Blocks.goes c.args.blocks.now c.cut_kept.new.blocks) (g.B.Blocks.goes c.cut_kept.new.blocks c.erase-inode.new.blocks) (g.B.Blocks.shown c.args.blocks.now) (g.B.Blocks.shown c.cut_kept.new.blocks) (g.B.Blocks.shown c.erase-inode.new.blocks)
     c.args.files.now c.cut_kept.new.trees c.forget.new.trees c.erase-inode.new.self c.args.info.now.number c.least_levels-start.result c.args.stamp c.in_ok-own.own c.erase-inode.result c.in_ok-own.ensures c.erase-inode.ensures.takes c.forget.ensures.gone told sound (ap is_some is.there)
 
 pub returns-clause-counted : goal.returns-clause-counted
 returns-clause-counted g c = λ told sound.
-    let there = ap is_some (c.requires.there told).there in
+    let there = ap is_some (c.requires.prepared.there told).there in
     let few = remove_few g.B.Blocks.told (g.B.Blocks.goes c.args.blocks.now c.cut_kept.new.blocks) (g.B.Blocks.goes c.cut_kept.new.blocks c.erase-inode.new.blocks) (g.B.Blocks.shown c.args.blocks.now) (g.B.Blocks.shown c.cut_kept.new.blocks) (g.B.Blocks.shown c.erase-inode.new.blocks)
     c.args.files.now c.cut_kept.new.trees c.forget.new.trees c.erase-inode.new.self c.args.info.now.number c.least_levels-start.result c.args.stamp c.in_ok-own.own c.erase-inode.result c.in_ok-own.ensures c.erase-inode.ensures.takes c.forget.ensures.gone told sound in
     as_many (table_in (g.B.Blocks.shown c.args.blocks.now) c.args.files.now) c.args.info.now.number c.args.stamp (c.in_ok-own.own + c.erase-inode.result) c.saturating_add-count.result (omega (arith, c.saturating_add-count.ensures, few))
@@ -43,7 +43,7 @@ returns-in_err-own-clause-led g c = λ told now well.
 pub returns-clause-led : goal.returns-clause-led
 returns-clause-led g c = λ told now well sound led.
     remove_led g.B.Blocks.told (g.B.Blocks.goes c.args.blocks.now c.cut_kept.new.blocks) (g.B.Blocks.goes c.cut_kept.new.blocks c.erase-inode.new.blocks) (g.B.Blocks.shown c.args.blocks.now) (g.B.Blocks.shown c.cut_kept.new.blocks) (g.B.Blocks.shown c.erase-inode.new.blocks)
-    c.args.files.now c.cut_kept.new.trees c.forget.new.trees c.erase-inode.new.self c.args.info.now.number c.least_levels-start.result c.args.stamp c.in_ok-own.own c.erase-inode.result c.in_ok-own.ensures c.erase-inode.ensures.takes c.forget.ensures.gone told sound (ap is_some (c.requires.there told).there) now well led
+    c.args.files.now c.cut_kept.new.trees c.forget.new.trees c.erase-inode.new.self c.args.info.now.number c.least_levels-start.result c.args.stamp c.in_ok-own.own c.erase-inode.result c.in_ok-own.ensures c.erase-inode.ensures.takes c.forget.ensures.gone told sound (ap is_some (c.requires.prepared.there told).there) now well led
 
 pub returns-in_err-own-clause-pending : goal.returns-in_err-own-clause-pending
 returns-in_err-own-clause-pending g c =

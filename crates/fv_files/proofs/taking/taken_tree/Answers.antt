@@ -1,12 +1,11 @@
 use Rattle.std.proofs.Common.{Some, nat_le, sym, ap, subst, ◌∙◌}
-use Rattle.std.specs.Prelude.{IfErr}
 use Rattle.std.proofs.lemmas.Result.{IfOk-weaker}
 use Rattle.fv_tree.specs.Erasing.{HoldsCells}
-use Rattle.fv_tree.specs.Standing.{under, Fails}
+use Rattle.fv_tree.specs.Standing.{under, standing}
 use Rattle.fv_tree.specs.Taking.{gone_with}
 use Rattle.fv_files.specs.Taking.{staying_where}
 use Rattle.fv_files.proofs.Stays.{known_is}
-use Rattle.fv_files.proofs.Tables.{kept_known, stored_known}
+use Rattle.fv_files.proofs.Tables.{kept_known, stored_known, stored_cause}
 use Rattle.fv_files.proofs.TakenCells.{stored_with}
 use Rattle.fv_files.proofs.taking.taken_tree.Goals as goal
 
@@ -38,6 +37,5 @@ returns-in-None-clause-staying g c = λ told holds.
 
 pub returns-in-None-clause-cause : goal.returns-in-None-clause-cause
 returns-in-None-clause-cause g c =
-    let old = g.B.Blocks.shown c.args.blocks.now in
-    subst (λ t. IfErr c.taken-in-None.result (Fails g.B.Blocks.told t old (g.B.Blocks.shown c.taken-in-None.new.blocks)))
-    (c.stored_tree-tree.ensures.stored (under old) ∙ sym (stored_known (under old) c.args.files.now c.args.info.now (sym c.in-None.ensures.value))) c.taken-in-None.ensures.cause
+    stored_cause g.B.Blocks.told (g.B.Blocks.shown c.args.blocks.now) (g.B.Blocks.shown c.taken-in-None.new.blocks) c.args.files.now c.args.info.now (standing (under (g.B.Blocks.shown c.args.blocks.now)) c.stored_tree-tree.result) c.taken-in-None.result
+    (c.stored_tree-tree.ensures.stored (under (g.B.Blocks.shown c.args.blocks.now))) (sym c.in-None.ensures.value) c.taken-in-None.ensures.cause

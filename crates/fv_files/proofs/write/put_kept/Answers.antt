@@ -1,7 +1,5 @@
-use Rattle.std.proofs.Common.{◌≡◌, false, IsSome, sym, subst, refl, arith}
-use Rattle.std.specs.Ordering.{nat_cmp, is_eq}
-use Rattle.std.proofs.lemmas.Bool.Decides.{nat_tests}
-use Rattle.fv_files.proofs.Sums.{set_cost}
+use Rattle.std.proofs.Common.{IsSome, subst, refl}
+use Rattle.fv_files.proofs.Sums.{becomes_set}
 use Rattle.fv_files.proofs.write.put_kept.Goals as goal
 
 pub returns-in-Some-clause-puts : goal.returns-in-Some-clause-puts
@@ -10,23 +8,18 @@ returns-in-Some-clause-puts g c =
     record {
       tree = c.in-Some.tree.now;
       next = c.put.new.self;
-      becomes = record {
-        was = sym c.in-Some.ensures.value;
-        now = written.1;
-        others = λ k differs. written.2 k (let test : is_eq (nat_cmp c.args.number k) ≡ false = grind (arith, nat_tests, differs) in test);
-        sum = set_cost c.args.trees.now (c.get_mut.follows.lender c.put.new.self) c.args.number c.in-Some.tree.now c.put.new.self c.in-Some.ensures.value (c.get_mut.follows.holds c.put.new.self).0;
-      };
-      owner = c.put.ensures.owner;
+      becomes = becomes_set c.args.trees.now (c.get_mut.follows.lender c.put.new.self) c.args.number c.in-Some.tree.now c.put.new.self c.in-Some.ensures.value (c.get_mut.follows.holds c.put.new.self).0 written.1 written.2;
+      owner = c.put.ensures.steady.owner;
       written = c.put.ensures.written;
-      stands = c.put.ensures.stands;
-      leads = c.put.ensures.leads;
-      keeps = c.put.ensures.keeps;
-      stored_well = c.put.ensures.stored_well;
+      stands = c.put.ensures.steady.stands;
+      leads = c.put.ensures.steady.leads;
+      keeps = c.put.ensures.steady.keeps;
+      stored_well = c.put.ensures.steady.stored_well;
       alters = c.put.ensures.alters;
       leaves = c.put.ensures.leaves;
-      rises = c.put.ensures.rises;
+      rises = c.put.ensures.steady.rises;
       failed = c.put.ensures.failed;
-      untouched = c.put.ensures.untouched;
-      counts = c.put.ensures.counts;
-      cause = c.put.ensures.cause;
+      untouched = c.put.ensures.steady.untouched;
+      counts = c.put.ensures.steady.counts;
+      cause = c.put.ensures.steady.cause;
     }

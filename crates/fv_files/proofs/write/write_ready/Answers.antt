@@ -5,8 +5,9 @@ use Rattle.fv_inode.specs.declared.info.Info.{Info}
 use Rattle.std.proofs.lemmas.Result.{err_from_is_err_and}
 use Rattle.fv_inode.specs.Files.{with_info}
 use Rattle.fv_files.specs.Calls.{longer}
-use Rattle.fv_files.proofs.Steps.{put_failed, put_done, put_led, put_led_alone, put_pending, put_table_done, put_table_failed}
+use Rattle.fv_files.proofs.Steps.{put_failed, put_done, put_led, put_led_alone, put_pending, put_table_done, put_table_failed, Restates}
 use Rattle.fv_files.proofs.Wrote.{rewrites_as, written_table}
+use Rattle.fv_files.proofs.write.write_ready.Given as given
 use Rattle.fv_files.proofs.write.write_ready.Goals as goal
 
 pub returns-in_err-put_kept-clause-changes : goal.returns-in_err-put_kept-clause-changes
@@ -20,19 +21,23 @@ returns-clause-written g c = λ told.
     let puts = c.in_ok-put_kept.ensures.puts in
     let f = c.args.files.now in
     let info = c.args.info.now in
-    written_table (g.B.Blocks.shown c.args.blocks.now) (g.B.Blocks.shown c.put_kept.new.blocks) f c.put_kept.new.trees c.rewrite.new.self info c.args.stamp puts.tree puts.next puts.becomes (c.requires.there told) c.args.index c.args.block.now puts.untouched.held
+    written_table (g.B.Blocks.shown c.args.blocks.now) (g.B.Blocks.shown c.put_kept.new.blocks) f c.put_kept.new.trees c.rewrite.new.self info c.args.stamp puts.tree puts.next puts.becomes (c.requires.prepared.there told) c.args.index c.args.block.now puts.untouched.held
     (rewrites_as f.inode c.rewrite.new.self c.args.stamp c.longer.result (longer info c.args.index) c.longer.ensures.is c.rewrite.ensures.rewrites) (puts.written told)
+
+-- the record that the file gets
+restated : (g : given.Over) (c : goal.After-rewrite g) → Restates c.args.files.now c.rewrite.new.self c.args.info.now.number c.args.stamp (with_info (longer c.args.info.now c.args.index))
+restated g c = record {
+  rewrites = rewrites_as c.args.files.now.inode c.rewrite.new.self c.args.stamp c.longer.result (longer c.args.info.now c.args.index) c.longer.ensures.is c.rewrite.ensures.rewrites;
+  alters = c.rewrite.ensures.alters;
+  marked = ap (λ (v : Info). changed_of c.rewrite.new.self.tree 0 (v.number / records_each)) (sym c.longer.ensures.is) ∙ c.rewrite.ensures.marked;
+}
 
 pub returns-clause-changes : goal.returns-clause-changes
 returns-clause-changes g c =
     let f = c.args.files.now in
     let info = c.args.info.now in
     put_done g.B.Blocks.told (Unit {0}) (g.B.Blocks.shown c.args.blocks.now) (g.B.Blocks.shown c.put_kept.new.blocks) f c.put_kept.new.trees info.number c.args.index c.args.stamp c.args.block.now
-    c.rewrite.new.self (with_info (longer info c.args.index)) tt c.in_ok-put_kept.ensures.puts (record {
-      rewrites = rewrites_as f.inode c.rewrite.new.self c.args.stamp c.longer.result (longer info c.args.index) c.longer.ensures.is c.rewrite.ensures.rewrites;
-      alters = c.rewrite.ensures.alters;
-      marked = ap (λ (v : Info). changed_of c.rewrite.new.self.tree 0 (v.number / records_each)) (sym c.longer.ensures.is) ∙ c.rewrite.ensures.marked;
-    })
+    c.rewrite.new.self (with_info (longer info c.args.index)) tt c.in_ok-put_kept.ensures.puts (restated g c)
 
 pub returns-in_err-put_kept-clause-led : goal.returns-in_err-put_kept-clause-led
 returns-in_err-put_kept-clause-led g c =
@@ -43,11 +48,7 @@ returns-clause-led g c =
     let f = c.args.files.now in
     let info = c.args.info.now in
     put_led g.B.Blocks.told (Unit {0}) (g.B.Blocks.shown c.args.blocks.now) (g.B.Blocks.shown c.put_kept.new.blocks) f c.put_kept.new.trees info.number c.args.index c.args.stamp c.args.block.now _ c.in_ok-put_kept.ensures.puts
-    c.rewrite.new.self (with_info (longer info c.args.index)) (record {
-      rewrites = rewrites_as f.inode c.rewrite.new.self c.args.stamp c.longer.result (longer info c.args.index) c.longer.ensures.is c.rewrite.ensures.rewrites;
-      alters = c.rewrite.ensures.alters;
-      marked = ap (λ (v : Info). changed_of c.rewrite.new.self.tree 0 (v.number / records_each)) (sym c.longer.ensures.is) ∙ c.rewrite.ensures.marked;
-    })
+    c.rewrite.new.self (with_info (longer info c.args.index)) (restated g c)
 
 pub returns-in_err-put_kept-clause-pending : goal.returns-in_err-put_kept-clause-pending
 returns-in_err-put_kept-clause-pending g c =
@@ -70,8 +71,4 @@ returns-clause-alters g c =
     let f = c.args.files.now in
     let info = c.args.info.now in
     put_table_done g.B.Blocks.told (Unit {0}) (g.B.Blocks.shown c.args.blocks.now) (g.B.Blocks.shown c.put_kept.new.blocks) f c.put_kept.new.trees info.number c.args.index c.args.stamp c.args.block.now
-    c.rewrite.new.self (with_info (longer info c.args.index)) tt c.in_ok-put_kept.ensures.puts (record {
-      rewrites = rewrites_as f.inode c.rewrite.new.self c.args.stamp c.longer.result (longer info c.args.index) c.longer.ensures.is c.rewrite.ensures.rewrites;
-      alters = c.rewrite.ensures.alters;
-      marked = ap (λ (v : Info). changed_of c.rewrite.new.self.tree 0 (v.number / records_each)) (sym c.longer.ensures.is) ∙ c.rewrite.ensures.marked;
-    })
+    c.rewrite.new.self (with_info (longer info c.args.index)) tt c.in_ok-put_kept.ensures.puts (restated g c)

@@ -2,17 +2,14 @@ use Rattle.std.proofs.Common.{Err, refl, arith}
 use Rattle.std.proofs.lemmas.Result.{err_from_is_err_and}
 use Rattle.fv_tree.specs.Standing.{standing, under}
 use Rattle.fv_inode.specs.Files.{AreRecords}
-use Rattle.fv_inode.proofs.Looked.{earlier, looks_then, looks_failed, looks_done}
+use Rattle.fv_inode.proofs.Looked.{earlier, looks_then, looks_failed, looks_done, looks_failed_then}
 use Rattle.fv_inode.proofs.Numbered.{used_below, least_in, least_searched}
 use Rattle.fv_inode.proofs.create.find_free.Goals as goal
 
 pub returns-in_err-files-clause-looks : goal.returns-in_err-files-clause-looks
 returns-in_err-files-clause-looks g c =
-    let old = g.B.Blocks.shown c.args.blocks.now in
-    let mid = g.B.Blocks.shown c.loop-cell.blocks in
-    let new = g.B.Blocks.shown c.read_files.new.blocks in
     let p = err_from_is_err_and c.from_residual.result c.from_residual.ensures.1 in
-    rw (p.1, p.2) (looks_failed g.B.Blocks.told (standing (under old) c.args.tree.now) old new c.in_err-files.field-0.0 (looks_then g.B.Blocks.told c.args.tree.now old mid new (tt {0}) (Err c.in_err-files.field-0.0) c.loop-cell.invariant.looks c.in_err-files.ensures.looks))
+    rw (p.1, p.2) (looks_failed_then g.B.Blocks.told c.args.tree.now (g.B.Blocks.shown c.args.blocks.now) (g.B.Blocks.shown c.loop-cell.blocks) (g.B.Blocks.shown c.read_files.new.blocks) (tt {0}) c.in_err-files.field-0.0 c.loop-cell.invariant.looks c.in_err-files.ensures.looks)
 
 pub overflow_add-result : goal.overflow_add-result
 overflow_add-result g c = omega (arith, c.loop-cell-test.true, c.numbered_cells-count.ensures.few, (c.in-Some.ensures.some c.in-Some.slot refl).0)

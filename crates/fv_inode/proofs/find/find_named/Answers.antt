@@ -3,17 +3,14 @@ use Rattle.std.proofs.lemmas.Result.{err_from_is_err_and}
 use Rattle.fv_tables.specs.Told.{records_each}
 use Rattle.fv_tree.specs.Standing.{standing, under}
 use Rattle.fv_inode.specs.Files.{HasNoneBelow, FindsBelow}
-use Rattle.fv_inode.proofs.Looked.{earlier, looks_then, looks_failed, looks_done}
+use Rattle.fv_inode.proofs.Looked.{earlier, looks_then, looks_failed, looks_done, looks_failed_then}
 use Rattle.fv_inode.proofs.Named.{none_at_all, found_some, found_none}
 use Rattle.fv_inode.proofs.find.find_named.Goals as goal
 
 pub returns-in_err-found-clause-looks : goal.returns-in_err-found-clause-looks
 returns-in_err-found-clause-looks g c =
-    let old = g.B.Blocks.shown c.args.blocks.now in
-    let mid = g.B.Blocks.shown c.loop-cell.blocks in
-    let new = g.B.Blocks.shown c.find_at.new.blocks in
     let p = err_from_is_err_and c.from_residual.result c.from_residual.ensures.1 in
-    rw (p.1, p.2) (looks_failed g.B.Blocks.told (standing (under old) c.args.tree.now) old new c.in_err-found.field-0.0 (looks_then g.B.Blocks.told c.args.tree.now old mid new (tt {0}) (Err c.in_err-found.field-0.0) c.loop-cell.invariant.looks c.in_err-found.ensures.looks))
+    rw (p.1, p.2) (looks_failed_then g.B.Blocks.told c.args.tree.now (g.B.Blocks.shown c.args.blocks.now) (g.B.Blocks.shown c.loop-cell.blocks) (g.B.Blocks.shown c.find_at.new.blocks) (tt {0}) c.in_err-found.field-0.0 c.loop-cell.invariant.looks c.in_err-found.ensures.looks)
 
 pub returns-then-is_some-clause-found : goal.returns-then-is_some-clause-found
 returns-then-is_some-clause-found g c = λ told.

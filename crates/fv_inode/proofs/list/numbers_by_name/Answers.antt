@@ -4,7 +4,7 @@ use Rattle.fv_model.specs.Trees.{fan}
 use Rattle.fv_tree.specs.Standing.{standing, under}
 use Rattle.fv_inode.specs.Files.{AreRecords}
 use Rattle.fv_inode.specs.Listing.{numbers_in, names_from}
-use Rattle.fv_inode.proofs.Looked.{earlier, looks_self, looks_then, looks_failed, looks_done}
+use Rattle.fv_inode.proofs.Looked.{earlier, looks_self, looks_then, looks_failed, looks_done, looks_failed_then}
 use Rattle.fv_inode.proofs.Views.{nothing}
 use Rattle.fv_inode.proofs.list.numbers_by_name.Goals as goal
 
@@ -22,11 +22,8 @@ loop-cell-init g c =
 
 pub returns-in_err-files-clause-looks : goal.returns-in_err-files-clause-looks
 returns-in_err-files-clause-looks g c =
-    let old = g.B.Blocks.shown c.args.blocks.now in
-    let mid = g.B.Blocks.shown c.loop-cell.blocks in
-    let new = g.B.Blocks.shown c.read_files.new.blocks in
     let p = err_from_is_err_and c.from_residual.result c.from_residual.ensures.1 in
-    rw (p.1, p.2) (looks_failed g.B.Blocks.told (standing (under old) c.args.tree.now) old new c.in_err-files.field-0.0 (looks_then g.B.Blocks.told c.args.tree.now old mid new (tt {0}) (Err c.in_err-files.field-0.0) c.loop-cell.invariant.looks c.in_err-files.ensures.looks))
+    rw (p.1, p.2) (looks_failed_then g.B.Blocks.told c.args.tree.now (g.B.Blocks.shown c.args.blocks.now) (g.B.Blocks.shown c.loop-cell.blocks) (g.B.Blocks.shown c.read_files.new.blocks) (tt {0}) c.in_err-files.field-0.0 c.loop-cell.invariant.looks c.in_err-files.ensures.looks)
 
 pub loop-cell-preserved : goal.loop-cell-preserved
 loop-cell-preserved g c =

@@ -1,4 +1,4 @@
-use Rattle.std.proofs.Common.{Ok, Err, sym, ap, ◌∙◌}
+use Rattle.std.proofs.Common.{sym, ap, ◌∙◌}
 use Rattle.std.specs.Prelude.{is_some}
 use Rattle.std.proofs.lemmas.Result.{err_from_is_err_and}
 use Rattle.fv_tree.specs.Standing.{standing, under}
@@ -10,11 +10,9 @@ use Rattle.fv_inode.proofs.ready.hold.Goals as goal
 pub returns-in_err-there-clause-loads : goal.returns-in_err-there-clause-loads
 returns-in_err-there-clause-loads g c =
     let did = c.in_err-there.ensures in
-    let old = g.B.Blocks.shown c.args.blocks.now in
-    let new = g.B.Blocks.shown c.ready.new.blocks in
     let p = err_from_is_err_and c.from_residual.result c.from_residual.ensures.1 in
-    rw (p.1, p.2) (loads_failed g.B.Blocks.told c.args.tree.now c.ready.new.self old new c.in_err-there.field-0.0
-    (loads_at g.B.Blocks.told c.args.tree.now c.ready.new.self old new (Err c.in_err-there.field-0.0) (λ told. did.remains told) did.leaves did.owner did.stands did.leads did.keeps did.stored_well did.keeps_ready did.untouched did.counts did.cause))
+    rw (p.1, p.2) (loads_failed g.B.Blocks.told c.args.tree.now c.ready.new.self (g.B.Blocks.shown c.args.blocks.now) (g.B.Blocks.shown c.ready.new.blocks) c.in_err-there.field-0.0
+    (loads_at (λ told. did.remains told) did.leaves did.steady))
 
 pub returns-then-not-there-clause-there : goal.returns-then-not-there-clause-there
 returns-then-not-there-clause-there g c = λ told.
@@ -26,7 +24,7 @@ returns-then-not-there-clause-loads g c =
     let old = g.B.Blocks.shown c.args.blocks.now in
     let new = g.B.Blocks.shown c.ready.new.blocks in
     loads_done g.B.Blocks.told c.args.tree.now c.ready.new.self old new c.in_ok-there.there _
-    (loads_at g.B.Blocks.told c.args.tree.now c.ready.new.self old new (Ok c.in_ok-there.there) (λ told. tt) (λ told. tt) did.owner did.stands did.leads did.keeps did.stored_well did.keeps_ready did.untouched did.counts did.cause)
+    (loads_at (λ _. tt) (λ _. tt) did.steady)
 
 pub returns-clause-ready : goal.returns-clause-ready
 returns-clause-ready g c = λ yes.
@@ -44,4 +42,4 @@ returns-clause-loads g c =
     let old = g.B.Blocks.shown c.args.blocks.now in
     let new = g.B.Blocks.shown c.ready.new.blocks in
     loads_done g.B.Blocks.told c.args.tree.now c.ready.new.self old new c.in_ok-there.there _
-    (loads_at g.B.Blocks.told c.args.tree.now c.ready.new.self old new (Ok c.in_ok-there.there) (λ told. tt) (λ told. tt) did.owner did.stands did.leads did.keeps did.stored_well did.keeps_ready did.untouched did.counts did.cause)
+    (loads_at (λ _. tt) (λ _. tt) did.steady)

@@ -7,7 +7,7 @@ use Rattle.fv_tree.specs.Standing.{standing, under}
 use Rattle.fv_tree.specs.Altering.{Leaves}
 use Rattle.fv_tree.specs.Flushing.{loaded}
 use Rattle.fv_tree.specs.Writing.{IsAlike}
-use Rattle.fv_inode.proofs.Looked.{earlier, later, loaded_as, loads_leaves, looks_failed, looks_done, loads_none, loads_then}
+use Rattle.fv_inode.proofs.Looked.{earlier, later, loaded_as, loads_leaves, looks_failed, looks_done, loads_none, loads_then, loads_none_failed}
 use Rattle.fv_inode.proofs.Slots.{own_record}
 use Rattle.fv_inode.proofs.Readied.{in_use}
 use Rattle.fv_inode.proofs.Alike.{alike_itself}
@@ -20,10 +20,8 @@ returns-in_err-files-clause-alike g c = λ told.
 
 pub returns-in_err-files-clause-loads : goal.returns-in_err-files-clause-loads
 returns-in_err-files-clause-loads g c =
-    let old = g.B.Blocks.shown c.args.blocks.now in
-    let new = g.B.Blocks.shown c.read_files.new.blocks in
     let p = err_from_is_err_and c.from_residual.result c.from_residual.ensures.1 in
-    rw (p.1, p.2) (loads_none g.B.Blocks.told c.args.tree.now old new _ (looks_failed g.B.Blocks.told (standing (under old) c.args.tree.now) old new c.in_err-files.field-0.0 c.in_err-files.ensures.looks))
+    rw (p.1, p.2) (loads_none_failed g.B.Blocks.told c.args.tree.now (g.B.Blocks.shown c.args.blocks.now) (g.B.Blocks.shown c.read_files.new.blocks) c.in_err-files.field-0.0 c.in_err-files.ensures.looks)
 
 pub returns-then-files-number-eq0-clause-there : goal.returns-then-files-number-eq0-clause-there
 returns-then-files-number-eq0-clause-there g c = λ told.

@@ -4,7 +4,7 @@ use Rattle.fv_inode.proofs.records.write_files.Goals as goal
 pub returns-clause-loads : goal.returns-clause-loads
 returns-clause-loads g c =
     let did = c.put.ensures in
-    loads_at g.B.Blocks.told c.args.tree.now c.put.new.self (g.B.Blocks.shown c.args.blocks.now) (g.B.Blocks.shown c.put.new.blocks) c.put.result did.failed did.leaves did.owner did.stands did.leads did.keeps did.stored_well did.keeps_ready did.untouched did.counts did.cause
+    loads_at did.failed did.leaves did.steady
 
 pub returns-clause-written : goal.returns-clause-written
 returns-clause-written g c = λ told.

@@ -1,4 +1,3 @@
-use Rattle.std.proofs.Common.{Ok}
 use Rattle.std.proofs.lemmas.Result.{err_from_is_err_and}
 use Rattle.fv_tree.specs.Standing.{standing, under}
 use Rattle.fv_inode.proofs.Looked.{loads_at, loads_failed, loads_done}
@@ -17,13 +16,11 @@ returns-clause-loads g c =
     let old = g.B.Blocks.shown c.args.blocks.now in
     let new = g.B.Blocks.shown c.refill.new.blocks in
     loads_done g.B.Blocks.told c.args.tree.now c.refill.new.self old new c.in_ok-refill.field-0 _
-    (loads_at g.B.Blocks.told c.args.tree.now c.refill.new.self old new (Ok c.in_ok-refill.field-0) did.failed did.unchanged did.owner did.stands did.leads did.keeps did.stored_well did.keeps_ready did.untouched did.counts did.cause)
+    (loads_at did.failed did.unchanged did.steady)
 
 pub returns-in_err-refill-clause-loads : goal.returns-in_err-refill-clause-loads
 returns-in_err-refill-clause-loads g c =
     let did = c.in_err-refill.ensures in
-    let old = g.B.Blocks.shown c.args.blocks.now in
-    let new = g.B.Blocks.shown c.refill.new.blocks in
     let p = err_from_is_err_and c.from_residual.result c.from_residual.ensures.1 in
-    rw (p.1, p.2) (loads_failed g.B.Blocks.told c.args.tree.now c.refill.new.self old new c.in_err-refill.field-0.0
-    (loads_at g.B.Blocks.told c.args.tree.now c.refill.new.self old new _ did.failed did.unchanged did.owner did.stands did.leads did.keeps did.stored_well did.keeps_ready did.untouched did.counts did.cause))
+    rw (p.1, p.2) (loads_failed g.B.Blocks.told c.args.tree.now c.refill.new.self (g.B.Blocks.shown c.args.blocks.now) (g.B.Blocks.shown c.refill.new.blocks) c.in_err-refill.field-0.0
+    (loads_at did.failed did.unchanged did.steady))

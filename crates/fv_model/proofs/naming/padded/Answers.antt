@@ -1,4 +1,4 @@
-use Rattle.std.proofs.Common.{◌≡◌, ◌++◌, length, replicate, drop, ℕ, List, ap, ◌∙◌}
+use Rattle.std.proofs.Common.{◌++◌, length, replicate, drop, ℕ, List, ap, ◌∙◌}
 use Rattle.fv_model.proofs.Padding.{zeros_left}
 use Rattle.fv_model.proofs.naming.padded.Goals as goal
 

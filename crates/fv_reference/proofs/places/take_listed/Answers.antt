@@ -10,14 +10,10 @@ use Rattle.fv_reference.proofs.places.take_listed.Goals as goal
 
 pub loop-place-preserved : goal.loop-place-preserved
 loop-place-preserved c =
-    let key : Id = (c.copy.result, c.in-Some.stamp.now) in
-    let rest : List Id = c.next.new.self in
-    let before : set.FinSet id_cmp = set_of id_cmp c.loop-place.found in
-    let all : ◌≡◌ {A = List Id} c.loop-place.place-iterator (key ∷ rest) = rest_more deref_pair c.loop-place.place-iterator c.next.new.self c.next.result (c.in-Some.place, c.in-Some.stamp) c.in-Some.is c.next.ensures.steps ∙ (λ i. (sym c.copy.ensures i, c.in-Some.stamp.now) ∷ rest) in
-    ap (λ (s : set.FinSet id_cmp). set.difference s (set.from_list rest)) c.take.ensures ∙ difference_step id_total id_ties before key rest ∙ ap (λ (es : List Id). set.difference before (set.from_list es)) (sym all) ∙ c.loop-place.invariant
+    let all : ◌≡◌ {A = List Id} c.loop-place.place-iterator ((c.copy.result, c.in-Some.stamp.now) ∷ c.next.new.self) = rest_more deref_pair c.loop-place.place-iterator c.next.new.self c.next.result (c.in-Some.place, c.in-Some.stamp) c.in-Some.is c.next.ensures.steps ∙ (λ i. (sym c.copy.ensures i, c.in-Some.stamp.now) ∷ c.next.new.self) in
+    ap (λ (s : set.FinSet id_cmp). set.difference s (set.from_list c.next.new.self)) c.take.ensures ∙ difference_step id_total id_ties (set_of id_cmp c.loop-place.found) (c.copy.result, c.in-Some.stamp.now) c.next.new.self ∙ ap (λ (es : List Id). set.difference (set_of id_cmp c.loop-place.found) (set.from_list es)) (sym all) ∙ c.loop-place.invariant
 
 pub returns : goal.returns
 returns c =
-    let before : set.FinSet id_cmp = set_of id_cmp c.loop-place.found in
     let none : ◌≡◌ {A = List Id} c.loop-place.place-iterator [] = rest_all deref_pair c.loop-place.place-iterator c.next.new.self c.next.result c.in-None.is c.next.ensures.steps in
-    sym (difference_end id_total id_ties before) ∙ ap (λ (es : List Id). set.difference before (set.from_list es)) (sym none) ∙ c.loop-place.invariant
+    sym (difference_end id_total id_ties (set_of id_cmp c.loop-place.found)) ∙ ap (λ (es : List Id). set.difference (set_of id_cmp c.loop-place.found) (set.from_list es)) (sym none) ∙ c.loop-place.invariant

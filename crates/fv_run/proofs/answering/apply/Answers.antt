@@ -16,8 +16,8 @@ returns-in_err-reply-in-Ok g c =
     subst (λ (r : Result Reply Fault). Applies c.args.session.now (built (line_of c.args.line.now)) (g.H.Disk.shown c.args.host.now) c.apply.new.self (g.H.Disk.shown c.apply.new.disk) r) (sym failed)
     (unapplied _ _ (line_of c.args.line.now) c.in-Ok.command _ _ (said _ _ (sym c.in-Ok.is ∙ c.read_line.ensures)) c.requires (λ other few. (done.calm other few).stays.reads) _ done.goes (λ other. (done.plain other).damage) done.goes_for)
 
-pub returns-in_ok-reply-in-Ok : goal.returns-in_ok-reply-in-Ok
-returns-in_ok-reply-in-Ok g c =
+pub returns-in-Ok : goal.returns-in-Ok
+returns-in-Ok g c =
     let done = c.in_ok-reply-in-Ok.ensures in
     applied _ _ (line_of c.args.line.now) c.in-Ok.command _ _ (said _ _ (sym c.in-Ok.is ∙ c.read_line.ensures)) c.requires _ (λ other few. (done.calm other few).stays.reads) done.goes done.asks done.files done.goes_for done.reply (λ tells last m stands cp. (done.point tells last m stands cp).stands) (λ cp. ((done.plain (cp_reads_none c.in-Ok.command cp)).pointed cp).pending)
 

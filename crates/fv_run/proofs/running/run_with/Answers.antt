@@ -30,11 +30,11 @@ returns-in_err-consistency_point g c =
     let point = c.in_err-consistency_point.ensures in
     subst (λ (r : Result Unit Fault). Ran c.args.limit (g.H.Disk.shown c.args.host.now) (g.H.Disk.shown c.consistency_point.new.disk) r) (sym failed)
     (ran c.args.limit c.in_ok-session.session _ _ _ (g.met.H.Disk.laws c.args.host.now) opened.unwritten opened.stands opened.machine opened.asks opened.none opened.counts opened.loaded opened.fresh.pending _
-    (point_failed c.args.limit c.in_ok-session.session _ _ _ _ c.in_ok-count.ensures c.consistency_point.new.self _ _ point.goes point.goes_for point.kept point.damage))
+    (point_failed c.args.limit c.in_ok-session.session _ _ _ _ c.in_ok-count.ensures c.consistency_point.new.self _ _ point.runs.goes point.runs.goes_for point.kept point.runs.damage))
 
 pub returns : goal.returns
 returns g c =
     let opened = c.in_ok-session.ensures in
     let point = c.in_ok-consistency_point.ensures in
     ran c.args.limit c.in_ok-session.session _ _ _ (g.met.H.Disk.laws c.args.host.now) opened.unwritten opened.stands opened.machine opened.asks opened.none opened.counts opened.loaded opened.fresh.pending _
-    (ran_whole c.args.limit c.in_ok-session.session _ _ _ _ c.in_ok-count.ensures c.consistency_point.new.self _ point.goes point.goes_for (λ tells last m stands. (point.point tells last m stands).stands) _ _ c.tell_count.ensures)
+    (ran_whole c.args.limit c.in_ok-session.session _ _ _ _ c.in_ok-count.ensures c.consistency_point.new.self _ point.runs.goes point.runs.goes_for (λ tells last m stands. (point.points.point tells last m stands).stands) _ _ c.tell_count.ensures)

@@ -1,12 +1,11 @@
-use Rattle.std.proofs.Common.{◌≡◌, ◌≤◌, ◌-◌, ◌/◌, ◌^◌, ℕ, List, sym, ap, ◌∙◌, subst, arith}
+use Rattle.std.proofs.Common.{◌≡◌, ◌≤◌, ◌-◌, ◌/◌, ◌^◌, ℕ, List, sym, ap, ◌∙◌, arith}
 use Rattle.std.specs.Ordering.{nat_cmp}
 use Rattle.fv_model.specs.Trees.{fan}
 use Rattle.fv_tree.specs.Spelled.{pointer_below}
-use Rattle.fv_tree.specs.Standing.{standing, under, Fails}
-use Rattle.fv_tree.specs.Sources.{Shown}
+use Rattle.fv_tree.specs.Standing.{standing, under}
 use Rattle.std.specs.FinMap as fin
 use Rattle.std.proofs.lemmas.Result.{err_from_is_err_and}
-use Rattle.fv_tree.proofs.Causes.{calm_itself, calm_then, fails_later, untouched_itself, untouched_then}
+use Rattle.fv_tree.proofs.Causes.{calm_itself, calm_then, fails_then, untouched_itself, untouched_then}
 use Rattle.fv_tree.proofs.Found.{found_all, found_next, found_top}
 use Rattle.fv_tree.proofs.added.found_over.Goals as goal
 
@@ -52,11 +51,8 @@ loop-level-preserved g c =
 
 pub returns-in_err-pointer-clause-cause : goal.returns-in_err-pointer-clause-cause
 returns-in_err-pointer-clause-cause g c =
-    let old : Shown = g.B.Blocks.shown c.args.blocks.now in
-    let mid : Shown = g.B.Blocks.shown c.loop-level.blocks in
-    let new : Shown = g.B.Blocks.shown c.step.new.blocks in
     let p = err_from_is_err_and c.from_residual.result c.from_residual.ensures.1 in
-    rw (p.1, p.2) (fails_later g.B.Blocks.told (standing (under old) c.args.tree.now) old mid new c.in_err-pointer.field-0.0 c.loop-level.invariant.calm c.loop-level.invariant.untouched.held (subst (λ held. Fails g.B.Blocks.told (standing (λ v. fin.get held v) c.args.tree.now) mid new c.in_err-pointer.field-0.0) c.loop-level.invariant.untouched.held c.in_err-pointer.ensures.cause))
+    rw (p.1, p.2) (fails_then g.B.Blocks.told c.args.tree.now (g.B.Blocks.shown c.args.blocks.now) (g.B.Blocks.shown c.loop-level.blocks) (g.B.Blocks.shown c.step.new.blocks) c.in_err-pointer.field-0.0 c.loop-level.invariant.calm c.loop-level.invariant.untouched c.in_err-pointer.ensures.cause)
 
 pub returns-clause-found : goal.returns-clause-found
 returns-clause-found g c = λ told.

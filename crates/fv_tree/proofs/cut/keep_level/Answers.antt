@@ -1,18 +1,11 @@
-use Rattle.std.proofs.Common.{◌≡◌, ◌<◌, ◌+◌, ◌-◌, ◌*◌, ◌/◌, ◌^◌, inl, inr, [], get_or, length, sym, ap, subst, arith}
-use Rattle.std.specs.FinMap as fin
+use Rattle.std.proofs.Common.{rules, Ok, ◌≡◌, ◌<◌, ◌+◌, ◌-◌, ◌*◌, ◌/◌, ◌^◌, inl, inr, [], get_or, length, sym, subst, arith}
 use Rattle.std.proofs.lemmas.Bool.{cases_lt}
 use Rattle.std.proofs.lemmas.Result.{err_from_is_err_and}
 use Rattle.fv_model.specs.Trees.{fan}
 use Rattle.fv_tree.specs.Standing.{standing, under}
-use Rattle.fv_tree.specs.Releasing.{KeepsBlocks}
-use Rattle.fv_tree.specs.Collecting.{IsRising, AreBelow, Extends, IsHeld}
-use Rattle.fv_tree.proofs.Causes.{calm_then, fails_same, fails_later, untouched_then}
+use Rattle.fv_tree.specs.Collecting.{IsRising, AllBelow, Extends, IsHeld}
 use Rattle.fv_tree.proofs.Collected.{past_up, one_more_range, ranges_under, all_ranges, all_held, IsUnderOne}
-use Rattle.fv_tree.proofs.Held.{but_then}
-use Rattle.fv_tree.specs.Flushing.{loaded}
-use Rattle.fv_tree.proofs.Altered.{leaves_then}
-use Rattle.fv_tree.proofs.Released.{keeps_then}
-use Rattle.fv_tree.proofs.Ways.{same_then}
+use Rattle.fv_tree.proofs.Calls.{loading_err, loading_none, loading_ok, loading_then}
 use Rattle.fv_tree.proofs.cut.keep_level.Goals as goal
 
 pub keep_range-requires-clause-node : goal.keep_range-requires-clause-node
@@ -20,34 +13,19 @@ keep_range-requires-clause-node g c = λ told lt.
     let s = standing (under (g.B.Blocks.shown c.args.blocks.now)) c.args.tree.now in
     let was = c.loop-place.invariant in
     let place = get_or c.args.places.now c.loop-place.place-index 0 in
-    let less : c.args.level < s.levels = omega (arith, lt, was.fields.levels) in
+    let less : c.args.level < s.levels = omega (arith, lt, was.loading.fields.levels) in
     was.still told (c.args.level + 1) (place / fan) (c.requires.nodes told (c.args.level + 1) (place / fan) (omega arith) (omega (arith, less)) (past_up s c.args.level c.args.most place less ((c.requires.places told).past c.loop-place.place-index c.loop-place-test.true)))
-
-pub returns-in_err-keep_range-clause-cause : goal.returns-in_err-keep_range-clause-cause
-returns-in_err-keep_range-clause-cause g c =
-    let old = g.B.Blocks.shown c.args.blocks.now in
-    let mid = g.B.Blocks.shown c.loop-place.blocks in
-    let new = g.B.Blocks.shown c.keep_range.new.blocks in
-    let was = c.loop-place.invariant in
-    let e = c.in_err-keep_range.field-0.0 in
-    let s = standing (under old) c.args.tree.now in
-    let p = err_from_is_err_and c.from_residual.result c.from_residual.ensures.1 in
-    rw (p.1, p.2) (fails_later g.B.Blocks.told s old mid new e was.calm was.untouched.held (fails_same g.B.Blocks.told s (standing (under mid) c.loop-place.tree) mid new e was.same c.in_err-keep_range.ensures.cause))
 
 pub loop-place-preserved : goal.loop-place-preserved
 loop-place-preserved g c =
-    let old = g.B.Blocks.shown c.args.blocks.now in
-    let mid = g.B.Blocks.shown c.loop-place.blocks in
-    let new = g.B.Blocks.shown c.keep_range.new.blocks in
-    let s = standing (under old) c.args.tree.now in
-    let t = standing (under mid) c.loop-place.tree in
-    let u = standing (under new) c.keep_range.new.tree in
+    let s = standing (under (g.B.Blocks.shown c.args.blocks.now)) c.args.tree.now in
+    let t = standing (under (g.B.Blocks.shown c.loop-place.blocks)) c.loop-place.tree in
     let was = c.loop-place.invariant in
     let now = c.in_ok-keep_range.ensures in
     let at = c.loop-place.place-index in
     let places = c.args.places.now in
-    let rises : g.B.Blocks.told → IsRising c.keep_range.new.below.items × AreBelow c.keep_range.new.below.items ((get_or places at 0 + 1) * fan) = λ told. now.rising (was.rising told) (was.bound told at (omega arith) c.loop-place-test.true) in record {
-      added = λ told. one_more_range s t c.args.level c.args.most at places [] c.loop-place.below.items c.keep_range.new.below.items (was.same told) (was.added told) (now.added told);
+    let rises : g.B.Blocks.told → IsRising c.keep_range.new.below.items × AllBelow c.keep_range.new.below.items ((get_or places at 0 + 1) * fan) = λ told. now.rising (was.rising told) (was.bound told at (omega arith) c.loop-place-test.true) in record {
+      added = λ told. one_more_range s t c.args.level c.args.most at places [] c.loop-place.below.items c.keep_range.new.below.items (was.loading.same told) (was.added told) (now.added told);
       rising = λ told. (rises told).0;
       below = now.bound (fan ^ (3 - (c.args.level - 1))) (ranges_under c.args.level (get_or places at 0) c.requires.low (omega (arith, c.requires.high, c.args.tree.now.few)) (c.requires.bound at c.loop-place-test.true)) was.below;
       bound = λ told k le lt j less.
@@ -58,17 +36,8 @@ loop-place-preserved g c =
         | inl less ↦ now.nodes told c.args.level (get_or places j 0) (was.nodes told j less)
         | inr le ↦ let same : j ≡ at = omega (arith, lt, le) in subst (λ k. IsHeld c.keep_range.new.tree c.args.level (get_or places k 0)) (sym same) (now.node told)
       ];
-      fields = but_then c.args.tree.now c.loop-place.tree c.keep_range.new.tree was.fields now.fields;
       still = λ told level place held. now.nodes told level place (was.still told level place held);
-      same = λ told. same_then s t u (was.same told) (now.same told);
-      blocks = λ told. keeps_then (under old) c.args.tree.now c.loop-place.tree c.keep_range.new.tree (was.blocks told) (subst (λ b. KeepsBlocks b c.loop-place.tree c.keep_range.new.tree) (ap (λ h v. fin.get h v) was.untouched.held) (now.blocks told));
-      leaves = λ told. leaves_then (loaded old c.args.tree.now) (loaded mid c.loop-place.tree) (loaded new c.keep_range.new.tree) (was.leaves told) (now.leaves told);
-      stands = λ told stands. now.stands told (was.stands told stands);
-      changes = omega (arith, was.changes, now.changes);
-      marks = λ told k q changed. was.marks told k q (now.marks told k q changed);
-      untouched = untouched_then old mid new was.untouched now.untouched;
-      calm = calm_then old mid new was.calm now.counts.calm;
-      reads = g.met.B.Blocks.reads_on c.args.blocks.now c.loop-place.blocks c.keep_range.new.blocks was.reads now.reads;
+      loading = loading_ok 0 (loading_then (g.met.B.Blocks.reads_on c.args.blocks.now c.loop-place.blocks c.keep_range.new.blocks) was.loading now.loading);
     }
 
 pub returns-clause-places : goal.returns-clause-places
@@ -85,3 +54,21 @@ returns-clause-nodes g c = λ told.
     let s = standing (under (g.B.Blocks.shown c.args.blocks.now)) c.args.tree.now in
     let was = c.loop-place.invariant in
     all_held c.args.tree.now c.loop-place.tree s c.args.level c.args.most c.args.places.now c.requires.low (c.requires.places told) (c.requires.nodes told) (was.still told) (λ j lt. was.nodes told j (omega (arith, lt, c.loop-place-test.false)))
+
+pub returns-in_err-keep_range-clause-loading : goal.returns-in_err-keep_range-clause-loading
+returns-in_err-keep_range-clause-loading g c = let p = err_from_is_err_and c.from_residual.result c.from_residual.ensures.1 in
+    rw (p.1, p.2) (loading_err (loading_then (g.met.B.Blocks.reads_on c.args.blocks.now c.loop-place.blocks c.keep_range.new.blocks) c.loop-place.invariant.loading c.in_err-keep_range.ensures.loading))
+
+pub returns-clause-loading : goal.returns-clause-loading
+returns-clause-loading g c = loading_ok _ c.loop-place.invariant.loading
+
+pub loop-place-init : goal.loop-place-init
+loop-place-init g c = record {
+  added = search rules;
+  rising = search rules;
+  below = search rules;
+  bound = search rules;
+  nodes = search rules;
+  still = search rules;
+  loading = loading_none g.B.Blocks.told (g.B.Blocks.shown c.args.blocks.now) c.args.tree.now (Ok 0) (g.met.B.Blocks.reads_nothing c.args.blocks.now) tt;
+}

@@ -1,61 +1,12 @@
-use Rattle.std.proofs.Common.{◌≡◌, ℕ, get_or, refl, sym, ap, subst, ◌∙◌, arith}
-use Rattle.std.specs.FinMap as fin
+use Rattle.std.proofs.Common.{◌≡◌, ℕ, get_or, refl, ap, ◌∙◌, arith}
 use Rattle.std.proofs.lemmas.Result.{on_ok_weaker, err_from_is_err_and}
 use Rattle.fv_tree.specs.Spelled.{hole, pointers_at, pointer_at}
 use Rattle.fv_tree.specs.Standing.{standing, under}
-use Rattle.fv_tree.specs.Keeping.{Keeps}
-use Rattle.fv_tree.specs.Carried.{Brings}
 use Rattle.fv_tree.specs.Collecting.{IsChildPast, IsUnder}
-use Rattle.fv_tree.proofs.Bordered.{brings_marks}
-use Rattle.fv_tree.proofs.Brought.{brings_stands}
 use Rattle.fv_tree.proofs.Causes.{kept_damage, node_fails}
-use Rattle.fv_tree.proofs.Collected.{pointer_in_is, range_within, under_as, under_from, extends_as}
-use Rattle.fv_tree.proofs.Altered.{leaves_brought}
-use Rattle.fv_tree.proofs.Released.{keeps_brought}
-use Rattle.fv_tree.proofs.Ways.{keeps_same}
+use Rattle.fv_tree.proofs.Collected.{pointer_in_is, range_within, under_as, under_from, extends_as, pointer_in_at}
+use Rattle.fv_tree.proofs.Calls.{loading_brought, loading_none, loading_then, loads_err, loads_ok}
 use Rattle.fv_tree.proofs.cut.keep_range.Goals as goal
-
-pub returns-in_err-children-clause-same : goal.returns-in_err-children-clause-same
-returns-in_err-children-clause-same g c = λ told.
-    let s = standing (under (g.B.Blocks.shown c.args.blocks.now)) c.args.tree.now in
-    let is = c.pointer_in-pointer.ensures.is ∙ pointer_in_is (under (g.B.Blocks.shown c.args.blocks.now)) c.args.tree.now c.args.level c.args.place (c.requires.stands told) (c.requires.node told) in
-    let u = standing (under (g.B.Blocks.shown c.keep_node.new.blocks)) c.keep_node.new.tree in
-    keeps_same s u c.args.level c.args.place (subst (λ p. Keeps s u c.args.level c.args.place p) is (c.keep_node.ensures.keeps told))
-
-pub returns-clause-same : goal.returns-clause-same
-returns-clause-same g c = λ told.
-    let s = standing (under (g.B.Blocks.shown c.args.blocks.now)) c.args.tree.now in
-    let is = c.pointer_in-pointer.ensures.is ∙ pointer_in_is (under (g.B.Blocks.shown c.args.blocks.now)) c.args.tree.now c.args.level c.args.place (c.requires.stands told) (c.requires.node told) in
-    let u = standing (under (g.B.Blocks.shown c.keep_node.new.blocks)) c.keep_node.new.tree in
-    keeps_same s u c.args.level c.args.place (subst (λ p. Keeps s u c.args.level c.args.place p) is (c.keep_node.ensures.keeps told))
-
-pub returns-in_err-children-clause-blocks : goal.returns-in_err-children-clause-blocks
-returns-in_err-children-clause-blocks g c = λ told.
-    let old = under (g.B.Blocks.shown c.args.blocks.now) in
-    let new = under (g.B.Blocks.shown c.keep_node.new.blocks) in
-    let s = standing old c.args.tree.now in
-    let u = standing new c.keep_node.new.tree in
-    let is = c.pointer_in-pointer.ensures.is ∙ pointer_in_is old c.args.tree.now c.args.level c.args.place (c.requires.stands told) (c.requires.node told) in
-    keeps_brought old new c.args.tree.now c.keep_node.new.tree c.args.level c.args.place c.pointer_in-pointer.result (ap (λ h v. fin.get h v) c.keep_node.ensures.untouched.held)
-    (keeps_same s u c.args.level c.args.place (subst (λ p. Keeps s u c.args.level c.args.place p) is (c.keep_node.ensures.keeps told))) (sym is) c.keep_node.ensures.fields (c.keep_node.ensures.brings told)
-
-pub returns-clause-blocks : goal.returns-clause-blocks
-returns-clause-blocks g c = λ told.
-    let old = under (g.B.Blocks.shown c.args.blocks.now) in
-    let new = under (g.B.Blocks.shown c.keep_node.new.blocks) in
-    let s = standing old c.args.tree.now in
-    let u = standing new c.keep_node.new.tree in
-    let is = c.pointer_in-pointer.ensures.is ∙ pointer_in_is old c.args.tree.now c.args.level c.args.place (c.requires.stands told) (c.requires.node told) in
-    keeps_brought old new c.args.tree.now c.keep_node.new.tree c.args.level c.args.place c.pointer_in-pointer.result (ap (λ h v. fin.get h v) c.keep_node.ensures.untouched.held)
-    (keeps_same s u c.args.level c.args.place (subst (λ p. Keeps s u c.args.level c.args.place p) is (c.keep_node.ensures.keeps told))) (sym is) c.keep_node.ensures.fields (c.keep_node.ensures.brings told)
-
-pub returns-in_err-children-clause-cause : goal.returns-in_err-children-clause-cause
-returns-in_err-children-clause-cause g c =
-    let old = g.B.Blocks.shown c.args.blocks.now in
-    let new = g.B.Blocks.shown c.keep_node.new.blocks in
-    let is : g.B.Blocks.told → c.pointer_in-pointer.result ≡ pointer_at (standing (under old) c.args.tree.now) c.args.level c.args.place = λ told. c.pointer_in-pointer.ensures.is ∙ pointer_in_is (under old) c.args.tree.now c.args.level c.args.place (c.requires.stands told) (c.requires.node told) in
-    let p = err_from_is_err_and c.from_residual.result c.from_residual.ensures.1 in
-    rw (p.1, p.2) (node_fails g.B.Blocks.told (standing (under old) c.args.tree.now) old new c.args.level c.args.place c.pointer_in-pointer.result c.in_err-children.field-0.0 refl c.requires.low c.requires.high (λ told. sym (is told)) (kept_damage c.args.tree.now c.args.level c.args.place c.in_err-children.field-0.0 c.in_err-children.ensures.held) c.in_err-children.ensures.cause)
 
 pub add_ranges-requires-clause-range : goal.add_ranges-requires-clause-range
 add_ranges-requires-clause-range g c = range_within c.args.level c.args.place c.requires.low (omega (arith, c.requires.high, c.args.tree.now.few)) c.requires.range
@@ -70,52 +21,24 @@ returns-clause-added g c = λ told.
     on_ok_weaker c.add_ranges.result (λ added. extends_as (IsChildPast xs c.args.level c.args.most c.args.place) (IsUnder s c.args.level c.args.most c.args.place) c.args.below.now.items c.add_ranges.new.below.items added
     (under_as s c.args.level c.args.most c.args.place xs c.requires.low c.requires.high spelled) (under_from s c.args.level c.args.most c.args.place xs c.requires.low c.requires.high spelled)) c.add_ranges.ensures.added
 
-pub returns-in_err-children-clause-stands : goal.returns-in_err-children-clause-stands
-returns-in_err-children-clause-stands g c = λ told stands.
-    let old = g.B.Blocks.shown c.args.blocks.now in
+pub returns-in_err-children-clause-loading : goal.returns-in_err-children-clause-loading
+returns-in_err-children-clause-loading g c = let old = g.B.Blocks.shown c.args.blocks.now in
     let new = g.B.Blocks.shown c.keep_node.new.blocks in
-    let s = standing (under old) c.args.tree.now in
-    let u = standing (under new) c.keep_node.new.tree in
-    let is = c.pointer_in-pointer.ensures.is ∙ pointer_in_is (under old) c.args.tree.now c.args.level c.args.place (c.requires.stands told) (c.requires.node told) in
-    brings_stands old new c.args.tree.now c.keep_node.new.tree c.args.level c.args.place c.requires.low c.keep_node.ensures.untouched.held c.keep_node.ensures.untouched.used c.keep_node.ensures.fields
-    (keeps_same s u c.args.level c.args.place (subst (λ p. Keeps s u c.args.level c.args.place p) is (c.keep_node.ensures.keeps told)))
-    (subst (Brings (under old) c.args.tree.now c.keep_node.new.tree c.args.level c.args.place) is (c.keep_node.ensures.brings told)) stands
+    let t = standing (under old) c.args.tree.now in
+    let q = c.pointer_in-pointer.result in
+    let at = pointer_in_at g.B.Blocks.told (under old) c.args.tree.now c.args.level c.args.place q c.pointer_in-pointer.ensures.is c.requires.stands c.requires.node in
+    let node = c.in_err-children.ensures in
+    let e = c.in_err-children.field-0.0 in
+    let p = err_from_is_err_and c.from_residual.result c.from_residual.ensures.1 in
+    rw (p.1, p.2) (loading_brought g.B.Blocks.told _ old new c.args.tree.now c.keep_node.new.tree c.args.level c.args.place q _ c.requires.low at node.keeps node.brings node.fields node.changes (loads_err node.loads)
+    (node_fails g.B.Blocks.told t old new c.args.level c.args.place q e refl c.requires.low c.requires.high at (kept_damage c.args.tree.now c.args.level c.args.place e node.held) node.loads.cause))
 
-pub returns-clause-stands : goal.returns-clause-stands
-returns-clause-stands g c = λ told stands.
-    let old = g.B.Blocks.shown c.args.blocks.now in
+pub returns-clause-loading : goal.returns-clause-loading
+returns-clause-loading g c = let old = g.B.Blocks.shown c.args.blocks.now in
     let new = g.B.Blocks.shown c.keep_node.new.blocks in
-    let s = standing (under old) c.args.tree.now in
-    let u = standing (under new) c.keep_node.new.tree in
-    let is = c.pointer_in-pointer.ensures.is ∙ pointer_in_is (under old) c.args.tree.now c.args.level c.args.place (c.requires.stands told) (c.requires.node told) in
-    brings_stands old new c.args.tree.now c.keep_node.new.tree c.args.level c.args.place c.requires.low c.keep_node.ensures.untouched.held c.keep_node.ensures.untouched.used c.keep_node.ensures.fields
-    (keeps_same s u c.args.level c.args.place (subst (λ p. Keeps s u c.args.level c.args.place p) is (c.keep_node.ensures.keeps told)))
-    (subst (Brings (under old) c.args.tree.now c.keep_node.new.tree c.args.level c.args.place) is (c.keep_node.ensures.brings told)) stands
-
-pub returns-in_err-children-clause-marks : goal.returns-in_err-children-clause-marks
-returns-in_err-children-clause-marks g c = λ told.
-    brings_marks (under (g.B.Blocks.shown c.args.blocks.now)) c.args.tree.now c.keep_node.new.tree c.args.level c.args.place c.pointer_in-pointer.result (c.keep_node.ensures.brings told)
-
-pub returns-clause-marks : goal.returns-clause-marks
-returns-clause-marks g c = λ told.
-    brings_marks (under (g.B.Blocks.shown c.args.blocks.now)) c.args.tree.now c.keep_node.new.tree c.args.level c.args.place c.pointer_in-pointer.result (c.keep_node.ensures.brings told)
-
-pub returns-in_err-children-clause-leaves : goal.returns-in_err-children-clause-leaves
-returns-in_err-children-clause-leaves g c = λ told.
-    let old = under (g.B.Blocks.shown c.args.blocks.now) in
-    let new = under (g.B.Blocks.shown c.keep_node.new.blocks) in
-    let s = standing old c.args.tree.now in
-    let u = standing new c.keep_node.new.tree in
-    let is = c.pointer_in-pointer.ensures.is ∙ pointer_in_is old c.args.tree.now c.args.level c.args.place (c.requires.stands told) (c.requires.node told) in
-    leaves_brought old new c.args.tree.now c.keep_node.new.tree c.args.level c.args.place c.pointer_in-pointer.result
-    (keeps_same s u c.args.level c.args.place (subst (λ p. Keeps s u c.args.level c.args.place p) is (c.keep_node.ensures.keeps told))) (sym is) c.keep_node.ensures.fields (c.keep_node.ensures.brings told)
-
-pub returns-clause-leaves : goal.returns-clause-leaves
-returns-clause-leaves g c = λ told.
-    let old = under (g.B.Blocks.shown c.args.blocks.now) in
-    let new = under (g.B.Blocks.shown c.keep_node.new.blocks) in
-    let s = standing old c.args.tree.now in
-    let u = standing new c.keep_node.new.tree in
-    let is = c.pointer_in-pointer.ensures.is ∙ pointer_in_is old c.args.tree.now c.args.level c.args.place (c.requires.stands told) (c.requires.node told) in
-    leaves_brought old new c.args.tree.now c.keep_node.new.tree c.args.level c.args.place c.pointer_in-pointer.result
-    (keeps_same s u c.args.level c.args.place (subst (λ p. Keeps s u c.args.level c.args.place p) is (c.keep_node.ensures.keeps told))) (sym is) c.keep_node.ensures.fields (c.keep_node.ensures.brings told)
+    let q = c.pointer_in-pointer.result in
+    let at = pointer_in_at g.B.Blocks.told (under old) c.args.tree.now c.args.level c.args.place q c.pointer_in-pointer.ensures.is c.requires.stands c.requires.node in
+    let node = c.in_ok-children.ensures in
+    loading_then {T = ℕ} (g.met.B.Blocks.reads_on c.args.blocks.now c.keep_node.new.blocks c.keep_node.new.blocks)
+    (loading_brought g.B.Blocks.told _ old new c.args.tree.now c.keep_node.new.tree c.args.level c.args.place q _ c.requires.low at node.keeps node.brings node.fields node.changes (loads_ok 0 node.loads) tt)
+    (loading_none g.B.Blocks.told new c.keep_node.new.tree c.add_ranges.result (g.met.B.Blocks.reads_nothing c.keep_node.new.blocks) c.add_ranges.ensures.memory)

@@ -1,14 +1,12 @@
 use Rattle.std.proofs.Common.{false, ◌≡◌, ◌≢◌, ◌≤◌, ◌<◌, ◌/◌, ◌^◌, ℕ}
 use Rattle.fv_model.specs.Trees.{fan}
 use Rattle.fv_tree.specs.Spelled.{pointer_at}
-use Rattle.fv_tree.specs.Releasing.{KeepsBlocks}
-use Rattle.fv_tree.specs.Keeping.{IsKept, IsSame}
-use Rattle.fv_tree.specs.Sources.{IsCalm, IsUntouched}
-use Rattle.fv_tree.specs.Standing.{standing, under, node_in, IsSameBut}
+use Rattle.fv_tree.specs.Keeping.{IsKept}
+use Rattle.fv_tree.specs.Standing.{standing, under, node_in}
 use Rattle.fv_tree.specs.Readying.{KeepsReady}
-use Rattle.fv_tree.specs.Flushing.{loaded, placed_in, pointer_in, Stands}
-use Rattle.fv_tree.specs.Altering.{Leaves}
-use Rattle.fv_tree.specs.Costs.{changes_in}
+use Rattle.fv_tree.specs.Flushing.{placed_in, pointer_in}
+use Rattle.std.proofs.Common.{Ok}
+use Rattle.fv_tree.specs.Calls.{Loading}
 use Rattle.fv_tree.proofs.keep.keep_path.Given as goal
 
 abbrev pub invariant-loop-level : goal.invariant-loop-level
@@ -17,19 +15,11 @@ invariant-loop-level g l = record {
   pointer : g.B.Blocks.told → l.pointer ≡ pointer_at (standing (under (g.B.Blocks.shown l.blocks)) l.tree) l.level (l.index / fan ^ l.level);
   kept : g.B.Blocks.told → (k : ℕ) → l.level < k → k ≤ l.fn.tree.levels → IsKept (standing (under (g.B.Blocks.shown l.blocks)) l.tree) k (l.index / fan ^ k);
   unplaced : g.B.Blocks.told → (k : ℕ) → l.level < k → k ≤ l.fn.tree.levels → (pointer_at (standing (under (g.B.Blocks.shown l.fn.blocks)) l.fn.tree) k (l.index / fan ^ k)).stamp ≡ 0 → placed_in l.tree.nodes k (l.index / fan ^ k) ≡ false;
-  changes : changes_in l.tree.nodes ≤ changes_in l.fn.tree.nodes;
+  loading : Loading {T = ℕ} g.B.Blocks.told (g.B.Blocks.reads l.fn.blocks l.blocks) (g.B.Blocks.shown l.fn.blocks) (g.B.Blocks.shown l.blocks) l.fn.tree l.tree (Ok 0);
   keeps_ready : KeepsReady l.fn.tree l.tree;
   here : l.pointer ≡ pointer_in l.tree l.level (l.index / fan ^ l.level);
   below : (k place : ℕ) → k ≤ l.level → node_in l.tree k place ≡ node_in l.fn.tree k place;
-  fields : IsSameBut l.fn.tree l.tree;
   way : l.pointer.stamp ≢ 0 → (k : ℕ) → l.level ≤ k → k ≤ l.fn.tree.levels → (pointer_in l.tree k (l.index / fan ^ k)).stamp ≢ 0;
-  stands : g.B.Blocks.told → Stands (g.B.Blocks.shown l.fn.blocks) l.fn.tree → Stands (g.B.Blocks.shown l.blocks) l.tree;
-  same : g.B.Blocks.told → IsSame (standing (under (g.B.Blocks.shown l.fn.blocks)) l.fn.tree) (standing (under (g.B.Blocks.shown l.blocks)) l.tree);
-  blocks : g.B.Blocks.told → KeepsBlocks (under (g.B.Blocks.shown l.fn.blocks)) l.fn.tree l.tree;
-  leaves : g.B.Blocks.told → Leaves (loaded (g.B.Blocks.shown l.fn.blocks) l.fn.tree) (loaded (g.B.Blocks.shown l.blocks) l.tree);
-  untouched : IsUntouched (g.B.Blocks.shown l.fn.blocks) (g.B.Blocks.shown l.blocks);
-  calm : IsCalm (g.B.Blocks.shown l.fn.blocks) (g.B.Blocks.shown l.blocks);
-  reads : g.B.Blocks.reads l.fn.blocks l.blocks;
 }
 
 abbrev pub decreases-loop-level : goal.decreases-loop-level

@@ -1,6 +1,5 @@
 use Rattle.std.proofs.Common.{◌≡◌, ◌+◌, ◌/◌, ◌%◌, ◌-◌, ◌^◌, ℕ, inl, List, Option, Some, get_or, refl, sym, ap, subst, ◌∙◌, arith}
 use Rattle.std.proofs.lemmas.Result.{err_from_is_err_and}
-use Rattle.std.specs.FinMap as fin
 use Rattle.std.specs.Option.{option_map}
 use Rattle.fv_tree.specs.declared.kept.KeptNode.{KeptNode}
 use Rattle.fv_codec.specs.declared.pointer.Pointer.{Pointer}
@@ -16,9 +15,8 @@ use Rattle.fv_tree.proofs.Readied.{pointer_low}
 use Rattle.fv_tree.proofs.StillReady.{step_ready}
 use Rattle.fv_tree.proofs.Brought.{leads_on}
 use Rattle.fv_tree.proofs.Causes.{kept_damage, node_fails}
-use Rattle.fv_tree.proofs.Altered.{leaves_brought}
-use Rattle.fv_tree.proofs.Released.{keeps_brought}
 use Rattle.fv_tree.proofs.Ways.{keeps_same}
+use Rattle.fv_tree.proofs.Calls.{loading_brought, loads_err, loads_ok}
 use Rattle.fv_tree.proofs.keep.keep_step.Goals as goal
 
 -- the tree is the same, where the node at the way's place came into memory
@@ -31,22 +29,6 @@ spells : (t : Rooted) (level i width slot : ℕ) (p : Pointer) (xs : List Pointe
     → ((slot : ℕ) → get_or xs slot hole ≡ get_or (pointers_at t level (i / width) p) slot hole)
     → get_or xs slot hole ≡ get_or (pointers_at t level (i / fan ^ level) (pointer_at t level (i / fan ^ level))) slot hole
 spells t level i width slot p xs is way xs_are = xs_are slot ∙ (λ j. get_or (pointers_at t level (i / is j) (way j)) slot hole)
-
-pub returns-in_err-children-clause-same : goal.returns-in_err-children-clause-same
-returns-in_err-children-clause-same g c = λ told.
-    stays (standing (under (g.B.Blocks.shown c.args.blocks.now)) c.args.tree.now) _ c.args.level c.args.index c.width.result c.args.pointer.now c.width.ensures.is (c.requires.pointer told) (c.keep_node.ensures.keeps told)
-
-pub returns-in_err-children-clause-cause : goal.returns-in_err-children-clause-cause
-returns-in_err-children-clause-cause g c =
-    let old = g.B.Blocks.shown c.args.blocks.now in
-    let new = g.B.Blocks.shown c.keep_node.new.blocks in
-    let t = standing (under old) c.args.tree.now in
-    let e = c.in_err-children.field-0.0 in
-    let place = c.args.index / c.width.result in
-    let p = err_from_is_err_and c.from_residual.result c.from_residual.ensures.1 in
-    rw (p.1, p.2) (node_fails g.B.Blocks.told t old new c.args.level place c.args.pointer.now e refl c.requires.low c.requires.high
-    (λ told. (λ j. pointer_at t c.args.level (c.args.index / c.width.ensures.is j)) ∙ sym (c.requires.pointer told))
-    (kept_damage c.args.tree.now c.args.level place e c.in_err-children.ensures.held) c.in_err-children.ensures.cause)
 
 pub returns-clause-below : goal.returns-clause-below
 returns-clause-below g c = λ told.
@@ -65,26 +47,6 @@ returns-clause-keeps g c = λ told.
     c.in_ok-children.ensures.long
     (λ slot. spells t c.args.level c.args.index c.width.result slot c.args.pointer.now c.in_ok-children.children c.width.ensures.is (c.requires.pointer told) (c.in_ok-children.ensures.children told))
 
-pub returns-clause-same : goal.returns-clause-same
-returns-clause-same g c = λ told.
-    stays (standing (under (g.B.Blocks.shown c.args.blocks.now)) c.args.tree.now) _ c.args.level c.args.index c.width.result c.args.pointer.now c.width.ensures.is (c.requires.pointer told) (c.keep_node.ensures.keeps told)
-
-pub returns-in_err-children-clause-blocks : goal.returns-in_err-children-clause-blocks
-returns-in_err-children-clause-blocks g c = λ told.
-    let old = under (g.B.Blocks.shown c.args.blocks.now) in
-    keeps_brought old (under (g.B.Blocks.shown c.keep_node.new.blocks)) c.args.tree.now c.keep_node.new.tree c.args.level (c.args.index / c.width.result) c.args.pointer.now (ap (λ h v. fin.get h v) c.keep_node.ensures.untouched.held)
-    (stays (standing old c.args.tree.now) _ c.args.level c.args.index c.width.result c.args.pointer.now c.width.ensures.is (c.requires.pointer told) (c.keep_node.ensures.keeps told))
-    (ap (λ w. pointer_at (standing old c.args.tree.now) c.args.level (c.args.index / w)) c.width.ensures.is ∙ sym (c.requires.pointer told))
-    c.keep_node.ensures.fields (c.keep_node.ensures.brings told)
-
-pub returns-clause-blocks : goal.returns-clause-blocks
-returns-clause-blocks g c = λ told.
-    let old = under (g.B.Blocks.shown c.args.blocks.now) in
-    keeps_brought old (under (g.B.Blocks.shown c.keep_node.new.blocks)) c.args.tree.now c.keep_node.new.tree c.args.level (c.args.index / c.width.result) c.args.pointer.now (ap (λ h v. fin.get h v) c.keep_node.ensures.untouched.held)
-    (stays (standing old c.args.tree.now) _ c.args.level c.args.index c.width.result c.args.pointer.now c.width.ensures.is (c.requires.pointer told) (c.keep_node.ensures.keeps told))
-    (ap (λ w. pointer_at (standing old c.args.tree.now) c.args.level (c.args.index / w)) c.width.ensures.is ∙ sym (c.requires.pointer told))
-    c.keep_node.ensures.fields (c.keep_node.ensures.brings told)
-
 pub returns-clause-blank : goal.returns-clause-blank
 returns-clause-blank g c = λ none. subst (λ w. IsBlank (kept_at c.keep_node.new.tree c.args.level (c.args.index / w))) c.width.ensures.is (c.in_ok-children.ensures.blank none)
 
@@ -93,22 +55,6 @@ returns-in_err-children-clause-others g c = λ k q differs. ap (option_map (λ (
 
 pub returns-clause-others : goal.returns-clause-others
 returns-clause-others g c = λ k q differs. ap (option_map (λ (kept : KeptNode). kept.children)) (c.keep_node.ensures.others k q (inl differs))
-
-pub returns-clause-leads : goal.returns-clause-leads
-returns-clause-leads g c = λ some.
-    leads_on c.keep_node.new.tree c.args.level (c.args.index / c.width.result) (c.args.index / c.width-2.result % fan) c.args.pointer.now c.in_ok-children.children c.in_ok-children.ensures.kept c.in_ok-children.ensures.blank some
-
-pub returns-clause-child : goal.returns-clause-child
-returns-clause-child g c =
-    let u = c.keep_node.new.tree in
-    let i = c.args.index in
-    let k = c.args.level - 1 in
-    let n : k + 1 ≡ c.args.level = omega (arith, c.requires.low) in
-    let node : node_in u (k + 1) (i / fan ^ k / fan) ≡ Some c.in_ok-children.children =
-    ap (node_in u (k + 1)) (range_above i c.args.level c.requires.low) ∙ ap (λ m. node_in u m (i / fan ^ c.args.level)) n ∙ ap (λ w. node_in u c.args.level (i / w)) (sym c.width.ensures.is) ∙ c.in_ok-children.ensures.kept in
-    pointer_low u k (i / fan ^ k) (let same = c.keep_node.ensures.fields.levels in let high = c.requires.high in omega (arith, n, same, high))
-    ∙ ap (λ (o : Option (List Pointer)). child_of o (i / fan ^ k % fan)) node
-    ∙ ap (λ w. get_or c.in_ok-children.children (i / w % fan) hole) (sym c.width-2.ensures.is)
 
 pub returns-clause-keeps_ready : goal.returns-clause-keeps_ready
 returns-clause-keeps_ready g c = λ here.
@@ -124,18 +70,38 @@ returns-in_err-children-clause-keeps_ready g c = λ here.
     step_ready t c.keep_node.new.tree c.args.level (c.args.index / c.width.result) c.keep_node.ensures.fields c.keep_node.ensures.others
     (λ some there. c.keep_node.ensures.stays (λ none. some ((λ j. (pointer_in t c.args.level (place j)).stamp) ∙ ap (λ (p : Pointer). p.stamp) (sym here) ∙ none)) there)
 
-pub returns-in_err-children-clause-leaves : goal.returns-in_err-children-clause-leaves
-returns-in_err-children-clause-leaves g c = λ told.
-    let old = under (g.B.Blocks.shown c.args.blocks.now) in
-    leaves_brought old (under (g.B.Blocks.shown c.keep_node.new.blocks)) c.args.tree.now c.keep_node.new.tree c.args.level (c.args.index / c.width.result) c.args.pointer.now
-    (stays (standing old c.args.tree.now) _ c.args.level c.args.index c.width.result c.args.pointer.now c.width.ensures.is (c.requires.pointer told) (c.keep_node.ensures.keeps told))
-    (ap (λ w. pointer_at (standing old c.args.tree.now) c.args.level (c.args.index / w)) c.width.ensures.is ∙ sym (c.requires.pointer told))
-    c.keep_node.ensures.fields (c.keep_node.ensures.brings told)
+pub returns-clause-child : goal.returns-clause-child
+returns-clause-child g c = record {
+  is = (let u = c.keep_node.new.tree in
+      let i = c.args.index in
+      let k = c.args.level - 1 in
+      let n : k + 1 ≡ c.args.level = omega (arith, c.requires.low) in
+      let node : node_in u (k + 1) (i / fan ^ k / fan) ≡ Some c.in_ok-children.children =
+      ap (node_in u (k + 1)) (range_above i c.args.level c.requires.low) ∙ ap (λ m. node_in u m (i / fan ^ c.args.level)) n ∙ ap (λ w. node_in u c.args.level (i / w)) (sym c.width.ensures.is) ∙ c.in_ok-children.ensures.kept in
+      pointer_low u k (i / fan ^ k) (let same = c.keep_node.ensures.fields.levels in let high = c.requires.high in omega (arith, n, same, high))
+      ∙ ap (λ (o : Option (List Pointer)). child_of o (i / fan ^ k % fan)) node
+      ∙ ap (λ w. get_or c.in_ok-children.children (i / w % fan) hole) (sym c.width-2.ensures.is));
+  leads = λ some.
+      leads_on c.keep_node.new.tree c.args.level (c.args.index / c.width.result) (c.args.index / c.width-2.result % fan) c.args.pointer.now c.in_ok-children.children c.in_ok-children.ensures.kept c.in_ok-children.ensures.blank some;
+}
 
-pub returns-clause-leaves : goal.returns-clause-leaves
-returns-clause-leaves g c = λ told.
-    let old = under (g.B.Blocks.shown c.args.blocks.now) in
-    leaves_brought old (under (g.B.Blocks.shown c.keep_node.new.blocks)) c.args.tree.now c.keep_node.new.tree c.args.level (c.args.index / c.width.result) c.args.pointer.now
-    (stays (standing old c.args.tree.now) _ c.args.level c.args.index c.width.result c.args.pointer.now c.width.ensures.is (c.requires.pointer told) (c.keep_node.ensures.keeps told))
-    (ap (λ w. pointer_at (standing old c.args.tree.now) c.args.level (c.args.index / w)) c.width.ensures.is ∙ sym (c.requires.pointer told))
-    c.keep_node.ensures.fields (c.keep_node.ensures.brings told)
+pub returns-in_err-children-clause-loading : goal.returns-in_err-children-clause-loading
+returns-in_err-children-clause-loading g c = let old = g.B.Blocks.shown c.args.blocks.now in
+    let new = g.B.Blocks.shown c.keep_node.new.blocks in
+    let t = standing (under old) c.args.tree.now in
+    let place = c.args.index / c.width.result in
+    let at : g.B.Blocks.told → pointer_at t c.args.level place ≡ c.args.pointer.now = λ told. (λ j. pointer_at t c.args.level (c.args.index / c.width.ensures.is j)) ∙ sym (c.requires.pointer told) in
+    let node = c.in_err-children.ensures in
+    let e = c.in_err-children.field-0.0 in
+    let p = err_from_is_err_and c.from_residual.result c.from_residual.ensures.1 in
+    rw (p.1, p.2) (loading_brought g.B.Blocks.told _ old new c.args.tree.now c.keep_node.new.tree c.args.level place c.args.pointer.now _ c.requires.low at node.keeps node.brings node.fields node.changes (loads_err node.loads)
+    (node_fails g.B.Blocks.told t old new c.args.level place c.args.pointer.now e refl c.requires.low c.requires.high at (kept_damage c.args.tree.now c.args.level place e node.held) node.loads.cause))
+
+pub returns-clause-loading : goal.returns-clause-loading
+returns-clause-loading g c = let old = g.B.Blocks.shown c.args.blocks.now in
+    let new = g.B.Blocks.shown c.keep_node.new.blocks in
+    let t = standing (under old) c.args.tree.now in
+    let place = c.args.index / c.width.result in
+    let at : g.B.Blocks.told → pointer_at t c.args.level place ≡ c.args.pointer.now = λ told. (λ j. pointer_at t c.args.level (c.args.index / c.width.ensures.is j)) ∙ sym (c.requires.pointer told) in
+    let node = c.in_ok-children.ensures in
+    loading_brought g.B.Blocks.told _ old new c.args.tree.now c.keep_node.new.tree c.args.level place c.args.pointer.now _ c.requires.low at node.keeps node.brings node.fields node.changes (loads_ok _ node.loads) tt

@@ -7,6 +7,7 @@ use Rattle.fv_tree.specs.Spelled.{hole, pointer_at}
 use Rattle.fv_tree.specs.Standing.{standing, under}
 use Rattle.fv_tree.proofs.Causes.{node_fails}
 use Rattle.fv_tree.proofs.Seeking.{child_is, if_none}
+use Rattle.fv_tree.proofs.next.first_child.Given as given
 use Rattle.fv_tree.proofs.next.first_child.Goals as goal
 
 pub returns-in_err-children-clause-cause : goal.returns-in_err-children-clause-cause
@@ -19,21 +20,18 @@ returns-in_err-children-clause-cause g c =
 pub returns-clause-found : goal.returns-clause-found
 returns-clause-found g c = IfSome_then c.first_led.result c.first_led.ensures.found (λ led is. (is.low, is.high, is.some))
 
+-- the pointer to a child is one of the node's
+child : (g : given.Over) (c : goal.After-first_led g) → g.B.Blocks.told → (q : ℕ) → q / fan ≡ c.args.first / fan → get_or c.in_ok-children.children (q % fan) hole ≡ pointer_at (standing (under (g.B.Blocks.shown c.args.blocks.now)) c.args.tree.now) (c.args.level - 1) q
+child g c told =
+    child_is (standing (under (g.B.Blocks.shown c.args.blocks.now)) c.args.tree.now) c.args.level (c.args.first / fan) c.args.pointer.now c.in_ok-children.children c.requires.low c.requires.high (c.requires.pointer told) (c.in_ok-children.ensures.children told)
+
 pub returns-clause-child : goal.returns-clause-child
 returns-clause-child g c = λ told.
-    let t = standing (under (g.B.Blocks.shown c.args.blocks.now)) c.args.tree.now in
-    let xs = c.in_ok-children.children in
-    let child : (q : ℕ) → q / fan ≡ c.args.first / fan → get_or xs (q % fan) hole ≡ pointer_at t (c.args.level - 1) q =
-    child_is t c.args.level (c.args.first / fan) c.args.pointer.now xs c.requires.low c.requires.high (c.requires.pointer told) (c.in_ok-children.ensures.children told) in
     IfSome_then c.first_led.result c.first_led.ensures.found (λ led is. record {
-      pointer = is.pointer ∙ child led.0 is.high;
-      before = λ r low lt. let high = is.high in ap (λ (p : Pointer). p.stamp) (sym (child r (omega (arith, low, lt, high)))) ∙ is.before r low lt;
+      pointer = is.pointer ∙ child g c told led.0 is.high;
+      before = λ r low lt. let high = is.high in ap (λ (p : Pointer). p.stamp) (sym (child g c told r (omega (arith, low, lt, high)))) ∙ is.before r low lt;
     })
 
 pub returns-clause-none : goal.returns-clause-none
 returns-clause-none g c = λ told.
-    let t = standing (under (g.B.Blocks.shown c.args.blocks.now)) c.args.tree.now in
-    let xs = c.in_ok-children.children in
-    let child : (q : ℕ) → q / fan ≡ c.args.first / fan → get_or xs (q % fan) hole ≡ pointer_at t (c.args.level - 1) q =
-    child_is t c.args.level (c.args.first / fan) c.args.pointer.now xs c.requires.low c.requires.high (c.requires.pointer told) (c.in_ok-children.ensures.children told) in
-    if_none c.first_led.result _ _ (λ holes r low up. ap (λ (p : Pointer). p.stamp) (sym (child r up)) ∙ holes r low up) c.first_led.ensures.none
+    if_none c.first_led.result _ _ (λ holes r low up. ap (λ (p : Pointer). p.stamp) (sym (child g c told r up)) ∙ holes r low up) c.first_led.ensures.none

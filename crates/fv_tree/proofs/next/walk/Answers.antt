@@ -4,11 +4,10 @@ use Rattle.std.proofs.Math.Nat.{pow-le-pow_right}
 use Rattle.std.proofs.lemmas.Result.{err_from_is_err_and}
 use Rattle.fv_model.specs.Trees.{fan}
 use Rattle.fv_tree.specs.Spelled.{Rooted, pointer_at}
-use Rattle.fv_tree.specs.Sources.{Shown}
-use Rattle.fv_tree.specs.Standing.{standing, under, Fails}
+use Rattle.fv_tree.specs.Standing.{standing, under}
 use Rattle.fv_tree.specs.Seeking.{AreHoles, IsFirstChild}
 use Rattle.fv_tree.proofs.Below.{range_above}
-use Rattle.fv_tree.proofs.Causes.{calm_itself, calm_then, fails_later, untouched_itself, untouched_then}
+use Rattle.fv_tree.proofs.Causes.{calm_itself, calm_then, fails_then, untouched_itself, untouched_then}
 use Rattle.fv_tree.proofs.Held.{at_root}
 use Rattle.fv_tree.proofs.Seeking.{at_none, at_some, child_fits, child_there, holes_then, holes_to, past_fits}
 use Rattle.fv_tree.proofs.Writes.{none_at}
@@ -43,13 +42,8 @@ first_child-requires-clause-pointer g c = λ told.
 
 pub returns-in_err-first_child-clause-cause : goal.returns-in_err-first_child-clause-cause
 returns-in_err-first_child-clause-cause g c =
-    let old : Shown = g.B.Blocks.shown c.args.blocks.now in
-    let mid : Shown = g.B.Blocks.shown c.loop-level.blocks in
-    let new : Shown = g.B.Blocks.shown c.first_child.new.blocks in
-    let was = c.loop-level.invariant in
     let p = err_from_is_err_and c.from_residual.result c.from_residual.ensures.1 in
-    rw (p.1, p.2) (fails_later g.B.Blocks.told (standing (under old) c.args.tree.now) old mid new c.in_err-first_child.field-0.0 was.calm was.untouched.held
-    (subst (λ held. Fails g.B.Blocks.told (standing (λ v. fin.get held v) c.args.tree.now) mid new c.in_err-first_child.field-0.0) was.untouched.held c.in_err-first_child.ensures.cause))
+    rw (p.1, p.2) (fails_then g.B.Blocks.told c.args.tree.now (g.B.Blocks.shown c.args.blocks.now) (g.B.Blocks.shown c.loop-level.blocks) (g.B.Blocks.shown c.first_child.new.blocks) c.in_err-first_child.field-0.0 c.loop-level.invariant.calm c.loop-level.invariant.untouched c.in_err-first_child.ensures.cause)
 
 pub overflow_mul-result-in-None : goal.overflow_mul-result-in-None
 overflow_mul-result-in-None g c =

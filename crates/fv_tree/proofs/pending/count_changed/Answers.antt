@@ -1,44 +1,32 @@
-use Rattle.std.proofs.Common.{◌≡◌, ◌+◌, cond, [], ◌∷◌, List, ap, ◌∙◌, arith}
+use Rattle.std.proofs.Common.{◌≡◌, List, ap, ◌∙◌, arith}
 use Rattle.std.specs.Map.Iter.{deref_pair}
 use Rattle.std.proofs.lemmas.Map.Iter.{rest_more, rest_all}
 use Rattle.fv_model.specs.Trees.{Spot, spot_cmp}
 use Rattle.fv_tree.specs.declared.kept.KeptNode.{KeptNode}
 use Rattle.fv_tree.proofs.Differing.{node_mark}
-use Rattle.fv_tree.proofs.MapMarks.{counted_in, counted_more, few_marked}
+use Rattle.fv_tree.proofs.MapMarks.{counted_in, few_marked, next_marked, none_marked}
 use Rattle.fv_tree.proofs.pending.count_changed.Goals as goal
 
 pub loop-spot-init : goal.loop-spot-init
 loop-spot-init c =
-    let whole = c.args.nodes.now.entries in
-    let all : ◌≡◌ {A = List (Spot × KeptNode)} c.into_iter-spot-iterator.result whole = c.into_iter-spot-iterator.ensures.into_iter_gives ∙ c.iter-spot-items.ensures.rest in
+    let all : ◌≡◌ {A = List (Spot × KeptNode)} c.into_iter-spot-iterator.result c.args.nodes.now.entries = c.into_iter-spot-iterator.ensures.into_iter_gives ∙ c.iter-spot-items.ensures.rest in
     let same = ap (counted_in node_mark) all in
     let le = few_marked spot_cmp node_mark c.args.nodes.now in
-    record {
-      sum = omega (arith, same);
-      few = omega (arith, le, c.iter-spot-items.ensures.fits);
-    }
+    record { sum = omega (arith, same); few = omega (arith, le, c.iter-spot-items.ensures.fits) }
 
 pub overflow_add-count : goal.overflow_add-count
 overflow_add-count c =
-    let rest = c.next.new.self in
-    let all : ◌≡◌ {A = List (Spot × KeptNode)} c.loop-spot.spot-iterator ((c.in-Some.spot.now, c.in-Some.node.now) ∷ rest) = rest_more deref_pair c.loop-spot.spot-iterator rest c.next.result (c.in-Some.spot, c.in-Some.node) c.in-Some.is c.next.ensures.steps in
-    let more : counted_in node_mark c.loop-spot.spot-iterator ≡ cond c.in-Some.node.now.changed 1 0 + counted_in node_mark rest = ap (counted_in node_mark) all ∙ counted_more node_mark (c.in-Some.spot.now, c.in-Some.node.now) rest in
+    let more = next_marked node_mark c.loop-spot.spot-iterator c.in-Some.spot.now c.in-Some.node.now c.next.new.self (rest_more deref_pair c.loop-spot.spot-iterator c.next.new.self c.next.result (c.in-Some.spot, c.in-Some.node) c.in-Some.is c.next.ensures.steps) in
     omega (arith, c.loop-spot.invariant.sum, c.loop-spot.invariant.few, more, c.one_for-count.ensures)
 
 pub loop-spot-preserved : goal.loop-spot-preserved
 loop-spot-preserved c =
-    let rest = c.next.new.self in
-    let all : ◌≡◌ {A = List (Spot × KeptNode)} c.loop-spot.spot-iterator ((c.in-Some.spot.now, c.in-Some.node.now) ∷ rest) = rest_more deref_pair c.loop-spot.spot-iterator rest c.next.result (c.in-Some.spot, c.in-Some.node) c.in-Some.is c.next.ensures.steps in
-    let more : counted_in node_mark c.loop-spot.spot-iterator ≡ cond c.in-Some.node.now.changed 1 0 + counted_in node_mark rest = ap (counted_in node_mark) all ∙ counted_more node_mark (c.in-Some.spot.now, c.in-Some.node.now) rest in
-    record {
-      sum = omega (arith, c.loop-spot.invariant.sum, more, c.one_for-count.ensures);
-      few = c.loop-spot.invariant.few;
-    }
+    let more = next_marked node_mark c.loop-spot.spot-iterator c.in-Some.spot.now c.in-Some.node.now c.next.new.self (rest_more deref_pair c.loop-spot.spot-iterator c.next.new.self c.next.result (c.in-Some.spot, c.in-Some.node) c.in-Some.is c.next.ensures.steps) in
+    record { sum = omega (arith, c.loop-spot.invariant.sum, more, c.one_for-count.ensures); few = c.loop-spot.invariant.few }
 
 pub returns-clause-count : goal.returns-clause-count
 returns-clause-count c =
-    let none : ◌≡◌ {A = List (Spot × KeptNode)} c.loop-spot.spot-iterator [] = rest_all deref_pair c.loop-spot.spot-iterator c.next.new.self c.next.result c.in-None.is c.next.ensures.steps in
-    let done = ap (counted_in node_mark) none in
+    let done = none_marked node_mark c.loop-spot.spot-iterator (rest_all deref_pair c.loop-spot.spot-iterator c.next.new.self c.next.result c.in-None.is c.next.ensures.steps) in
     omega (arith, c.loop-spot.invariant.sum, done)
 
 pub returns-clause-few : goal.returns-clause-few

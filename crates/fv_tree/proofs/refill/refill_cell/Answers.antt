@@ -16,14 +16,17 @@ use Rattle.fv_tree.specs.Flushing.{loaded, placed_in}
 use Rattle.fv_tree.proofs.Altered.{changed_up, leaves_cells, leaves_itself, leaves_then, refill_leaves, way_again}
 use Rattle.fv_tree.proofs.Causes.{at_err}
 use Rattle.fv_tree.proofs.Held.{same_self}
-use Rattle.fv_tree.proofs.Leading.{carries_itself, carries_cells, carries_then}
 use Rattle.fv_tree.proofs.Ready.{cell_kept, cell_pointers, cell_there}
 use Rattle.fv_tree.proofs.Refilled.{refilled_none, refilled_is, remarked_is}
 use Rattle.fv_tree.proofs.Readied.{filled_way, has_way, way_as}
 use Rattle.fv_tree.proofs.Removing.{none_past}
-use Rattle.fv_tree.proofs.StillReady.{cells_put, cells_same, marks_ready, ready_then}
+use Rattle.fv_tree.proofs.StillReady.{cells_put, marks_ready, ready_then}
 use Rattle.fv_tree.proofs.Within.{carries_within}
 use Rattle.fv_tree.proofs.Writes.{same_alike, same_standing}
+use Rattle.fv_tree.proofs.Calls.{loading_err, loading_none, loading_ok, steady_loaded, steady_on, steady_uncelled}
+use Rattle.fv_tree.specs.Costs.{cells_changed, cells_held, changes_in, Rises}
+use Rattle.fv_tree.specs.Leading.{Carries}
+use Rattle.fv_tree.proofs.refill.refill_cell.Given as given
 use Rattle.fv_tree.proofs.refill.refill_cell.Goals as goal
 
 filled_cell : (o : Option KeptCell) → is_some o ≡ true → is_some (option_map (λ (kept : KeptCell). kept.block) o) ≡ true
@@ -38,12 +41,12 @@ returns-then-index-width-clause-done g c = λ told.
 
 pub returns-in_err-pointer-clause-failed : goal.returns-in_err-pointer-clause-failed
 returns-in_err-pointer-clause-failed g c = λ told.
-    at_err c.from_residual.result (same_alike (standing (under (g.B.Blocks.shown c.args.blocks.now)) c.args.tree.now) (standing (under (g.B.Blocks.shown c.keep_path.new.blocks)) c.keep_path.new.tree) (c.keep_path.ensures.same told))
+    at_err c.from_residual.result (same_alike (standing (under (g.B.Blocks.shown c.args.blocks.now)) c.args.tree.now) (standing (under (g.B.Blocks.shown c.keep_path.new.blocks)) c.keep_path.new.tree) (c.keep_path.ensures.loading.same told))
 
 pub returns-then-pointer-eq0-clause-done : goal.returns-then-pointer-eq0-clause-done
 returns-then-pointer-eq0-clause-done g c = λ told.
     let path = c.in_ok-pointer.ensures in
-    refilled_none (standing (under (g.B.Blocks.shown c.args.blocks.now)) c.args.tree.now) (standing (under (g.B.Blocks.shown c.keep_path.new.blocks)) c.keep_path.new.tree) c.args.index c.args.block.now (path.same told)
+    refilled_none (standing (under (g.B.Blocks.shown c.args.blocks.now)) c.args.tree.now) (standing (under (g.B.Blocks.shown c.keep_path.new.blocks)) c.keep_path.new.tree) c.args.index c.args.block.now (path.loading.same told)
     (ap (λ (p : Pointer). p.stamp) (sym (path.pointer told)) ∙ c.if-pointer-eq0.true)
 
 pub returns-in_err-keep_cell-clause-failed : goal.returns-in_err-keep_cell-clause-failed
@@ -51,16 +54,7 @@ returns-in_err-keep_cell-clause-failed g c = λ told.
     let t = standing (under (g.B.Blocks.shown c.args.blocks.now)) c.args.tree.now in
     let blocks = under (g.B.Blocks.shown c.keep_path.new.blocks) in
     let same = same_standing blocks c.keep_path.new.tree c.keep_cell.new.tree c.keep_cell.ensures.fields c.in_err-keep_cell.ensures.failed in
-    at_err c.from_residual-in_err-keep_cell.result (subst (IsAlike t) (sym same) (same_alike t (standing blocks c.keep_path.new.tree) (c.keep_path.ensures.same told)))
-
-pub returns-then-index-width-clause-carries : goal.returns-then-index-width-clause-carries
-returns-then-index-width-clause-carries g c = λ _. carries_itself (g.B.Blocks.shown c.args.blocks.now) c.args.tree.now
-
-pub returns-in_err-keep_cell-clause-carries : goal.returns-in_err-keep_cell-clause-carries
-returns-in_err-keep_cell-clause-carries g c = λ told.
-    let new : Shown = g.B.Blocks.shown c.keep_path.new.blocks in
-    carries_then (g.B.Blocks.shown c.args.blocks.now) new new c.args.tree.now c.keep_path.new.tree c.keep_cell.new.tree (c.keep_path.ensures.carries told)
-    (carries_cells new c.keep_path.new.tree c.keep_cell.new.tree c.keep_cell.ensures.fields c.in_err-keep_cell.ensures.same)
+    at_err c.from_residual-in_err-keep_cell.result (subst (IsAlike t) (sym same) (same_alike t (standing blocks c.keep_path.new.tree) (c.keep_path.ensures.loading.same told)))
 
 pub mark_path-requires : goal.mark_path-requires
 mark_path-requires g c = λ level low high xs node.
@@ -78,7 +72,7 @@ returns-clause-ready g c = λ _.
     let path = c.in_ok-pointer.ensures in
     let cell = c.in_ok-keep_cell.ensures in
     let marked = c.mark_path.ensures in
-    let levels : u.levels ≡ c.args.tree.now.levels = marked.fields.levels ∙ cell.fields.levels ∙ path.fields.levels in
+    let levels : u.levels ≡ c.args.tree.now.levels = marked.fields.levels ∙ cell.fields.levels ∙ path.loading.fields.levels in
     let within : i < fan ^ c.args.tree.now.levels = omega (arith, c.if-index-width.false, c.width.ensures.is) in record {
       covers = subst (λ n. i < fan ^ n) (sym levels) within;
       cell = filled_cell (tree.get nat_cmp u.cells i) (ap (λ (m : tree.BTreeMap ℕ KeptCell). is_some (tree.get nat_cmp m i)) marked.fields.cells ∙ cell_there v w i c.args.block.now cell.cell);
@@ -93,45 +87,7 @@ returns-clause-done g c = λ told.
     let cell = c.in_ok-keep_cell.ensures in
     let marked = c.mark_path.ensures in
     refilled_is (under (g.B.Blocks.shown c.keep_path.new.blocks)) c.keep_path.new.tree c.keep_cell.new.tree c.mark_path.new.tree c.args.index c.args.block.now cell.fields cell.cell marked.fields marked.nodes
-    t (path.same told) (λ none. c.if-pointer-eq0.false (ap (λ (p : Pointer). p.stamp) (path.pointer told) ∙ none))
-
-pub returns-clause-carries : goal.returns-clause-carries
-returns-clause-carries g c = λ told.
-    let new : Shown = g.B.Blocks.shown c.keep_path.new.blocks in
-    let i = c.args.index in
-    let v = c.keep_path.new.tree in
-    let w = c.keep_cell.new.tree in
-    let u = c.mark_path.new.tree in
-    let path = c.in_ok-pointer.ensures in
-    let cell = c.in_ok-keep_cell.ensures in
-    let marked = c.mark_path.ensures in
-    let there : StandsAt (standing (under new) v) 0 i = λ none. c.if-pointer-eq0.false (ap (λ (p : Pointer). p.stamp) (path.pointer told ∙ sym ((path.same told).pointers 0 i)) ∙ none) in
-    let unplaced : (level : ℕ) → 1 ≤ level → level ≤ v.levels → (pointer_at (standing (under new) v) level (i / fan ^ level)).stamp ≡ 0 → placed_in v.nodes level (i / fan ^ level) ≡ false =
-    λ level low high none. path.unplaced told level low (omega (arith, high, path.fields.levels)) (ap (λ (p : Pointer). p.stamp) (sym ((path.same told).pointers level (i / fan ^ level))) ∙ none) in
-    let levels : w.levels ≡ c.args.tree.now.levels = cell.fields.levels ∙ path.fields.levels in
-    let within : i < fan ^ c.args.tree.now.levels = omega (arith, c.if-index-width.false, c.width.ensures.is) in
-    let covers : i < fan ^ w.levels = subst (λ n. i < fan ^ n) (sym levels) within in
-    carries_then (g.B.Blocks.shown c.args.blocks.now) new new c.args.tree.now v u (path.carries told)
-    (carries_within new v w u i true cell.fields cell.own cell.others (λ none. absurd (there none)) (λ _. refl) unplaced covers
-    (remarked_is (under new) w u i marked.fields marked.nodes marked.marks
-    (λ none. there (ap (λ (p : Pointer). p.stamp) (sym (cell_pointers (under new) v w i true cell.fields cell.own cell.others 0 i)) ∙ none))
-    (λ level low high. cell_kept (under new) v w i true cell.fields cell.own cell.others level (path.kept told level low (omega (arith, high, levels))))
-    cell.changed))
-
-pub returns-in_err-keep_cell-clause-keeps_ready : goal.returns-in_err-keep_cell-clause-keeps_ready
-returns-in_err-keep_cell-clause-keeps_ready g c =
-    ready_then c.args.tree.now c.keep_path.new.tree c.keep_cell.new.tree c.keep_path.ensures.keeps_ready
-    (cells_same c.keep_path.new.tree c.keep_cell.new.tree c.keep_cell.ensures.fields c.in_err-keep_cell.ensures.failed)
-
-pub returns-clause-keeps_ready : goal.returns-clause-keeps_ready
-returns-clause-keeps_ready g c =
-    let v = c.keep_path.new.tree in
-    let w = c.keep_cell.new.tree in
-    let u = c.mark_path.new.tree in
-    let marked = c.mark_path.ensures in
-    ready_then c.args.tree.now v u c.keep_path.ensures.keeps_ready (ready_then v w u
-    (cells_put v w c.args.index c.args.block.now c.keep_cell.ensures.fields c.in_ok-keep_cell.ensures.cell)
-    (marks_ready w u marked.fields marked.nodes))
+    t (path.loading.same told) (λ none. c.if-pointer-eq0.false (ap (λ (p : Pointer). p.stamp) (path.pointer told) ∙ none))
 
 pub returns-in_err-pointer-clause-held : goal.returns-in_err-pointer-clause-held
 returns-in_err-pointer-clause-held g c = λ ready.
@@ -142,24 +98,24 @@ pub returns-then-index-width-clause-leaves : goal.returns-then-index-width-claus
 returns-then-index-width-clause-leaves g c = λ _ _ _. leaves_itself (loaded (g.B.Blocks.shown c.args.blocks.now) c.args.tree.now)
 
 pub returns-in_err-pointer-clause-leaves : goal.returns-in_err-pointer-clause-leaves
-returns-in_err-pointer-clause-leaves g c = λ told _ _. c.keep_path.ensures.leaves told
+returns-in_err-pointer-clause-leaves g c = λ told _ _. c.keep_path.ensures.loading.leaves told
 
 pub returns-in_err-pointer-clause-unchanged : goal.returns-in_err-pointer-clause-unchanged
-returns-in_err-pointer-clause-unchanged g c = λ told. at_err c.from_residual.result (c.keep_path.ensures.leaves told)
+returns-in_err-pointer-clause-unchanged g c = λ told. at_err c.from_residual.result (c.keep_path.ensures.loading.leaves told)
 
 pub returns-then-pointer-eq0-clause-leaves : goal.returns-then-pointer-eq0-clause-leaves
-returns-then-pointer-eq0-clause-leaves g c = λ told _ _. c.in_ok-pointer.ensures.leaves told
+returns-then-pointer-eq0-clause-leaves g c = λ told _ _. c.in_ok-pointer.ensures.loading.leaves told
 
 pub returns-in_err-keep_cell-clause-leaves : goal.returns-in_err-keep_cell-clause-leaves
 returns-in_err-keep_cell-clause-leaves g c = λ told _ _.
     let new : Shown = g.B.Blocks.shown c.keep_path.new.blocks in
-    leaves_then (loaded (g.B.Blocks.shown c.args.blocks.now) c.args.tree.now) (loaded new c.keep_path.new.tree) (loaded new c.keep_cell.new.tree) (c.keep_path.ensures.leaves told)
+    leaves_then (loaded (g.B.Blocks.shown c.args.blocks.now) c.args.tree.now) (loaded new c.keep_path.new.tree) (loaded new c.keep_cell.new.tree) (c.keep_path.ensures.loading.leaves told)
     (leaves_cells (under new) c.keep_path.new.tree c.keep_cell.new.tree c.keep_cell.ensures.fields c.in_err-keep_cell.ensures.same)
 
 pub returns-in_err-keep_cell-clause-unchanged : goal.returns-in_err-keep_cell-clause-unchanged
 returns-in_err-keep_cell-clause-unchanged g c = λ told.
     let new : Shown = g.B.Blocks.shown c.keep_path.new.blocks in
-    at_err c.from_residual-in_err-keep_cell.result (leaves_then (loaded (g.B.Blocks.shown c.args.blocks.now) c.args.tree.now) (loaded new c.keep_path.new.tree) (loaded new c.keep_cell.new.tree) (c.keep_path.ensures.leaves told)
+    at_err c.from_residual-in_err-keep_cell.result (leaves_then (loaded (g.B.Blocks.shown c.args.blocks.now) c.args.tree.now) (loaded new c.keep_path.new.tree) (loaded new c.keep_cell.new.tree) (c.keep_path.ensures.loading.leaves told)
     (leaves_cells (under new) c.keep_path.new.tree c.keep_cell.new.tree c.keep_cell.ensures.fields c.in_err-keep_cell.ensures.same))
 
 pub returns-clause-leaves : goal.returns-clause-leaves
@@ -174,9 +130,62 @@ returns-clause-leaves g c = λ told stood own.
     let path = c.in_ok-pointer.ensures in
     let cell = c.in_ok-keep_cell.ensures in
     let marked = c.mark_path.ensures in
-    let levels : w.levels ≡ t.levels = cell.fields.levels ∙ path.fields.levels in
+    let levels : w.levels ≡ t.levels = cell.fields.levels ∙ path.loading.fields.levels in
     let stands : StandsAt (standing (under old) t) 0 i = λ none. c.if-pointer-eq0.false (ap (λ (p : Pointer). p.stamp) (path.pointer told) ∙ none) in
-    let there : StandsAt (standing (under new) v) 0 i = λ none. stands (ap (λ (p : Pointer). p.stamp) (sym ((path.same told).pointers 0 i)) ∙ none) in
-    leaves_then (loaded old t) (loaded new v) (loaded new u) (path.leaves told)
+    let there : StandsAt (standing (under new) v) 0 i = λ none. stands (ap (λ (p : Pointer). p.stamp) (sym ((path.loading.same told).pointers 0 i)) ∙ none) in
+    leaves_then (loaded old t) (loaded new v) (loaded new u) (path.loading.leaves told)
     (refill_leaves (under new) v w u i cell.fields cell.own cell.others marked.fields marked.nodes marked.marks (λ level low high. cell_kept (under new) v w i true cell.fields cell.own cell.others level (path.kept told level low (omega (arith, high, levels)))) cell.changed
-    (way_again (loaded old t) (loaded new v) i (path.leaves told) there (changed_up (loaded old t) old.used stood i stands own)))
+    (way_again (loaded old t) (loaded new v) i (path.loading.leaves told) there (changed_up (loaded old t) old.used stood i stands own)))
+
+pub returns-then-index-width-clause-steady : goal.returns-then-index-width-clause-steady
+returns-then-index-width-clause-steady g c = steady_loaded 4 1 (loading_none g.B.Blocks.told (g.B.Blocks.shown c.args.blocks.now) c.args.tree.now _ (g.met.B.Blocks.reads_nothing c.args.blocks.now) tt) (λ _ ready. ready)
+
+pub returns-in_err-pointer-clause-steady : goal.returns-in_err-pointer-clause-steady
+returns-in_err-pointer-clause-steady g c = let p = err_from_is_err_and c.from_residual.result c.from_residual.ensures.1 in
+    rw (p.1, p.2) (steady_loaded 4 1 (loading_err c.in_err-pointer.ensures.loading) c.keep_path.ensures.keeps_ready)
+
+pub returns-then-pointer-eq0-clause-steady : goal.returns-then-pointer-eq0-clause-steady
+returns-then-pointer-eq0-clause-steady g c = steady_loaded 4 1 (loading_ok _ c.in_ok-pointer.ensures.loading) c.keep_path.ensures.keeps_ready
+
+pub returns-in_err-keep_cell-clause-steady : goal.returns-in_err-keep_cell-clause-steady
+returns-in_err-keep_cell-clause-steady g c = let cell = c.in_err-keep_cell.ensures in
+    let p = err_from_is_err_and c.from_residual-in_err-keep_cell.result c.from_residual-in_err-keep_cell.ensures.1 in
+    rw (p.1, p.2) (steady_uncelled c.keep_cell.new.tree 4 _ (steady_loaded 0 0 c.in_ok-pointer.ensures.loading c.keep_path.ensures.keeps_ready) cell.fields cell.same cell.failed cell.still cell.held cell.memory)
+
+-- what the refill carries over from the loaded tree
+refill_carries : (g : given.Over) (c : goal.After-mark_path g) → g.B.Blocks.told → Carries (g.B.Blocks.shown c.keep_path.new.blocks) (g.B.Blocks.shown c.keep_path.new.blocks) c.keep_path.new.tree c.mark_path.new.tree
+refill_carries g c told =
+    let new : Shown = g.B.Blocks.shown c.keep_path.new.blocks in
+    let i = c.args.index in
+    let v = c.keep_path.new.tree in
+    let w = c.keep_cell.new.tree in
+    let cell = c.in_ok-keep_cell.ensures in
+    let marked = c.mark_path.ensures in
+    let there : StandsAt (standing (under new) v) 0 i = λ none. c.if-pointer-eq0.false (ap (λ (p : Pointer). p.stamp) (c.in_ok-pointer.ensures.pointer told ∙ sym ((c.in_ok-pointer.ensures.loading.same told).pointers 0 i)) ∙ none) in
+    let unplaced : (level : ℕ) → 1 ≤ level → level ≤ v.levels → (pointer_at (standing (under new) v) level (i / fan ^ level)).stamp ≡ 0 → placed_in v.nodes level (i / fan ^ level) ≡ false =
+    λ level low high none. c.in_ok-pointer.ensures.unplaced told level low (omega (arith, high, c.in_ok-pointer.ensures.loading.fields.levels)) (ap (λ (p : Pointer). p.stamp) (sym ((c.in_ok-pointer.ensures.loading.same told).pointers level (i / fan ^ level))) ∙ none) in
+    let levels : w.levels ≡ c.args.tree.now.levels = cell.fields.levels ∙ c.in_ok-pointer.ensures.loading.fields.levels in
+    let within : i < fan ^ c.args.tree.now.levels = omega (arith, c.if-index-width.false, c.width.ensures.is) in
+    let covers : i < fan ^ w.levels = subst (λ n. i < fan ^ n) (sym levels) within in
+    carries_within new v w c.mark_path.new.tree i true cell.fields cell.own cell.others (λ none. absurd (there none)) (λ _. refl) unplaced covers
+    (remarked_is (under new) w c.mark_path.new.tree i marked.fields marked.nodes marked.marks
+    (λ none. there (ap (λ (p : Pointer). p.stamp) (sym (cell_pointers (under new) v w i true cell.fields cell.own cell.others 0 i)) ∙ none))
+    (λ level low high. cell_kept (under new) v w i true cell.fields cell.own cell.others level (c.in_ok-pointer.ensures.kept told level low (omega (arith, high, levels))))
+    cell.changed)
+
+pub returns-clause-steady : goal.returns-clause-steady
+returns-clause-steady g c = let w = c.keep_path.new.tree in
+    let v = c.keep_cell.new.tree in
+    let u = c.mark_path.new.tree in
+    let path = c.in_ok-pointer.ensures in
+    let cell = c.in_ok-keep_cell.ensures in
+    let marked = c.mark_path.ensures in
+    let rises : Rises w u 4 1 = (let one = ap cells_changed marked.fields.cells in
+    let held : cells_held u ≡ cells_held v = ap (λ (m : tree.BTreeMap ℕ KeptCell). tree.btree_map_len m) marked.fields.cells in
+    let nodes = ap changes_in cell.fields.nodes in
+    let few = v.few in record {
+      pending = omega (arith, one, nodes, cell.count, marked.changes, few);
+      cells = omega (arith, held, cell.held);
+    }) in
+    steady_on u 4 1 _ (steady_loaded 0 0 path.loading path.keeps_ready) (marked.fields.owner ∙ cell.fields.owner) (refill_carries g c)
+    (ready_then w v u (cells_put w v c.args.index c.args.block.now cell.fields cell.cell) (marks_ready v u marked.fields marked.nodes)) rises tt

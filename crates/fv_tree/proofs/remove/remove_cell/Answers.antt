@@ -1,4 +1,5 @@
 use Rattle.std.proofs.Common.{◌≡◌, ◌≤◌, ◌^◌, false, nat_eq, refl, sym, ap, ◌∙◌, arith}
+use Rattle.fv_tree.specs.Keeping.{IsSame}
 use Rattle.std.specs.FinMap as fin
 use Rattle.fv_codec.specs.declared.pointer.Pointer.{Pointer}
 use Rattle.fv_model.specs.Trees.{fan}
@@ -6,69 +7,83 @@ use Rattle.fv_tree.specs.Standing.{standing, under}
 use Rattle.fv_tree.specs.Erasing.{StandsAt}
 use Rattle.fv_tree.specs.Flushing.{loaded}
 use Rattle.fv_tree.proofs.Altered.{leaves_itself}
-use Rattle.fv_tree.proofs.Causes.{at_err, untouched_itself}
+use Rattle.fv_tree.proofs.Causes.{calm_itself, calm_then, untouched_itself}
 use Rattle.fv_tree.proofs.Counts.{alike_count}
 use Rattle.fv_tree.proofs.Held.{same_self}
 use Rattle.fv_tree.proofs.Released.{keeps_self}
 use Rattle.fv_tree.proofs.Removing.{removes_nothing, removes_then, same_over, same_holds, none_past, not_a_hole, way_kept}
 use Rattle.fv_tree.proofs.Writes.{same_alike}
+use Rattle.fv_tree.proofs.Calls.{removing_done, removing_err, rises_but}
+use Rattle.std.proofs.lemmas.Result.{err_from_is_err_and}
+use Rattle.fv_tree.proofs.remove.remove_cell.Given as given
 use Rattle.fv_tree.proofs.remove.remove_cell.Goals as goal
 
-pub returns-then-index-width-clause-done : goal.returns-then-index-width-clause-done
-returns-then-index-width-clause-done g c = λ told.
+pub returns-then-index-width-clause-removing : goal.returns-then-index-width-clause-removing
+returns-then-index-width-clause-removing g c = removing_done 0
+    (λ told.
     let shown = g.B.Blocks.shown c.args.blocks.now in
     let t = c.args.tree.now in
     let past : fan ^ t.levels ≤ c.args.index = omega (arith, c.if-index-width.true, c.width.ensures.is) in
     removes_nothing shown shown t t (nat_eq c.args.index) c.args.start c.args.stamp (untouched_itself shown) (record { faults = omega arith; damages = omega arith; spent = omega arith })
-    (same_self (standing (under shown) t)) (keeps_self (under shown) t) (λ stands. stands) (leaves_itself (loaded shown t)) (not_a_hole (standing (under shown) t) c.args.index (none_past (standing (under shown) t) c.args.index past))
+    (same_self (standing (under shown) t)) (keeps_self (under shown) t) (λ stands. stands) (leaves_itself (loaded shown t)) (not_a_hole (standing (under shown) t) c.args.index (none_past (standing (under shown) t) c.args.index past)))
+    (λ _. omega arith) refl (omega arith) (omega arith) (g.met.B.Blocks.goes_nothing c.args.blocks.now) (calm_itself (g.B.Blocks.shown c.args.blocks.now))
 
-pub returns-then-pointer-eq0-clause-done : goal.returns-then-pointer-eq0-clause-done
-returns-then-pointer-eq0-clause-done g c = λ told.
+pub returns-in_err-pointer-clause-removing : goal.returns-in_err-pointer-clause-removing
+returns-in_err-pointer-clause-removing g c = let p = err_from_is_err_and c.from_residual.result c.from_residual.ensures.1 in
+    rw (p.1, p.2) (removing_err (nat_eq c.args.index) c.args.start c.args.stamp c.in_err-pointer.ensures.loading (g.met.B.Blocks.reads_go c.args.blocks.now c.keep_path.new.blocks))
+
+pub returns-then-pointer-eq0-clause-removing : goal.returns-then-pointer-eq0-clause-removing
+returns-then-pointer-eq0-clause-removing g c = let path = c.in_ok-pointer.ensures.loading in
+    let rises = rises_but c.args.tree.now c.keep_path.new.tree 0 0 path.fields path.changes in
+    removing_done 0
+    (λ told.
     let shown = g.B.Blocks.shown c.args.blocks.now in
     let t = c.args.tree.now in
     let path = c.in_ok-pointer.ensures in
-    removes_nothing shown (g.B.Blocks.shown c.keep_path.new.blocks) t c.keep_path.new.tree (nat_eq c.args.index) c.args.start c.args.stamp path.untouched path.counts.calm (path.same told) (path.blocks told) (path.carries told).stands (path.leaves told)
-    (not_a_hole (standing (under shown) t) c.args.index (ap (λ (p : Pointer). p.stamp) (sym (path.pointer told)) ∙ c.if-pointer-eq0.true))
+    removes_nothing shown (g.B.Blocks.shown c.keep_path.new.blocks) t c.keep_path.new.tree (nat_eq c.args.index) c.args.start c.args.stamp path.loading.untouched path.loading.counts.calm (path.loading.same told) (path.loading.blocks told) (path.carries told).stands (path.loading.leaves told)
+    (not_a_hole (standing (under shown) t) c.args.index (ap (λ (p : Pointer). p.stamp) (sym (path.pointer told)) ∙ c.if-pointer-eq0.true)))
+    (λ told.
+    let a = g.B.Blocks.shown c.args.blocks.now in
+    let t = c.args.tree.now in
+    let u = c.keep_path.new.tree in
+    let path = c.in_ok-pointer.ensures in
+    let same = alike_count (standing (under a) t) (standing (under a) u) (same_alike (standing (under a) t) (standing (under a) u) (same_over (under a) (under (g.B.Blocks.shown c.keep_path.new.blocks)) t u (ap (λ h v. fin.get h v) path.loading.untouched.held) (path.loading.same told))) in
+    omega (arith, same))
+    path.fields.owner (omega (arith, path.untouched.room)) (omega (arith, rises.cells)) (g.met.B.Blocks.reads_go c.args.blocks.now c.keep_path.new.blocks path.reads) path.counts.calm
 
-pub returns-clause-done : goal.returns-clause-done
-returns-clause-done g c = λ told.
+-- the tree as it was after the way came into memory, over the blocks from before
+same_here : (g : given.Over) (c : goal.After-erase_cell g) → g.B.Blocks.told → IsSame (standing (under (g.B.Blocks.shown c.args.blocks.now)) c.args.tree.now) (standing (under (g.B.Blocks.shown c.args.blocks.now)) c.keep_path.new.tree)
+same_here g c told =
+    let loading = c.in_ok-pointer.ensures.loading in
+    same_over (under (g.B.Blocks.shown c.args.blocks.now)) (under (g.B.Blocks.shown c.keep_path.new.blocks)) c.args.tree.now c.keep_path.new.tree (ap (λ h v. fin.get h v) loading.untouched.held) (loading.same told)
+
+stands_here : (g : given.Over) (c : goal.After-erase_cell g) → g.B.Blocks.told → StandsAt (standing (under (g.B.Blocks.shown c.args.blocks.now)) c.keep_path.new.tree) 0 c.args.index
+stands_here g c told none = c.if-pointer-eq0.false (ap (λ (p : Pointer). p.stamp) (c.in_ok-pointer.ensures.pointer told ∙ sym ((same_here g c told).pointers 0 c.args.index)) ∙ none)
+
+pub returns-clause-removing : goal.returns-clause-removing
+returns-clause-removing g c = let first = c.in_ok-pointer.ensures.loading in
+    let erase = c.erase_cell.ensures in
+    let rises = rises_but c.args.tree.now c.keep_path.new.tree 0 0 first.fields first.changes in
+    removing_done _
+    (λ told.
     let a = g.B.Blocks.shown c.args.blocks.now in
     let b = g.B.Blocks.shown c.keep_path.new.blocks in
     let t = c.args.tree.now in
     let u = c.keep_path.new.tree in
     let path = c.in_ok-pointer.ensures in
-    let held : under b ≡ under a = ap (λ h v. fin.get h v) path.untouched.held in
-    let stands : StandsAt (standing (under a) u) 0 c.args.index = λ none. c.if-pointer-eq0.false (ap (λ (p : Pointer). p.stamp) (path.pointer told ∙ sym ((same_over (under a) (under b) t u held (path.same told)).pointers 0 c.args.index)) ∙ none) in
-    let way = way_kept (under b) u c.args.index t.levels path.fields.levels (path.kept told) in
+    let held : under b ≡ under a = ap (λ h v. fin.get h v) path.loading.untouched.held in
+    let way = way_kept (under b) u c.args.index t.levels path.loading.fields.levels (path.kept told) in
+    let erases = c.erase_cell.ensures.erases way (under a) (stands_here g c told) in
     removes_then a b (g.B.Blocks.shown c.erase_cell.new.blocks) t u c.erase_cell.new.tree (λ _. false) (nat_eq c.args.index) c.args.index c.args.start c.args.stamp
-    (removes_nothing a b t u (λ _. false) c.args.start c.args.stamp path.untouched path.counts.calm (path.same told) (path.blocks told) (path.carries told).stands (path.leaves told) (λ _ _. refl))
-    (c.erase_cell.ensures.goes way (under a) stands) (c.erase_cell.ensures.released way (under a) stands) (c.erase_cell.ensures.strays way (under a) stands) (λ _. refl)
-    (same_holds (under a) (under b) t u held (path.same told))
-
-pub returns-then-index-width-clause-count : goal.returns-then-index-width-clause-count
-returns-then-index-width-clause-count g c = λ _. omega arith
-
-pub returns-then-pointer-eq0-clause-count : goal.returns-then-pointer-eq0-clause-count
-returns-then-pointer-eq0-clause-count g c = λ told.
-    let a = g.B.Blocks.shown c.args.blocks.now in
-    let t = c.args.tree.now in
-    let u = c.keep_path.new.tree in
-    let path = c.in_ok-pointer.ensures in
-    let same = alike_count (standing (under a) t) (standing (under a) u) (same_alike (standing (under a) t) (standing (under a) u) (same_over (under a) (under (g.B.Blocks.shown c.keep_path.new.blocks)) t u (ap (λ h v. fin.get h v) path.untouched.held) (path.same told))) in
-    omega (arith, same)
-
-pub returns-clause-count : goal.returns-clause-count
-returns-clause-count g c = λ told.
-    let a = g.B.Blocks.shown c.args.blocks.now in
-    let b = g.B.Blocks.shown c.keep_path.new.blocks in
-    let t = c.args.tree.now in
-    let u = c.keep_path.new.tree in
-    let path = c.in_ok-pointer.ensures in
-    let held : under b ≡ under a = ap (λ h v. fin.get h v) path.untouched.held in
-    let here = same_over (under a) (under b) t u held (path.same told) in
-    let stands : StandsAt (standing (under a) u) 0 c.args.index = λ none. c.if-pointer-eq0.false (ap (λ (p : Pointer). p.stamp) (path.pointer told ∙ sym (here.pointers 0 c.args.index)) ∙ none) in
-    sym (alike_count (standing (under a) t) (standing (under a) u) (same_alike (standing (under a) t) (standing (under a) u) here))
-    ∙ c.erase_cell.ensures.count (way_kept (under b) u c.args.index t.levels path.fields.levels (path.kept told)) (under a) stands
-
-pub returns-in_err-pointer-clause-leaves : goal.returns-in_err-pointer-clause-leaves
-returns-in_err-pointer-clause-leaves g c = λ told. at_err c.from_residual.result (c.keep_path.ensures.leaves told)
+    (removes_nothing a b t u (λ _. false) c.args.start c.args.stamp path.loading.untouched path.loading.counts.calm (path.loading.same told) (path.loading.blocks told) (path.carries told).stands (path.loading.leaves told) (λ _ _. refl))
+    erases.goes erases.released erases.strays (λ _. refl)
+    (same_holds (under a) (under b) t u held (path.loading.same told)))
+    (λ told.
+    let a = under (g.B.Blocks.shown c.args.blocks.now) in
+    let s = standing a c.args.tree.now in
+    let v = standing a c.keep_path.new.tree in
+    let way = way_kept (under (g.B.Blocks.shown c.keep_path.new.blocks)) c.keep_path.new.tree c.args.index c.args.tree.now.levels first.fields.levels (c.in_ok-pointer.ensures.kept told) in
+    sym (alike_count s v (same_alike s v (same_here g c told))) ∙ (erase.erases way a (stands_here g c told)).count)
+    (erase.owner ∙ first.fields.owner) (omega (arith, first.untouched.room, erase.room)) (omega (arith, rises.cells, erase.differs.held))
+    (g.met.B.Blocks.goes_on c.args.blocks.now c.keep_path.new.blocks c.erase_cell.new.blocks (g.met.B.Blocks.reads_go c.args.blocks.now c.keep_path.new.blocks first.reads) erase.calls)
+    (calm_then (g.B.Blocks.shown c.args.blocks.now) (g.B.Blocks.shown c.keep_path.new.blocks) (g.B.Blocks.shown c.erase_cell.new.blocks) first.counts.calm erase.calm)

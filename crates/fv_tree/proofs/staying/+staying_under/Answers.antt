@@ -1,16 +1,12 @@
-use Rattle.std.proofs.Common.{◌≡◌, ◌≤◌, ◌<◌, ◌+◌, ◌-◌, ◌*◌, ◌^◌, inl, inr, ℕ, List, refl, sym, ap, ◌∙◌, subst, arith}
-use Rattle.std.specs.Ordering.{nat_cmp}
+use Rattle.std.proofs.Common.{◌≡◌, ◌≤◌, ◌+◌, ◌-◌, ◌*◌, ◌^◌, inl, inr, refl, sym, ◌∙◌, arith}
 use Rattle.std.specs.FinMap as fin
 use Rattle.std.proofs.lemmas.Result.{err_from_is_err_and}
 use Rattle.fv_model.specs.Trees.{fan}
-use Rattle.fv_tree.specs.Spelled.{pointer_at}
-use Rattle.fv_tree.specs.Sources.{Shown}
-use Rattle.fv_tree.specs.Standing.{standing, under, Fails}
+use Rattle.fv_tree.specs.Standing.{standing, under}
 use Rattle.fv_tree.specs.Flushing.{loaded, loaded_over}
 use Rattle.fv_tree.specs.Counting.{staying_under}
-use Rattle.fv_tree.proofs.Causes.{calm_then, fails_later, node_fails, untouched_then}
-use Rattle.fv_tree.proofs.Collected.{range_within, ranges_under}
-use Rattle.fv_tree.proofs.Stays.{child_pointer, few_all, few_end, few_fit, few_more, some_all, some_more, some_none, under_end}
+use Rattle.fv_tree.proofs.Causes.{calm_then, fails_then, node_fails, untouched_then}
+use Rattle.fv_tree.proofs.Stays.{child_meets, range_low, few_all, few_end, few_fit, few_more, some_all, some_more, some_none, under_end}
 use Rattle.fv_tree.proofs.staying.+staying_under.Goals.{then-level-eq0-via-then-level-eq0, then-level-eq0-via-else-level-eq0+then-pointer-eq0}
 use Rattle.fv_tree.proofs.staying.+staying_under.Goals as goal
 
@@ -36,39 +32,19 @@ loop-slot-init g t c =
     }
 
 pub overflow_mul-place : goal.overflow_mul-place
-overflow_mul-place g t c =
-    let low : 1 ≤ c.args.level = omega (arith, c.if-level-eq0.false) in
-    let small = range_within c.args.level c.args.place low (let few = c.args.tree.now.few in omega (arith, few, c.requires.high)) c.requires.range in
-    omega (arith, small)
+overflow_mul-place g t c = let small = range_low c.args.tree.now c.args.level c.args.place c.if-level-eq0.false c.requires.high c.requires.range in omega (arith, small)
 
 pub overflow_add-place : goal.overflow_add-place
-overflow_add-place g t c =
-    let low : 1 ≤ c.args.level = omega (arith, c.if-level-eq0.false) in
-    let small = range_within c.args.level c.args.place low (let few = c.args.tree.now.few in omega (arith, few, c.requires.high)) c.requires.range in
-    omega (arith, small, c.loop-slot-test.true)
+overflow_add-place g t c = let small = range_low c.args.tree.now c.args.level c.args.place c.if-level-eq0.false c.requires.high c.requires.range in omega (arith, small, c.loop-slot-test.true)
 
 pub staying_under-requires : goal.staying_under-requires
 staying_under-requires g t c κs within =
-    let old = g.B.Blocks.shown c.args.blocks.now in
-    let tree = c.args.tree.now in
-    let level = c.args.level in
-    let place = c.args.place in
-    let slot = c.loop-slot.slot in
-    let low : 1 ≤ level = omega (arith, c.if-level-eq0.false) in
-    let high : level ≤ tree.levels = c.requires.high in
-    let lt : slot < fan = c.loop-slot-test.true in
-    let range = ranges_under level place low (let few = tree.few in omega (arith, few, high)) c.requires.range in (
+    let low : 1 ≤ c.args.level = omega (arith, c.if-level-eq0.false) in (
       (let measure = c.decreases in omega (arith, measure, low)),
       (
         within,
-        (
-          omega (arith, high),
-          (
-            omega (arith, range, lt),
-            λ told. child_pointer (standing (under old) tree) level place slot c.args.pointer.now c.in_ok-children.children low high (c.requires.pointer told) (c.in_ok-children.ensures.children told) lt
-                ∙ ap (λ (h : fin.FinMap nat_cmp (List ℕ)). pointer_at (standing (λ v. fin.get h v) tree) (level - 1) (place * fan + slot)) (sym c.loop-slot.invariant.untouched.held),
-          ),
-        ),
+        child_meets g.B.Blocks.told (g.B.Blocks.shown c.args.blocks.now) (g.B.Blocks.shown c.loop-slot.blocks) c.args.tree.now c.args.level c.args.place c.loop-slot.slot c.args.pointer.now
+            c.in_ok-children.children c.loop-slot.invariant.untouched c.if-level-eq0.false c.requires.high c.requires.range c.requires.pointer c.in_ok-children.ensures.children c.loop-slot-test.true,
       ),
     )
 
@@ -89,11 +65,8 @@ returns-in_err-count-clause-reads g t c = g.met.B.Blocks.reads_on c.args.blocks.
 
 pub returns-in_err-count-clause-cause : goal.returns-in_err-count-clause-cause
 returns-in_err-count-clause-cause g t c =
-    let old : Shown = g.B.Blocks.shown c.args.blocks.now in
-    let mid : Shown = g.B.Blocks.shown c.loop-slot.blocks in
-    let new : Shown = g.B.Blocks.shown c.staying_under.new.blocks in
     let p = err_from_is_err_and c.from_residual-in_err-count.result c.from_residual-in_err-count.ensures.1 in
-    rw (p.1, p.2) (fails_later g.B.Blocks.told (standing (under old) c.args.tree.now) old mid new c.in_err-count.field-0.0 c.loop-slot.invariant.calm c.loop-slot.invariant.untouched.held (subst (λ held. Fails g.B.Blocks.told (standing (λ v. fin.get held v) c.args.tree.now) mid new c.in_err-count.field-0.0) c.loop-slot.invariant.untouched.held c.in_err-count.ensures.cause))
+    rw (p.1, p.2) (fails_then g.B.Blocks.told c.args.tree.now (g.B.Blocks.shown c.args.blocks.now) (g.B.Blocks.shown c.loop-slot.blocks) (g.B.Blocks.shown c.staying_under.new.blocks) c.in_err-count.field-0.0 c.loop-slot.invariant.calm c.loop-slot.invariant.untouched c.in_err-count.ensures.cause)
 
 pub overflow_add-count : goal.overflow_add-count
 overflow_add-count g t c =

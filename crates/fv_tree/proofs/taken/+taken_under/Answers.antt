@@ -1,17 +1,14 @@
-use Rattle.std.proofs.Common.{◌≡◌, ◌≤◌, ◌<◌, ◌+◌, ◌-◌, ◌*◌, ◌^◌, ℕ, Bool, not, ◌&&◌, List, sym, ap, ◌∙◌, subst, arith}
+use Rattle.std.proofs.Common.{◌≡◌, ◌≤◌, ◌+◌, ◌-◌, ◌*◌, ◌^◌, ℕ, Bool, not, ◌&&◌, List, sym, ap, ◌∙◌, subst, arith}
 use Rattle.std.specs.Ordering.{nat_cmp}
 use Rattle.std.specs.FinMap as fin
 use Rattle.std.proofs.lemmas.Result.{err_from_is_err_and}
 use Rattle.fv_model.specs.Trees.{fan}
-use Rattle.fv_tree.specs.Spelled.{pointer_at}
-use Rattle.fv_tree.specs.Sources.{Shown}
-use Rattle.fv_tree.specs.Standing.{standing, under, Fails}
+use Rattle.fv_tree.specs.Standing.{standing}
 use Rattle.fv_tree.specs.Flushing.{loaded, loaded_over}
 use Rattle.fv_tree.specs.Erasing.{HoldsCells}
 use Rattle.fv_tree.specs.Taking.{goes_by, IsPart}
-use Rattle.fv_tree.proofs.Causes.{calm_then, fails_later, untouched_then}
-use Rattle.fv_tree.proofs.Collected.{range_within, ranges_under}
-use Rattle.fv_tree.proofs.Stays.{child_pointer, few_all, few_end, few_fit, few_more, few_whole}
+use Rattle.fv_tree.proofs.Causes.{calm_then, fails_then, untouched_then}
+use Rattle.fv_tree.proofs.Stays.{child_meets, range_low, few_all, few_end, few_fit, few_more, few_whole}
 use Rattle.fv_tree.proofs.Taking.{hole_part, kept_part, cell_part, whole_part, own_stays, more_sum, at_most_one}
 use Rattle.fv_tree.proofs.taken.+taken_under.Goals as goal
 
@@ -49,49 +46,26 @@ returns-then-level-eq0-clause-part g t c = λ told holds.
     c.part_of-then-level-eq0.ensures is.gone is.staying is.some is.left
 
 pub overflow_mul-place : goal.overflow_mul-place
-overflow_mul-place g t c =
-    let low : 1 ≤ c.args.level = omega (arith, c.if-level-eq0.false) in
-    let small = range_within c.args.level c.args.place low (let few = c.args.tree.now.few in omega (arith, few, c.requires.high)) c.requires.range in
-    omega (arith, small)
+overflow_mul-place g t c = let small = range_low c.args.tree.now c.args.level c.args.place c.if-level-eq0.false c.requires.high c.requires.range in omega (arith, small)
 
 pub overflow_add-place : goal.overflow_add-place
-overflow_add-place g t c =
-    let low : 1 ≤ c.args.level = omega (arith, c.if-level-eq0.false) in
-    let small = range_within c.args.level c.args.place low (let few = c.args.tree.now.few in omega (arith, few, c.requires.high)) c.requires.range in
-    omega (arith, small, c.loop-slot-test.true)
+overflow_add-place g t c = let small = range_low c.args.tree.now c.args.level c.args.place c.if-level-eq0.false c.requires.high c.requires.range in omega (arith, small, c.loop-slot-test.true)
 
 pub taken_under-requires : goal.taken_under-requires
 taken_under-requires g t c κs within =
-    let old = g.B.Blocks.shown c.args.blocks.now in
-    let tree = c.args.tree.now in
-    let level = c.args.level in
-    let place = c.args.place in
-    let slot = c.loop-slot.slot in
-    let low : 1 ≤ level = omega (arith, c.if-level-eq0.false) in
-    let high : level ≤ tree.levels = c.requires.high in
-    let lt : slot < fan = c.loop-slot-test.true in
-    let range = ranges_under level place low (let few = tree.few in omega (arith, few, high)) c.requires.range in (
+    let low : 1 ≤ c.args.level = omega (arith, c.if-level-eq0.false) in (
       (let measure = c.decreases in omega (arith, measure, low)),
       (
         within,
-        (
-          omega (arith, high),
-          (
-            omega (arith, range, lt),
-            λ told. child_pointer (standing (under old) tree) level place slot c.args.pointer.now c.in_ok-children.children low high (c.requires.pointer told) (c.in_ok-children.ensures.children told) lt
-                ∙ ap (λ (h : fin.FinMap nat_cmp (List ℕ)). pointer_at (standing (λ v. fin.get h v) tree) (level - 1) (place * fan + slot)) (sym c.loop-slot.invariant.untouched.held),
-          ),
-        ),
+        child_meets g.B.Blocks.told (g.B.Blocks.shown c.args.blocks.now) (g.B.Blocks.shown c.loop-slot.blocks) c.args.tree.now c.args.level c.args.place c.loop-slot.slot c.args.pointer.now
+            c.in_ok-children.children c.loop-slot.invariant.untouched c.if-level-eq0.false c.requires.high c.requires.range c.requires.pointer c.in_ok-children.ensures.children c.loop-slot-test.true,
       ),
     )
 
 pub returns-in_err-child-clause-cause : goal.returns-in_err-child-clause-cause
 returns-in_err-child-clause-cause g t c =
-    let old : Shown = g.B.Blocks.shown c.args.blocks.now in
-    let mid : Shown = g.B.Blocks.shown c.loop-slot.blocks in
-    let new : Shown = g.B.Blocks.shown c.taken_under.new.blocks in
     let p = err_from_is_err_and c.from_residual-in_err-child.result c.from_residual-in_err-child.ensures.1 in
-    rw (p.1, p.2) (fails_later g.B.Blocks.told (standing (under old) c.args.tree.now) old mid new c.in_err-child.field-0.0 c.loop-slot.invariant.calm c.loop-slot.invariant.untouched.held (subst (λ held. Fails g.B.Blocks.told (standing (λ v. fin.get held v) c.args.tree.now) mid new c.in_err-child.field-0.0) c.loop-slot.invariant.untouched.held c.in_err-child.ensures.cause))
+    rw (p.1, p.2) (fails_then g.B.Blocks.told c.args.tree.now (g.B.Blocks.shown c.args.blocks.now) (g.B.Blocks.shown c.loop-slot.blocks) (g.B.Blocks.shown c.taken_under.new.blocks) c.in_err-child.field-0.0 c.loop-slot.invariant.calm c.loop-slot.invariant.untouched c.in_err-child.ensures.cause)
 
 pub sum_of-sum-requires-clause-gone : goal.sum_of-sum-requires-clause-gone
 sum_of-sum-requires-clause-gone g t c =

@@ -13,7 +13,7 @@ use Rattle.fv_tree.specs.Flushing.{loaded_over, changed_in}
 use Rattle.fv_tree.specs.Leading.{KeepsHints, LeadsNoMore}
 use Rattle.fv_tree.specs.Altering.{Leaves}
 use Rattle.fv_tree.proofs.Altered.{cell_marked, only_leaves}
-use Rattle.fv_tree.proofs.Grows.{grows_alters, grows_hints, grows_sound, grows_leads, grows_keeps, grows_ready}
+use Rattle.fv_tree.proofs.Grows.{grows_alters, grows_kept}
 use Rattle.fv_tree.proofs.GrownReady.{ungrown_ready}
 use Rattle.fv_tree.proofs.StillReady.{cells_same, ready_then}
 use Rattle.fv_tree.proofs.Ready.{cells_again, cells_loaded}
@@ -58,161 +58,6 @@ returns-clause-done c = λ blocks.
     (λ j. stamped_cells t held u c.args.index c.args.stamp c.args.block.now c.in_ok-keep_cell.ensures.cell (c.stamp_path.ensures.stamps.cells ∙ c.raise.ensures.cells) j
     ∙ ap (λ x. cond (nat_eq j c.args.index) (Some c.args.block.now) (cell_in (record s { cells = x }) j)) fields.cells)
 
-pub returns-in_err-keep_new_levels-clause-stands : goal.returns-in_err-keep_new_levels-clause-stands
-returns-in_err-keep_new_levels-clause-stands c = λ blocks used sound.
-    let fields = c.keep_new_levels.ensures.fields in
-    let t = c.args.tree.now in
-    let v = c.keep_new_levels.new.tree in
-    still_sound blocks t v c.args.index c.requires.past fields (hidden_same blocks t v c.args.index c.requires.past fields c.in_err-keep_new_levels.ensures.failed) c.keep_new_levels.ensures.brings used sound
-
-pub returns-in_err-keep_cell-clause-stands : goal.returns-in_err-keep_cell-clause-stands
-returns-in_err-keep_cell-clause-stands c = λ blocks used sound.
-    let fields = c.keep_new_levels.ensures.fields in
-    let t = c.args.tree.now in
-    let v = c.keep_new_levels.new.tree in
-    cells_again blocks used v c.keep_cell.new.tree c.keep_cell.ensures.fields c.in_err-keep_cell.ensures.same
-    (still_sound blocks t v c.args.index c.requires.past fields (hidden_same blocks t v c.args.index c.requires.past fields c.in_ok-keep_new_levels.ensures.grows.old_nodes) c.keep_new_levels.ensures.brings used sound)
-
-pub returns-clause-stands : goal.returns-clause-stands
-returns-clause-stands c =
-    let grown = c.in_ok-keep_new_levels.ensures in
-    let cell = c.in_ok-keep_cell.ensures in
-    grows_sound c.args.tree.now c.keep_new_levels.new.tree c.keep_cell.new.tree c.raise.new.tree c.stamp_path.new.tree c.args.index c.args.stamp c.levels_over-levels.result c.args.block.now
-    c.requires.past c.levels_over-levels.ensures.least c.levels_over-levels.ensures.covers grown.fields grown.grows grown.brings grown.blank grown.tops cell.fields cell.cell cell.changed cell.own cell.others
-    c.raise.ensures.owner c.raise.ensures.nodes c.raise.ensures.cells c.raise.ensures.levels c.raise.ensures.root c.stamp_path.ensures.stamps c.stamp_path.ensures.marks c.requires.stamp
-
-pub returns-clause-leads : goal.returns-clause-leads
-returns-clause-leads c =
-    let grown = c.in_ok-keep_new_levels.ensures in
-    let cell = c.in_ok-keep_cell.ensures in
-    grows_leads c.args.tree.now c.keep_new_levels.new.tree c.keep_cell.new.tree c.raise.new.tree c.stamp_path.new.tree c.args.index c.args.stamp c.levels_over-levels.result c.args.block.now
-    c.requires.past c.levels_over-levels.ensures.least c.levels_over-levels.ensures.covers grown.fields grown.grows grown.brings grown.blank grown.tops cell.fields cell.cell cell.changed cell.own cell.others
-    c.raise.ensures.owner c.raise.ensures.nodes c.raise.ensures.cells c.raise.ensures.levels c.raise.ensures.root c.stamp_path.ensures.stamps c.stamp_path.ensures.marks c.requires.stamp
-
-pub returns-clause-keeps : goal.returns-clause-keeps
-returns-clause-keeps c =
-    let grown = c.in_ok-keep_new_levels.ensures in
-    let cell = c.in_ok-keep_cell.ensures in
-    grows_keeps c.args.tree.now c.keep_new_levels.new.tree c.keep_cell.new.tree c.raise.new.tree c.stamp_path.new.tree c.args.index c.args.stamp c.levels_over-levels.result c.args.block.now
-    c.requires.past c.levels_over-levels.ensures.least c.levels_over-levels.ensures.covers grown.fields grown.grows grown.brings grown.blank grown.tops cell.fields cell.cell cell.changed cell.own cell.others
-    c.raise.ensures.owner c.raise.ensures.nodes c.raise.ensures.cells c.raise.ensures.levels c.raise.ensures.root c.stamp_path.ensures.stamps c.stamp_path.ensures.marks c.requires.stamp
-
-pub returns-in_err-keep_new_levels-clause-leads : goal.returns-in_err-keep_new_levels-clause-leads
-returns-in_err-keep_new_levels-clause-leads c = λ blocks.
-    let fields = c.keep_new_levels.ensures.fields in
-    let t = c.args.tree.now in
-    let v = c.keep_new_levels.new.tree in
-    still_leads blocks t v c.args.index c.requires.past fields (hidden_same blocks t v c.args.index c.requires.past fields c.in_err-keep_new_levels.ensures.failed) c.keep_new_levels.ensures.brings
-
-pub returns-in_err-keep_new_levels-clause-keeps : goal.returns-in_err-keep_new_levels-clause-keeps
-returns-in_err-keep_new_levels-clause-keeps c = λ blocks.
-    let fields = c.keep_new_levels.ensures.fields in
-    let t = c.args.tree.now in
-    let v = c.keep_new_levels.new.tree in
-    still_keeps blocks t v c.args.index c.requires.past fields (hidden_same blocks t v c.args.index c.requires.past fields c.in_err-keep_new_levels.ensures.failed) c.keep_new_levels.ensures.brings
-
-pub returns-in_err-keep_cell-clause-leads : goal.returns-in_err-keep_cell-clause-leads
-returns-in_err-keep_cell-clause-leads c = λ blocks.
-    let fields = c.keep_new_levels.ensures.fields in
-    let t = c.args.tree.now in
-    let v = c.keep_new_levels.new.tree in
-    subst (LeadsNoMore (loaded_over blocks t)) (sym (cells_loaded blocks v c.keep_cell.new.tree c.keep_cell.ensures.fields c.in_err-keep_cell.ensures.same))
-    (still_leads blocks t v c.args.index c.requires.past fields (hidden_same blocks t v c.args.index c.requires.past fields c.in_ok-keep_new_levels.ensures.grows.old_nodes) c.keep_new_levels.ensures.brings)
-
-pub returns-in_err-keep_cell-clause-keeps : goal.returns-in_err-keep_cell-clause-keeps
-returns-in_err-keep_cell-clause-keeps c = λ blocks.
-    let fields = c.keep_new_levels.ensures.fields in
-    let t = c.args.tree.now in
-    let v = c.keep_new_levels.new.tree in
-    subst (λ s. LeadsNoMore s (loaded_over blocks t)) (sym (cells_loaded blocks v c.keep_cell.new.tree c.keep_cell.ensures.fields c.in_err-keep_cell.ensures.same))
-    (still_keeps blocks t v c.args.index c.requires.past fields (hidden_same blocks t v c.args.index c.requires.past fields c.in_ok-keep_new_levels.ensures.grows.old_nodes) c.keep_new_levels.ensures.brings)
-
-pub returns-clause-rises : goal.returns-clause-rises
-returns-clause-rises c =
-    let s = c.args.tree.now in
-    let t = c.keep_new_levels.new.tree in
-    let h = c.keep_cell.new.tree in
-    let v = c.raise.new.tree in
-    let u = c.stamp_path.new.tree in
-    let i = c.args.index in
-    let levels = c.levels_over-levels.result in
-    let grown = c.in_ok-keep_new_levels.ensures in
-    let cell = c.in_ok-keep_cell.ensures in
-    let few = c.levels_over-levels.ensures.few in
-    let rises : v.levels ≡ levels = c.raise.ensures.levels in
-    let cells : cells_changed u.cells ≡ cells_changed h.cells = ap cells_changed (c.stamp_path.ensures.stamps.cells ∙ c.raise.ensures.cells) in
-    let before : cells_changed t.cells ≡ cells_changed s.cells = ap cells_changed grown.fields.cells in
-    let nodes : v.nodes ≡ t.nodes = c.raise.ensures.nodes ∙ cell.fields.nodes in
-    let same : changes_in v.nodes ≡ changes_in t.nodes = ap changes_in nodes in
-    let one = cell.count in
-    let fewest : pending u ≤ pending s + 6 = elim (cases_eq s.root.stamp 0) [
-      | inl none ↦
-          let still = grown.unchanged none in
-          let more = c.stamp_path.ensures.changes in
-          omega (arith, few, rises, cells, before, same, one, more, still)
-      | inr there ↦
-          let lt : s.levels < levels = elim (cases_lt s.levels levels) [
-            | inl lt ↦ lt
-            | inr le ↦
-                let up : fan ^ levels ≤ fan ^ s.levels = pow-le-pow_right {n = fan} (omega arith) {i = levels} {j = s.levels} le in
-                let far = c.requires.past in
-                let covers = c.levels_over-levels.ensures.covers in
-                absurd (omega (arith, up, far, covers))
-          ] in
-          let changed : changed_in v.nodes v.levels (i / fan ^ v.levels) ≡ true =
-          ap (λ (m : tree.BTreeMap Spot KeptNode). changed_in m v.levels (i / fan ^ v.levels)) nodes ∙ (λ j. changed_in t.nodes (rises j) (i / fan ^ rises j))
-          ∙ ap (changed_in t.nodes levels) (div-eq_of_lt c.levels_over-levels.ensures.covers) ∙ (grown.tops there levels lt (omega arith)).changed in
-          let least = c.stamp_path.ensures.top changed in
-          let most = grown.changes in
-          omega (arith, few, rises, cells, before, same, one, least, most, lt)
-    ] in
-    let held : cells_held u ≡ cells_held h = ap (λ (m : tree.BTreeMap ℕ KeptCell). tree.btree_map_len m) (c.stamp_path.ensures.stamps.cells ∙ c.raise.ensures.cells) in
-    let first : cells_held t ≡ cells_held s = ap (λ (m : tree.BTreeMap ℕ KeptCell). tree.btree_map_len m) grown.fields.cells in record {
-      pending = fewest;
-      cells = omega (arith, held, first, cell.held);
-    }
-
-pub returns-in_err-keep_new_levels-clause-keeps_ready : goal.returns-in_err-keep_new_levels-clause-keeps_ready
-returns-in_err-keep_new_levels-clause-keeps_ready c =
-    ungrown_ready c.args.tree.now c.keep_new_levels.new.tree c.args.index c.requires.past c.keep_new_levels.ensures.fields c.keep_new_levels.ensures.brings
-
-pub returns-in_err-keep_cell-clause-keeps_ready : goal.returns-in_err-keep_cell-clause-keeps_ready
-returns-in_err-keep_cell-clause-keeps_ready c =
-    ready_then c.args.tree.now c.keep_new_levels.new.tree c.keep_cell.new.tree
-    (ungrown_ready c.args.tree.now c.keep_new_levels.new.tree c.args.index c.requires.past c.keep_new_levels.ensures.fields c.keep_new_levels.ensures.brings)
-    (cells_same c.keep_new_levels.new.tree c.keep_cell.new.tree c.keep_cell.ensures.fields c.in_err-keep_cell.ensures.failed)
-
-pub returns-clause-keeps_ready : goal.returns-clause-keeps_ready
-returns-clause-keeps_ready c =
-    let grown = c.in_ok-keep_new_levels.ensures in
-    let cell = c.in_ok-keep_cell.ensures in
-    grows_ready c.args.tree.now c.keep_new_levels.new.tree c.keep_cell.new.tree c.raise.new.tree c.stamp_path.new.tree c.args.index c.args.stamp c.levels_over-levels.result c.args.block.now
-    c.requires.past c.levels_over-levels.ensures.least c.levels_over-levels.ensures.covers grown.fields grown.grows grown.brings grown.blank grown.tops cell.fields cell.cell cell.changed cell.own cell.others
-    c.raise.ensures.owner c.raise.ensures.nodes c.raise.ensures.cells c.raise.ensures.levels c.raise.ensures.root c.stamp_path.ensures.stamps c.stamp_path.ensures.marks c.requires.stamp
-
-pub returns-in_err-keep_new_levels-clause-hints : goal.returns-in_err-keep_new_levels-clause-hints
-returns-in_err-keep_new_levels-clause-hints c = λ blocks.
-    let fields = c.keep_new_levels.ensures.fields in
-    let t = c.args.tree.now in
-    let v = c.keep_new_levels.new.tree in
-    still_hints blocks t v c.args.index c.requires.past fields (hidden_same blocks t v c.args.index c.requires.past fields c.in_err-keep_new_levels.ensures.failed) c.keep_new_levels.ensures.brings
-
-pub returns-in_err-keep_cell-clause-hints : goal.returns-in_err-keep_cell-clause-hints
-returns-in_err-keep_cell-clause-hints c = λ blocks.
-    let fields = c.keep_new_levels.ensures.fields in
-    let t = c.args.tree.now in
-    let v = c.keep_new_levels.new.tree in
-    subst (KeepsHints (loaded_over blocks t)) (sym (cells_loaded blocks v c.keep_cell.new.tree c.keep_cell.ensures.fields c.in_err-keep_cell.ensures.same))
-    (still_hints blocks t v c.args.index c.requires.past fields (hidden_same blocks t v c.args.index c.requires.past fields c.in_ok-keep_new_levels.ensures.grows.old_nodes) c.keep_new_levels.ensures.brings)
-
-pub returns-clause-hints : goal.returns-clause-hints
-returns-clause-hints c =
-    let grown = c.in_ok-keep_new_levels.ensures in
-    let cell = c.in_ok-keep_cell.ensures in
-    grows_hints c.args.tree.now c.keep_new_levels.new.tree c.keep_cell.new.tree c.raise.new.tree c.stamp_path.new.tree c.args.index c.args.stamp c.levels_over-levels.result c.args.block.now
-    c.requires.past c.levels_over-levels.ensures.least c.levels_over-levels.ensures.covers grown.fields grown.grows grown.brings grown.blank grown.tops cell.fields cell.cell cell.changed cell.own cell.others
-    c.raise.ensures.owner c.raise.ensures.nodes c.raise.ensures.cells c.raise.ensures.levels c.raise.ensures.root c.stamp_path.ensures.stamps c.stamp_path.ensures.marks c.requires.stamp
-
 pub returns-in_err-keep_new_levels-clause-leaves : goal.returns-in_err-keep_new_levels-clause-leaves
 returns-in_err-keep_new_levels-clause-leaves c = λ blocks.
     let fields = c.keep_new_levels.ensures.fields in
@@ -253,3 +98,114 @@ returns-clause-alters c =
 
 pub returns-clause-marked : goal.returns-clause-marked
 returns-clause-marked c = cell_marked c.keep_cell.new.tree c.stamp_path.new.tree c.args.index (c.stamp_path.ensures.stamps.cells ∙ c.raise.ensures.cells) c.in_ok-keep_cell.ensures.changed
+
+pub returns-in_err-keep_new_levels-clause-steady : goal.returns-in_err-keep_new_levels-clause-steady
+returns-in_err-keep_new_levels-clause-steady c =
+    let fields = c.keep_new_levels.ensures.fields in
+    let t = c.args.tree.now in
+    let v = c.keep_new_levels.new.tree in record {
+      owner = c.keep_new_levels.ensures.fields.owner;
+      stands = λ blocks used sound.
+          still_sound blocks t v c.args.index c.requires.past fields (hidden_same blocks t v c.args.index c.requires.past fields c.in_err-keep_new_levels.ensures.failed) c.keep_new_levels.ensures.brings used sound;
+      leads = λ blocks.
+          still_leads blocks t v c.args.index c.requires.past fields (hidden_same blocks t v c.args.index c.requires.past fields c.in_err-keep_new_levels.ensures.failed) c.keep_new_levels.ensures.brings;
+      keeps = λ blocks.
+          still_keeps blocks t v c.args.index c.requires.past fields (hidden_same blocks t v c.args.index c.requires.past fields c.in_err-keep_new_levels.ensures.failed) c.keep_new_levels.ensures.brings;
+      hints = λ blocks.
+          still_hints blocks t v c.args.index c.requires.past fields (hidden_same blocks t v c.args.index c.requires.past fields c.in_err-keep_new_levels.ensures.failed) c.keep_new_levels.ensures.brings;
+      keeps_ready = (ungrown_ready c.args.tree.now c.keep_new_levels.new.tree c.args.index c.requires.past c.keep_new_levels.ensures.fields c.keep_new_levels.ensures.brings);
+      rises = (let fields = c.keep_new_levels.ensures.fields in
+          let cells = ap cells_changed fields.cells in
+          let held : cells_held c.keep_new_levels.new.tree ≡ cells_held c.args.tree.now = ap (λ (m : tree.BTreeMap ℕ KeptCell). tree.btree_map_len m) fields.cells in record {
+            pending = omega (arith, cells, c.keep_new_levels.ensures.few_marks.changes);
+            cells = omega (arith, held);
+          });
+    }
+
+pub returns-in_err-keep_cell-clause-steady : goal.returns-in_err-keep_cell-clause-steady
+returns-in_err-keep_cell-clause-steady c =
+    let fields = c.keep_new_levels.ensures.fields in
+    let t = c.args.tree.now in
+    let v = c.keep_new_levels.new.tree in record {
+      owner = c.keep_cell.ensures.fields.owner ∙ c.keep_new_levels.ensures.fields.owner;
+      stands = λ blocks used sound.
+          cells_again blocks used v c.keep_cell.new.tree c.keep_cell.ensures.fields c.in_err-keep_cell.ensures.same
+          (still_sound blocks t v c.args.index c.requires.past fields (hidden_same blocks t v c.args.index c.requires.past fields c.in_ok-keep_new_levels.ensures.grows.old_nodes) c.keep_new_levels.ensures.brings used sound);
+      leads = λ blocks.
+          subst (LeadsNoMore (loaded_over blocks t)) (sym (cells_loaded blocks v c.keep_cell.new.tree c.keep_cell.ensures.fields c.in_err-keep_cell.ensures.same))
+          (still_leads blocks t v c.args.index c.requires.past fields (hidden_same blocks t v c.args.index c.requires.past fields c.in_ok-keep_new_levels.ensures.grows.old_nodes) c.keep_new_levels.ensures.brings);
+      keeps = λ blocks.
+          subst (λ s. LeadsNoMore s (loaded_over blocks t)) (sym (cells_loaded blocks v c.keep_cell.new.tree c.keep_cell.ensures.fields c.in_err-keep_cell.ensures.same))
+          (still_keeps blocks t v c.args.index c.requires.past fields (hidden_same blocks t v c.args.index c.requires.past fields c.in_ok-keep_new_levels.ensures.grows.old_nodes) c.keep_new_levels.ensures.brings);
+      hints = λ blocks.
+          subst (KeepsHints (loaded_over blocks t)) (sym (cells_loaded blocks v c.keep_cell.new.tree c.keep_cell.ensures.fields c.in_err-keep_cell.ensures.same))
+          (still_hints blocks t v c.args.index c.requires.past fields (hidden_same blocks t v c.args.index c.requires.past fields c.in_ok-keep_new_levels.ensures.grows.old_nodes) c.keep_new_levels.ensures.brings);
+      keeps_ready = (ready_then c.args.tree.now c.keep_new_levels.new.tree c.keep_cell.new.tree
+          (ungrown_ready c.args.tree.now c.keep_new_levels.new.tree c.args.index c.requires.past c.keep_new_levels.ensures.fields c.keep_new_levels.ensures.brings)
+          (cells_same c.keep_new_levels.new.tree c.keep_cell.new.tree c.keep_cell.ensures.fields c.in_err-keep_cell.ensures.failed));
+      rises = (let fields = c.keep_new_levels.ensures.fields in
+          let cell = c.in_err-keep_cell.ensures in
+          let cells = ap cells_changed fields.cells in
+          let nodes = ap changes_in cell.fields.nodes in
+          let held : cells_held c.keep_new_levels.new.tree ≡ cells_held c.args.tree.now = ap (λ (m : tree.BTreeMap ℕ KeptCell). tree.btree_map_len m) fields.cells in record {
+            pending = omega (arith, cells, nodes, cell.still, c.keep_new_levels.ensures.few_marks.changes);
+            cells = omega (arith, held, cell.held);
+          });
+    }
+
+pub returns-clause-steady : goal.returns-clause-steady
+returns-clause-steady c =
+    let grown = c.in_ok-keep_new_levels.ensures in
+    let cell = c.in_ok-keep_cell.ensures in
+    let kept = grows_kept c.args.tree.now c.keep_new_levels.new.tree c.keep_cell.new.tree c.raise.new.tree c.stamp_path.new.tree c.args.index c.args.stamp c.levels_over-levels.result c.args.block.now
+    c.requires.past c.levels_over-levels.ensures.least c.levels_over-levels.ensures.covers grown.fields grown.grows grown.brings grown.blank grown.tops cell.fields cell.cell cell.changed cell.own cell.others
+    c.raise.ensures.owner c.raise.ensures.nodes c.raise.ensures.cells c.raise.ensures.levels c.raise.ensures.root c.stamp_path.ensures.stamps c.stamp_path.ensures.marks c.requires.stamp in record {
+      owner = c.stamp_path.ensures.stamps.owner ∙ c.raise.ensures.owner ∙ c.keep_cell.ensures.fields.owner ∙ c.keep_new_levels.ensures.fields.owner;
+      stands = kept.sound;
+      leads = kept.leads;
+      keeps = kept.keeps;
+      hints = kept.hints;
+      keeps_ready = kept.ready;
+      rises = (let s = c.args.tree.now in
+          let t = c.keep_new_levels.new.tree in
+          let h = c.keep_cell.new.tree in
+          let v = c.raise.new.tree in
+          let u = c.stamp_path.new.tree in
+          let i = c.args.index in
+          let levels = c.levels_over-levels.result in
+          let grown = c.in_ok-keep_new_levels.ensures in
+          let cell = c.in_ok-keep_cell.ensures in
+          let few = c.levels_over-levels.ensures.few in
+          let rises : v.levels ≡ levels = c.raise.ensures.levels in
+          let cells : cells_changed u.cells ≡ cells_changed h.cells = ap cells_changed (c.stamp_path.ensures.stamps.cells ∙ c.raise.ensures.cells) in
+          let before : cells_changed t.cells ≡ cells_changed s.cells = ap cells_changed grown.fields.cells in
+          let nodes : v.nodes ≡ t.nodes = c.raise.ensures.nodes ∙ cell.fields.nodes in
+          let same : changes_in v.nodes ≡ changes_in t.nodes = ap changes_in nodes in
+          let one = cell.count in
+          let fewest : pending u ≤ pending s + 6 = elim (cases_eq s.root.stamp 0) [
+            | inl none ↦
+                let still = grown.few_marks.unchanged none in
+                let more = c.stamp_path.ensures.changes in
+                omega (arith, few, rises, cells, before, same, one, more, still)
+            | inr there ↦
+                let lt : s.levels < levels = elim (cases_lt s.levels levels) [
+                  | inl lt ↦ lt
+                  | inr le ↦
+                      let up : fan ^ levels ≤ fan ^ s.levels = pow-le-pow_right {n = fan} (omega arith) {i = levels} {j = s.levels} le in
+                      let far = c.requires.past in
+                      let covers = c.levels_over-levels.ensures.covers in
+                      absurd (omega (arith, up, far, covers))
+                ] in
+                let changed : changed_in v.nodes v.levels (i / fan ^ v.levels) ≡ true =
+                ap (λ (m : tree.BTreeMap Spot KeptNode). changed_in m v.levels (i / fan ^ v.levels)) nodes ∙ (λ j. changed_in t.nodes (rises j) (i / fan ^ rises j))
+                ∙ ap (changed_in t.nodes levels) (div-eq_of_lt c.levels_over-levels.ensures.covers) ∙ (grown.tops there levels lt (omega arith)).changed in
+                let least = c.stamp_path.ensures.top changed in
+                let most = grown.few_marks.changes in
+                omega (arith, few, rises, cells, before, same, one, least, most, lt)
+          ] in
+          let held : cells_held u ≡ cells_held h = ap (λ (m : tree.BTreeMap ℕ KeptCell). tree.btree_map_len m) (c.stamp_path.ensures.stamps.cells ∙ c.raise.ensures.cells) in
+          let first : cells_held t ≡ cells_held s = ap (λ (m : tree.BTreeMap ℕ KeptCell). tree.btree_map_len m) grown.fields.cells in record {
+            pending = fewest;
+            cells = omega (arith, held, first, cell.held);
+          });
+    }

@@ -1,38 +1,18 @@
-use Rattle.std.proofs.Common.{IfOk, sym, subst}
+use Rattle.std.proofs.Common.{IfOk}
 use Rattle.fv_tables.specs.Told.{Standing}
-use Rattle.fv_tree.specs.Standing.{under}
 use Rattle.fv_files.specs.Calls.{AddsCell}
-use Rattle.fv_files.specs.Tables.{changed, IsInfoOf}
-use Rattle.fv_files.specs.Trees.{standing_in}
-use Rattle.fv_inode.specs.Files.{rooted}
-use Rattle.fv_volume.specs.Lending.{IsTold, lent_for}
-use Rattle.fv_volume.specs.OneVolume.{home_in, shows, standing_for, IsStanding}
-use Rattle.fv_volume.proofs.CallCauses.{cause_for}
+use Rattle.fv_files.specs.Tables.{IsInfoOf}
 use Rattle.fv_volume.proofs.OneVolumes.{root_fits}
+use Rattle.fv_volume.proofs.TakenTable.{given_cause, given_says}
 use Rattle.fv_volume.proofs.changing.count_added.Goals as goal
 
 pub take_table-files-requires-clause-root : goal.take_table-files-requires-clause-root
 take_table-files-requires-clause-root g c = root_fits (g.D.Disk.shown c.args.disk.now) c.args.pool.now c.args.volume.now c.requires.ready
 
 pub returns-clause-added : goal.returns-clause-added
-returns-clause-added g c = λ is.
-    let disk = g.D.Disk.shown c.args.disk.now in
-    let pool = c.args.pool.now in
-    let x = c.args.volume.now in
-    let source = shows disk pool x in
-    let f = c.take_table-files.result in
-    let table = c.take_table-files.ensures.table (under source) in
-    subst (λ (s : Standing). IfOk c.added_told-added.result (AddsCell s c.args.info.now.number c.args.index)) table (c.added_told-added.ensures.added (is.told, subst (λ (s : Standing). IsInfoOf s.inode c.args.info.now) (sym table) (c.requires.there is)))
+returns-clause-added g c = given_says (g.D.Disk.shown c.args.disk.now) c.args.pool.now c.args.volume.now c.take_table-files.result c.take_table-files.ensures.table
+    (λ (s : Standing). IsInfoOf s.inode c.args.info.now) c.requires.there (λ (s : Standing). IfOk c.added_told-added.result (AddsCell s c.args.info.now.number c.args.index)) c.added_told-added.ensures.added
 
 pub returns-clause-cause : goal.returns-clause-cause
-returns-clause-cause g c =
-    let disk = g.D.Disk.shown c.args.disk.now in
-    let pool = c.args.pool.now in
-    let x = c.args.volume.now in
-    let source = shows disk pool x in
-    let f = c.take_table-files.result in
-    let table = c.take_table-files.ensures.table (under source) in
-    cause_for (IsStanding disk pool x) (IsTold disk pool x.map x.slot × IsInfoOf (rooted source f.inode) c.args.info.now)
-    (λ is. (is.told, subst (λ (s : Standing). IsInfoOf s.inode c.args.info.now) (sym table) (c.requires.there is)))
-    (lent_for pool x.map disk 0 (home_in x) 0) (g.D.Disk.shown c.added_told-added.new.disk).faults
-    (standing_in (under source) (changed f)) (standing_for disk pool x) c.added_told-added.result table c.added_told-added.ensures.cause
+returns-clause-cause g c = given_cause (g.D.Disk.shown c.args.disk.now) c.args.pool.now c.args.volume.now c.take_table-files.result c.take_table-files.ensures.table
+    (λ (s : Standing). IsInfoOf s.inode c.args.info.now) c.requires.there (g.D.Disk.shown c.added_told-added.new.disk).faults c.added_told-added.result c.added_told-added.ensures.cause

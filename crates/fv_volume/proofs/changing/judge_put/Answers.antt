@@ -22,7 +22,7 @@ use Rattle.fv_volume.proofs.Charged.{told_before}
 use Rattle.fv_files.specs.Tables.{IsInfoOf}
 use Rattle.fv_volume.proofs.Asked.{first_info}
 use Rattle.fv_volume.proofs.CallCauses.{fails_later, failed_cause, refused_cause}
-use Rattle.fv_volume.proofs.Judged.{more_fits, put_accepted, put_counted, put_full, put_missing, put_too_far, said_of, IsMore}
+use Rattle.fv_volume.proofs.Judged.{more_fits, put_accepted, put_counted, put_full, put_missing, put_too_far, said_of, more_is}
 use Rattle.fv_volume.proofs.changing.judge_put.Goals as goal
 
 pub returns-then-not-in_index-clause-refused : goal.returns-then-not-in_index-clause-refused
@@ -76,13 +76,8 @@ returns-in_err-count-clause-cause g c =
 pub returns-in_err-admit_change-clause-refused : goal.returns-in_err-admit_change-clause-refused
 returns-in_err-admit_change-clause-refused g c =
     let p = err_from_is_err_and c.from_residual-in_err-admit_change.result c.from_residual-in_err-admit_change.ensures.1 in
-    let more : IsMore c.args.volume.now.ledger c.in_ok-count.count c.more_blocks-delta.result = subst (λ (z : VolumeState). IsMore z.ledger c.in_ok-count.count c.more_blocks-delta.result) (c.count_put.ensures.same ∙ c.find_file.ensures.same) (record {
-      charge = c.more_blocks-delta.ensures.charge;
-      need = c.more_blocks-delta.ensures.need;
-      size = c.more_blocks-delta.ensures.size;
-      kind = c.more_blocks-delta.ensures.kind;
-      can = c.more_blocks-delta.ensures.fits;
-    }) in
+    let made = c.more_blocks-delta.ensures in
+    let more = more_is c.args.volume.now c.count_put.new.volume (c.count_put.ensures.same ∙ c.find_file.ensures.same) c.in_ok-count.count c.more_blocks-delta.result made.charge made.need made.size made.kind made.fits in
     let few : c.args.volume.now.now < most_changes = (let now : c.find_file.new.volume.now ≡ c.args.volume.now.now = ap (λ (z : VolumeState). z.now) c.find_file.ensures.same in omega (arith, now, c.if-volume-ge-MOST_CHANGES.false)) in
     let near : is_index c.args.index ≡ true = search rules in
     rw (p.1, p.2) (λ is. put_full (g.D.Disk.shown c.args.disk.now) c.args.pool.now c.args.volume.now c.args.others is c.args.file.now c.args.index near c.in-Some.info (subst (Finds (standing_for (g.D.Disk.shown c.args.disk.now) c.args.pool.now c.args.volume.now).inode c.args.file.now) c.in-Some.is (c.in_ok-info.ensures.found is)) few c.more_blocks-delta.result c.in_ok-count.count c.requires.ready (told_before (g.D.Disk.shown c.args.disk.now) (g.D.Disk.shown c.find_file.new.disk) c.args.pool.now c.find_file.new.pool c.find_file.ensures.reads c.args.volume.now c.find_file.new.volume c.find_file.ensures.same (λ (s : Standing) (v : Volume). (f : File) → file_in s c.in-Some.info.number ≡ Some f → c.in_ok-count.count ≡ added_by f.tree c.args.index + staying v (put_path (table_told s) c.in-Some.info.number f c.args.index)) c.in_ok-count.ensures.costs is) more.charge more.need more.size more.kind c.in_err-admit_change.field-0.0
@@ -98,13 +93,8 @@ returns-in_err-admit_change-clause-cause g c =
 
 pub returns-clause-accepted : goal.returns-clause-accepted
 returns-clause-accepted g c = λ is.
-    let more : IsMore c.args.volume.now.ledger c.in_ok-count.count c.more_blocks-delta.result = subst (λ (z : VolumeState). IsMore z.ledger c.in_ok-count.count c.more_blocks-delta.result) (c.count_put.ensures.same ∙ c.find_file.ensures.same) (record {
-      charge = c.more_blocks-delta.ensures.charge;
-      need = c.more_blocks-delta.ensures.need;
-      size = c.more_blocks-delta.ensures.size;
-      kind = c.more_blocks-delta.ensures.kind;
-      can = c.more_blocks-delta.ensures.fits;
-    }) in
+    let made = c.more_blocks-delta.ensures in
+    let more = more_is c.args.volume.now c.count_put.new.volume (c.count_put.ensures.same ∙ c.find_file.ensures.same) c.in_ok-count.count c.more_blocks-delta.result made.charge made.need made.size made.kind made.fits in
     let few : c.args.volume.now.now < most_changes = (let now : c.find_file.new.volume.now ≡ c.args.volume.now.now = ap (λ (z : VolumeState). z.now) c.find_file.ensures.same in omega (arith, now, c.if-volume-ge-MOST_CHANGES.false)) in
     let near : is_index c.args.index ≡ true = search rules in
     put_accepted (g.D.Disk.shown c.args.disk.now) c.args.pool.now c.args.volume.now c.args.others is c.args.file.now c.args.index near c.in-Some.info (subst (Finds (standing_for (g.D.Disk.shown c.args.disk.now) c.args.pool.now c.args.volume.now).inode c.args.file.now) c.in-Some.is (c.in_ok-info.ensures.found is)) few c.more_blocks-delta.result c.in_ok-count.count c.requires.ready (told_before (g.D.Disk.shown c.args.disk.now) (g.D.Disk.shown c.find_file.new.disk) c.args.pool.now c.find_file.new.pool c.find_file.ensures.reads c.args.volume.now c.find_file.new.volume c.find_file.ensures.same (λ (s : Standing) (v : Volume). (f : File) → file_in s c.in-Some.info.number ≡ Some f → c.in_ok-count.count ≡ added_by f.tree c.args.index + staying v (put_path (table_told s) c.in-Some.info.number f c.args.index)) c.in_ok-count.ensures.costs is) more.charge more.need more.size more.kind
@@ -112,13 +102,8 @@ returns-clause-accepted g c = λ is.
 
 pub returns-clause-fits : goal.returns-clause-fits
 returns-clause-fits g c =
-    let more : IsMore c.args.volume.now.ledger c.in_ok-count.count c.more_blocks-delta.result = subst (λ (z : VolumeState). IsMore z.ledger c.in_ok-count.count c.more_blocks-delta.result) (c.count_put.ensures.same ∙ c.find_file.ensures.same) (record {
-      charge = c.more_blocks-delta.ensures.charge;
-      need = c.more_blocks-delta.ensures.need;
-      size = c.more_blocks-delta.ensures.size;
-      kind = c.more_blocks-delta.ensures.kind;
-      can = c.more_blocks-delta.ensures.fits;
-    }) in
+    let made = c.more_blocks-delta.ensures in
+    let more = more_is c.args.volume.now c.count_put.new.volume (c.count_put.ensures.same ∙ c.find_file.ensures.same) c.in_ok-count.count c.more_blocks-delta.result made.charge made.need made.size made.kind made.fits in
     let few : c.args.volume.now.now < most_changes = (let now : c.find_file.new.volume.now ≡ c.args.volume.now.now = ap (λ (z : VolumeState). z.now) c.find_file.ensures.same in omega (arith, now, c.if-volume-ge-MOST_CHANGES.false)) in
     more_fits (g.D.Disk.shown c.args.disk.now) c.args.pool.now c.args.volume.now c.more_blocks-delta.result c.in_ok-count.count c.requires.ready few more.can more.need more.size more.kind
     (subst (λ (z : VolumeState). (l : Ledger) → IsChanged z.ledger c.more_blocks-delta.result l → l.charge + l.need ≤ l.size) (c.count_put.ensures.same ∙ c.find_file.ensures.same) c.in_ok-admit_change.ensures.within)

@@ -1,13 +1,10 @@
 use Rattle.std.proofs.Common.{IfOk, subst}
-use Rattle.fv_files.specs.Calls.{AddsFile}
 use Rattle.fv_tables.specs.Told.{Standing}
 use Rattle.fv_tree.specs.Standing.{under}
-use Rattle.fv_files.specs.Tables.{changed}
-use Rattle.fv_files.specs.Trees.{standing_in}
-use Rattle.fv_volume.specs.Lending.{IsTold, lent_for}
-use Rattle.fv_volume.specs.OneVolume.{home_in, shows, standing_for, IsStanding}
-use Rattle.fv_volume.proofs.CallCauses.{cause_for}
+use Rattle.fv_files.specs.Calls.{AddsFile}
+use Rattle.fv_volume.specs.OneVolume.{shows}
 use Rattle.fv_volume.proofs.OneVolumes.{root_fits}
+use Rattle.fv_volume.proofs.TakenTable.{told_cause}
 use Rattle.fv_volume.proofs.making.count_room.Goals as goal
 
 pub take_table-files-requires-clause-root : goal.take_table-files-requires-clause-root
@@ -15,22 +12,9 @@ take_table-files-requires-clause-root g c = root_fits (g.D.Disk.shown c.args.dis
 
 pub returns-clause-added : goal.returns-clause-added
 returns-clause-added g c = λ is.
-    let disk = g.D.Disk.shown c.args.disk.now in
-    let pool = c.args.pool.now in
-    let x = c.args.volume.now in
-    let source = shows disk pool x in
-    let table = c.take_table-files.ensures.table (under source) in
-    subst (λ (s : Standing). IfOk c.room_told-added.result (AddsFile s c.args.number)) table (c.room_told-added.ensures.added is.told)
+    subst (λ (s : Standing). IfOk c.room_told-added.result (AddsFile s c.args.number)) (c.take_table-files.ensures.table (under (shows (g.D.Disk.shown c.args.disk.now) c.args.pool.now c.args.volume.now)))
+    (c.room_told-added.ensures.added is.told)
 
 pub returns-clause-cause : goal.returns-clause-cause
-returns-clause-cause g c =
-    let disk = g.D.Disk.shown c.args.disk.now in
-    let pool = c.args.pool.now in
-    let x = c.args.volume.now in
-    let source = shows disk pool x in
-    let f = c.take_table-files.result in
-    let table = c.take_table-files.ensures.table (under source) in
-    cause_for (IsStanding disk pool x) (IsTold disk pool x.map x.slot)
-    (λ is. is.told)
-    (lent_for pool x.map disk 0 (home_in x) 0) (g.D.Disk.shown c.room_told-added.new.disk).faults
-    (standing_in (under source) (changed f)) (standing_for disk pool x) c.room_told-added.result table c.room_told-added.ensures.cause
+returns-clause-cause g c = told_cause (g.D.Disk.shown c.args.disk.now) c.args.pool.now c.args.volume.now c.take_table-files.result c.take_table-files.ensures.table
+    (g.D.Disk.shown c.room_told-added.new.disk).faults c.room_told-added.result c.room_told-added.ensures.cause

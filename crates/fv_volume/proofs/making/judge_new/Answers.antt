@@ -18,7 +18,7 @@ use Rattle.fv_tables.specs.Told.{table_told}
 use Rattle.fv_inode.specs.Files.{IsLeastFree}
 use Rattle.fv_volume.proofs.Charged.{told_before}
 use Rattle.fv_volume.proofs.CallCauses.{fails_later, failed_cause, refused_cause}
-use Rattle.fv_volume.proofs.Judged.{more_fits, said_of, IsMore}
+use Rattle.fv_volume.proofs.Judged.{more_fits, said_of, more_is}
 use Rattle.fv_volume.proofs.JudgedNew.{new_accepted, new_full}
 use Rattle.fv_volume.proofs.making.judge_new.Goals as goal
 
@@ -49,13 +49,8 @@ returns-in_err-count-clause-cause g c =
 pub returns-in_err-admit_change-clause-refused : goal.returns-in_err-admit_change-clause-refused
 returns-in_err-admit_change-clause-refused g c =
     let p = err_from_is_err_and c.from_residual-in_err-admit_change.result c.from_residual-in_err-admit_change.ensures.1 in
-    let more : IsMore c.args.volume.now.ledger c.in_ok-count.count c.more_blocks-delta.result = subst (λ (z : VolumeState). IsMore z.ledger c.in_ok-count.count c.more_blocks-delta.result) (c.count_new.ensures.same ∙ c.judge_name.ensures.same) (record {
-      charge = c.more_blocks-delta.ensures.charge;
-      need = c.more_blocks-delta.ensures.need;
-      size = c.more_blocks-delta.ensures.size;
-      kind = c.more_blocks-delta.ensures.kind;
-      can = c.more_blocks-delta.ensures.fits;
-    }) in
+    let made = c.more_blocks-delta.ensures in
+    let more = more_is c.args.volume.now c.count_new.new.volume (c.count_new.ensures.same ∙ c.judge_name.ensures.same) c.in_ok-count.count c.more_blocks-delta.result made.charge made.need made.size made.kind made.fits in
     rw (p.1, p.2) (λ is. let names = c.in_ok-number.ensures.accepted is in new_full (g.D.Disk.shown c.args.disk.now) c.args.pool.now c.args.volume.now c.args.others c.args.file.now c.args.reserve names.near names.none is c.in_ok-number.ensures.none c.in_ok-number.number c.in_ok-number.ensures.low names.free c.in_ok-number.ensures.more c.more_blocks-delta.result c.in_ok-count.count c.requires.ready
     (told_before (g.D.Disk.shown c.args.disk.now) (g.D.Disk.shown c.judge_name.new.disk) c.args.pool.now c.judge_name.new.pool c.judge_name.ensures.reads c.args.volume.now c.judge_name.new.volume c.judge_name.ensures.same (λ (s : Standing) (v : Volume). IsLeastFree s.inode c.in_ok-number.number → c.in_ok-count.count ≡ added_by (table_told s).inode (inode_cell c.in_ok-number.number) + staying v (new_path (table_told s))) c.in_ok-count.ensures.costs is) more.charge more.need more.size more.kind c.in_err-admit_change.field-0.0
     (said_of (g.D.Disk.shown c.args.disk.now) (g.D.Disk.shown c.count_new.new.disk) c.args.pool.now c.count_new.new.pool (reads_then (g.D.Disk.shown c.args.disk.now) (g.D.Disk.shown c.judge_name.new.disk) (g.D.Disk.shown c.count_new.new.disk) c.args.pool.now c.judge_name.new.pool c.count_new.new.pool c.judge_name.ensures.reads c.count_new.ensures.reads) c.args.volume.now c.count_new.new.volume (c.count_new.ensures.same ∙ c.judge_name.ensures.same) c.args.others c.more_blocks-delta.result (Err c.in_err-admit_change.field-0.0) c.in_err-admit_change.ensures.machine))
@@ -70,13 +65,8 @@ returns-in_err-admit_change-clause-cause g c =
 
 pub returns-clause-accepted : goal.returns-clause-accepted
 returns-clause-accepted g c = λ is.
-    let more : IsMore c.args.volume.now.ledger c.in_ok-count.count c.more_blocks-delta.result = subst (λ (z : VolumeState). IsMore z.ledger c.in_ok-count.count c.more_blocks-delta.result) (c.count_new.ensures.same ∙ c.judge_name.ensures.same) (record {
-      charge = c.more_blocks-delta.ensures.charge;
-      need = c.more_blocks-delta.ensures.need;
-      size = c.more_blocks-delta.ensures.size;
-      kind = c.more_blocks-delta.ensures.kind;
-      can = c.more_blocks-delta.ensures.fits;
-    }) in
+    let made = c.more_blocks-delta.ensures in
+    let more = more_is c.args.volume.now c.count_new.new.volume (c.count_new.ensures.same ∙ c.judge_name.ensures.same) c.in_ok-count.count c.more_blocks-delta.result made.charge made.need made.size made.kind made.fits in
     let names = c.in_ok-number.ensures.accepted is in
     new_accepted (g.D.Disk.shown c.args.disk.now) c.args.pool.now c.args.volume.now c.args.others c.args.file.now c.args.reserve names.near names.none is c.in_ok-number.ensures.none c.in_ok-number.number c.in_ok-number.ensures.low names.free c.in_ok-number.ensures.more c.more_blocks-delta.result c.in_ok-count.count c.requires.ready
     (told_before (g.D.Disk.shown c.args.disk.now) (g.D.Disk.shown c.judge_name.new.disk) c.args.pool.now c.judge_name.new.pool c.judge_name.ensures.reads c.args.volume.now c.judge_name.new.volume c.judge_name.ensures.same (λ (s : Standing) (v : Volume). IsLeastFree s.inode c.in_ok-number.number → c.in_ok-count.count ≡ added_by (table_told s).inode (inode_cell c.in_ok-number.number) + staying v (new_path (table_told s))) c.in_ok-count.ensures.costs is) more.charge more.need more.size more.kind
@@ -84,13 +74,8 @@ returns-clause-accepted g c = λ is.
 
 pub returns-clause-fits : goal.returns-clause-fits
 returns-clause-fits g c =
-    let more : IsMore c.args.volume.now.ledger c.in_ok-count.count c.more_blocks-delta.result = subst (λ (z : VolumeState). IsMore z.ledger c.in_ok-count.count c.more_blocks-delta.result) (c.count_new.ensures.same ∙ c.judge_name.ensures.same) (record {
-      charge = c.more_blocks-delta.ensures.charge;
-      need = c.more_blocks-delta.ensures.need;
-      size = c.more_blocks-delta.ensures.size;
-      kind = c.more_blocks-delta.ensures.kind;
-      can = c.more_blocks-delta.ensures.fits;
-    }) in
+    let made = c.more_blocks-delta.ensures in
+    let more = more_is c.args.volume.now c.count_new.new.volume (c.count_new.ensures.same ∙ c.judge_name.ensures.same) c.in_ok-count.count c.more_blocks-delta.result made.charge made.need made.size made.kind made.fits in
     more_fits (g.D.Disk.shown c.args.disk.now) c.args.pool.now c.args.volume.now c.more_blocks-delta.result c.in_ok-count.count c.requires.ready c.in_ok-number.ensures.more more.can more.need more.size more.kind
     (subst (λ (z : VolumeState). (l : Ledger) → IsChanged z.ledger c.more_blocks-delta.result l → l.charge + l.need ≤ l.size) (c.count_new.ensures.same ∙ c.judge_name.ensures.same) c.in_ok-admit_change.ensures.within)
 

@@ -1,24 +1,10 @@
-use Rattle.fv_tree.specs.Standing.{under}
-use Rattle.fv_files.specs.Tables.{changed}
-use Rattle.fv_files.specs.Trees.{standing_in}
-use Rattle.fv_volume.specs.Lending.{IsTold, lent_for}
-use Rattle.fv_volume.specs.OneVolume.{home_in, shows, standing_for, IsStanding}
-use Rattle.fv_volume.proofs.CallCauses.{cause_for}
 use Rattle.fv_volume.proofs.OneVolumes.{root_fits}
+use Rattle.fv_volume.proofs.TakenTable.{told_cause}
 use Rattle.fv_volume.proofs.making.seek_number.Goals as goal
 
 pub take_table-files-requires-clause-root : goal.take_table-files-requires-clause-root
 take_table-files-requires-clause-root g c = root_fits (g.D.Disk.shown c.args.disk.now) c.args.pool.now c.args.volume.now c.requires.ready
 
 pub returns-clause-cause : goal.returns-clause-cause
-returns-clause-cause g c =
-    let disk = g.D.Disk.shown c.args.disk.now in
-    let pool = c.args.pool.now in
-    let x = c.args.volume.now in
-    let source = shows disk pool x in
-    let f = c.take_table-files.result in
-    let table = c.take_table-files.ensures.table (under source) in
-    cause_for (IsStanding disk pool x) (IsTold disk pool x.map x.slot)
-    (λ is. is.told)
-    (lent_for pool x.map disk 0 (home_in x) 0) (g.D.Disk.shown c.number_told-number.new.disk).faults
-    (standing_in (under source) (changed f)) (standing_for disk pool x) c.number_told-number.result table c.number_told-number.ensures.cause
+returns-clause-cause g c = told_cause (g.D.Disk.shown c.args.disk.now) c.args.pool.now c.args.volume.now c.take_table-files.result c.take_table-files.ensures.table
+    (g.D.Disk.shown c.number_told-number.new.disk).faults c.number_told-number.result c.number_told-number.ensures.cause

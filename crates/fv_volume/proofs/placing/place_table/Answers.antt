@@ -7,7 +7,7 @@ use Rattle.fv_volmap.specs.Slots.{Volume}
 use Rattle.fv_volume.specs.declared.blocks.Home.{Home}
 use Rattle.fv_volume.specs.Keeping.{Blocks}
 use Rattle.fv_volume.specs.Lending.{sees, use_under}
-use Rattle.fv_volume.specs.Placing.{IsUnkept, PlacesTable}
+use Rattle.fv_volume.specs.Placing.{IsInNoSnap, PlacesTable}
 use Rattle.fv_volume.proofs.Failing.{blocks_of, of_entries, of_lent}
 use Rattle.fv_volume.proofs.PlaceCauses.{flush_fails, flush_lacks_memory}
 use Rattle.fv_volume.proofs.PlacedShared.{placed_free, was_unkept}
@@ -19,7 +19,7 @@ returns-clause-table g c =
     let before = sees c.args.pool.now c.args.map.now (g.D.Disk.shown c.args.disk.now) c.args.home.now in
     let did = c.flush-placed.ensures.flushes in
     of_lent (λ (k : Blocks) (s : Slots) (m : Volume) (d : g.row.D.Denot) (h : Home).
-    PlacesTable g.K.Guard.told before (blocks_of k s m h.slot (g.D.Disk.shown d).reads) (use_under m s h.slot) (IsUnkept (g.D.Disk.shown c.args.disk.now) c.args.pool.now c.args.map.now c.args.home.now.slot) c.args.files.now c.flush-placed.new.self c.flush-placed.result)
+    PlacesTable g.K.Guard.told before (blocks_of k s m h.slot (g.D.Disk.shown d).reads) (use_under m s h.slot) (IsInNoSnap (g.D.Disk.shown c.args.disk.now) c.args.pool.now c.args.map.now c.args.home.now.slot) c.args.files.now c.flush-placed.new.self c.flush-placed.result)
     (search rules) (search rules) (search rules) (search rules) c.flush-placed.ensures.calls.3.goes.home (record {
       placed = did.lays.placed;
       stands = did.lays.stands;

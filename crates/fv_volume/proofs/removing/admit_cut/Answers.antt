@@ -15,7 +15,7 @@ use Rattle.fv_volume.proofs.JudgedCut.{cut_accepted, cut_alone, cut_full}
 use Rattle.fv_volume.proofs.removing.admit_cut.Goals as goal
 
 pub returns-then-len-eq0-clause-accepted : goal.returns-then-len-eq0-clause-accepted
-returns-then-len-eq0-clause-accepted g c = λ is. let none = no_length c.args.volume.now.snapshots (sym c.len.ensures ∙ c.if-len-eq0.true) in cut_alone (g.D.Disk.shown c.args.disk.now) c.args.pool.now c.args.volume.now is c.args.file.now c.args.info.now (c.requires.first is) none c.args.length (let near : is_reserve c.args.length ≡ true = search rules in near) c.requires.low c.requires.more c.args.others
+returns-then-len-eq0-clause-accepted g c = λ is. let none = no_length c.args.volume.now.snapshots (sym c.len.ensures ∙ c.if-len-eq0.true) in cut_alone (g.D.Disk.shown c.args.disk.now) c.args.pool.now c.args.volume.now is c.args.file.now c.args.info.now (c.requires.first is) none c.args.length (let most : c.args.length ≤ 2097152 = c.requires.within.near in let near : is_reserve c.args.length ≡ true = search rules in near) c.requires.within.low c.requires.more c.args.others
 
 pub returns-in_err-taken-clause-refused : goal.returns-in_err-taken-clause-refused
 returns-in_err-taken-clause-refused g c =
@@ -33,7 +33,7 @@ returns-in_err-admit_change-clause-refused g c =
     rw (p.1, p.2) (λ is. cut_full (g.D.Disk.shown c.args.disk.now) c.args.pool.now c.args.volume.now is c.args.file.now c.args.info.now (c.requires.first is) c.args.others c.requires.ready c.moved_blocks-delta.result c.in_ok-taken.taken
     (subst (λ (l : Ledger). c.in_ok-taken.taken.gone ≤ l.charge + c.in_ok-taken.taken.staying → (c.moved_blocks-delta.result.charge +ℤ pos c.in_ok-taken.taken.gone) ≡ pos (0 + c.in_ok-taken.taken.staying)) (ap (λ (z : VolumeState). z.ledger) c.count_cut.ensures.same) c.moved_blocks-delta.ensures.charge)
     c.moved_blocks-delta.ensures.need (c.moved_blocks-delta.ensures.size ∙ ap (λ (z : VolumeState). z.ledger.size) c.count_cut.ensures.same) (c.moved_blocks-delta.ensures.kind ∙ ap (λ (z : VolumeState). z.ledger.kind) c.count_cut.ensures.same)
-    c.args.length (let near : is_reserve c.args.length ≡ true = search rules in near) c.requires.low c.requires.more (c.in_ok-taken.ensures.taken is) c.in_err-admit_change.field-0.0
+    c.args.length (let most : c.args.length ≤ 2097152 = c.requires.within.near in let near : is_reserve c.args.length ≡ true = search rules in near) c.requires.within.low c.requires.more (c.in_ok-taken.ensures.taken is) c.in_err-admit_change.field-0.0
     (said_of (g.D.Disk.shown c.args.disk.now) (g.D.Disk.shown c.count_cut.new.disk) c.args.pool.now c.count_cut.new.pool c.count_cut.ensures.reads c.args.volume.now c.count_cut.new.volume c.count_cut.ensures.same c.args.others c.moved_blocks-delta.result (Err c.in_err-admit_change.field-0.0) c.in_err-admit_change.ensures.machine))
 
 pub returns-in_err-admit_change-clause-cause : goal.returns-in_err-admit_change-clause-cause
@@ -45,7 +45,7 @@ pub returns-clause-accepted : goal.returns-clause-accepted
 returns-clause-accepted g c = λ is. cut_accepted (g.D.Disk.shown c.args.disk.now) c.args.pool.now c.args.volume.now is c.args.file.now c.args.info.now (c.requires.first is) c.args.others c.requires.ready c.moved_blocks-delta.result c.in_ok-taken.taken
     (subst (λ (l : Ledger). c.in_ok-taken.taken.gone ≤ l.charge + c.in_ok-taken.taken.staying → (c.moved_blocks-delta.result.charge +ℤ pos c.in_ok-taken.taken.gone) ≡ pos (0 + c.in_ok-taken.taken.staying)) (ap (λ (z : VolumeState). z.ledger) c.count_cut.ensures.same) c.moved_blocks-delta.ensures.charge)
     c.moved_blocks-delta.ensures.need (c.moved_blocks-delta.ensures.size ∙ ap (λ (z : VolumeState). z.ledger.size) c.count_cut.ensures.same) (c.moved_blocks-delta.ensures.kind ∙ ap (λ (z : VolumeState). z.ledger.kind) c.count_cut.ensures.same)
-    c.args.length (let near : is_reserve c.args.length ≡ true = search rules in near) c.requires.low c.requires.more (c.in_ok-taken.ensures.taken is)
+    c.args.length (let most : c.args.length ≤ 2097152 = c.requires.within.near in let near : is_reserve c.args.length ≡ true = search rules in near) c.requires.within.low c.requires.more (c.in_ok-taken.ensures.taken is)
     (said_of (g.D.Disk.shown c.args.disk.now) (g.D.Disk.shown c.count_cut.new.disk) c.args.pool.now c.count_cut.new.pool c.count_cut.ensures.reads c.args.volume.now c.count_cut.new.volume c.count_cut.ensures.same c.args.others c.moved_blocks-delta.result (Ok tt) c.in_ok-admit_change.ensures.machine)
 
 pub returns-clause-fits : goal.returns-clause-fits

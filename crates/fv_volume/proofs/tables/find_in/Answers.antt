@@ -1,45 +1,35 @@
-use Rattle.std.proofs.Common.{IfOk, sym, subst}
+use Rattle.std.proofs.Common.{◌≡◌, IfOk, sym, subst}
 use Rattle.fv_inode.specs.Files.{Finds}
-use Rattle.fv_tables.specs.Told.{Standing}
+use Rattle.fv_tables.specs.Told.{Standing, table_told}
 use Rattle.fv_tree.specs.Standing.{under}
-use Rattle.fv_files.specs.Tables.{changed}
-use Rattle.fv_files.specs.Trees.{standing_in}
-use Rattle.fv_volume.specs.declared.tables.TableAsked.{TableAsked}
-use Rattle.fv_volume.specs.declared.tables.TableAsked.TheVariants.{Kept}
-use Rattle.fv_volume.specs.Asking.{standing_of, IsTableOf}
-use Rattle.fv_volume.specs.Calls.{BlockCause}
+use Rattle.fv_files.specs.Numbering.{AreNumbersIf}
+use Rattle.fv_files.specs.Tables.{table_in}
+use Rattle.fv_volume.specs.Asking.{numbers_asked, standing_of}
 use Rattle.fv_volume.specs.Lending.{IsTold, lent_for}
 use Rattle.fv_volume.specs.OneVolume.{home_in, shows, IsStanding}
 use Rattle.fv_volume.proofs.CallCauses.{cause_for}
-use Rattle.fv_volume.proofs.KeptReads.{kept_levels_fit, kept_root_fits}
+use Rattle.fv_volume.proofs.KeptReads.{asked_levels_fit, asked_numbers, asked_root_fits}
+use Rattle.fv_volume.proofs.tables.find_in.Given as given
 use Rattle.fv_volume.proofs.tables.find_in.Goals as goal
 
-pub at-files-requires-clause-levels : goal.at-files-requires-clause-levels
-at-files-requires-clause-levels g c = kept_levels_fit (g.D.Disk.shown c.args.disk.now) c.args.pool.now c.args.volume.now c.requires.ready c.in-Kept.root (subst (IsTableOf c.args.volume.now) c.in-Kept.is c.requires.of)
+pub open_table-files-requires-clause-levels : goal.open_table-files-requires-clause-levels
+open_table-files-requires-clause-levels g c = asked_levels_fit (g.D.Disk.shown c.args.disk.now) c.args.pool.now c.args.volume.now c.requires.ready c.args.table.now c.requires.of
 
-pub at-files-requires-clause-root : goal.at-files-requires-clause-root
-at-files-requires-clause-root g c = kept_root_fits (g.D.Disk.shown c.args.disk.now) c.args.pool.now c.args.volume.now c.requires.ready c.in-Kept.root (subst (IsTableOf c.args.volume.now) c.in-Kept.is c.requires.of)
+pub open_table-files-requires-clause-root : goal.open_table-files-requires-clause-root
+open_table-files-requires-clause-root g c = asked_root_fits (g.D.Disk.shown c.args.disk.now) c.args.pool.now c.args.volume.now c.requires.ready c.args.table.now c.requires.of
 
-pub returns-in-Active-clause-found : goal.returns-in-Active-clause-found
-returns-in-Active-clause-found g c =
-    let disk = g.D.Disk.shown c.args.disk.now in
-    let volume = c.args.volume.now in
-    subst (λ (t : TableAsked). IsStanding disk c.args.pool.now volume → IfOk c.find_file.result (Finds (standing_of disk c.args.pool.now volume t).inode c.args.name.now)) (sym c.in-Active.is) c.find_file.ensures.found
+-- the table that was opened is the one that is asked
+same : (g : given.Over) (c : goal.Joined-none g) → table_in (shows (g.D.Disk.shown c.args.disk.now) c.args.pool.now c.args.volume.now) c.open_table-files.result ≡ standing_of (g.D.Disk.shown c.args.disk.now) c.args.pool.now c.args.volume.now c.args.table.now
+same g c = c.open_table-files.ensures.table (under (shows (g.D.Disk.shown c.args.disk.now) c.args.pool.now c.args.volume.now))
 
-pub returns-in-Kept-clause-found : goal.returns-in-Kept-clause-found
-returns-in-Kept-clause-found g c =
-    let disk = g.D.Disk.shown c.args.disk.now in
-    let volume = c.args.volume.now in
-    let source = shows disk c.args.pool.now volume in
-    subst (λ (t : TableAsked). IsStanding disk c.args.pool.now volume → IfOk c.find_told.result (Finds (standing_of disk c.args.pool.now volume t).inode c.args.name.now)) (sym c.in-Kept.is)
-    (λ is. subst (λ (s : Standing). IfOk c.find_told.result (Finds s.inode c.args.name.now)) (c.at-files.ensures.stored (under source)) (c.find_told.ensures.found is.told))
+-- the numbers of files that are used are its own
+numbered : (g : given.Over) (c : goal.Joined-none g) → IsStanding (g.D.Disk.shown c.args.disk.now) c.args.pool.now c.args.volume.now → AreNumbersIf c.numbers_for.result.now (table_told (table_in (shows (g.D.Disk.shown c.args.disk.now) c.args.pool.now c.args.volume.now) c.open_table-files.result))
+numbered g c is = subst (λ n. AreNumbersIf n (table_told (table_in (shows (g.D.Disk.shown c.args.disk.now) c.args.pool.now c.args.volume.now) c.open_table-files.result))) (sym c.numbers_for.ensures)
+    (subst (λ (s : Standing). AreNumbersIf (numbers_asked c.args.table.now c.args.volume.now.numbers) (table_told s)) (sym (c.open_table-files.ensures.table (under (shows (g.D.Disk.shown c.args.disk.now) c.args.pool.now c.args.volume.now)))) (asked_numbers (g.D.Disk.shown c.args.disk.now) c.args.pool.now c.args.volume.now is c.args.table.now))
 
-pub returns-in-Kept-clause-cause : goal.returns-in-Kept-clause-cause
-returns-in-Kept-clause-cause g c =
-    let disk = g.D.Disk.shown c.args.disk.now in
-    let volume = c.args.volume.now in
-    let source = shows disk c.args.pool.now volume in
-    let left = (g.D.Disk.shown c.find_told.new.disk).faults in
-    subst (λ (t : TableAsked). BlockCause {T = _} (IsStanding disk c.args.pool.now volume) (standing_of disk c.args.pool.now volume t) (lent_for c.args.pool.now volume.map disk 0 (home_in volume) 0) left c.find_told.result) (sym c.in-Kept.is)
-    (cause_for (IsStanding disk c.args.pool.now volume) (IsTold disk c.args.pool.now volume.map volume.slot) (λ is. is.told) (lent_for c.args.pool.now volume.map disk 0 (home_in volume) 0) left
-    (standing_in (under source) (changed c.at-files.result)) (standing_of disk c.args.pool.now volume (Kept c.in-Kept.root)) c.find_told.result (c.at-files.ensures.stored (under source)) c.find_told.ensures.cause)
+pub returns-clause-found : goal.returns-clause-found
+returns-clause-found g c = λ is. subst (λ (s : Standing). IfOk c.find_told-found.result (Finds s.inode c.args.name.now)) (same g c) (c.find_told-found.ensures.found (is.told, numbered g c is))
+
+pub returns-clause-cause : goal.returns-clause-cause
+returns-clause-cause g c = cause_for (IsStanding (g.D.Disk.shown c.args.disk.now) c.args.pool.now c.args.volume.now) (IsTold (g.D.Disk.shown c.args.disk.now) c.args.pool.now c.args.volume.now.map c.args.volume.now.slot × AreNumbersIf c.numbers_for.result.now (table_told (table_in (shows (g.D.Disk.shown c.args.disk.now) c.args.pool.now c.args.volume.now) c.open_table-files.result))) (λ is. (is.told, numbered g c is)) (lent_for c.args.pool.now c.args.volume.now.map (g.D.Disk.shown c.args.disk.now) 0 (home_in c.args.volume.now) 0) (g.D.Disk.shown c.find_told-found.new.disk).faults
+    (table_in (shows (g.D.Disk.shown c.args.disk.now) c.args.pool.now c.args.volume.now) c.open_table-files.result) (standing_of (g.D.Disk.shown c.args.disk.now) c.args.pool.now c.args.volume.now c.args.table.now) c.find_told-found.result (same g c) c.find_told-found.ensures.cause

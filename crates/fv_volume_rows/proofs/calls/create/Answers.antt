@@ -5,4 +5,4 @@ pub returns-in-Ok-create-clause-fit : goal.returns-in-Ok-create-clause-fit
 returns-in-Ok-create-clause-fit g c =
     let did = c.create.ensures in
     made_fit (g.D.Disk.shown c.args.disk.now) c.args.pool.now c.create.new.pool c.args.volumes.now c.create.new.self c.args.name.now c.args.size c.args.kind c.create.result c.requires.fit
-    did.made did.new did.holes did.each did.same did.same_pool
+    did.made did.new did.holes did.each did.same

@@ -3,10 +3,10 @@ use Rattle.std.specs.Prelude.{IsNone}
 use Rattle.fv_model.specs.Space.{overhead, span_of}
 use Rattle.fv_container.specs.Chains.{container_at}
 use Rattle.fv_volume.specs.declared.pool.Pool.{Pool}
-use Rattle.fv_volume.specs.Creating.{Admits, IsNew}
+use Rattle.fv_volumes.specs.Creating.{Admits, IsNew}
 use Rattle.fv_volume.specs.States.{state_at}
 use Rattle.fv_cp.specs.Lent.{FitTogether, blocks_asked}
-use Rattle.fv_volume.proofs.Housing.{housed_with}
+use Rattle.fv_volumes.proofs.Housing.{housed_with}
 use Rattle.fv_aggregate.specs.declared.session.Session.{Session}
 use Rattle.fv_aggregate.proofs.Added.{added_as}
 use Rattle.fv_aggregate.proofs.Asking.{asked_made, overheads_made, pending_made, waiting_made}

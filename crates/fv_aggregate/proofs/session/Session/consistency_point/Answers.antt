@@ -1,10 +1,35 @@
-use Rattle.fv_aggregate.specs.declared.fault.Fault.TheVariants.{Failed}
+use Rattle.std.proofs.Common.{◌≡◌, ◌≢◌, ℕ, Some, subst}
+use Rattle.fv_aggregate.specs.declared.fault.Fault.TheVariants.{Failed, Memory}
+use Rattle.fv_aggregate.specs.declared.session.Session.{Session}
 use Rattle.fv_cp.proofs.Whole.{resting}
 use Rattle.fv_aggregate.proofs.Applied.{rests_for_fault}
+use Rattle.fv_aggregate.proofs.Calls.{rests_asks, stays_failed}
 use Rattle.fv_aggregate.proofs.session.Session.consistency_point.Goals as goal
 
-pub returns-in-Some-clause-goes_for : goal.returns-in-Some-clause-goes_for
-returns-in-Some-clause-goes_for g c = λ tells last m stands. rests_for_fault (Failed c.in-Some.faults) (g.D.Disk.shown c.args.disk.now) c.args.self.now last m m (g.met.D.Disk.laws c.args.disk.now) tt stands
+not_memory : (n : ℕ) → Failed n ≢ Memory
+not_memory n is = cc
 
-pub returns-in-Some-clause-sides : goal.returns-in-Some-clause-sides
-returns-in-Some-clause-sides g c = λ tells last m stands. resting (g.D.Disk.shown c.args.disk.now) c.args.self.now.pool c.args.self.now.volumes last (g.met.D.Disk.laws c.args.disk.now) stands.held
+pub returns-in-Some-clause-runs : goal.returns-in-Some-clause-runs
+returns-in-Some-clause-runs g c =
+    let d = g.D.Disk.shown c.args.disk.now in
+    let s = c.args.self.now in
+    record {
+      goes = stays_failed c.in-Some.faults 0 d s (subst (λ (k : Session). k.failed ≡ Some c.in-Some.faults) c.self.view_is c.in-Some.is);
+      asks = rests_asks 0 d s;
+      damage = tt;
+      goes_for = λ tells last m stands. rests_for_fault (Failed c.in-Some.faults) d s last m m (g.met.D.Disk.laws c.args.disk.now) tt stands;
+      numbers = λ alive k known. known;
+    }
+
+pub returns-in-Some-clause-points : goal.returns-in-Some-clause-points
+returns-in-Some-clause-points g c = record {
+  memory = λ none. not_memory c.in-Some.faults;
+  point = λ tells last m stands. tt;
+  sides = λ tells last m stands. resting (g.D.Disk.shown c.args.disk.now) c.args.self.now.pool c.args.self.now.volumes last (g.met.D.Disk.laws c.args.disk.now) stands.held;
+  left = tt;
+}
+
+pub returns-in-None-clause-runs : goal.returns-in-None-clause-runs
+returns-in-None-clause-runs g c =
+    let did = c.point.ensures in
+    record { goes = did.goes; asks = did.asks; damage = did.damage; goes_for = did.goes_for; numbers = did.numbers }

@@ -36,7 +36,7 @@ returns-in_err-make_room-in-None-clause-makes g c =
     let failed : c.from_residual-in_err-make_room-in-None.result ≡ Err c.in_err-make_room-in-None.field-0.0 = search rules in
     subst (Makes file_room d s c.args.command.now h c.make_room.new.self) (sym failed)
     (room_failed d s c.args.command.now past (damaged_at d s c.args.slot aimed.state aimed.there c.requires.fresh) e c.judge.new.self c.in_ok-judged.judged c.in_ok-judged.ensures.judged h c.make_room.new.self c.in_err-make_room-in-None.field-0.0
-    c.in_err-make_room-in-None.ensures.goes c.in_err-make_room-in-None.ensures.goes_for)
+    c.in_err-make_room-in-None.ensures.runs.goes c.in_err-make_room-in-None.ensures.runs.goes_for)
 
 pub carry_out-requires-in-None-clause-aimed : goal.carry_out-requires-in-None-clause-aimed
 carry_out-requires-in-None-clause-aimed g c =
@@ -53,4 +53,4 @@ returns-in_ok-make_room-in-None-clause-makes g c =
     let aimed = c.requires.aimed in
     let past : dirty_limit < s.pending + 16 = (let full : nat_le (s.pending + 16) 256 ≡ _ = sym c.has_room.ensures ∙ c.if-has_room.false in grind (arith, nat_tests, full)) in
     made_after d s c.args.command.now past (damaged_at d s c.args.slot aimed.state aimed.there c.requires.fresh) e c.judge.new.self c.in_ok-judged.judged c.in_ok-judged.ensures.judged h c.make_room.new.self
-    aimed.state.name aimed.change (sym c.in-None.ensures) tt c.in_ok-make_room-in-None.ensures.goes c.in_ok-make_room-in-None.ensures.pending c.in_ok-make_room-in-None.ensures.goes_for k c.carry_out-in-None.new.self c.carry_out-in-None.result c.carry_out-in-None.ensures.makes
+    aimed.state.name aimed.change (sym c.in-None.ensures) tt c.in_ok-make_room-in-None.ensures.runs.goes c.in_ok-make_room-in-None.ensures.pending c.in_ok-make_room-in-None.ensures.runs.goes_for k c.carry_out-in-None.new.self c.carry_out-in-None.result c.carry_out-in-None.ensures.makes

@@ -1,4 +1,4 @@
-use Rattle.std.proofs.Common.{◌≡◌, ◌∙◌, ℕ, length, Err, Some, inl, inr, refl, sym, ap, subst}
+use Rattle.std.proofs.Common.{◌≡◌, ◌≢◌, ◌∙◌, ℕ, length, Err, Some, inl, inr, refl, sym, ap, subst}
 use Rattle.std.specs.Prelude.{IsNone}
 use Rattle.fv_disk.specs.Shown.{Rose}
 use Rattle.fv_volume.specs.declared.fault.VolumeFault.{VolumeFault}
@@ -6,6 +6,7 @@ use Rattle.fv_volume.specs.declared.fault.VolumeFault.TheVariants.{Damaged, Disk
 use Rattle.fv_volume.specs.States.{States}
 use Rattle.fv_cp.specs.Placing.{HaveNoFiles}
 use Rattle.fv_cp.specs.Settling.{HaveFullRoom, IsNoDamage, WholeCounts, WholeFails}
+use Rattle.fv_aggregate.specs.declared.fault.Fault.TheVariants as session
 use Rattle.fv_aggregate.specs.declared.session.Session.{Session}
 use Rattle.fv_aggregate.specs.Reclaiming.{ReclaimsEntries}
 use Rattle.fv_aggregate.proofs.Keeping.{keeps_core}
@@ -44,23 +45,6 @@ returns-in-Ok-clause-goes_for g c = λ tells last m stands.
       whole = tt;
     }
 
-pub returns-in-Ok-clause-done : goal.returns-in-Ok-clause-done
-returns-in-Ok-clause-done g c = λ tells last m stands.
-    let session = c.args.self.now in
-    let pool = ap (λ (s : Session). s.pool) (sym c.self.view_is) in
-    let volumes = ap (λ (s : Session). s.volumes) (sym c.self.view_is) in
-    let held = held_as (g.D.Disk.shown c.args.disk.now) session last m stands c.self.inside.pool c.self.inside.volumes pool volumes in
-    let known = known_as (g.D.Disk.shown c.args.disk.now) session last m stands c.self.inside.pool c.self.inside.delays pool (ap (λ (s : Session). s.delays) (sym c.self.view_is)) in
-    let full = full_as (g.D.Disk.shown c.args.disk.now) session last m stands c.self.inside.pool c.self.inside.volumes pool volumes in
-    let point = c.in-Ok.ensures.point tells last held known full in
-    record {
-      stands = pointed (g.D.Disk.shown c.args.disk.now) c.self.inside.pool c.self.inside.volumes (g.D.Disk.shown c.full_point.new.disk) c.full_point.new.pool c.full_point.new.volumes
-          c.args.want c.full_point.new.delays point (c.in-Ok.ensures.goes_on.loaded tells) session last m stands pool volumes c.in-Ok.ensures.goes_on.fit.housed.long c.in-Ok.ensures.goes_on.none _ refl refl refl refl;
-      room = point.room;
-      entries = subst (λ (s : Session). ReclaimsEntries c.args.want s (g.D.Disk.shown c.full_point.new.disk) (record { volumes = c.full_point.new.volumes; pool = c.full_point.new.pool; delays = c.full_point.new.delays; pending = 0; failed = c.self.inside.failed })) c.self.view_is
-          (entries_left (g.D.Disk.shown c.args.disk.now) (record { volumes = c.self.inside.volumes; pool = c.self.inside.pool; delays = c.self.inside.delays; pending = c.self.inside.pending; failed = c.self.inside.failed }) c.args.want (g.D.Disk.shown c.full_point.new.disk) _ point (c.in-Ok.ensures.goes_on.loaded tells));
-    }
-
 pub returns-in-Ok-clause-room : goal.returns-in-Ok-clause-room
 returns-in-Ok-clause-room g c = λ tells last m stands fits.
     let session = c.args.self.now in
@@ -71,14 +55,6 @@ returns-in-Ok-clause-room g c = λ tells last m stands fits.
     let full = full_as (g.D.Disk.shown c.args.disk.now) session last m stands c.self.inside.pool c.self.inside.volumes pool volumes in
     point_room (g.D.Disk.shown c.args.disk.now) c.self.inside.pool c.self.inside.volumes (g.D.Disk.shown c.full_point.new.disk) c.full_point.new.pool c.full_point.new.volumes
     c.args.want c.full_point.new.delays (c.in-Ok.ensures.point tells last held known full) (c.in-Ok.ensures.goes_on.loaded tells) session last m stands pool volumes (record { volumes = c.full_point.new.volumes; pool = c.full_point.new.pool; delays = c.full_point.new.delays; pending = 0; failed = c.self.inside.failed }) refl refl fits
-
-pub returns-in-Ok-clause-left : goal.returns-in-Ok-clause-left
-returns-in-Ok-clause-left g c =
-    let e = c.in-Ok.ensures in
-    let fresh = subst (λ (s : Session). IsNone s.failed) (sym c.self.view_is) c.requires.fresh in
-    let was = ap (λ (s : Session). s.volumes) c.self.view_is in
-    pointed_left (g.D.Disk.shown c.args.disk.now) c.args.self.now (g.D.Disk.shown c.full_point.new.disk) (record { volumes = c.full_point.new.volumes; pool = c.full_point.new.pool; delays = c.full_point.new.delays; pending = 0; failed = c.self.inside.failed })
-    c.self.inside.pool c.self.inside.volumes refl (ap (λ (s : Session). s.pool) c.self.view_is) was (sym (ap (λ (v : States). length v) was) ∙ (c.self.invariant fresh).housed.long) e.goes_on
 
 pub returns-in-Err-DiskFault-clause-goes_for : goal.returns-in-Err-DiskFault-clause-goes_for
 returns-in-Err-DiskFault-clause-goes_for g c = λ tells last m stands.
@@ -208,12 +184,6 @@ returns-in-Err-Memory-clause-goes_for g c = λ tells last m stands.
       whole = tt;
     }
 
-pub returns-in-Err-Memory-clause-memory : goal.returns-in-Err-Memory-clause-memory
-returns-in-Err-Memory-clause-memory g c = λ none.
-    let e = c.in-Err-Memory in
-    let fails : WholeFails c.self.inside.volumes c.full_point.new.pool c.full_point.new.volumes Memory = subst (WholeFails c.self.inside.volumes c.full_point.new.pool c.full_point.new.volumes) e.field-0-is e.ensures.fails in
-    absurd (fails (subst (λ (s : Session). HaveNoFiles s.volumes) (sym c.self.view_is) none))
-
 pub returns-in-Err-Damaged-clause-numbers : goal.returns-in-Err-Damaged-clause-numbers
 returns-in-Err-Damaged-clause-numbers g c = λ fresh.
     let e = c.in-Err-Damaged in
@@ -226,22 +196,74 @@ returns-in-Err-Memory-clause-numbers g c = λ fresh.
     let still = still_said (g.D.Disk.shown c.args.disk.now) _ c.args.self.now c.self.view_is (g.D.Disk.shown c.full_point.new.disk) c.full_point.new.pool c.full_point.new.volumes _ _ e.field-0-is e.ensures.still in
     keeps_core c.args.self.now.volumes c.full_point.new.volumes still.placed.cores
 
-pub returns-in-Ok-clause-sides : goal.returns-in-Ok-clause-sides
-returns-in-Ok-clause-sides g c = λ tells last m stands.
-    point_sides (g.D.Disk.shown c.args.disk.now) (g.D.Disk.shown c.full_point.new.disk) c.args.self.now last m stands c.self.inside.pool c.self.inside.volumes c.self.inside.delays
-    (ap (λ (s : Session). s.pool) (sym c.self.view_is)) (ap (λ (s : Session). s.volumes) (sym c.self.view_is)) (ap (λ (s : Session). s.delays) (sym c.self.view_is)) (c.in-Ok.ensures.any_moment tells)
+disk_memory : session.DiskFault ≢ session.Memory
+disk_memory is = cc
 
-pub returns-in-Err-DiskFault-clause-sides : goal.returns-in-Err-DiskFault-clause-sides
-returns-in-Err-DiskFault-clause-sides g c = λ tells last m stands.
-    point_sides (g.D.Disk.shown c.args.disk.now) (g.D.Disk.shown c.full_point.new.disk) c.args.self.now last m stands c.self.inside.pool c.self.inside.volumes c.self.inside.delays
-    (ap (λ (s : Session). s.pool) (sym c.self.view_is)) (ap (λ (s : Session). s.volumes) (sym c.self.view_is)) (ap (λ (s : Session). s.delays) (sym c.self.view_is)) (c.in-Err-DiskFault.ensures.any_moment tells)
+damage_memory : (at want found : ℕ) → session.Damaged at want found ≢ session.Memory
+damage_memory at want found is = cc
 
-pub returns-in-Err-Damaged-clause-sides : goal.returns-in-Err-Damaged-clause-sides
-returns-in-Err-Damaged-clause-sides g c = λ tells last m stands.
-    point_sides (g.D.Disk.shown c.args.disk.now) (g.D.Disk.shown c.full_point.new.disk) c.args.self.now last m stands c.self.inside.pool c.self.inside.volumes c.self.inside.delays
-    (ap (λ (s : Session). s.pool) (sym c.self.view_is)) (ap (λ (s : Session). s.volumes) (sym c.self.view_is)) (ap (λ (s : Session). s.delays) (sym c.self.view_is)) (c.in-Err-Damaged.ensures.any_moment tells)
+pub returns-in-Ok-clause-points : goal.returns-in-Ok-clause-points
+returns-in-Ok-clause-points g c =
+    record {
+      memory = λ none. tt;
+      point = λ tells last m stands.
+          let session = c.args.self.now in
+          let pool = ap (λ (s : Session). s.pool) (sym c.self.view_is) in
+          let volumes = ap (λ (s : Session). s.volumes) (sym c.self.view_is) in
+          let held = held_as (g.D.Disk.shown c.args.disk.now) session last m stands c.self.inside.pool c.self.inside.volumes pool volumes in
+          let known = known_as (g.D.Disk.shown c.args.disk.now) session last m stands c.self.inside.pool c.self.inside.delays pool (ap (λ (s : Session). s.delays) (sym c.self.view_is)) in
+          let full = full_as (g.D.Disk.shown c.args.disk.now) session last m stands c.self.inside.pool c.self.inside.volumes pool volumes in
+          let point = c.in-Ok.ensures.point tells last held known full in
+          record {
+            stands = pointed (g.D.Disk.shown c.args.disk.now) c.self.inside.pool c.self.inside.volumes (g.D.Disk.shown c.full_point.new.disk) c.full_point.new.pool c.full_point.new.volumes
+                c.args.want c.full_point.new.delays point (c.in-Ok.ensures.goes_on.loaded tells) session last m stands pool volumes c.in-Ok.ensures.goes_on.fit.housed.long c.in-Ok.ensures.goes_on.none _ refl refl refl refl;
+            room = point.room;
+            entries = subst (λ (s : Session). ReclaimsEntries c.args.want s (g.D.Disk.shown c.full_point.new.disk) (record { volumes = c.full_point.new.volumes; pool = c.full_point.new.pool; delays = c.full_point.new.delays; pending = 0; failed = c.self.inside.failed })) c.self.view_is
+                (entries_left (g.D.Disk.shown c.args.disk.now) (record { volumes = c.self.inside.volumes; pool = c.self.inside.pool; delays = c.self.inside.delays; pending = c.self.inside.pending; failed = c.self.inside.failed }) c.args.want (g.D.Disk.shown c.full_point.new.disk) _ point (c.in-Ok.ensures.goes_on.loaded tells));
+          };
+      sides = λ tells last m stands.
+          point_sides (g.D.Disk.shown c.args.disk.now) (g.D.Disk.shown c.full_point.new.disk) c.args.self.now last m stands c.self.inside.pool c.self.inside.volumes c.self.inside.delays
+          (ap (λ (s : Session). s.pool) (sym c.self.view_is)) (ap (λ (s : Session). s.volumes) (sym c.self.view_is)) (ap (λ (s : Session). s.delays) (sym c.self.view_is)) (c.in-Ok.ensures.any_moment tells);
+      left =
+          let e = c.in-Ok.ensures in
+          let fresh = subst (λ (s : Session). IsNone s.failed) (sym c.self.view_is) c.requires.fresh in
+          let was = ap (λ (s : Session). s.volumes) c.self.view_is in
+          pointed_left (g.D.Disk.shown c.args.disk.now) c.args.self.now (g.D.Disk.shown c.full_point.new.disk) (record { volumes = c.full_point.new.volumes; pool = c.full_point.new.pool; delays = c.full_point.new.delays; pending = 0; failed = c.self.inside.failed })
+          c.self.inside.pool c.self.inside.volumes refl (ap (λ (s : Session). s.pool) c.self.view_is) was (sym (ap (λ (v : States). length v) was) ∙ (c.self.invariant fresh).housed.long) e.goes_on;
+    }
 
-pub returns-in-Err-Memory-clause-sides : goal.returns-in-Err-Memory-clause-sides
-returns-in-Err-Memory-clause-sides g c = λ tells last m stands.
-    point_sides (g.D.Disk.shown c.args.disk.now) (g.D.Disk.shown c.full_point.new.disk) c.args.self.now last m stands c.self.inside.pool c.self.inside.volumes c.self.inside.delays
-    (ap (λ (s : Session). s.pool) (sym c.self.view_is)) (ap (λ (s : Session). s.volumes) (sym c.self.view_is)) (ap (λ (s : Session). s.delays) (sym c.self.view_is)) (c.in-Err-Memory.ensures.any_moment tells)
+pub returns-in-Err-DiskFault-clause-points : goal.returns-in-Err-DiskFault-clause-points
+returns-in-Err-DiskFault-clause-points g c =
+    record {
+      memory = λ none. disk_memory;
+      point = λ tells last m stands. tt;
+      sides = λ tells last m stands.
+          point_sides (g.D.Disk.shown c.args.disk.now) (g.D.Disk.shown c.full_point.new.disk) c.args.self.now last m stands c.self.inside.pool c.self.inside.volumes c.self.inside.delays
+          (ap (λ (s : Session). s.pool) (sym c.self.view_is)) (ap (λ (s : Session). s.volumes) (sym c.self.view_is)) (ap (λ (s : Session). s.delays) (sym c.self.view_is)) (c.in-Err-DiskFault.ensures.any_moment tells);
+      left = tt;
+    }
+
+pub returns-in-Err-Damaged-clause-points : goal.returns-in-Err-Damaged-clause-points
+returns-in-Err-Damaged-clause-points g c =
+    record {
+      memory = λ none. damage_memory c.in-Err-Damaged.at c.in-Err-Damaged.want c.in-Err-Damaged.found;
+      point = λ tells last m stands. tt;
+      sides = λ tells last m stands.
+          point_sides (g.D.Disk.shown c.args.disk.now) (g.D.Disk.shown c.full_point.new.disk) c.args.self.now last m stands c.self.inside.pool c.self.inside.volumes c.self.inside.delays
+          (ap (λ (s : Session). s.pool) (sym c.self.view_is)) (ap (λ (s : Session). s.volumes) (sym c.self.view_is)) (ap (λ (s : Session). s.delays) (sym c.self.view_is)) (c.in-Err-Damaged.ensures.any_moment tells);
+      left = tt;
+    }
+
+pub returns-in-Err-Memory-clause-points : goal.returns-in-Err-Memory-clause-points
+returns-in-Err-Memory-clause-points g c =
+    record {
+      memory = λ none.
+          let e = c.in-Err-Memory in
+          let fails : WholeFails c.self.inside.volumes c.full_point.new.pool c.full_point.new.volumes Memory = subst (WholeFails c.self.inside.volumes c.full_point.new.pool c.full_point.new.volumes) e.field-0-is e.ensures.fails in
+          absurd (fails (subst (λ (s : Session). HaveNoFiles s.volumes) (sym c.self.view_is) none));
+      point = λ tells last m stands. tt;
+      sides = λ tells last m stands.
+          point_sides (g.D.Disk.shown c.args.disk.now) (g.D.Disk.shown c.full_point.new.disk) c.args.self.now last m stands c.self.inside.pool c.self.inside.volumes c.self.inside.delays
+          (ap (λ (s : Session). s.pool) (sym c.self.view_is)) (ap (λ (s : Session). s.volumes) (sym c.self.view_is)) (ap (λ (s : Session). s.delays) (sym c.self.view_is)) (c.in-Err-Memory.ensures.any_moment tells);
+      left = tt;
+    }

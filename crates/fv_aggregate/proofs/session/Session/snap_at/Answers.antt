@@ -1,13 +1,24 @@
-use Rattle.std.proofs.Common.{◌≡◌, ◌-◌, length, Option, Err, sym, subst}
+use Rattle.std.proofs.Common.{◌≡◌, ◌-◌, length, Ok, Some, Err, Option, sym, subst}
 use Rattle.std.specs.Prelude.{IsNone}
 use Rattle.fv_volume.specs.declared.state.VolumeState.{VolumeState}
 use Rattle.fv_volume.specs.Slots.{committed_by, sum_of}
 use Rattle.fv_volume.specs.States.{state_at}
 use Rattle.fv_aggregate.specs.declared.session.Session.{Session}
-use Rattle.fv_aggregate.specs.Snapping.{HasRoomFor}
+use Rattle.fv_aggregate.specs.Snapping.{HasGrant, JudgesSnap}
+use Rattle.fv_aggregate.proofs.Returned.{same_there}
 use Rattle.fv_aggregate.proofs.SnapDone.{refused_snapped}
-use Rattle.fv_aggregate.proofs.SnapRoom.{refused_given}
+use Rattle.fv_aggregate.proofs.SnapRoom.{grant_given, refused_given}
 use Rattle.fv_aggregate.proofs.session.Session.snap_at.Goals as goal
+
+pub snap_with-requires-clause-granted : goal.snap_with-requires-clause-granted
+snap_with-requires-clause-granted g c =
+    let s = c.args.self.now in
+    let aimed = c.requires.aimed in
+    let x = c.volume_in-state.result.now in
+    let there : state_at s.volumes c.args.slot ≡ Some x = subst (λ (n : Session). state_at n.volumes c.args.slot ≡ Some x) c.self.view_is c.volume_in-state.ensures in
+    let said = subst (λ (n : Session). JudgesSnap x n.pool.found.blocks c.commits_beside-others.result c.args.command.now (Ok c.in-Ok.granted)) c.self.view_is c.in-Ok.ensures in
+    subst (λ (o : Option VolumeState). HasGrant o s.pool.found.blocks c.commits_beside-others.result c.args.command.now c.in-Ok.granted) (sym there)
+    (grant_given x s.pool.found.blocks c.commits_beside-others.result c.in-Ok.granted aimed.state.name c.args.command.now aimed.snaps said)
 
 pub returns-in-Err : goal.returns-in-Err
 returns-in-Err g c =
@@ -16,11 +27,13 @@ returns-in-Err g c =
     let aimed = c.requires.aimed in
     let command = c.args.command.now in
     let slot = c.args.slot in
+    let x = c.volume_in-state.result.now in
+    let there : state_at s.volumes slot ≡ Some x = subst (λ (n : Session). state_at n.volumes slot ≡ Some x) c.self.view_is c.volume_in-state.ensures in
     let fresh = subst (λ (n : Session). IsNone n.failed) (sym c.self.view_is) c.requires.fresh in
     let long = subst (λ (n : Session). length n.volumes ≡ 64) c.self.view_is (c.self.invariant fresh).housed.long in
     let others = subst (λ (n : Session). c.commits_beside-others.result ≡ sum_of n.volumes - committed_by (state_at n.volumes slot)) c.self.view_is c.commits_beside-others.ensures.sum in
-    let said = subst (λ (n : Session). HasRoomFor (state_at n.volumes slot) n.pool.found.blocks c.commits_beside-others.result command (Err c.in-Err.refusal)) c.self.view_is c.in-Err.ensures in
+    let said = subst (λ (n : Session). JudgesSnap x n.pool.found.blocks c.commits_beside-others.result command (Err c.in-Err.refusal)) c.self.view_is c.in-Err.ensures in
     record {
       snapped = refused_snapped d c.args.disk.now (g.met.D.Disk.laws c.args.disk.now) s c.requires.fresh c.requires.stands command c.in-Err.refusal
-          (refused_given d s long slot aimed.state aimed.there c.commits_beside-others.result others c.in-Err.refusal command aimed.snaps (subst (λ (o : Option VolumeState). HasRoomFor o s.pool.found.blocks c.commits_beside-others.result command (Err c.in-Err.refusal)) aimed.there said));
+          (refused_given d s long slot aimed.state aimed.there c.commits_beside-others.result others c.in-Err.refusal command aimed.snaps (subst (λ (z : VolumeState). JudgesSnap z s.pool.found.blocks c.commits_beside-others.result command (Err c.in-Err.refusal)) (same_there _ _ _ there aimed.there) said));
     }

@@ -25,36 +25,36 @@ returns g c =
     let mid = g.B.Blocks.shown c.flush_trees.new.blocks in
     let new = g.B.Blocks.shown c.flush.new.blocks in
     let last : Places g.B.Blocks.told mid new c.flush_trees.new.files.inode c.flush.new.self c.flush.result = record {
-      flushes = is.flushes;
+      flushes = is.flushing.flushes;
       stored_well = is.stored_well;
-      strays = is.strays;
-      left = is.left;
-      fits = is.fits;
-      enough = is.enough;
+      strays = is.flushing.strays;
+      left = is.flushing.left;
+      fits = is.flushing.fits;
+      enough = is.flushing.enough;
       nothing = is.pending;
       root = is.root;
       pointer = is.pointer;
       spelled = is.stored;
       reaches = is.reaches;
-      counts = is.counts;
-      cause = is.cause;
+      counts = is.flushing.counts;
+      cause = is.flushing.cause;
     } in
     let done = flush_done g.B.Blocks.told old mid new c.args.self.now c.flush_trees.new.files c.flush.new.self c.flush.result first.lays first.none last in
-    let ends = last_places g.B.Blocks.told mid new c.flush_trees.new.files c.flush.new.self c.flush.result last first.none (WasFree g.B.Blocks.shown g.B.Blocks.goes c.flush_trees.new.blocks c.flush.new.blocks) is.anew in
+    let ends = last_places g.B.Blocks.told mid new c.flush_trees.new.files c.flush.new.self c.flush.result last first.none (WasFree g.B.Blocks.shown g.B.Blocks.goes c.flush_trees.new.blocks c.flush.new.blocks) is.flushing.anew in
     record {
       flushes = done;
       places = places_then g.B.Blocks.told (WasFree g.B.Blocks.shown g.B.Blocks.goes c.args.blocks.now c.flush_trees.new.blocks) (WasFree g.B.Blocks.shown g.B.Blocks.goes c.flush_trees.new.blocks c.flush.new.blocks) (WasFree g.B.Blocks.shown g.B.Blocks.goes c.args.blocks.now c.flush.new.blocks)
-          (free_sooner g.B.Blocks.shown g.B.Blocks.goes g.met.B.Blocks.goes_on c.args.blocks.now c.flush_trees.new.blocks c.flush.new.blocks is.calls) (free_later g.B.Blocks.shown g.B.Blocks.goes g.met.B.Blocks.goes_on c.args.blocks.now c.flush_trees.new.blocks c.flush.new.blocks first.calls)
+          (free_sooner g.B.Blocks.shown g.B.Blocks.goes g.met.B.Blocks.goes_on c.args.blocks.now c.flush_trees.new.blocks c.flush.new.blocks is.flushing.calls) (free_later g.B.Blocks.shown g.B.Blocks.goes g.met.B.Blocks.goes_on c.args.blocks.now c.flush_trees.new.blocks c.flush.new.blocks first.calls)
           old mid new c.args.self.now c.flush_trees.new.files (with_inode c.flush_trees.new.files c.flush.new.self) tt first.lays first.places ends;
       keeps = keeps_unused g.B.Blocks.told (λ v. g.B.Blocks.keeps v c.args.blocks.now c.flush.new.blocks) old new c.args.self.now (with_inode c.flush_trees.new.files c.flush.new.self) c.flush.result done.lays
           (keeps_then g.B.Blocks.told (WasFree g.B.Blocks.shown g.B.Blocks.goes c.args.blocks.now c.flush_trees.new.blocks) (WasFree g.B.Blocks.shown g.B.Blocks.goes c.flush_trees.new.blocks c.flush.new.blocks)
           (λ v. g.B.Blocks.keeps v c.args.blocks.now c.flush_trees.new.blocks) (λ v. g.B.Blocks.keeps v c.flush_trees.new.blocks c.flush.new.blocks) (λ v. g.B.Blocks.keeps v c.args.blocks.now c.flush.new.blocks)
           (λ v. g.met.B.Blocks.keeps_on v c.args.blocks.now c.flush_trees.new.blocks c.flush.new.blocks) old mid new c.args.self.now c.flush_trees.new.files (with_inode c.flush_trees.new.files c.flush.new.self) tt c.flush.result first.lays
           (last_lays g.B.Blocks.told mid new c.flush_trees.new.files c.flush.new.self c.flush.result last first.none) first.places ends first.keeps
-          (inode_keeps g.B.Blocks.told (λ v. g.B.Blocks.keeps v c.flush_trees.new.blocks c.flush.new.blocks) mid new c.flush_trees.new.files c.flush.new.self is.keeps));
-      stored_well = λ told known. flush_stores g.B.Blocks.told old mid new c.args.self.now c.flush_trees.new.files c.flush.new.self c.flush.result first.lays first.none last told (first.stored_well told known) (is.places known);
-      stored_under = λ told known. flush_under g.B.Blocks.told old mid new c.args.self.now c.flush_trees.new.files c.flush.new.self c.flush.result first.lays first.none last told (first.stored_well told known) (is.places known);
-      calls = g.met.B.Blocks.goes_on c.args.blocks.now c.flush_trees.new.blocks c.flush.new.blocks first.calls is.calls;
+          (inode_keeps g.B.Blocks.told (λ v. g.B.Blocks.keeps v c.flush_trees.new.blocks c.flush.new.blocks) mid new c.flush_trees.new.files c.flush.new.self is.flushing.keeps));
+      stored_well = λ told known. flush_stores g.B.Blocks.told old mid new c.args.self.now c.flush_trees.new.files c.flush.new.self c.flush.result first.lays first.none last told (first.stored_well told known) (is.flushing.places known);
+      stored_under = λ told known. flush_under g.B.Blocks.told old mid new c.args.self.now c.flush_trees.new.files c.flush.new.self c.flush.result first.lays first.none last told (first.stored_well told known) (is.flushing.places known);
+      calls = g.met.B.Blocks.goes_on c.args.blocks.now c.flush_trees.new.blocks c.flush.new.blocks first.calls is.flushing.calls;
     }
 
 pub returns-in_err-flush_trees-clause-keeps : goal.returns-in_err-flush_trees-clause-keeps

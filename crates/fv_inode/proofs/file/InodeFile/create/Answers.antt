@@ -8,7 +8,7 @@ use Rattle.fv_tree.specs.Altering.{Alters}
 use Rattle.fv_tree.specs.Flushing.{loaded}
 use Rattle.fv_tree.proofs.Altered.{only_leaves}
 use Rattle.fv_inode.specs.Changing.{WritesFiles, Makes}
-use Rattle.fv_inode.proofs.Looked.{earlier, loaded_as, loads_leaves, looks_failed, loads_none, loads_then, loads_failed, loads_done}
+use Rattle.fv_inode.proofs.Looked.{earlier, loaded_as, loads_leaves, looks_failed, loads_none, loads_then, loads_failed, loads_done, loads_none_failed}
 use Rattle.fv_inode.proofs.Slots.{put_used}
 use Rattle.fv_inode.proofs.Rewritten.{rewrites}
 use Rattle.fv_inode.proofs.Numbered.{new_is, makes}
@@ -16,10 +16,8 @@ use Rattle.fv_inode.proofs.file.InodeFile.create.Goals as goal
 
 pub returns-in_err-files-clause-loads : goal.returns-in_err-files-clause-loads
 returns-in_err-files-clause-loads g c =
-    let old = g.B.Blocks.shown c.args.blocks.now in
-    let new = g.B.Blocks.shown c.read_files.new.blocks in
     let p = err_from_is_err_and c.from_residual.result c.from_residual.ensures.1 in
-    rw (p.1, p.2) (loads_none g.B.Blocks.told c.args.self.now.tree old new _ (looks_failed g.B.Blocks.told (standing (under old) c.args.self.now.tree) old new c.in_err-files.field-0.0 c.in_err-files.ensures.looks))
+    rw (p.1, p.2) (loads_none_failed g.B.Blocks.told c.args.self.now.tree (g.B.Blocks.shown c.args.blocks.now) (g.B.Blocks.shown c.read_files.new.blocks) c.in_err-files.field-0.0 c.in_err-files.ensures.looks)
 
 pub write_files-requires-clause-range : goal.write_files-requires-clause-range
 write_files-requires-clause-range g c =

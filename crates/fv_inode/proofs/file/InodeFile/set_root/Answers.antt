@@ -7,17 +7,15 @@ use Rattle.fv_tree.specs.Altering.{Leaves}
 use Rattle.fv_tree.specs.Flushing.{loaded}
 use Rattle.fv_inode.specs.Files.{with_root}
 use Rattle.fv_inode.specs.Changing.{FillsFiles}
-use Rattle.fv_inode.proofs.Looked.{earlier, later, loaded_as, loads_leaves, stands_on, looks_failed, looks_done, loads_none, loads_then}
+use Rattle.fv_inode.proofs.Looked.{earlier, later, loaded_as, loads_leaves, stands_on, looks_failed, looks_done, loads_none, loads_then, loads_none_failed}
 use Rattle.fv_inode.proofs.Slots.{block_there, still_used, no_such, such}
 use Rattle.fv_inode.proofs.Rewritten.{sets_root}
 use Rattle.fv_inode.proofs.file.InodeFile.set_root.Goals as goal
 
 pub returns-in_err-files-clause-loads : goal.returns-in_err-files-clause-loads
 returns-in_err-files-clause-loads g c =
-    let old = g.B.Blocks.shown c.args.blocks.now in
-    let new = g.B.Blocks.shown c.read_files.new.blocks in
     let p = err_from_is_err_and c.from_residual.result c.from_residual.ensures.1 in
-    rw (p.1, p.2) (loads_none g.B.Blocks.told c.args.self.now.tree old new _ (looks_failed g.B.Blocks.told (standing (under old) c.args.self.now.tree) old new c.in_err-files.field-0.0 c.in_err-files.ensures.looks))
+    rw (p.1, p.2) (loads_none_failed g.B.Blocks.told c.args.self.now.tree (g.B.Blocks.shown c.args.blocks.now) (g.B.Blocks.shown c.read_files.new.blocks) c.in_err-files.field-0.0 c.in_err-files.ensures.looks)
 
 pub refill_files-requires-clause-there : goal.refill_files-requires-clause-there
 refill_files-requires-clause-there g c = λ told.

@@ -3,17 +3,14 @@ use Rattle.std.proofs.lemmas.Result.{err_from_is_err_and}
 use Rattle.fv_tree.specs.Erasing.{HoldsCells}
 use Rattle.fv_tree.specs.Standing.{standing, under}
 use Rattle.fv_inode.specs.Losing.{IsLost}
-use Rattle.fv_inode.proofs.Looked.{earlier, later, looks_failed, looks_then}
+use Rattle.fv_inode.proofs.Looked.{earlier, later, looks_failed, looks_then, looks_failed_then}
 use Rattle.fv_inode.proofs.file.InodeFile.taken.Goals as goal
 
 pub returns-in_err-gone-clause-looks : goal.returns-in_err-gone-clause-looks
 returns-in_err-gone-clause-looks g c =
-    let old = g.B.Blocks.shown c.args.blocks.now in
-    let mid = g.B.Blocks.shown c.staying.new.blocks in
-    let new = g.B.Blocks.shown c.lost.new.blocks in
     let p = err_from_is_err_and c.from_residual-in_err-gone.result c.from_residual-in_err-gone.ensures.1 in
-    rw (p.1, p.2) (looks_failed {S = ℕ} g.B.Blocks.told (standing (under old) c.args.self.now.tree) old new c.in_err-gone.field-0.0
-    (looks_then {T = ℕ} g.B.Blocks.told c.args.self.now.tree old mid new c.in_ok-staying.staying (Err c.in_err-gone.field-0.0) c.in_ok-staying.ensures.looks c.in_err-gone.ensures.looks))
+    rw (p.1, p.2) (looks_failed_then {S = ℕ} {R = ℕ} g.B.Blocks.told c.args.self.now.tree (g.B.Blocks.shown c.args.blocks.now) (g.B.Blocks.shown c.staying.new.blocks) (g.B.Blocks.shown c.lost.new.blocks)
+    c.in_ok-staying.staying c.in_err-gone.field-0.0 c.in_ok-staying.ensures.looks c.in_err-gone.ensures.looks)
 
 pub returns-clause-gone : goal.returns-clause-gone
 returns-clause-gone g c = λ told holds.

@@ -6,4 +6,4 @@ pub returns-clause-removal : goal.returns-clause-removal
 returns-clause-removal g c =
     let did = c.cut_cells.ensures in
     removal_after g.B.Blocks.told (g.B.Blocks.goes c.args.blocks.now c.cut_cells.new.blocks) c.cut_cells.result (g.B.Blocks.shown c.args.blocks.now) (g.B.Blocks.shown c.cut_cells.new.blocks) c.args.self.now c.cut_cells.new.tree (nat_le c.args.length) c.args.start c.args.stamp
-    did.done did.failed did.owner did.stays did.untouched did.room did.still did.held did.calls did.counts did.count did.leaves did.cause
+    did.removing

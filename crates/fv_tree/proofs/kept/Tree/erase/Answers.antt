@@ -1,4 +1,4 @@
-use Rattle.std.proofs.Common.{false, nat_eq, Ok, refl, arith}
+use Rattle.std.proofs.Common.{false, nat_eq, Ok, refl}
 use Rattle.fv_tree.specs.Standing.{standing, under}
 use Rattle.fv_tree.specs.Releasing.{Removes}
 use Rattle.fv_tree.specs.Flushing.{loaded}
@@ -8,6 +8,7 @@ use Rattle.fv_tree.proofs.Held.{same_self}
 use Rattle.fv_tree.proofs.Readied.{has_way, ready_cell}
 use Rattle.fv_tree.proofs.Released.{keeps_self}
 use Rattle.fv_tree.proofs.Removing.{removal_after, removes_nothing, removes_then}
+use Rattle.fv_tree.proofs.Calls.{removing_done}
 use Rattle.fv_tree.proofs.kept.Tree.erase.Goals as goal
 
 pub returns-clause-removal : goal.returns-clause-removal
@@ -21,12 +22,12 @@ returns-clause-removal g c =
     let way = has_way t i c.requires.ready.way in
     let stands = ready_cell (under a) t i c.requires.ready in
     let calm = did.calm in
+    let erases = did.erases way (under a) stands in
     let goes : Removes a b t u (nat_eq i) c.args.start c.args.stamp = removes_then a a b t t u (λ _. false) (nat_eq i) i c.args.start c.args.stamp
     (removes_nothing a a t t (λ _. false) c.args.start c.args.stamp (untouched_itself a) (calm_itself a) (same_self (standing (under a) t)) (keeps_self (under a) t) (λ stands. stands) (leaves_itself (loaded a t)) (λ _ _. refl))
-    (did.goes way (under a) stands) (did.released way (under a) stands) (did.strays way (under a) stands) (λ _. refl) (λ holds. holds) in
+    erases.goes erases.released erases.strays (λ _. refl) (λ holds. holds) in
     removal_after g.B.Blocks.told (g.B.Blocks.goes c.args.blocks.now c.erase_cell.new.blocks) (Ok c.erase_cell.result) a b t u (nat_eq i) c.args.start c.args.stamp
-    (λ _. goes) (λ _. tt) did.owner (λ _. tt) tt did.room tt did.differs.held did.calls (record { faults = omega (arith, calm.faults); damages = omega (arith, calm.damages); spent = calm.spent; calm = calm })
-    (λ _. did.count way (under a) stands) (λ _. tt) tt
+    (removing_done c.erase_cell.result (λ _. goes) (λ _. erases.count) did.owner did.room did.differs.held did.calls calm)
 
 pub returns-clause-others_ready : goal.returns-clause-others_ready
 returns-clause-others_ready g c = c.erase_cell.ensures.others_ready c.requires.ready

@@ -2,11 +2,10 @@ use Rattle.std.proofs.Common.{◌≡◌, ◌<◌, inl, inr, subst, arith}
 use Rattle.std.specs.FinMap as fin
 use Rattle.std.proofs.lemmas.Bool.{cases_lt}
 use Rattle.std.proofs.lemmas.Result.{err_from_is_err_and}
-use Rattle.fv_tree.specs.Sources.{Shown}
 use Rattle.fv_tree.specs.Spelled.{Rooted}
-use Rattle.fv_tree.specs.Standing.{standing, under, Fails}
+use Rattle.fv_tree.specs.Standing.{standing, under}
 use Rattle.fv_tree.specs.Seeking.{Lands, IsFurther}
-use Rattle.fv_tree.proofs.Causes.{calm_then, fails_later, untouched_then}
+use Rattle.fv_tree.proofs.Causes.{calm_then, fails_then, untouched_then}
 use Rattle.fv_tree.proofs.Removing.{none_past}
 use Rattle.fv_tree.proofs.Seeking.{holes_then}
 use Rattle.fv_tree.proofs.kept.Tree.next.Goals as goal
@@ -23,13 +22,8 @@ returns-in-Cell-clause-next g c = λ told.
 
 pub returns-in_err-index-clause-cause : goal.returns-in_err-index-clause-cause
 returns-in_err-index-clause-cause g c =
-    let old : Shown = g.B.Blocks.shown c.args.blocks.now in
-    let mid : Shown = g.B.Blocks.shown c.loop-at.blocks in
-    let new : Shown = g.B.Blocks.shown c.walk.new.blocks in
-    let was = c.loop-at.invariant in
     let p = err_from_is_err_and c.from_residual.result c.from_residual.ensures.1 in
-    rw (p.1, p.2) (fails_later g.B.Blocks.told (standing (under old) c.args.self.now) old mid new c.in_err-index.field-0.0 was.calm was.untouched.held
-    (subst (λ held. Fails g.B.Blocks.told (standing (λ v. fin.get held v) c.args.self.now) mid new c.in_err-index.field-0.0) was.untouched.held c.in_err-index.ensures.cause))
+    rw (p.1, p.2) (fails_then g.B.Blocks.told c.args.self.now (g.B.Blocks.shown c.args.blocks.now) (g.B.Blocks.shown c.loop-at.blocks) (g.B.Blocks.shown c.walk.new.blocks) c.in_err-index.field-0.0 c.loop-at.invariant.calm c.loop-at.invariant.untouched c.in_err-index.ensures.cause)
 
 pub loop-at-preserved : goal.loop-at-preserved
 loop-at-preserved g c =

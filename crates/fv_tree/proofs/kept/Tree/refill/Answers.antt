@@ -2,9 +2,6 @@ use Rattle.std.proofs.lemmas.Result.{IfOk-weaker}
 use Rattle.fv_tree.specs.Standing.{standing, under}
 use Rattle.fv_tree.proofs.Refilled.{refills}
 use Rattle.fv_tree.proofs.Seen.{remains_at_err}
-use Rattle.std.specs.FinMap as fin
-use Rattle.fv_tree.specs.Flushing.{loaded}
-use Rattle.fv_tree.proofs.Stored.{stored_on}
 use Rattle.fv_tree.proofs.kept.Tree.refill.Goals as goal
 
 pub returns-clause-refilled : goal.returns-clause-refilled
@@ -14,14 +11,3 @@ returns-clause-refilled g c = λ told.
 pub returns-clause-failed : goal.returns-clause-failed
 returns-clause-failed g c = λ told.
     remains_at_err c.refill_cell.result (standing (under (g.B.Blocks.shown c.args.blocks.now)) c.args.self.now) (standing (under (g.B.Blocks.shown c.refill_cell.new.blocks)) c.refill_cell.new.tree) (c.refill_cell.ensures.failed told)
-
-pub returns-clause-leads : goal.returns-clause-leads
-returns-clause-leads g c = λ told. (c.refill_cell.ensures.carries told).leads
-
-pub returns-clause-keeps : goal.returns-clause-keeps
-returns-clause-keeps g c = λ told. (c.refill_cell.ensures.carries told).keeps
-
-pub returns-clause-stored_well : goal.returns-clause-stored_well
-returns-clause-stored_well g c = λ told.
-    let did = c.refill_cell.ensures in
-    stored_on (loaded (g.B.Blocks.shown c.args.blocks.now) c.args.self.now) (loaded (g.B.Blocks.shown c.refill_cell.new.blocks) c.refill_cell.new.tree) did.owner (λ j v. fin.get (did.untouched.held j) v) (did.carries told).leads (did.carries told).hints

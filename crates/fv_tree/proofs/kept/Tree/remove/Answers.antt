@@ -1,4 +1,4 @@
-use Rattle.std.proofs.Common.{nat_eq, arith}
+use Rattle.std.proofs.Common.{nat_eq}
 use Rattle.fv_tree.proofs.Removing.{removal_after}
 use Rattle.fv_tree.proofs.kept.Tree.remove.Goals as goal
 
@@ -6,4 +6,4 @@ pub returns-clause-removal : goal.returns-clause-removal
 returns-clause-removal g c =
     let did = c.remove_cell.ensures in
     removal_after g.B.Blocks.told (g.B.Blocks.goes c.args.blocks.now c.remove_cell.new.blocks) c.remove_cell.result (g.B.Blocks.shown c.args.blocks.now) (g.B.Blocks.shown c.remove_cell.new.blocks) c.args.self.now c.remove_cell.new.tree (nat_eq c.args.index) c.args.start c.args.stamp
-    did.done did.failed did.owner did.stays did.untouched did.room did.still (omega (arith, did.rises.cells)) did.calls did.counts did.count did.leaves did.cause
+    did.removing

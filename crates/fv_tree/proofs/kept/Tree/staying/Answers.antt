@@ -1,13 +1,12 @@
-use Rattle.std.proofs.Common.{◌≡◌, ◌≤◌, ◌-◌, ◌/◌, ◌^◌, ◌==◌, ◌&&◌, not, cond, Bool, ℕ, List, sym, ap, ◌∙◌, subst, arith}
+use Rattle.std.proofs.Common.{◌≡◌, ◌≤◌, ◌-◌, ◌/◌, ◌^◌, ◌==◌, ◌&&◌, not, cond, Bool, ℕ, List, sym, ap, ◌∙◌, arith}
 use Rattle.std.specs.Ordering.{nat_cmp}
 use Rattle.std.specs.FinMap as fin
 use Rattle.std.proofs.lemmas.Result.{err_from_is_err_and}
 use Rattle.fv_model.specs.Trees.{fan}
 use Rattle.fv_tree.specs.Spelled.{pointer_below}
-use Rattle.fv_tree.specs.Sources.{Shown}
-use Rattle.fv_tree.specs.Standing.{standing, under, Fails}
+use Rattle.fv_tree.specs.Standing.{standing, under}
 use Rattle.fv_tree.specs.Flushing.{changed_of, loaded}
-use Rattle.fv_tree.proofs.Causes.{calm_itself, calm_then, fails_later, untouched_itself, untouched_then}
+use Rattle.fv_tree.proofs.Causes.{calm_itself, calm_then, fails_then, untouched_itself, untouched_then}
 use Rattle.fv_tree.proofs.Stays.{staying_end, staying_next, staying_top}
 use Rattle.fv_tree.proofs.kept.Tree.staying.Goals as goal
 
@@ -43,11 +42,8 @@ returns-in_err-pointer-clause-reads g c = g.met.B.Blocks.reads_on c.args.blocks.
 
 pub returns-in_err-pointer-clause-cause : goal.returns-in_err-pointer-clause-cause
 returns-in_err-pointer-clause-cause g c =
-    let old : Shown = g.B.Blocks.shown c.args.blocks.now in
-    let mid : Shown = g.B.Blocks.shown c.loop-level.blocks in
-    let new : Shown = g.B.Blocks.shown c.step.new.blocks in
     let p = err_from_is_err_and c.from_residual.result c.from_residual.ensures.1 in
-    rw (p.1, p.2) (fails_later g.B.Blocks.told (standing (under old) c.args.self.now) old mid new c.in_err-pointer.field-0.0 c.loop-level.invariant.calm c.loop-level.invariant.untouched.held (subst (λ held. Fails g.B.Blocks.told (standing (λ v. fin.get held v) c.args.self.now) mid new c.in_err-pointer.field-0.0) c.loop-level.invariant.untouched.held c.in_err-pointer.ensures.cause))
+    rw (p.1, p.2) (fails_then g.B.Blocks.told c.args.self.now (g.B.Blocks.shown c.args.blocks.now) (g.B.Blocks.shown c.loop-level.blocks) (g.B.Blocks.shown c.step.new.blocks) c.in_err-pointer.field-0.0 c.loop-level.invariant.calm c.loop-level.invariant.untouched c.in_err-pointer.ensures.cause)
 
 pub loop-level-preserved : goal.loop-level-preserved
 loop-level-preserved g c =

@@ -8,11 +8,9 @@ use Rattle.fv_volume.specs.LendingLaws.{goes_itself}
 use Rattle.fv_volume.specs.OneVolume.{home_in, IsStanding}
 use Rattle.fv_volume.specs.Placing.{FlushFails, PlacesVolume}
 use Rattle.fv_volume.proofs.OneVolumes.{root_fits}
-use Rattle.fv_volume.proofs.Others.{beside_flush}
 use Rattle.fv_volume.proofs.PlaceCauses.{fault_cause, place_narrow}
 use Rattle.fv_volume.proofs.Placed.{done_led, done_standing, done_volume, done_well, failed_led, failed_standing, failed_volume, failed_well, few_rooted, fits_done, fits_failed, fits_rooted, pending_held, ready_placed, was_told}
 use Rattle.fv_volume.proofs.PlacedShared.{was_laid}
-use Rattle.fv_volume.proofs.Reached.{standing_seen}
 use Rattle.fv_volume.proofs.state.VolumeState.flush.Goals as goal
 
 pub returns-in_default-clause-goes : goal.returns-in_default-clause-goes
@@ -49,7 +47,6 @@ returns-in_default-clause-places g c = λ is.
       volume = refl;
       led = λ led. led;
       well = λ led well. well;
-      seen = standing_seen d p x is none c.requires.ready.labelled;
       fits = (omega arith, omega arith);
       enough = λ enough. tt;
     })
@@ -74,7 +71,6 @@ returns-in-Ok-clause-places g c = λ is.
       volume = done_volume d d p now.pool x files held now.map c.args.room.now now.room goes now.files c.in-Ok.root c.rooted-self.result c.take.new.self rooted after table is;
       led = done_led d d p now.pool x files held now.map c.args.room.now now.room goes now.files c.in-Ok.root c.rooted-self.result c.take.new.self rooted after table is;
       well = done_well d d p now.pool x files held now.map c.args.room.now now.room goes now.files c.in-Ok.root c.rooted-self.result c.take.new.self rooted after table is;
-      seen = standing_seen d now.pool y stands after (returns-in-Ok-clause-ready g c).labelled;
       fits = fits_done x.files c.take.new.self files now.files held after c.args.room.now now.room (c.in-Ok.ensures.room.fits (was_told d p x files held is)) c.in-Ok.ensures.room.nothing;
       enough = λ enough. tt;
     }
@@ -96,7 +92,6 @@ returns-in-Err-clause-places g c = λ is.
       volume = failed_volume d d p now.pool x files held now.map c.args.room.now now.room goes now.files fault table is;
       led = failed_led d d p now.pool x files held now.map c.args.room.now now.room goes now.files fault table is;
       well = failed_well d d p now.pool x files held now.map c.args.room.now now.room goes now.files fault table is;
-      seen = tt;
       fits = fits_failed x.files files now.files held c.args.room.now now.room (c.in-Err.ensures.room.fits (told is));
       enough = λ enough. c.into.ensures ∙ ap of_block (c.in-Err.ensures.room.enough (told is) (pending_held x.files files held c.args.room.now enough));
     }
@@ -112,17 +107,6 @@ returns-in-Err-clause-cause g c =
     let old = lent_for p x.map d 0 (home_in x) c.args.room.now in
     subst (FlushFails (IsStanding d p x) old room) (sym c.into.ensures)
     (fault_cause (IsStanding d p x) old room c.in-Err.fault (place_narrow (IsStanding d p x) _ (was_told d p x files held) old room c.in-Err.fault c.in-Err.ensures.cause))
-
-pub returns-in_default-clause-others : goal.returns-in_default-clause-others
-returns-in_default-clause-others g c = λ y other alone apart is. record { standing = is; volume = refl; led = λ led. led; well = λ well. well }
-
-pub returns-in-Ok-clause-others : goal.returns-in-Ok-clause-others
-returns-in-Ok-clause-others g c =
-    beside_flush (g.D.Disk.shown c.args.disk.now) (g.D.Disk.shown c.args.disk.now) c.args.pool.now c.place_table.new.pool c.args.self.now c.place_table.new.map c.args.room.now c.place_table.new.room c.place_table.ensures.goes
-
-pub returns-in-Err-clause-others : goal.returns-in-Err-clause-others
-returns-in-Err-clause-others g c =
-    beside_flush (g.D.Disk.shown c.args.disk.now) (g.D.Disk.shown c.args.disk.now) c.args.pool.now c.place_table.new.pool c.args.self.now c.place_table.new.map c.args.room.now c.place_table.new.room c.place_table.ensures.goes
 
 pub returns-in_default-clause-unused : goal.returns-in_default-clause-unused
 returns-in_default-clause-unused g c = λ is v none. refl

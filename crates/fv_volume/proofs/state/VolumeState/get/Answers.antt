@@ -17,7 +17,7 @@ use Rattle.fv_volume.specs.Paths.{unknown_over, StepsTo}
 use Rattle.fv_volume.proofs.Asked.{first_info, get_asked_found, get_asked_lost, get_asked_missing, get_asked_past, get_too_far}
 use Rattle.fv_volume.proofs.CallCauses.{failed_cause, fails_on, not_refused}
 use Rattle.fv_volume.proofs.Followed.{steps_to}
-use Rattle.fv_volume.proofs.KeptReads.{asked_is, asked_none, of_after, of_before, read_is, still_of}
+use Rattle.fv_volume.proofs.KeptReads.{asked_cause, asked_is, asked_none, of_after, of_before, read_is, still_of}
 use Rattle.fv_volume.proofs.state.VolumeState.get.Goals as goal
 
 pub returns-then-not-in_index-clause-asked : goal.returns-then-not-in_index-clause-asked
@@ -34,14 +34,8 @@ returns-in_default-clause-asked g c = λ is.
 
 pub returns-in_err-find_in-clause-cause : goal.returns-in_err-find_in-clause-cause
 returns-in_err-find_in-clause-cause g c =
-    let d = g.D.Disk.shown c.args.disk.now in
-    let p = c.args.pool.now in
-    let x = c.args.self.now in
-    let t = c.in-Some.table in
-    let left = (g.D.Disk.shown c.find_in.new.disk).faults in
     let failed : c.from_residual.result ≡ Err (of_block c.in_err-find_in.field-0.0) = search rules in
-    subst (λ (u : Standing). CallCause (IsStanding d p x) u (lent_for p x.map d 0 (home_in x) 0) left c.from_residual.result) (read_is d p x (option_copied c.args.snapshot) t (sym c.table_asked.ensures ∙ c.in-Some.is))
-    (failed_cause (IsStanding d p x) (standing_of d p x t) (lent_for p x.map d 0 (home_in x) 0) left c.in_err-find_in.field-0.0 c.from_residual.result failed c.in_err-find_in.ensures.cause)
+    asked_cause (g.D.Disk.shown c.args.disk.now) c.args.pool.now c.args.self.now (option_copied c.args.snapshot) c.in-Some.table (sym c.table_asked.ensures ∙ c.in-Some.is) 0 (g.D.Disk.shown c.find_in.new.disk).faults c.in_err-find_in.field-0.0 c.from_residual.result failed c.in_err-find_in.ensures.cause
 
 pub returns-in-None-clause-asked : goal.returns-in-None-clause-asked
 returns-in-None-clause-asked g c = λ is.

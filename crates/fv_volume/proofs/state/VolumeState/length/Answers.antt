@@ -8,7 +8,7 @@ use Rattle.fv_volume.specs.Lending.{lent_for}
 use Rattle.fv_volume.specs.OneVolume.{home_in, IsStanding}
 use Rattle.fv_volume.proofs.Asked.{len_asked_found, len_asked_lost, len_asked_missing}
 use Rattle.fv_volume.proofs.CallCauses.{failed_cause}
-use Rattle.fv_volume.proofs.KeptReads.{asked_is, asked_none, read_is}
+use Rattle.fv_volume.proofs.KeptReads.{asked_cause, asked_is, asked_none, read_is}
 use Rattle.fv_volume.proofs.state.VolumeState.length.Goals as goal
 
 pub returns-in_default-clause-asked : goal.returns-in_default-clause-asked
@@ -19,14 +19,8 @@ returns-in_default-clause-asked g c = λ is.
 
 pub returns-in_err-find_in-clause-cause : goal.returns-in_err-find_in-clause-cause
 returns-in_err-find_in-clause-cause g c =
-    let d = g.D.Disk.shown c.args.disk.now in
-    let p = c.args.pool.now in
-    let x = c.args.self.now in
-    let t = c.in-Some.table in
-    let left = (g.D.Disk.shown c.find_in.new.disk).faults in
     let failed : c.from_residual.result ≡ Err (of_block c.in_err-find_in.field-0.0) = search rules in
-    subst (λ (u : Standing). CallCause (IsStanding d p x) u (lent_for p x.map d 0 (home_in x) 0) left c.from_residual.result) (read_is d p x (option_copied c.args.snapshot) t (sym c.table_asked.ensures ∙ c.in-Some.is))
-    (failed_cause (IsStanding d p x) (standing_of d p x t) (lent_for p x.map d 0 (home_in x) 0) left c.in_err-find_in.field-0.0 c.from_residual.result failed c.in_err-find_in.ensures.cause)
+    asked_cause (g.D.Disk.shown c.args.disk.now) c.args.pool.now c.args.self.now (option_copied c.args.snapshot) c.in-Some.table (sym c.table_asked.ensures ∙ c.in-Some.is) 0 (g.D.Disk.shown c.find_in.new.disk).faults c.in_err-find_in.field-0.0 c.from_residual.result failed c.in_err-find_in.ensures.cause
 
 pub returns-in-None-clause-asked : goal.returns-in-None-clause-asked
 returns-in-None-clause-asked g c = λ is.

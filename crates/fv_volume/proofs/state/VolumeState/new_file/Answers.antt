@@ -11,6 +11,7 @@ use Rattle.fv_volume.proofs.CallCauses.{fails_later, failed_cause}
 use Rattle.fv_volume.proofs.Calling.{counted_table, left_table, refused_table, left_fits, failed_changes, failed_head, failed_stands, left_ready, refused_changes, refused_head, refused_ready, refused_standing, done_head, done_ready, Parts}
 use Rattle.fv_volume.proofs.OneVolumes.{reads_then, said_after}
 use Rattle.fv_volume.proofs.MadeNew.{new_is, new_stands}
+use Rattle.fv_volume.proofs.state.VolumeState.new_file.Given as given
 use Rattle.fv_volume.proofs.state.VolumeState.new_file.Goals as goal
 
 -- ---- refused
@@ -65,60 +66,36 @@ returns-in_err-create_file-clause-cause g c =
 
 -- ---- done
 
+-- the parts of a change that was made
+parts : (g : given.Over) (c : goal.After-count_made g) → Parts {T = Unit {0}} (g.D.Disk.shown c.args.disk.now) (g.D.Disk.shown c.judge_new.new.disk) (g.D.Disk.shown c.create_file.new.disk) c.args.pool.now c.judge_new.new.pool c.create_file.new.pool c.args.self.now c.judge_new.new.volume c.create_file.new.volume c.count_made.new.volume (Ok tt) c.in_ok-making.making.delta
+parts g c = record {
+  first = c.judge_new.ensures.reads;
+  same = c.judge_new.ensures.same;
+  alters = c.in_ok-create_file.ensures.alters;
+  counted = c.count_made.ensures.others;
+  next = c.count_made.ensures.now;
+  moved = c.count_made.ensures.ledger;
+  moves = c.count_made.ensures.machine;
+}
+
 pub count_made-requires : goal.count_made-requires
 count_made-requires g c = record { fits = left_fits (g.D.Disk.shown c.args.disk.now) (g.D.Disk.shown c.judge_new.new.disk) (g.D.Disk.shown c.create_file.new.disk) c.args.pool.now c.judge_new.new.pool c.create_file.new.pool c.judge_new.ensures.reads c.args.self.now c.judge_new.new.volume c.create_file.new.volume c.judge_new.ensures.same (Ok tt) c.in_ok-create_file.ensures.alters c.in_ok-making.making.delta c.in_ok-making.ensures.fits }
 
 pub returns-clause-changes : goal.returns-clause-changes
 returns-clause-changes g c = λ is.
-    let parts : Parts {T = Unit {0}} (g.D.Disk.shown c.args.disk.now) (g.D.Disk.shown c.judge_new.new.disk) (g.D.Disk.shown c.create_file.new.disk) c.args.pool.now c.judge_new.new.pool c.create_file.new.pool c.args.self.now c.judge_new.new.volume c.create_file.new.volume c.count_made.new.volume (Ok tt) c.in_ok-making.making.delta = record {
-      first = c.judge_new.ensures.reads;
-      same = c.judge_new.ensures.same;
-      alters = c.in_ok-create_file.ensures.alters;
-      counted = c.count_made.ensures.others;
-      next = c.count_made.ensures.now;
-      moved = c.count_made.ensures.ledger;
-      moves = c.count_made.ensures.machine;
-    } in
-    new_is (g.D.Disk.shown c.args.disk.now) (g.D.Disk.shown c.judge_new.new.disk) (g.D.Disk.shown c.create_file.new.disk) c.args.pool.now c.judge_new.new.pool c.create_file.new.pool c.args.self.now c.judge_new.new.volume c.create_file.new.volume c.count_made.new.volume c.in_ok-making.making.delta parts is c.requires.ready c.args.others c.args.file.now c.args.reserve c.in_ok-making.making.number c.in_ok-making.ensures.none (c.in_ok-making.ensures.accepted is) c.in_ok-create_file.ensures.made c.count_made.ensures.tells
+    new_is (g.D.Disk.shown c.args.disk.now) (g.D.Disk.shown c.judge_new.new.disk) (g.D.Disk.shown c.create_file.new.disk) c.args.pool.now c.judge_new.new.pool c.create_file.new.pool c.args.self.now c.judge_new.new.volume c.create_file.new.volume c.count_made.new.volume c.in_ok-making.making.delta (parts g c) is c.requires.ready c.args.others c.args.file.now c.args.reserve c.in_ok-making.making.number c.in_ok-making.ensures.none (c.in_ok-making.ensures.accepted is) c.in_ok-create_file.ensures.made c.count_made.ensures.tells
 
 pub returns-clause-standing : goal.returns-clause-standing
 returns-clause-standing g c = λ is.
-    let parts : Parts {T = Unit {0}} (g.D.Disk.shown c.args.disk.now) (g.D.Disk.shown c.judge_new.new.disk) (g.D.Disk.shown c.create_file.new.disk) c.args.pool.now c.judge_new.new.pool c.create_file.new.pool c.args.self.now c.judge_new.new.volume c.create_file.new.volume c.count_made.new.volume (Ok tt) c.in_ok-making.making.delta = record {
-      first = c.judge_new.ensures.reads;
-      same = c.judge_new.ensures.same;
-      alters = c.in_ok-create_file.ensures.alters;
-      counted = c.count_made.ensures.others;
-      next = c.count_made.ensures.now;
-      moved = c.count_made.ensures.ledger;
-      moves = c.count_made.ensures.machine;
-    } in
-    new_stands (g.D.Disk.shown c.args.disk.now) (g.D.Disk.shown c.judge_new.new.disk) (g.D.Disk.shown c.create_file.new.disk) c.args.pool.now c.judge_new.new.pool c.create_file.new.pool c.args.self.now c.judge_new.new.volume c.create_file.new.volume c.count_made.new.volume c.in_ok-making.making.delta parts is c.requires.ready c.args.others c.args.file.now c.args.reserve c.in_ok-making.making.number c.in_ok-making.ensures.none (c.in_ok-making.ensures.accepted is) c.in_ok-create_file.ensures.made c.count_made.ensures.tells
+    new_stands (g.D.Disk.shown c.args.disk.now) (g.D.Disk.shown c.judge_new.new.disk) (g.D.Disk.shown c.create_file.new.disk) c.args.pool.now c.judge_new.new.pool c.create_file.new.pool c.args.self.now c.judge_new.new.volume c.create_file.new.volume c.count_made.new.volume c.in_ok-making.making.delta (parts g c) is c.requires.ready c.args.others c.args.file.now c.args.reserve c.in_ok-making.making.number c.in_ok-making.ensures.none (c.in_ok-making.ensures.accepted is) c.in_ok-create_file.ensures.made c.count_made.ensures.tells
 
 pub returns-clause-ready : goal.returns-clause-ready
 returns-clause-ready g c =
-    let parts : Parts {T = Unit {0}} (g.D.Disk.shown c.args.disk.now) (g.D.Disk.shown c.judge_new.new.disk) (g.D.Disk.shown c.create_file.new.disk) c.args.pool.now c.judge_new.new.pool c.create_file.new.pool c.args.self.now c.judge_new.new.volume c.create_file.new.volume c.count_made.new.volume (Ok tt) c.in_ok-making.making.delta = record {
-      first = c.judge_new.ensures.reads;
-      same = c.judge_new.ensures.same;
-      alters = c.in_ok-create_file.ensures.alters;
-      counted = c.count_made.ensures.others;
-      next = c.count_made.ensures.now;
-      moved = c.count_made.ensures.ledger;
-      moves = c.count_made.ensures.machine;
-    } in
-    done_ready (g.D.Disk.shown c.args.disk.now) (g.D.Disk.shown c.judge_new.new.disk) (g.D.Disk.shown c.create_file.new.disk) c.args.pool.now c.judge_new.new.pool c.create_file.new.pool c.args.self.now c.judge_new.new.volume c.create_file.new.volume c.count_made.new.volume (Ok tt) c.in_ok-making.making.delta parts c.requires.ready (left_fits (g.D.Disk.shown c.args.disk.now) (g.D.Disk.shown c.judge_new.new.disk) (g.D.Disk.shown c.create_file.new.disk) c.args.pool.now c.judge_new.new.pool c.create_file.new.pool c.judge_new.ensures.reads c.args.self.now c.judge_new.new.volume c.create_file.new.volume c.judge_new.ensures.same (Ok tt) c.in_ok-create_file.ensures.alters c.in_ok-making.making.delta c.in_ok-making.ensures.fits)
+    done_ready (g.D.Disk.shown c.args.disk.now) (g.D.Disk.shown c.judge_new.new.disk) (g.D.Disk.shown c.create_file.new.disk) c.args.pool.now c.judge_new.new.pool c.create_file.new.pool c.args.self.now c.judge_new.new.volume c.create_file.new.volume c.count_made.new.volume (Ok tt) c.in_ok-making.making.delta (parts g c) c.requires.ready (left_fits (g.D.Disk.shown c.args.disk.now) (g.D.Disk.shown c.judge_new.new.disk) (g.D.Disk.shown c.create_file.new.disk) c.args.pool.now c.judge_new.new.pool c.create_file.new.pool c.judge_new.ensures.reads c.args.self.now c.judge_new.new.volume c.create_file.new.volume c.judge_new.ensures.same (Ok tt) c.in_ok-create_file.ensures.alters c.in_ok-making.making.delta c.in_ok-making.ensures.fits)
 
 pub returns-clause-head : goal.returns-clause-head
 returns-clause-head g c =
-    let parts : Parts {T = Unit {0}} (g.D.Disk.shown c.args.disk.now) (g.D.Disk.shown c.judge_new.new.disk) (g.D.Disk.shown c.create_file.new.disk) c.args.pool.now c.judge_new.new.pool c.create_file.new.pool c.args.self.now c.judge_new.new.volume c.create_file.new.volume c.count_made.new.volume (Ok tt) c.in_ok-making.making.delta = record {
-      first = c.judge_new.ensures.reads;
-      same = c.judge_new.ensures.same;
-      alters = c.in_ok-create_file.ensures.alters;
-      counted = c.count_made.ensures.others;
-      next = c.count_made.ensures.now;
-      moved = c.count_made.ensures.ledger;
-      moves = c.count_made.ensures.machine;
-    } in
-    done_head (g.D.Disk.shown c.args.disk.now) (g.D.Disk.shown c.judge_new.new.disk) (g.D.Disk.shown c.create_file.new.disk) c.args.pool.now c.judge_new.new.pool c.create_file.new.pool c.args.self.now c.judge_new.new.volume c.create_file.new.volume c.count_made.new.volume (Ok tt) c.in_ok-making.making.delta parts
+    done_head (g.D.Disk.shown c.args.disk.now) (g.D.Disk.shown c.judge_new.new.disk) (g.D.Disk.shown c.create_file.new.disk) c.args.pool.now c.judge_new.new.pool c.create_file.new.pool c.args.self.now c.judge_new.new.volume c.create_file.new.volume c.count_made.new.volume (Ok tt) c.in_ok-making.making.delta (parts g c)
 
 pub returns-clause-reads : goal.returns-clause-reads
 returns-clause-reads g c = reads_then (g.D.Disk.shown c.args.disk.now) (g.D.Disk.shown c.judge_new.new.disk) (g.D.Disk.shown c.create_file.new.disk) c.args.pool.now c.judge_new.new.pool c.create_file.new.pool c.judge_new.ensures.reads c.in_ok-create_file.ensures.alters.reads

@@ -14,13 +14,12 @@ returns-clause-placed g c =
     record {
       keeps = did.keeps;
       ready = did.ready;
-      changed = did.changed;
+      changed = did.files.changed;
       idle = λ none. let all = did.idle none in (all.0, all.1.0);
       standing = λ is. (did.places is).standing;
       volume = λ is. (did.places is).volume;
       led = λ is. (did.places is).led;
       well = λ is led well. (did.places is).well led well;
-      others = did.others;
       unused = did.unused;
       room = c.room_to_place-room.result;
       rest = c.flush-flushed.new.room;
@@ -30,7 +29,7 @@ returns-clause-placed g c =
     }
 
 pub returns-clause-fails : goal.returns-clause-fails
-returns-clause-fails g c = by c.flush-flushed.result (λ is. (c.flush-flushed.ensures.places is).enough) c.flush-flushed.ensures.filed
+returns-clause-fails g c = by c.flush-flushed.result (λ is. (c.flush-flushed.ensures.places is).enough) c.flush-flushed.ensures.files.filed
   where
     by : (r : Result Unit VolumeFault) → (IsStanding (g.D.Disk.shown c.args.disk.now) c.args.pool.now c.args.self.now → pending_of c.args.self.now.files ≤ c.room_to_place-room.result → IfErr r (λ e. e ≡ Memory))
         → IfErr r (λ e. is_some c.args.self.now.files ≡ true) → IfErr r (MayFail (g.D.Disk.shown c.args.disk.now) c.args.pool.now (Some c.args.self.now))
@@ -38,4 +37,4 @@ returns-clause-fails g c = by c.flush-flushed.result (λ is. (c.flush-flushed.en
     by (Err e) enough filed = (filed, λ is numbers blocks. enough is (let exact = c.room_to_place-room.ensures.exact filed in omega (arith, exact, numbers, blocks)))
 
 pub returns-clause-whole : goal.returns-clause-whole
-returns-clause-whole g c = c.active.ensures.valid
+returns-clause-whole g c = c.known_maps.ensures

@@ -12,6 +12,7 @@ use Rattle.fv_volume.proofs.CallCauses.{fails_later, failed_cause}
 use Rattle.fv_volume.proofs.Calling.{counted_all, counted_table, kept_numbers, left_table, refused_table, left_fits, failed_changes, failed_head, failed_stands, left_ready, refused_changes, refused_head, refused_ready, refused_standing, done_head, done_ready, Parts}
 use Rattle.fv_volume.proofs.OneVolumes.{reads_then, said_after}
 use Rattle.fv_volume.proofs.MadePut.{put_is, put_stands}
+use Rattle.fv_volume.proofs.state.VolumeState.put.Given as given
 use Rattle.fv_volume.proofs.state.VolumeState.put.Goals as goal
 
 -- ---- refused
@@ -66,60 +67,36 @@ returns-in_err-write_block-clause-cause g c =
 
 -- ---- done
 
+-- the parts of a change that was made
+parts : (g : given.Over) (c : goal.After-count_change g) → Parts {T = Unit {0}} (g.D.Disk.shown c.args.disk.now) (g.D.Disk.shown c.judge_put.new.disk) (g.D.Disk.shown c.write_block.new.disk) c.args.pool.now c.judge_put.new.pool c.write_block.new.pool c.args.self.now c.judge_put.new.volume c.write_block.new.volume c.count_change.new.volume (Ok tt) c.in_ok-admission.admission.delta
+parts g c = record {
+  first = c.judge_put.ensures.reads;
+  same = c.judge_put.ensures.same;
+  alters = c.in_ok-write_block.ensures.alters;
+  counted = (counted_all c.write_block.new.volume c.count_change.new.volume c.count_change.ensures.others);
+  next = c.count_change.ensures.now;
+  moved = c.count_change.ensures.ledger;
+  moves = c.count_change.ensures.machine;
+}
+
 pub count_change-requires : goal.count_change-requires
 count_change-requires g c = record { fits = left_fits (g.D.Disk.shown c.args.disk.now) (g.D.Disk.shown c.judge_put.new.disk) (g.D.Disk.shown c.write_block.new.disk) c.args.pool.now c.judge_put.new.pool c.write_block.new.pool c.judge_put.ensures.reads c.args.self.now c.judge_put.new.volume c.write_block.new.volume c.judge_put.ensures.same (Ok tt) c.in_ok-write_block.ensures.alters c.in_ok-admission.admission.delta c.in_ok-admission.ensures.fits }
 
 pub returns-clause-changes : goal.returns-clause-changes
 returns-clause-changes g c = λ is.
-    let parts : Parts {T = Unit {0}} (g.D.Disk.shown c.args.disk.now) (g.D.Disk.shown c.judge_put.new.disk) (g.D.Disk.shown c.write_block.new.disk) c.args.pool.now c.judge_put.new.pool c.write_block.new.pool c.args.self.now c.judge_put.new.volume c.write_block.new.volume c.count_change.new.volume (Ok tt) c.in_ok-admission.admission.delta = record {
-      first = c.judge_put.ensures.reads;
-      same = c.judge_put.ensures.same;
-      alters = c.in_ok-write_block.ensures.alters;
-      counted = (counted_all c.write_block.new.volume c.count_change.new.volume c.count_change.ensures.others);
-      next = c.count_change.ensures.now;
-      moved = c.count_change.ensures.ledger;
-      moves = c.count_change.ensures.machine;
-    } in
-    put_is (g.D.Disk.shown c.args.disk.now) (g.D.Disk.shown c.judge_put.new.disk) (g.D.Disk.shown c.write_block.new.disk) c.args.pool.now c.judge_put.new.pool c.write_block.new.pool c.args.self.now c.judge_put.new.volume c.write_block.new.volume c.count_change.new.volume c.in_ok-admission.admission.delta parts is c.requires.ready c.args.others c.args.file.now c.args.index c.args.block.now c.in_ok-admission.admission.info (c.in_ok-admission.ensures.accepted is) c.in_ok-write_block.ensures.written (ap (λ (z : VolumeState). z.numbers) c.count_change.ensures.others)
+    put_is (g.D.Disk.shown c.args.disk.now) (g.D.Disk.shown c.judge_put.new.disk) (g.D.Disk.shown c.write_block.new.disk) c.args.pool.now c.judge_put.new.pool c.write_block.new.pool c.args.self.now c.judge_put.new.volume c.write_block.new.volume c.count_change.new.volume c.in_ok-admission.admission.delta (parts g c) is c.requires.ready c.args.others c.args.file.now c.args.index c.args.block.now c.in_ok-admission.admission.info (c.in_ok-admission.ensures.accepted is) c.in_ok-write_block.ensures.written (ap (λ (z : VolumeState). z.numbers) c.count_change.ensures.others)
 
 pub returns-clause-standing : goal.returns-clause-standing
 returns-clause-standing g c = λ is.
-    let parts : Parts {T = Unit {0}} (g.D.Disk.shown c.args.disk.now) (g.D.Disk.shown c.judge_put.new.disk) (g.D.Disk.shown c.write_block.new.disk) c.args.pool.now c.judge_put.new.pool c.write_block.new.pool c.args.self.now c.judge_put.new.volume c.write_block.new.volume c.count_change.new.volume (Ok tt) c.in_ok-admission.admission.delta = record {
-      first = c.judge_put.ensures.reads;
-      same = c.judge_put.ensures.same;
-      alters = c.in_ok-write_block.ensures.alters;
-      counted = (counted_all c.write_block.new.volume c.count_change.new.volume c.count_change.ensures.others);
-      next = c.count_change.ensures.now;
-      moved = c.count_change.ensures.ledger;
-      moves = c.count_change.ensures.machine;
-    } in
-    put_stands (g.D.Disk.shown c.args.disk.now) (g.D.Disk.shown c.judge_put.new.disk) (g.D.Disk.shown c.write_block.new.disk) c.args.pool.now c.judge_put.new.pool c.write_block.new.pool c.args.self.now c.judge_put.new.volume c.write_block.new.volume c.count_change.new.volume c.in_ok-admission.admission.delta parts is c.requires.ready c.args.others c.args.file.now c.args.index c.args.block.now c.in_ok-admission.admission.info (c.in_ok-admission.ensures.accepted is) c.in_ok-write_block.ensures.written (ap (λ (z : VolumeState). z.numbers) c.count_change.ensures.others)
+    put_stands (g.D.Disk.shown c.args.disk.now) (g.D.Disk.shown c.judge_put.new.disk) (g.D.Disk.shown c.write_block.new.disk) c.args.pool.now c.judge_put.new.pool c.write_block.new.pool c.args.self.now c.judge_put.new.volume c.write_block.new.volume c.count_change.new.volume c.in_ok-admission.admission.delta (parts g c) is c.requires.ready c.args.others c.args.file.now c.args.index c.args.block.now c.in_ok-admission.admission.info (c.in_ok-admission.ensures.accepted is) c.in_ok-write_block.ensures.written (ap (λ (z : VolumeState). z.numbers) c.count_change.ensures.others)
 
 pub returns-clause-ready : goal.returns-clause-ready
 returns-clause-ready g c =
-    let parts : Parts {T = Unit {0}} (g.D.Disk.shown c.args.disk.now) (g.D.Disk.shown c.judge_put.new.disk) (g.D.Disk.shown c.write_block.new.disk) c.args.pool.now c.judge_put.new.pool c.write_block.new.pool c.args.self.now c.judge_put.new.volume c.write_block.new.volume c.count_change.new.volume (Ok tt) c.in_ok-admission.admission.delta = record {
-      first = c.judge_put.ensures.reads;
-      same = c.judge_put.ensures.same;
-      alters = c.in_ok-write_block.ensures.alters;
-      counted = (counted_all c.write_block.new.volume c.count_change.new.volume c.count_change.ensures.others);
-      next = c.count_change.ensures.now;
-      moved = c.count_change.ensures.ledger;
-      moves = c.count_change.ensures.machine;
-    } in
-    done_ready (g.D.Disk.shown c.args.disk.now) (g.D.Disk.shown c.judge_put.new.disk) (g.D.Disk.shown c.write_block.new.disk) c.args.pool.now c.judge_put.new.pool c.write_block.new.pool c.args.self.now c.judge_put.new.volume c.write_block.new.volume c.count_change.new.volume (Ok tt) c.in_ok-admission.admission.delta parts c.requires.ready (left_fits (g.D.Disk.shown c.args.disk.now) (g.D.Disk.shown c.judge_put.new.disk) (g.D.Disk.shown c.write_block.new.disk) c.args.pool.now c.judge_put.new.pool c.write_block.new.pool c.judge_put.ensures.reads c.args.self.now c.judge_put.new.volume c.write_block.new.volume c.judge_put.ensures.same (Ok tt) c.in_ok-write_block.ensures.alters c.in_ok-admission.admission.delta c.in_ok-admission.ensures.fits)
+    done_ready (g.D.Disk.shown c.args.disk.now) (g.D.Disk.shown c.judge_put.new.disk) (g.D.Disk.shown c.write_block.new.disk) c.args.pool.now c.judge_put.new.pool c.write_block.new.pool c.args.self.now c.judge_put.new.volume c.write_block.new.volume c.count_change.new.volume (Ok tt) c.in_ok-admission.admission.delta (parts g c) c.requires.ready (left_fits (g.D.Disk.shown c.args.disk.now) (g.D.Disk.shown c.judge_put.new.disk) (g.D.Disk.shown c.write_block.new.disk) c.args.pool.now c.judge_put.new.pool c.write_block.new.pool c.judge_put.ensures.reads c.args.self.now c.judge_put.new.volume c.write_block.new.volume c.judge_put.ensures.same (Ok tt) c.in_ok-write_block.ensures.alters c.in_ok-admission.admission.delta c.in_ok-admission.ensures.fits)
 
 pub returns-clause-head : goal.returns-clause-head
 returns-clause-head g c =
-    let parts : Parts {T = Unit {0}} (g.D.Disk.shown c.args.disk.now) (g.D.Disk.shown c.judge_put.new.disk) (g.D.Disk.shown c.write_block.new.disk) c.args.pool.now c.judge_put.new.pool c.write_block.new.pool c.args.self.now c.judge_put.new.volume c.write_block.new.volume c.count_change.new.volume (Ok tt) c.in_ok-admission.admission.delta = record {
-      first = c.judge_put.ensures.reads;
-      same = c.judge_put.ensures.same;
-      alters = c.in_ok-write_block.ensures.alters;
-      counted = (counted_all c.write_block.new.volume c.count_change.new.volume c.count_change.ensures.others);
-      next = c.count_change.ensures.now;
-      moved = c.count_change.ensures.ledger;
-      moves = c.count_change.ensures.machine;
-    } in
-    done_head (g.D.Disk.shown c.args.disk.now) (g.D.Disk.shown c.judge_put.new.disk) (g.D.Disk.shown c.write_block.new.disk) c.args.pool.now c.judge_put.new.pool c.write_block.new.pool c.args.self.now c.judge_put.new.volume c.write_block.new.volume c.count_change.new.volume (Ok tt) c.in_ok-admission.admission.delta parts
+    done_head (g.D.Disk.shown c.args.disk.now) (g.D.Disk.shown c.judge_put.new.disk) (g.D.Disk.shown c.write_block.new.disk) c.args.pool.now c.judge_put.new.pool c.write_block.new.pool c.args.self.now c.judge_put.new.volume c.write_block.new.volume c.count_change.new.volume (Ok tt) c.in_ok-admission.admission.delta (parts g c)
 
 pub returns-clause-reads : goal.returns-clause-reads
 returns-clause-reads g c = reads_then (g.D.Disk.shown c.args.disk.now) (g.D.Disk.shown c.judge_put.new.disk) (g.D.Disk.shown c.write_block.new.disk) c.args.pool.now c.judge_put.new.pool c.write_block.new.pool c.judge_put.ensures.reads c.in_ok-write_block.ensures.alters.reads

@@ -1,0 +1,170 @@
+-- A command that is aimed at a volume, or refused before a volume is asked.
+use Rattle.std.proofs.Common.{◌≡◌, ℕ, Bool, true, false, length, List, Option, Some, None, Result, Ok, Err, inl, inr, true≢false, refl, sym, subst, ◌∙◌, ⊎_elim}
+use Rattle.std.specs.Prelude.{is_some, IsNone}
+use Rattle.fv_disk.specs.Shown.{IsDisk, Shown}
+use Rattle.fv_model.specs.declared.answers.Refusal.{Refusal}
+use Rattle.fv_model.specs.declared.answers.Refusal.TheVariants.{NoSnapshot, NoVolume, Range, Syntax}
+use Rattle.fv_model.specs.declared.answers.Reply.{Reply}
+use Rattle.fv_model.specs.declared.answers.Reply.TheVariants.{Refused}
+use Rattle.fv_model.specs.declared.commands.Command.{Command}
+use Rattle.fv_model.specs.declared.commands.Command.TheVariants.{VolCreate, VolDestroy, VolResize, VolGuarantee, VolList, VolStat, New, Put, Get, Len, Cut, Remove, Ls, SnapCreate, SnapDelete, SnapRestore, SnapList, CloneCreate, SplitStart, SplitFinish, Mirror, Clean, Probe, Work, Cp}
+use Rattle.fv_volume.specs.Slots.{NoneHasName}
+use Rattle.fv_volume.specs.States.{States}
+use Rattle.fv_cp.specs.Lent.{FitTogether}
+use Rattle.fv_aggregate.specs.declared.aiming.Aim.{Aim}
+use Rattle.fv_aggregate.specs.declared.aiming.Task.{Task}
+use Rattle.fv_aggregate.specs.declared.aiming.Task.TheVariants as task
+use Rattle.fv_aggregate.specs.declared.fault.Fault.{Fault}
+use Rattle.fv_aggregate.specs.declared.session.Session.{Session}
+use Rattle.fv_aggregate.specs.Aiming.{Aims, AimsAt, IsAimless, IsServed, Suits}
+use Rattle.fv_aggregate.specs.Applying.{HasApplied}
+use Rattle.fv_aggregate.specs.Commands.{has_range, is_built, managed_by, snapped_by}
+use Rattle.fv_aggregate.specs.Managing.{Manages}
+use Rattle.fv_aggregate.specs.Standing.{Stands}
+use Rattle.fv_aggregate.proofs.Applied.{managed_or_unbuilt, no_files}
+use Rattle.fv_aggregate.proofs.Asked.{looks_done, looks_missing}
+use Rattle.fv_aggregate.proofs.Calls.{reads_itself}
+use Rattle.fv_aggregate.proofs.Carried.{refused_at_once, refused_missing}
+use Rattle.fv_aggregate.proofs.Looked.{reads_alone}
+use Rattle.fv_aggregate.proofs.Missing.{asked_far, far_change, refused_allows}
+use Rattle.fv_aggregate.proofs.Serving.{look_applied, make_applied, managed_applied, not_none, snap_applied}
+use Rattle.fv_aggregate.proofs.SnapApplied.{snap_refused}
+use Rattle.fv_aggregate.proofs.SnapCommands.{snap_cases}
+use Rattle.fv_aggregate.proofs.SnapDone.{refused_snapped}
+
+-- what is aimed by a name is aimed by the command that has it
+aims_as : (states : States) (c : Command) (name : List ℕ) (near : Bool) (t : Task) (r : Result Aim Refusal) → Suits t name c → has_range c ≡ near → AimsAt states name near t r → Aims states c r
+aims_as states c name near t (Ok aim) suits range is = record { within = is.1.1.0; name = name; named = is.1.1.1; near = range ∙ is.0; suits = subst (λ (k : Task). Suits k name c) (sym is.1.0) suits }
+aims_as states c name near t (Err r) suits range is = inr (record {
+  task = t;
+  name = name;
+  suits = suits;
+  why = ⊎_elim (λ far. inl (far.0, range ∙ far.1)) (λ none. inr (none.0, (range ∙ none.1.0, none.1.1))) is;
+})
+
+-- so it is of the session whose parts are these
+pub aims_over : (v s : Session) → v ≡ s → (c : Command) (name : List ℕ) (near : Bool) (t : Task) (r : Result Aim Refusal) → Suits t name c → has_range c ≡ near → AimsAt v.volumes name near t r → Aims s.volumes c r
+aims_over v s same c name near t r suits range is = subst (λ (k : Session). Aims k.volumes c r) same (aims_as v.volumes c name near t r suits range is)
+
+-- whose parts fit together
+pub fits_over : (v s : Session) → v ≡ s → IsNone s.failed → (IsNone v.failed → FitTogether v.pool v.volumes) → FitTogether s.pool s.volumes
+fits_over v s same fresh fits = subst (λ (k : Session). FitTogether k.pool k.volumes) same (fits (subst (λ (k : Session). IsNone k.failed) (sym same) fresh))
+
+-- ---- refused
+
+some_none : (v : List ℕ) → ◌≡◌ {A = Option (List ℕ)} (Some v) None → ⊥
+some_none v e = cc
+
+-- a command that is none of those on volumes isn't built
+unbuilt : (c : Command) → IsServed c → IsAimless c → is_built c ≡ false
+unbuilt c served is = ⊎_elim (λ some. absurd (whole c served some)) (λ none. none) (managed_or_unbuilt c served.not_create served.not_list served.not_point served.not_names is.asks is.changes is.snaps)
+  where
+    whole : (c : Command) → IsServed c → is_some (managed_by c) ≡ true → ⊥
+    whole (VolDestroy v) served some = served.not_destroy v refl
+    whole (VolResize v size) served some = served.not_resize v size refl
+    whole (VolGuarantee v kind) served some = served.not_guarantee v kind refl
+    whole (VolStat v) served some = served.not_stat v refl
+    whole c served some = true≢false (sym some)
+
+manages_none : (s : Session) (c : Command) → IsServed c → Manages s c s (Refused Syntax)
+manages_none s (VolDestroy v) served = absurd (served.not_destroy v refl)
+manages_none s (VolResize v size) served = absurd (served.not_resize v size refl)
+manages_none s (VolGuarantee v kind) served = absurd (served.not_guarantee v kind refl)
+manages_none s (VolStat v) served = absurd (served.not_stat v refl)
+manages_none s (VolCreate v size kind) served = (refl, refl)
+manages_none s VolList served = (refl, refl)
+manages_none s (New v f reserve) served = (refl, refl)
+manages_none s (Put v f i block) served = (refl, refl)
+manages_none s (Get v k f i) served = (refl, refl)
+manages_none s (Len v k f) served = (refl, refl)
+manages_none s (Cut v f length) served = (refl, refl)
+manages_none s (Remove v f) served = (refl, refl)
+manages_none s (Ls v k) served = (refl, refl)
+manages_none s (SnapCreate v k) served = (refl, refl)
+manages_none s (SnapDelete v k) served = (refl, refl)
+manages_none s (SnapRestore v k) served = (refl, refl)
+manages_none s (SnapList v) served = (refl, refl)
+manages_none s (CloneCreate x v k size kind) served = (refl, refl)
+manages_none s (SplitStart x) served = (refl, refl)
+manages_none s (SplitFinish x) served = (refl, refl)
+manages_none s (Mirror v k w size kind) served = (refl, refl)
+manages_none s (Clean v) served = (refl, refl)
+manages_none s (Probe v f i) served = (refl, refl)
+manages_none s (Work n) served = (refl, refl)
+manages_none s Cp served = (refl, refl)
+
+no_volume_lost : ◌≡◌ {A = Result Reply Fault} (Ok (Refused NoVolume)) (Ok (Refused NoSnapshot)) → ⊥
+no_volume_lost is = cc
+
+range_lost : ◌≡◌ {A = Result Reply Fault} (Ok (Refused Range)) (Ok (Refused NoSnapshot)) → ⊥
+range_lost is = cc
+
+-- each command on snapshots is in range
+snap_near : (name : List ℕ) (c : Command) → snapped_by c ≡ Some name → has_range c ≡ true
+snap_near name c of = snap_cases (λ (k : Command). has_range k ≡ true) (λ v s. refl) (λ v s. refl) (λ v s. refl) name c of
+
+module _ {D : Type 0} (shown : D → Shown) (at : D) (laws : IsDisk (shown at)) (s : Session) (fresh : IsNone s.failed) (stands : Stands (shown at) s) (fit : FitTogether s.pool s.volumes) (c : Command) (steps : ℕ) where
+  abbrev d : Shown
+  d = shown at
+
+  abbrev Refuses : Refusal → Type 0
+  Refuses r = HasApplied c d at s steps d at s steps (Ok (Refused r))
+
+  -- out of its range
+  refused_far : (t : Task) (name : List ℕ) → Suits t name c → has_range c ≡ false → Refuses Range
+  refused_far task.Look name asks far = look_applied c name asks d at s steps d at s steps (Ok (Refused Range)) fresh
+      (looks_done d d laws s s.pool (reads_alone d d s.pool (reads_itself d) stands.cache) fresh stands c (Refused Range) refl (λ last m held. refused_allows m c Range (asked_far c name asks far m)))
+      (record {
+        range = λ far. (refl, (refl, refl));
+        missing = λ near none. absurd (true≢false (sym near ∙ far));
+        lost = λ near lacks. absurd (true≢false (sym near ∙ far));
+        only = λ answer. absurd (range_lost answer);
+        other = λ none. refl;
+        known = λ tells last m held. refl;
+        kept = λ k known. known;
+        finds = λ finds near. absurd (true≢false (sym near ∙ far));
+      })
+  refused_far task.Change name change far = make_applied c name change d at s d at s steps (Ok (Refused Range)) fresh
+      (refused_at_once d laws s fresh stands c Range (λ last m is. far_change m name c change far))
+      (record {
+        range = λ far. (refl, (refl, refl));
+        missing = λ near none. absurd (true≢false (sym near ∙ far));
+        kept = λ alive k known stays. known;
+        finds = λ finds near. absurd (true≢false (sym near ∙ far));
+      })
+  refused_far task.Snap name of far = absurd (true≢false (sym (snap_near name c of) ∙ far))
+
+  -- without its volume
+  refused_none : (t : Task) (name : List ℕ) → Suits t name c → has_range c ≡ true → NoneHasName s.volumes name → Refuses NoVolume
+  refused_none task.Look name asks near none = look_applied c name asks d at s steps d at s steps (Ok (Refused NoVolume)) fresh
+      (looks_missing d laws s fresh stands fit.housed.long name c asks near none)
+      (record {
+        range = λ far. absurd (true≢false (sym near ∙ far));
+        missing = λ near none. (refl, (refl, refl));
+        lost = λ near lacks. not_none _ s.volumes lacks.slot name lacks.within lacks.named none;
+        only = λ answer. absurd (no_volume_lost answer);
+        other = λ none. refl;
+        known = λ tells last m held. refl;
+        kept = λ k known. known;
+        finds = λ finds near slot within named. not_none _ s.volumes slot name within named none;
+      })
+  refused_none task.Change name change near none = make_applied c name change d at s d at s steps (Ok (Refused NoVolume)) fresh
+      (refused_at_once d laws s fresh stands c NoVolume (refused_missing d s fit.housed.long name c none change near))
+      (record {
+        range = λ far. absurd (true≢false (sym near ∙ far));
+        missing = λ near none. (refl, (refl, refl));
+        kept = λ alive k known stays. known;
+        finds = λ finds near slot within named. not_none _ s.volumes slot name within named none;
+      })
+  refused_none task.Snap name of near none = snap_applied c name of shown at s at s steps (Ok (Refused NoVolume)) fresh
+      (refused_snapped d at laws s fresh stands c NoVolume (snap_refused d s fit.housed.long name c none of)) (λ none. refl)
+
+  -- a command that is refused before a volume is asked leaves all as it was
+  pub refused_applied : IsServed c → (r : Refusal) → Aims s.volumes c (Err r) → Refuses r
+  refused_applied served r = ⊎_elim
+      (λ none. subst Refuses (sym none.0) (managed_applied c d laws at s fit fresh stands steps s (Refused Syntax) (inr (unbuilt c served none.1)) (manages_none s c served)
+      (no_files c none.1.asks none.1.changes) none.1.snaps served.not_list served.not_point served.not_names))
+      (λ missed. ⊎_elim
+      (λ far. subst Refuses (sym far.0) (refused_far missed.task missed.name missed.suits far.1))
+      (λ none. subst Refuses (sym none.0) (refused_none missed.task missed.name missed.suits none.1.0 none.1.1))
+      missed.why)

@@ -1,0 +1,55 @@
+use Rattle.std.proofs.Common.{◌≡◌, ◌+◌, ℕ, Ok, Err, arith, rules, sym, subst}
+use Rattle.fv_codec.specs.declared.pointer.Pointer.{Pointer}
+use Rattle.fv_tables.specs.Told.{Standing}
+use Rattle.fv_tree.specs.Costs.{way_cost}
+use Rattle.fv_files.specs.Tables.{table_in, tree_known, IsInfoOf}
+use Rattle.fv_files.specs.Calls.{GivesCell}
+use Rattle.fv_files.specs.Failing.{Looks}
+use Rattle.fv_files.proofs.Looked.{earlier, looks_failed, looks_inode, looks_then, over, Held}
+use Rattle.fv_files.proofs.files.Files.read_by_path.Goals as goal
+
+pub read-requires-clause-there : goal.read-requires-clause-there
+read-requires-clause-there g c = λ told.
+    subst (λ (h : Held). IsInfoOf (over h c.args.self.now).inode c.args.info.now) (sym c.look.ensures.looks.untouched.held) (c.requires.there told)
+
+pub returns-clause-block : goal.returns-clause-block
+returns-clause-block g c = λ told.
+    earlier (λ (x : Standing). GivesCell x c.args.info.now.number c.args.index c.read.new.into) c.args.self.now (g.B.Blocks.shown c.args.blocks.now) (g.B.Blocks.shown c.look.new.blocks) c.look.ensures.looks.untouched.held (c.in_ok-read.ensures.block told)
+
+pub returns-clause-spent : goal.returns-clause-spent
+returns-clause-spent g c = λ told.
+    let old = g.B.Blocks.shown c.args.blocks.now in
+    let mid = g.B.Blocks.shown c.look.new.blocks in
+    let new = g.B.Blocks.shown c.read.new.blocks in
+    let info = c.args.info.now in
+    let first = c.in_ok-look.ensures.spent told in
+    let second = earlier (λ (x : Standing). new.spent ≡ mid.spent + way_cost old.cost (tree_known x info) c.args.index) c.args.self.now old mid c.look.ensures.looks.untouched.held
+    (subst (λ (cost : Pointer → ℕ). new.spent ≡ mid.spent + way_cost cost (tree_known (table_in mid c.args.self.now) info) c.args.index) c.look.ensures.looks.untouched.cost (c.in_ok-read.ensures.spent told)) in
+    omega (arith, first, second)
+
+pub returns-clause-looks : goal.returns-clause-looks
+returns-clause-looks g c =
+    let told = g.B.Blocks.told in
+    let old = g.B.Blocks.shown c.args.blocks.now in
+    let mid = g.B.Blocks.shown c.look.new.blocks in
+    looks_then told c.args.self.now old mid (g.B.Blocks.shown c.read.new.blocks) c.in_ok-look.field-0 (Ok tt)
+    (looks_inode told (table_in old c.args.self.now) old mid (Ok c.in_ok-look.field-0) c.in_ok-look.ensures.looks) c.in_ok-read.ensures.looks
+
+pub returns-in_err-look-clause-looks : goal.returns-in_err-look-clause-looks
+returns-in_err-look-clause-looks g c =
+    let told = g.B.Blocks.told in
+    let old = g.B.Blocks.shown c.args.blocks.now in
+    let mid = g.B.Blocks.shown c.look.new.blocks in
+    let x = table_in old c.args.self.now in
+    let failed : c.from_residual.result ≡ Err c.in_err-look.field-0.0 = search rules in
+    subst (Looks told x old mid) (sym failed) (looks_failed told x old mid c.in_err-look.field-0.0 (looks_inode told x old mid (Err c.in_err-look.field-0.0) c.in_err-look.ensures.looks))
+
+pub returns-in_err-read-clause-looks : goal.returns-in_err-read-clause-looks
+returns-in_err-read-clause-looks g c =
+    let told = g.B.Blocks.told in
+    let old = g.B.Blocks.shown c.args.blocks.now in
+    let mid = g.B.Blocks.shown c.look.new.blocks in
+    let new = g.B.Blocks.shown c.read.new.blocks in
+    let failed : c.from_residual-in_err-read.result ≡ Err c.in_err-read.field-0.0 = search rules in
+    subst (Looks told (table_in old c.args.self.now) old new) (sym failed) (looks_then told c.args.self.now old mid new c.in_ok-look.field-0 (Err c.in_err-read.field-0.0)
+    (looks_inode told (table_in old c.args.self.now) old mid (Ok c.in_ok-look.field-0) c.in_ok-look.ensures.looks) c.in_err-read.ensures.looks)

@@ -1,0 +1,3 @@
+pub mod EmptyTold
+pub mod EmptySound
+pub mod EmptyMachine

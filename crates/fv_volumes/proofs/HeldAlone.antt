@@ -1,0 +1,403 @@
+-- A volume of a session that has nothing in memory: with all its roots it keeps the rules of soundness, and what a view tells of it is the volume.
+use Rattle.std.proofs.Common.{◌≡◌, ◌≢◌, ℕ, ◌+◌, ◌<◌, ◌≤◌, Bool, true, false, not, ◌&&◌, ◌||◌, List, [], ◌∷◌, Option, Some, None, inl, refl, sym, ap, subst, ◌∙◌, arith, length}
+use Rattle.std.specs.Prelude.{All, IfSome, nat_le, nat_lt, map, slice_index_or, take, ◌==◌}
+use Rattle.std.specs.List.{list_all}
+use Rattle.std.specs.Option.{option_and_then, option_map_or}
+use Rattle.std.specs.FinSet as set
+use Rattle.std.proofs.lemmas.Bool.{and_from, and_parts}
+use Rattle.std.proofs.lemmas.Bool.Decides.{nat_tests}
+use Rattle.std.proofs.lemmas.List.Folds.{list_all-map}
+use Rattle.fv_disk.specs.Shown.{Shown}
+use Rattle.fv_codec.specs.declared.inode.InodeRecord.{InodeRecord}
+use Rattle.fv_codec.specs.declared.pointer.Pointer.{Pointer}
+use Rattle.fv_codec.specs.Blocks.{greatest_word}
+use Rattle.fv_model.specs.Machines.{capacity, first_block}
+use Rattle.fv_model.specs.Places.{id_cmp}
+use Rattle.fv_model.specs.Space.{base_ids, commits, use_of}
+use Rattle.fv_model.specs.Tables.{empty_table}
+use Rattle.fv_model.specs.Volumes.{Volume}
+use Rattle.fv_tables.specs.Reached.{Item, items}
+use Rattle.fv_tables.specs.Spelled.{Under, hole, pointer_at, stored}
+use Rattle.fv_tables.specs.Told.{file_at, file_told, records, standing_at, table_told}
+use Rattle.fv_tables.proofs.Lists.{all_of_range}
+use Rattle.fv_tables.proofs.Tables.{kept_records}
+use Rattle.fv_tree.specs.Standing.{under as blocks_of}
+use Rattle.fv_files.specs.declared.files.Files.{Files}
+use Rattle.fv_files.specs.Apart.{Trees, stored_trees}
+use Rattle.fv_files.specs.Numbering.{AreNumbersIf}
+use Rattle.fv_files.specs.Sharing.{owner_in}
+use Rattle.fv_laws.proofs.Lists.{In}
+use Rattle.fv_laws.specs.WellFormed.{IsWellTable}
+use Rattle.fv_image.specs.Chains.{under}
+use Rattle.fv_image.specs.Held.{Layout, layout_at}
+use Rattle.fv_image.specs.ReachRules.{all_volumes, are_distinct}
+use Rattle.fv_image.specs.Seen.{Reached, Root, VolumeSeen, reached_at, root_seen, roots_of, seen, volume_seen}
+use Rattle.fv_image.specs.Soundness.{AreTables}
+use Rattle.fv_image.specs.TableRules.{are_levels, is_cell_of}
+use Rattle.fv_image.specs.VolumeRules.{comes_to_end, commits_seen, has_commits_in_capacity, has_use_in_size, has_wide_spans}
+use Rattle.fv_image.specs.Views.{Footing, Head, Rooted, Snap as HeadSnap, View, slots}
+use Rattle.fv_image.specs.Volumes.{active_at, named_with, standing_of, table_at, volume_told, volume_with}
+use Rattle.fv_image.proofs.Committed.{commits_told}
+use Rattle.fv_image.proofs.LoneTables.{form_base}
+use Rattle.fv_image.proofs.SameSeen.{seen_at}
+use Rattle.fv_root.specs.Finding.{root_found}
+use Rattle.fv_container.specs.declared.entry.Entry.{Entry}
+use Rattle.fv_container.specs.Chains.{container_at, own_entry, parent_at}
+use Rattle.fv_volmap.specs.Slots.{IsVolume, has, slot_at}
+use Rattle.fv_volume.specs.declared.pool.Pool.{Pool}
+use Rattle.fv_volume.specs.declared.state.Snap.{Snap}
+use Rattle.fv_volume.specs.declared.state.VolumeState.{VolumeState}
+use Rattle.fv_volume.specs.Files.{AreStates, IsState, has_form}
+use Rattle.fv_volume.specs.Numbering.{AreNumbersSeen}
+use Rattle.fv_volume.specs.OneVolume.{blocks_in, shows, table_for, volume_for, IsReady, IsStanding, RootStands}
+use Rattle.fv_volume.specs.Placing.{IsLedTo, IsStoredWell}
+use Rattle.fv_volume.specs.Sharing.{differs_in, pointer_in, trees_by, trees_kept, AreShared, SharesWith}
+use Rattle.fv_volume.specs.Slots.{sum_of}
+use Rattle.fv_volume.specs.States.{States, head_in, parent_in, rooted_as, state_at, view_over}
+use Rattle.fv_volume.specs.Trees.{active_in, no_trees}
+use Rattle.fv_volumes.proofs.Distinct.{same_names}
+use Rattle.fv_volumes.proofs.Made.{commits_are}
+use Rattle.fv_volume.proofs.EachRoot.{each_root}
+use Rattle.fv_volume.proofs.OverBlocks.{same_place}
+use Rattle.fv_volume.proofs.ActiveStands.{agrees, roots_stand}
+use Rattle.fv_volumes.proofs.Reached.{standing_reach}
+use Rattle.fv_volume.proofs.Shared.{shares_back}
+use Rattle.fv_volume.proofs.SharedRoots.{alike_shares, stored_place, stored_same}
+use Rattle.fv_volume.proofs.Shows.{slot_below}
+use Rattle.fv_volume.proofs.SnapNames.{names_in}
+use Rattle.fv_volumes.proofs.Standings.{root_agrees, standing_state, standing_table, standing_volume}
+use Rattle.fv_volumes.proofs.Told.{head_there, is_inside}
+use Rattle.fv_volumes.proofs.Trees.{unchanged_machine}
+use Rattle.fv_volumes.proofs.Facts.{are_ruled, led_by, led_place}
+use Rattle.fv_volumes.proofs.Alone.{alone_by}
+use Rattle.fv_volumes.proofs.PlacedIn.{own_has}
+use Rattle.fv_volumes.proofs.Records.{all_records, cell_below, file_levels, file_there, inode_levels, names_apart}
+use Rattle.fv_volume.proofs.Ruled.{AreOneToOne, AreRuled, IsRuled, of_roots, one_itself, owner_number}
+use Rattle.fv_disk.specs.Shown.{Image}
+use Rattle.fv_volume.specs.Held.{named_held, IsHeldIn}
+use Rattle.fv_volumes.specs.Housed.{AreHoused, ReachesAll}
+use Rattle.fv_volume.specs.Files.{IsLabelled}
+use Rattle.fv_volume.specs.Stored.{AreSpacedIn}
+use Rattle.fv_volumes.specs.UnderRoot.{IsLentAt}
+use Rattle.fv_image.proofs.SameSeen.{of_volume}
+use Rattle.fv_model.specs.Space.{charge}
+use Rattle.fv_model.specs.Tables.{Table}
+
+at_most : (a b : ℕ) → a ≤ b → nat_le a b ≡ true
+at_most a b le = grind (arith, nat_tests, le)
+
+at_least : (a b : ℕ) → nat_le a b ≡ true → a ≤ b
+at_least a b test = grind (arith, nat_tests, test)
+
+-- ---- the volumes of the slots
+
+module _ (states : States) (labelled : (s : ℕ) → IfSome (state_at states s) (IsLabelled s)) where
+  -- what holds of a slot without a volume, and of each volume in its slot, holds of all slots
+  pub of_each : (P : ℕ → Option VolumeState → Type 0) → ((s : ℕ) → P s None) → ((x : VolumeState) → state_at states x.slot ≡ Some x → P x.slot (Some x)) → (s : ℕ) → P s (state_at states s)
+  of_each P nothing some s = by (state_at states s) refl (labelled s)
+    where
+      by : (o : Option VolumeState) → state_at states s ≡ o → IfSome o (IsLabelled s) → P s o
+      by None e is = nothing s
+      by (Some x) e is = subst (λ (n : ℕ). P n (Some x)) is.slot_is (some x (ap (state_at states) is.slot_is ∙ e))
+
+  -- what holds of each volume holds of all that a view over them tells
+  pub all_seen : (pool : Pool) (i : Image) (test : ℕ → VolumeSeen → Bool) → ((x : VolumeState) → state_at states x.slot ≡ Some x → test x.slot (volume_seen (view_over pool states i) x.slot (head_in x)) ≡ true) → all_volumes (seen (view_over pool states i)) test ≡ true
+  unfolding slots seen view_over
+  all_seen pool i test each = all_of_range (λ s. option_map_or (test s) ((seen (view_over pool states i)).volume s) true) 0 64 (λ s low high.
+      of_each (λ s o. state_at states s ≡ o → s < 64 → option_map_or (test s) ((seen (view_over pool states i)).volume s) true ≡ true) without with s refl (omega (arith, high)))
+    where
+      without : (s : ℕ) → state_at states s ≡ None → s < 64 → option_map_or (test s) ((seen (view_over pool states i)).volume s) true ≡ true
+      without s e low = let inside : nat_lt s 64 ≡ true = grind (arith, nat_tests, low) in rw (inside, e) refl
+
+      with : (x : VolumeState) → state_at states x.slot ≡ Some x → state_at states x.slot ≡ Some x → x.slot < 64 → option_map_or (test x.slot) ((seen (view_over pool states i)).volume x.slot) true ≡ true
+      with x there e low =
+          ap (λ (o : Option VolumeSeen). option_map_or (test x.slot) o true) (seen_at (view_over pool states i) x.slot (head_in x) low (head_there pool states i x.slot x there)) ∙ each x there
+
+-- all that volumes of a view commit
+pub commits_in_view : (pool : Pool) (states : States) (i : Image) → length states ≡ 64 → AreStates (view_over pool states i) no_trees states → commits_seen (seen (view_over pool states i)) ≡ sum_of states
+unfolding view_over
+commits_in_view pool states i long are =
+    let y : Layout = record (layout_at (root_found pool.found) i) { view = view_over pool states i } in
+    sym (commits_told y (same_names (view_over pool states i) y (λ s. refl) states (λ s. refl) are.names)) ∙ ap commits (sym (unchanged_machine pool states no_trees i (λ s. refl))) ∙ commits_are pool states no_trees i long are
+
+-- ---- a volume with nothing of it in memory
+
+module _ (disk : Shown) (pool : Pool) (states : States) (housed : AreHoused pool.containers states) (at_slots : (s : ℕ) → s < 64 → IsLentAt disk.reads pool.found s (state_at states s) (container_at pool.containers s)) (spaced : AreSpacedIn pool.found.blocks pool.map.next (state_at states) (container_at pool.containers))
+    (x : VolumeState) (there : state_at states x.slot ≡ Some x) (one : IsHeldIn disk pool x.slot x) (no_files : x.files ≡ None) (whole : IsVolume x.map) where
+  abbrev w : View
+  w = view_over pool states disk.reads
+
+  abbrev h : Head
+  h = head_in x
+
+  abbrev s : ℕ
+  s = x.slot
+
+  form : has_form h ≡ true
+  form = one.ready.labelled.form
+
+  base : h.base ≡ None
+  base = form_base h form
+
+  alone : parent_at pool.containers s ≡ None
+  alone = housed.parents s ∙ ap parent_in there ∙ alone_by x.base base
+
+  here : w.head s ≡ Some h
+  here = head_there pool states disk.reads s x there
+
+  inside : s < 64
+  inside = is_inside states s x housed.long there
+
+  own : (v : ℕ) (e : Entry) → own_entry (container_at pool.containers s) v ≡ Some e → (first_block pool.found.blocks ≤ e.pvbn) × (e.pvbn < pool.found.blocks)
+  own v e at = (spaced.held s e.pvbn inside (own_has disk pool states housed at_slots s x there e.pvbn (record { vvbn = v; entry = e; stands = at; leads = refl }))).1
+
+  -- ---- its roots
+
+  abbrev IsRoot : ℕ → Rooted → Type 0
+  IsRoot k r = In {X = ℕ × Rooted} (k, r) (roots_of h)
+
+  stood : (k : ℕ) (r : Rooted) → IsRoot k r → RootStands disk pool x k (rooted_as r)
+  stood = roots_stand disk pool x one.stands no_files one.led one.well
+
+  in_span : (k v : ℕ) → has v (slot_at x.map k) ≡ true → v < x.span
+  in_span k v member = let low = slot_below x.map whole k v member in let same = one.ready.labelled.map in omega (arith, low, same)
+
+  abbrev pub led : ℕ → Rooted → Option ℕ → ℕ → ℕ → Pointer
+  led k r = led_by (blocks_in disk pool x k) (rooted_as r)
+
+  pub ruled : (k : ℕ) (r : Rooted) → IsRoot k r → AreRuled w s h r (led k r)
+  ruled k r is = are_ruled disk pool states x k (rooted_as r) (stood k r is) there alone base (in_span k) own
+
+  -- ---- what they share
+
+  abbrev active_trees : Trees
+  active_trees = stored_trees (blocks_of (shows disk pool x)) x.active.levels x.active.root
+
+  abbrev snap_trees : Snap → Trees
+  snap_trees = trees_kept (blocks_in disk pool x)
+
+  shared : AreShared active_trees (blocks_in disk pool x) x.snapshots
+  shared = subst (λ (o : Option Files). AreShared (trees_by (blocks_of (shows disk pool x)) x.active o) (blocks_in disk pool x) x.snapshots) no_files one.stands.shared
+
+  active_place : (o : Option ℕ) (level index : ℕ) → pointer_in (active_trees o) level index ≡ led 0 h.active o level index
+  active_place o level index =
+      stored_place (blocks_of (shows disk pool x)) x.active.levels x.active.root o level index
+      ∙ sym (same_place (blocks_of (shows disk pool x)) (blocks_in disk pool x 0) x.active.levels x.active.root (agrees disk pool x one.stands no_files) (owner_in o) level index)
+      ∙ led_place (blocks_in disk pool x 0) x.active o level index
+
+  snap_place : (q : Snap) (o : Option ℕ) (level index : ℕ) → pointer_in (snap_trees q o) level index ≡ led_by (blocks_in disk pool x q.slot) q.table o level index
+  snap_place q o level index = stored_place (blocks_in disk pool x q.slot) q.table.levels q.table.root o level index ∙ led_place (blocks_in disk pool x q.slot) q.table o level index
+
+  active_same : (o : Option ℕ) (level index : ℕ) → differs_in (active_trees o) level index ≡ false
+  active_same = stored_same (blocks_of (shows disk pool x)) x.active.levels x.active.root
+
+  snap_same : (q : Snap) (o : Option ℕ) (level index : ℕ) → differs_in (snap_trees q o) level index ≡ false
+  snap_same q = stored_same (blocks_in disk pool x q.slot) q.table.levels q.table.root
+
+  -- the pointers of the active table and those of any root are one to one,
+  with_active : (j : ℕ) (r : Rooted) → IsRoot j r → AreOneToOne (led 0 h.active) (led j r)
+  with_active = each_root x (λ j r. AreOneToOne (led 0 h.active) (led_by (blocks_in disk pool x j) r)) (one_itself w s h h.active (led 0 h.active) (ruled 0 h.active (inl refl)))
+      (λ n q lt. alike_shares active_trees (snap_trees (slice_index_or x.snapshots n q)) (led 0 h.active) (led_by (blocks_in disk pool x (slice_index_or x.snapshots n q).slot) (slice_index_or x.snapshots n q).table)
+      active_place (snap_place (slice_index_or x.snapshots n q)) active_same (snap_same (slice_index_or x.snapshots n q)) (shared.active n q lt))
+
+  -- and so are those of a snapshot's
+  with_snap : (p : Snap) → SharesWith active_trees (snap_trees p) → All (λ (q : Snap). SharesWith (snap_trees p) (snap_trees q)) x.snapshots → (j : ℕ) (r : Rooted) → IsRoot j r → AreOneToOne (led_by (blocks_in disk pool x p.slot) p.table) (led j r)
+  with_snap p active kept = each_root x (λ j r. AreOneToOne (led_by (blocks_in disk pool x p.slot) p.table) (led_by (blocks_in disk pool x j) r))
+      (alike_shares (snap_trees p) active_trees (led_by (blocks_in disk pool x p.slot) p.table) (led 0 h.active) (snap_place p) active_place (snap_same p) active_same (shares_back active_trees (snap_trees p) active))
+      (λ n q lt. alike_shares (snap_trees p) (snap_trees (slice_index_or x.snapshots n q)) (led_by (blocks_in disk pool x p.slot) p.table)
+      (led_by (blocks_in disk pool x (slice_index_or x.snapshots n q).slot) (slice_index_or x.snapshots n q).table)
+      (snap_place p) (snap_place (slice_index_or x.snapshots n q)) (snap_same p) (snap_same (slice_index_or x.snapshots n q)) (kept n q lt))
+
+  -- Pointers of two roots lead to one VVBN exactly where they have one id.
+  pub one_to_one : (k : ℕ) (r : Rooted) (j : ℕ) (q : Rooted) → IsRoot k r → IsRoot j q → AreOneToOne (led k r) (led j q)
+  one_to_one k r j q one two = each_root x (λ k r. AreOneToOne (led_by (blocks_in disk pool x k) r) (led j q)) (with_active j q two)
+      (λ n p lt. with_snap (slice_index_or x.snapshots n p) (shared.active n p lt) (shared.kept n p lt) j q two) k r one
+
+  -- The names of its snapshots differ.
+  pub names_rule : are_distinct (map (λ (p : HeadSnap). p.name) h.snapshots) ≡ true
+  names_rule = ap are_distinct (sym (names_in x.snapshots)) ∙ one.stands.names
+
+  -- ---- the table of a root
+
+  module _ (k : ℕ) (r : Rooted) (is : IsRoot k r) where
+    abbrev blocks : Under
+    blocks = blocks_in disk pool x k
+
+    root : RootStands disk pool x k (rooted_as r)
+    root = stood k r is
+
+    told_table : IsWellTable x.now (table_told (standing_at blocks r.levels r.root))
+    told_table = root.table
+
+    same_records : records (standing_of w s r) ≡ records (standing_at blocks r.levels r.root)
+    same_records = kept_records blocks (under w s) r.levels r.root (root_agrees disk pool states x there alone base k (rooted_as r) root.trees)
+
+    -- what holds of each record holds of all that the view has
+    of_records : (p : ℕ × InodeRecord → Bool) → ((n : ℕ) (f : InodeRecord) → file_at (stored blocks greatest_word r.levels r.root) n ≡ Some f → p (n, f) ≡ true) → list_all p (records (standing_of w s r)) ≡ true
+    of_records p each = subst (λ (rs : List (ℕ × InodeRecord)). list_all p rs ≡ true) (sym same_records) (all_records x.now blocks r.levels r.root told_table p each)
+
+    names_there : are_distinct (map (λ (f : ℕ × InodeRecord). take f.1.name_length f.1.name) (records (standing_of w s r))) ≡ true
+    names_there = subst (λ (rs : List (ℕ × InodeRecord)). are_distinct (map (λ (f : ℕ × InodeRecord). take f.1.name_length f.1.name) rs) ≡ true) (sym same_records) (names_apart x.now blocks r.levels r.root told_table)
+
+    levels_there : (are_levels 0 r.levels r.root.stamp && list_all (λ (f : ℕ × InodeRecord). are_levels f.1.reserve f.1.levels f.1.root.stamp) (records (standing_of w s r))) ≡ true
+    levels_there = and_from (are_levels 0 r.levels r.root.stamp) _ (inode_levels x.now blocks r.levels r.root told_table)
+        (of_records (λ f. are_levels f.1.reserve f.1.levels f.1.root.stamp) (λ n f found. file_levels x.now blocks r.levels r.root told_table n f found))
+
+    -- a cell of a file lies below its length
+    cell_there : (n : ℕ) (f : InodeRecord) → file_at (stored blocks greatest_word r.levels r.root) n ≡ Some f → (e : Item) → IsRuled w s h (led k r) e → (not (is_cell_of n e) || nat_lt e.place f.length) ≡ true
+    cell_there n f found e known = by (is_cell_of n e) refl
+      where
+        below : (a b : ℕ) → a < b → nat_lt a b ≡ true
+        below a b low = grind (arith, nat_tests, low)
+
+        meant : (a b : ℕ) → (a == b) ≡ true → a ≡ b
+        meant a b e = grind (arith, nat_tests, e)
+
+        lies : (a : Option ℕ) → owner_number a ≡ n → e.pointer ≡ led k r a 0 e.place → e.place < f.length
+        lies None same at = let few = told_table.numbers n _ (file_there x.now blocks r.levels r.root told_table n f found) in absurd (omega (arith, few, same))
+        lies (Some m) same at =
+            let p : Pointer = pointer_at (stored blocks n f.levels f.root) 0 e.place in
+            let is : e.pointer ≡ p = at ∙ ap (λ (i : ℕ). led k r (Some i) 0 e.place) same ∙ ap (λ (o : Option InodeRecord). option_map_or (λ (f : InodeRecord). pointer_at (stored blocks n f.levels f.root) 0 e.place) o hole) found in
+            let some : p.stamp ≢ 0 = subst (λ (q : Pointer). q.stamp ≢ 0) is known.some in
+            cell_below x.now blocks r.levels r.root told_table n f found e.place some ((root.trees.files n f found).held 0 e.place some)
+
+        by : (b : Bool) → is_cell_of n e ≡ b → (not b || nat_lt e.place f.length) ≡ true
+        by false isnt = refl
+        by true is =
+            let parts = and_parts (e.owner == n) (e.level == 0) is in
+            below e.place f.length (lies known.from (sym known.owner ∙ meant e.owner n parts.0) (known.stands ∙ ap (λ (l : ℕ). led k r known.from l e.place) (meant e.level 0 parts.1)))
+
+    cells_there : list_all (λ (f : ℕ × InodeRecord). list_all (λ (e : Reached). not (is_cell_of f.0 e.item) || nat_lt e.item.place f.1.length) (map (reached_at w s) (items (standing_of w s r)))) (records (standing_of w s r)) ≡ true
+    cells_there = of_records (λ f. list_all (λ (e : Reached). not (is_cell_of f.0 e.item) || nat_lt e.item.place f.1.length) (map (reached_at w s) (items (standing_of w s r))))
+        (λ n f found. list_all-map (λ (e : Reached). not (is_cell_of n e.item) || nat_lt e.item.place f.length) (reached_at w s) (items (standing_of w s r))
+        ∙ (ruled k r is).each (λ e. not (is_cell_of n e) || nat_lt e.place f.length) (cell_there n f found))
+
+    reserves_there : list_all (λ (f : ℕ × InodeRecord). f.1.reserve == 0) (records (standing_of w s r)) ≡ true
+    unfolding file_told
+    reserves_there = of_records (λ f. f.1.reserve == 0) (λ n f found.
+        let none : f.reserve ≡ 0 = root.reserves n _ (file_there x.now blocks r.levels r.root told_table n f found) in
+        grind (arith, nat_tests, none))
+
+  -- ---- the rules on its tables
+
+  pub files_rule : list_all (λ (r : Root). are_distinct (map (λ (f : ℕ × InodeRecord). take f.1.name_length f.1.name) r.files)) (volume_seen w s h).roots ≡ true
+  unfolding root_seen
+  files_rule = of_roots w s h led ruled (λ (r : Root). are_distinct (map (λ (f : ℕ × InodeRecord). take f.1.name_length f.1.name) r.files)) names_there
+
+  pub levels_rule : list_all (λ (r : Root). are_levels 0 r.rooted.levels r.rooted.root.stamp && list_all (λ (f : ℕ × InodeRecord). are_levels f.1.reserve f.1.levels f.1.root.stamp) r.files) (volume_seen w s h).roots ≡ true
+  unfolding root_seen
+  levels_rule = of_roots w s h led ruled (λ (r : Root). are_levels 0 r.rooted.levels r.rooted.root.stamp && list_all (λ (f : ℕ × InodeRecord). are_levels f.1.reserve f.1.levels f.1.root.stamp) r.files) levels_there
+
+  pub cells_rule : list_all (λ (r : Root). list_all (λ (f : ℕ × InodeRecord). list_all (λ (e : Reached). not (is_cell_of f.0 e.item) || nat_lt e.item.place f.1.length) r.reached) r.files) (volume_seen w s h).roots ≡ true
+  unfolding root_seen
+  cells_rule = of_roots w s h led ruled (λ (r : Root). list_all (λ (f : ℕ × InodeRecord). list_all (λ (e : Reached). not (is_cell_of f.0 e.item) || nat_lt e.item.place f.1.length) r.reached) r.files) cells_there
+
+  pub reserve_rule : list_all (λ (r : Root). list_all (λ (f : ℕ × InodeRecord). f.1.reserve == 0) r.files) (volume_seen w s h).roots ≡ true
+  unfolding root_seen
+  reserve_rule = of_roots w s h led ruled (λ (r : Root). list_all (λ (f : ℕ × InodeRecord). f.1.reserve == 0) r.files) reserves_there
+
+  -- the volume that the view tells
+  table_is : active_in w no_trees s ≡ table_at w s h.active
+  table_is = ap (λ (o : Option Head). option_map_or (λ h. table_at w s h.active) o empty_table) here
+
+  volume_is : volume_told w s h ≡ volume_for disk pool x
+  volume_is = ap (volume_with w s h) (sym table_is) ∙ standing_volume disk pool states x there alone base one.stands no_files
+
+  pub wide_rule : nat_le (h.most + (set.len (base_ids (volume_told w s h).base) + 256)) h.span ≡ true
+  wide_rule =
+      let nothing : set.len (base_ids (volume_told w s h).base) ≡ 0 = ap (λ (v : Volume). set.len (base_ids v.base)) volume_is ∙ set.len-empty id_cmp in
+      let wide = one.wide in
+      at_most (h.most + (set.len (base_ids (volume_told w s h).base) + 256)) h.span (omega (arith, nothing, wide))
+
+  pub size_rule : nat_le (use_of (volume_told w s h)) h.size ≡ true
+  size_rule =
+      let same : use_of (volume_told w s h) ≡ use_of (volume_for disk pool x) = ap use_of volume_is in
+      let charged = one.stands.ledger.charged in
+      let needed = one.stands.ledger.needed in
+      let nothing = one.ready.booked.need in
+      let fits = one.within in
+      at_most (use_of (volume_told w s h)) h.size (omega (arith, same, charged, needed, nothing, fits))
+
+  pub footing_rule : comes_to_end (seen w) 64 x.slot ≡ true
+  unfolding comes_to_end volume_seen
+  footing_rule = ap (λ (o : Option Footing). option_map_or (λ b. comes_to_end (seen w) 63 b.parent) o true)
+      (ap (λ (o : Option VolumeSeen). option_and_then (λ y. y.head.base) o) (seen_at w x.slot h inside here) ∙ base)
+
+  -- the view tells its table
+  pub table_seen : active_in w no_trees s ≡ table_for disk pool x
+  table_seen = standing_table disk pool states x there alone base one.stands no_files
+
+  -- which has the numbers of its files in memory,
+  pub numbers_seen : AreNumbersSeen w s (Some x)
+  numbers_seen = subst (AreNumbersIf x.numbers) (sym table_seen) one.stands.numbers
+
+  -- and it as it is,
+  pub state_is : IsState w no_trees s x
+  state_is = standing_state disk pool states x there alone base one.stands no_files one.ready.labelled
+
+  -- with what it reaches,
+  pub reach_is : ReachesAll w s x
+  reach_is = standing_reach disk pool states x there alone base one.stands no_files one.led
+
+  -- and with its name
+  pub named_is : named_held disk pool (Some x) ≡ named_with w (active_at w) s (Some h)
+  named_is =
+      let volume : volume_with w s h (active_at w s) ≡ volume_for disk pool x = ap (volume_with w s h) table_is ∙ volume_is in
+      ap (λ (v : Volume). (x.name, v) ∷ []) (sym volume)
+
+-- ---- a volume that a sound view tells
+
+module _ (pool : Pool) (states : States) (i : Image) (long : length states ≡ 64) (tables : AreTables (seen (view_over pool states i))) (s : ℕ) (x : VolumeState) (there : state_at states s ≡ Some x) (state : IsState (view_over pool states i) no_trees s x) where
+  abbrev seen_by : View
+  seen_by = view_over pool states i
+
+  abbrev head : Head
+  head = head_in x
+
+  small : s < 64
+  small = is_inside states s x long there
+
+  stands : seen_by.head s ≡ Some head
+  stands = head_there pool states i s x there
+
+  -- its span is wide enough for all that it may grow to
+  seen_wide : x.most + 256 ≤ x.span
+  unfolding has_wide_spans volume_seen
+  seen_wide = by (set.len (base_ids (volume_told seen_by s head).base))
+      (of_volume seen_by (λ s y. nat_le (y.head.most + (set.len (base_ids y.volume.base) + 256)) y.head.span) s head tables.spans small stands)
+    where
+      by : (n : ℕ) → nat_le (x.most + (n + 256)) x.span ≡ true → x.most + 256 ≤ x.span
+      by n test = let enough = at_least (x.most + (n + 256)) x.span test in omega (arith, enough)
+
+  -- and it uses at most its size
+  seen_within : x.ledger.charge ≤ x.size
+  unfolding has_use_in_size volume_seen
+  seen_within =
+      let fits = at_least (use_of (volume_told seen_by s head)) x.size (of_volume seen_by (λ s y. nat_le (use_of y.volume) y.head.size) s head tables.sizes small stands) in
+      let table : active_in seen_by no_trees s ≡ table_at seen_by s head.active = ap (λ (o : Option Head). option_map_or (λ h. table_at seen_by s h.active) o empty_table) stands in
+      let charged : x.ledger.charge ≡ charge (volume_told seen_by s head) = state.ledger.charged ∙ ap (λ (t : Table). charge (volume_with seen_by s head t)) table in
+      omega (arith, fits, charged)
+
+  -- So it is what it is between points, where calls can be made on it and it stands for one of the machine.
+  seen_held : (disk : Shown) → IsReady disk pool x → IsStanding disk pool x → IsLedTo disk pool x → IsStoredWell disk pool x → IsHeldIn disk pool s x
+  seen_held disk ready stood leads stored_so = record { slot = state.labelled.slot_is; ready = ready; stands = stood; led = leads; well = stored_so; wide = seen_wide; within = seen_within }
+
+-- ---- all that a sound view tells
+
+module _ (pool : Pool) (states : States) (i : Image) (long : length states ≡ 64) (tables : AreTables (seen (view_over pool states i))) (are : AreStates (view_over pool states i) no_trees states) where
+  -- so is each of them,
+  pub each_held : (disk : Shown) (s : ℕ) → IfSome (state_at states s) (IsReady disk pool) → IfSome (state_at states s) (IsStanding disk pool) → IfSome (state_at states s) (IsLedTo disk pool) → IfSome (state_at states s) (IsStoredWell disk pool)
+      → IfSome (state_at states s) (IsHeldIn disk pool s)
+  each_held disk s = by (state_at states s) refl
+    where
+      by : (o : Option VolumeState) → state_at states s ≡ o → IfSome o (IsReady disk pool) → IfSome o (IsStanding disk pool) → IfSome o (IsLedTo disk pool) → IfSome o (IsStoredWell disk pool) → IfSome o (IsHeldIn disk pool s)
+      by None there a b c d = tt
+      by (Some x) there a b c d = seen_held pool states i long tables s x there (subst (λ (o : Option VolumeState). IfSome o (IsState (view_over pool states i) no_trees s)) there (are.each s)) disk a b c d
+
+  -- and what they commit fits
+  pub commits_fit : sum_of states ≤ capacity pool.found.blocks
+  unfolding has_commits_in_capacity seen view_over
+  commits_fit =
+      let fits = at_least (commits_seen (seen (view_over pool states i))) (capacity pool.found.blocks) tables.commits in
+      let same = commits_in_view pool states i long are in
+      omega (arith, fits, same)

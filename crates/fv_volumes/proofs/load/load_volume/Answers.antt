@@ -1,0 +1,104 @@
+use Rattle.std.proofs.Common.{rules, ◌≡◌, ℕ, ap, ◌∙◌, get_or, refl, sym, subst}
+use Rattle.std.specs.Prelude.{IsTrue}
+use Rattle.fv_disk.specs.Shown.{Image}
+use Rattle.fv_image.specs.Views.{entry_count}
+use Rattle.fv_image.specs.Held.{view_at}
+use Rattle.fv_root.specs.Finding.{root_found}
+use Rattle.fv_disk.proofs.Resting.{reads_then}
+use Rattle.fv_volmap.specs.Slots.{Volume, stored_count}
+use Rattle.fv_container.specs.Clean.{IsCleanOn}
+use Rattle.fv_container.specs.Spelled.{IsFault, Spelled}
+use Rattle.fv_volume.specs.Loading.{HaveBits, IsBadMap, IsLoadFault}
+use Rattle.fv_volume.specs.SlotReads.{HaveRead}
+use Rattle.fv_volumes.proofs.Labelled.{bad_label, bad_map, bad_tree, handed, is_label, loaded_none, loaded_some}
+use Rattle.fv_volume.proofs.Loaded.{few_snaps, labelled_from, slots_loaded}
+use Rattle.fv_volumes.proofs.SlotReads.{bits_read}
+use Rattle.fv_volumes.proofs.Stepping.{has_container}
+use Rattle.fv_volumes.proofs.load.load_volume.Goals as goal
+
+pub returns-then-place-eq0-clause-loaded : goal.returns-then-place-eq0-clause-loaded
+returns-then-place-eq0-clause-loaded g c = λ tells empty.
+    loaded_none c.args.found.now (g.D.Disk.shown c.args.disk.now).reads c.args.slot c.requires.slot _ c.if-place-eq0.true empty
+
+pub returns-in_err-label-clause-fault : goal.returns-in_err-label-clause-fault
+returns-in_err-label-clause-fault g c = λ tells.
+    let found = c.args.found.now in
+    let i = (g.D.Disk.shown c.args.disk.now).reads in
+    let e = c.in_err-label.field-0.0 in
+    handed (IsLoadFault i found) e c.from_residual.result c.from_residual.ensures.1
+    (bad_label found i c.args.slot c.requires.slot (get_or found.root.labels c.args.slot 0) e refl c.if-place-eq0.false (c.in_err-label.ensures.fault tells))
+
+pub returns-in_err-container-clause-fault : goal.returns-in_err-container-clause-fault
+returns-in_err-container-clause-fault g c = λ tells.
+    let found = c.args.found.now in
+    let i = (g.D.Disk.shown c.args.disk.now).reads in
+    let l = c.in_ok-label.label in
+    let e = c.in_err-container.field-0.0 in
+    let first = c.read_label.ensures.only_reads.stays in
+    let told = subst IsTrue (sym first.tells) tells in
+    let lies = is_label found i c.args.slot c.requires.slot (get_or found.root.labels c.args.slot 0) l refl c.if-place-eq0.false (c.in_ok-label.ensures.label tells) in
+    handed (IsLoadFault i found) e c.from_residual-in_err-container.result c.from_residual-in_err-container.ensures.1
+    (bad_tree found i c.args.slot c.requires.slot l e lies (subst (λ (j : Image). IsFault j l.container l.height (entry_count l.span) e) first.reads (c.in_err-container.ensures.fault told)))
+
+pub returns-in_err-map-clause-fault : goal.returns-in_err-map-clause-fault
+returns-in_err-map-clause-fault g c = λ tells.
+    let found = c.args.found.now in
+    let i = (g.D.Disk.shown c.args.disk.now).reads in
+    let l = c.in_ok-label.label in
+    let e = c.in_err-map.field-0.0 in
+    let map = c.in_ok-container.container in
+    let first = c.read_label.ensures.only_reads.stays in
+    let second = c.read_container.ensures.only_reads.stays in
+    let told = subst IsTrue (sym first.tells) tells in
+    let lies = is_label found i c.args.slot c.requires.slot (get_or found.root.labels c.args.slot 0) l refl c.if-place-eq0.false (c.in_ok-label.ensures.label tells) in
+    let spelled = subst (λ (j : Image). Spelled j l.container l.height map) first.reads (c.in_ok-container.ensures.spelled told) in
+    handed (IsLoadFault i found) e c.from_residual-in_err-map.result c.from_residual-in_err-map.ensures.1
+    (bad_map found i c.args.slot c.requires.slot l map c.in_ok-snapshots.snapshots e lies spelled c.in_ok-container.ensures.size c.in_ok-container.ensures.valid c.in_ok-snapshots.ensures.said
+    (subst (λ (j : Image). IsBadMap j map l.span c.in_ok-snapshots.snapshots e) (second.reads ∙ first.reads) (c.in_err-map.ensures.fault (subst IsTrue (sym second.tells) told))))
+
+pub returns-clause-loaded : goal.returns-clause-loaded
+returns-clause-loaded g c = λ tells empty.
+    let found = c.args.found.now in
+    let i = (g.D.Disk.shown c.args.disk.now).reads in
+    let l = c.in_ok-label.label in
+    let map = c.in_ok-container.container in
+    let first = c.read_label.ensures.only_reads.stays in
+    let told = subst IsTrue (sym first.tells) tells in
+    let lies = is_label found i c.args.slot c.requires.slot (get_or found.root.labels c.args.slot 0) l refl c.if-place-eq0.false (c.in_ok-label.ensures.label tells) in
+    let spelled = subst (λ (j : Image). Spelled j l.container l.height map) first.reads (c.in_ok-container.ensures.spelled told) in
+    let clean = subst (λ (j : Image). IsCleanOn j map) first.reads (c.in_ok-container.ensures.clean told) in
+    let y = c.of_label-state.result in
+    let second = c.read_container.ensures.only_reads.stays in
+    let span : y.span ≡ l.span = c.of_label-state.ensures.span in
+    let m = c.in_ok-map.map in
+    let read = subst (λ (j : Image). HaveRead j map l.span stored_count m) (second.reads ∙ first.reads) (c.in_ok-map.ensures.read (subst IsTrue (sym second.tells) told)) in
+    let bits = bits_read found i c.args.slot l map lies spelled c.in_ok-container.ensures.size c.in_ok-container.ensures.valid m l.span c.in_ok-snapshots.snapshots c.in_ok-map.ensures.used read in
+    let same : y.map ≡ m = c.of_label-state.ensures.laid.map in
+    loaded_some found i c.args.slot c.requires.slot l y map _ lies c.of_label-state.ensures.head c.of_label-state.ensures.laid.label c.put.ensures.there spelled clean c.in_ok-container.ensures.size c.in_ok-container.ensures.valid
+    (subst (λ (n : ℕ). HaveBits (view_at (root_found found) i) c.args.slot n y.map) (sym span) (subst (HaveBits (view_at (root_found found) i) c.args.slot l.span) (sym same) bits))
+    c.of_label-state.ensures.laid.changed
+
+pub of_label-state-requires-clause-few : goal.of_label-state-requires-clause-few
+of_label-state-requires-clause-few g c = few_snaps c.in_ok-label.label c.in_ok-snapshots.snapshots c.of_records.ensures.long c.in_ok-snapshots.ensures.said
+
+pub returns-clause-filled : goal.returns-clause-filled
+returns-clause-filled g c =
+    let l = c.in_ok-label.label in
+    let y = c.of_label-state.result in
+    let m = c.in_ok-map.map in
+    let same : y.map ≡ m = c.of_label-state.ensures.laid.map in
+    let long = c.of_records.ensures.long in
+    let slots = slots_loaded l y c.in_ok-snapshots.snapshots m long c.in_ok-snapshots.ensures.said c.of_label-state.ensures.head same c.in_ok-map.ensures.used in
+    record {
+      state = labelled_from l c.in_ok-label.ensures.range long c.in_ok-label.ensures.form y c.args.slot c.of_label-state.ensures.laid.slot c.of_label-state.ensures.head c.of_label-state.ensures.ledger c.of_label-state.ensures.named (ap (λ (x : Volume). x.span) same ∙ c.in_ok-map.ensures.map ∙ sym c.of_label-state.ensures.span) slots c.of_label-state.ensures.rests.fresh;
+      counted = c.of_label-state.ensures.counted;
+      housed = has_container l y c.in_ok-container.container _ c.of_label-state.ensures.head c.in_ok-container.ensures.size c.put.ensures.there;
+      parent = search rules;
+    }
+
+pub returns-clause-only_reads : goal.returns-clause-only_reads
+returns-clause-only_reads g c =
+    let old = g.D.Disk.shown c.args.disk.now in
+    let one = g.D.Disk.shown c.read_label.new.disk in
+    let two = g.D.Disk.shown c.read_container.new.disk in
+    reads_then old two (g.D.Disk.shown c.read_map.new.disk) (reads_then old one two c.read_label.ensures.only_reads c.read_container.ensures.only_reads) c.read_map.ensures.only_reads

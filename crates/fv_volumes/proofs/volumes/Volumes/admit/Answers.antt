@@ -1,0 +1,49 @@
+use Rattle.std.proofs.Common.{◌≡◌, ◌∙◌, ℕ, length, sym, ap, subst}
+use Rattle.std.specs.Prelude.{IfOk, IfErr, Result, Ok, Err}
+use Rattle.fv_model.specs.declared.answers.Refusal.{Refusal}
+use Rattle.fv_volumes.specs.declared.admit.Admitted.{Admitted}
+use Rattle.fv_volumes.specs.Creating.{Admits, Refuses}
+use Rattle.fv_volume.specs.Slots.{HaveSpans}
+use Rattle.fv_volume.specs.States.{States}
+use Rattle.fv_volumes.proofs.Made.{accepted, have_spans, refused_as, room_beside}
+use Rattle.fv_volumes.proofs.volumes.Volumes.admit.Goals as goal
+
+pub admit-requires-clause-spans : goal.admit-requires-clause-spans
+admit-requires-clause-spans c = subst HaveSpans (sym (c.deref.ensures.value ∙ c.self.view_is)) (have_spans c.args.self.now c.requires.each)
+
+ok_of : (P Q : Admitted → Type 0) (result : Result Admitted Refusal) → ((a : Admitted) → P a → Q a) → IfOk result P → IfOk result Q
+ok_of P Q (Ok a) so holds = so a holds
+ok_of P Q (Err r) so holds = tt
+
+err_of : (P Q : Refusal → Type 0) (result : Result Admitted Refusal) → ((r : Refusal) → P r → Q r) → IfErr result P → IfErr result Q
+err_of P Q (Ok a) so holds = tt
+err_of P Q (Err r) so holds = so r holds
+
+pub returns-clause-accepted : goal.returns-clause-accepted
+returns-clause-accepted c =
+    let states : States = c.args.self.now in
+    let long : length states ≡ 64 = ap (λ (s : States). length s) (sym c.self.view_is) ∙ c.self.invariant in
+    let admitted : IfOk c.admit.result (λ (a : Admitted). Admits states c.args.blocks c.args.name.now c.args.size c.args.kind a.slot a.span) =
+    subst (λ (s : States). IfOk c.admit.result (λ (a : Admitted). Admits s c.args.blocks c.args.name.now c.args.size c.args.kind a.slot a.span)) (c.deref.ensures.value ∙ c.self.view_is) c.admit.ensures.admitted in
+    ok_of (λ (a : Admitted). Admits states c.args.blocks c.args.name.now c.args.size c.args.kind a.slot a.span) _ c.admit.result
+    (λ a is pool trees same i are. accepted pool states trees i long are c.args.name.now c.args.size c.args.kind a.slot a.span
+    (subst (λ (n : ℕ). Admits states n c.args.name.now c.args.size c.args.kind a.slot a.span) (sym same) is)) admitted
+
+pub returns-clause-room : goal.returns-clause-room
+returns-clause-room c =
+    let states : States = c.args.self.now in
+    let long : length states ≡ 64 = ap (λ (s : States). length s) (sym c.self.view_is) ∙ c.self.invariant in
+    let admitted : IfOk c.admit.result (λ (a : Admitted). Admits states c.args.blocks c.args.name.now c.args.size c.args.kind a.slot a.span) =
+    subst (λ (s : States). IfOk c.admit.result (λ (a : Admitted). Admits s c.args.blocks c.args.name.now c.args.size c.args.kind a.slot a.span)) (c.deref.ensures.value ∙ c.self.view_is) c.admit.ensures.admitted in
+    ok_of (λ (a : Admitted). Admits states c.args.blocks c.args.name.now c.args.size c.args.kind a.slot a.span) _ c.admit.result
+    (λ a is pool trees same i are. room_beside pool states trees i long are c.args.name.now c.args.size c.args.kind a.slot a.span c.args.blocks is) admitted
+
+pub returns-clause-refused : goal.returns-clause-refused
+returns-clause-refused c =
+    let states : States = c.args.self.now in
+    let long : length states ≡ 64 = ap (λ (s : States). length s) (sym c.self.view_is) ∙ c.self.invariant in
+    let refused : IfErr c.admit.result (Refuses states c.args.blocks c.args.name.now c.args.size c.args.kind) =
+    subst (λ (s : States). IfErr c.admit.result (Refuses s c.args.blocks c.args.name.now c.args.size c.args.kind)) (c.deref.ensures.value ∙ c.self.view_is) c.admit.ensures.refused in
+    err_of (Refuses states c.args.blocks c.args.name.now c.args.size c.args.kind) _ c.admit.result
+    (λ r by pool trees same i are. refused_as pool states trees i long are c.args.name.now c.args.size c.args.kind r
+    (subst (λ (n : ℕ). Refuses states n c.args.name.now c.args.size c.args.kind r) (sym same) by)) refused

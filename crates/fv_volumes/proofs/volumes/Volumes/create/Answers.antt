@@ -1,0 +1,59 @@
+use Rattle.std.specs.Prelude.{IfSome}
+use Rattle.std.proofs.Common.{◌≡◌, ◌∙◌, ℕ, length, Some, refl, sym, ap, subst, arith}
+use Rattle.fv_model.specs.declared.commands.Command.TheVariants.{VolCreate}
+use Rattle.fv_model.specs.Refusals.{next}
+use Rattle.fv_container.specs.Mapped.{empty_map}
+use Rattle.fv_volumes.specs.Creating.{Admits}
+use Rattle.fv_volume.specs.declared.pool.Pool.{Pool}
+use Rattle.fv_volume.specs.Files.{AreStates, IsLabelled}
+use Rattle.fv_volume.specs.States.{States, state_at, view_over}
+use Rattle.fv_volume.specs.Trees.{machine_in}
+use Rattle.fv_volumes.proofs.Made.{IsAdded, accepted, added_by, added_states, is_new, each_made, made_next}
+use Rattle.fv_volumes.proofs.volumes.Volumes.create.Goals as goal
+
+pub returns-clause-states : goal.returns-clause-states
+returns-clause-states c = λ trees i are. added_states c.args.pool.now c.self.inside.states.items c.args.admitted.slot c.args.name.now c.args.size c.args.kind c.in_ok-state.state new_pool is_added trees i
+    (subst (λ (s : States). AreStates (view_over c.args.pool.now s i) trees s) (sym c.self.view_is) are)
+  where
+    new_pool : Pool
+    new_pool = record c.args.pool.now { containers = c.put.new.self }
+
+    is_added : IsAdded c.args.pool.now c.self.inside.states.items c.args.admitted.slot c.args.name.now c.args.size c.args.kind c.in_ok-state.state new_pool
+    is_added = added_by c.args.pool.now c.self.inside.states.items c.args.admitted.slot c.args.name.now c.args.size c.args.kind c.args.admitted.span c.in_ok-state.state new_pool _ c.self.invariant
+        (subst (λ (s : States). Admits s c.args.pool.now.found.blocks c.args.name.now c.args.size c.args.kind c.args.admitted.slot c.args.admitted.span) (sym c.self.view_is) c.requires.admitted)
+        c.in_ok-state.ensures.slot c.in_ok-state.ensures.head c.in_ok-state.ensures.ledger c.in_ok-state.ensures.named c.in_ok-state.ensures.map c.in_ok-state.ensures.rests.fresh refl refl c.put.ensures.put
+
+pub returns-clause-accepted : goal.returns-clause-accepted
+returns-clause-accepted c = λ trees i are.
+    let states : States = c.args.self.now in
+    let long : length states ≡ 64 = ap (λ (s : States). length s) (sym c.self.view_is) ∙ c.self.invariant in
+    accepted c.args.pool.now states trees i long are c.args.name.now c.args.size c.args.kind c.args.admitted.slot c.args.admitted.span c.requires.admitted
+
+pub returns-clause-machine : goal.returns-clause-machine
+returns-clause-machine c = λ trees i are. made_next c.args.pool.now c.self.inside.states.items c.args.admitted.slot c.args.name.now c.args.size c.args.kind c.in_ok-state.state new_pool is_added trees i
+    (subst (λ (s : States). AreStates (view_over c.args.pool.now s i) trees s) (sym c.self.view_is) are)
+    ∙ ap (λ (s : States). next (machine_in c.args.pool.now s trees i) (VolCreate c.args.name.now c.args.size c.args.kind)) c.self.view_is
+  where
+    new_pool : Pool
+    new_pool = record c.args.pool.now { containers = c.put.new.self }
+
+    is_added : IsAdded c.args.pool.now c.self.inside.states.items c.args.admitted.slot c.args.name.now c.args.size c.args.kind c.in_ok-state.state new_pool
+    is_added = added_by c.args.pool.now c.self.inside.states.items c.args.admitted.slot c.args.name.now c.args.size c.args.kind c.args.admitted.span c.in_ok-state.state new_pool _ c.self.invariant
+        (subst (λ (s : States). Admits s c.args.pool.now.found.blocks c.args.name.now c.args.size c.args.kind c.args.admitted.slot c.args.admitted.span) (sym c.self.view_is) c.requires.admitted)
+        c.in_ok-state.ensures.slot c.in_ok-state.ensures.head c.in_ok-state.ensures.ledger c.in_ok-state.ensures.named c.in_ok-state.ensures.map c.in_ok-state.ensures.rests.fresh refl refl c.put.ensures.put
+
+pub returns-clause-new : goal.returns-clause-new
+returns-clause-new c =
+    let items : States = c.self.inside.states.items in
+    let is : Admits items c.args.pool.now.found.blocks c.args.name.now c.args.size c.args.kind c.args.admitted.slot c.args.admitted.span =
+    subst (λ (s : States). Admits s c.args.pool.now.found.blocks c.args.name.now c.args.size c.args.kind c.args.admitted.slot c.args.admitted.span) (sym c.self.view_is) c.requires.admitted in
+    is_new items c.args.admitted.slot c.in_ok-state.state _ c.args.name.now c.args.size c.args.kind c.args.admitted.span (omega (arith, is.free.within, c.self.invariant)) is.span_is c.in_ok-state.ensures.head c.in_ok-state.ensures.map c.in_ok-state.ensures.ledger c.in_ok-state.ensures.label c.in_ok-state.ensures.changed c.in_ok-state.ensures.rests.files c.in_ok-state.ensures.rests.numbers
+    (c.put.ensures.there ∙ ap Some (c.in_ok-container.ensures.empty ∙ ap empty_map c.entry_count.ensures.value))
+
+pub returns-clause-each : goal.returns-clause-each
+returns-clause-each c =
+    let items : States = c.self.inside.states.items in
+    let each : (s : ℕ) → IfSome (state_at items s) (IsLabelled s) = subst (λ (xs : States). (s : ℕ) → IfSome (state_at xs s) (IsLabelled s)) (sym c.self.view_is) c.requires.each in
+    let is : Admits items c.args.pool.now.found.blocks c.args.name.now c.args.size c.args.kind c.args.admitted.slot c.args.admitted.span =
+    subst (λ (s : States). Admits s c.args.pool.now.found.blocks c.args.name.now c.args.size c.args.kind c.args.admitted.slot c.args.admitted.span) (sym c.self.view_is) c.requires.admitted in
+    each_made items c.args.admitted.slot c.args.name.now c.args.size c.args.kind c.args.admitted.span c.args.pool.now.found.blocks c.in_ok-state.state c.self.invariant each is c.in_ok-state.ensures.slot c.in_ok-state.ensures.head c.in_ok-state.ensures.ledger c.in_ok-state.ensures.named c.in_ok-state.ensures.map c.in_ok-state.ensures.rests.fresh

@@ -1,0 +1,5 @@
+pub mod Rows
+pub mod Creating
+pub mod Housed
+pub mod UnderRoot
+pub mod Destroying

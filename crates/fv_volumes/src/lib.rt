@@ -1,0 +1,17 @@
+//! The volumes of an aggregate by slot: reading them from their root, making, finding and removing them, what they commit together, and
+//! writing the stored form of one. `fv_volume` has what one volume is.
+#![tactic(auto)]
+
+mod admit;
+mod destroying;
+mod giving;
+mod load;
+mod promising;
+mod search;
+mod taking;
+mod volumes;
+mod write;
+
+pub use admit::Admitted;
+pub use volumes::Volumes;
+pub use write::write_volume;

@@ -1,0 +1,313 @@
+//! Reading the volumes of a root: labels, containers and maps.
+
+ghost use Rattle.std.specs.Prelude.{◌≡◌, ◌<◌, ◌≤◌, ◌+◌, ◌*◌, length, replicate, None, Some, IfOk, IfErr, OnOk, OnErr, IsTrue, get_or, ◌++◌, ◌∷◌, []};
+ghost use Rattle.fv_bits.specs.Bits.{block_bits};
+ghost use Rattle.fv_codec.specs.Blocks.{IsLabel, label_at};
+ghost use Rattle.fv_container.specs.Chains.{container_at, no_containers, parent_at, slot_count, with_container, with_parent};
+ghost use Rattle.fv_container.specs.Mapped.{IsMapped};
+ghost use Rattle.fv_container.specs.Clean.{IsCleanOn};
+ghost use Rattle.fv_container.specs.Spelled.{Spelled, IsFault};
+ghost use Rattle.fv_disk.specs.DiskCalls.{OnlyReads};
+ghost use Rattle.fv_disk.specs.Faults.{HasBlockCause};
+ghost use Rattle.fv_image.specs.Views.{entry_count, head_of};
+ghost use Rattle.fv_model.specs.Numbers.{greatest_span};
+ghost use Rattle.fv_model.specs.Space.{map_blocks};
+ghost use Rattle.fv_store.specs.Held.{StandsOn};
+ghost use Rattle.fv_volmap.specs.Slots.{IsVolume, Loads, slot_count as map_slot_count, stored_count};
+ghost use Rattle.fv_volume.specs.Loading.{IsBadLabel, IsBadMap, IsBadSlot, IsFilled, IsLoadFault, IsLoaded, KeptTo, KeepsOthers, LoadedTo, form_in};
+ghost use Rattle.fv_volume.specs.SlotReads.{AreUsedTo, HasReadSlot, HaveRead, IsReadable, IsSnapSlot, TakesSlot};
+ghost use Rattle.fv_volume.specs.States.{head_in, state_at};
+
+use fv_codec::Label;
+use fv_container::{Container, Containers};
+use fv_disk::{Block, BlockFault, Disk, ZERO};
+use fv_model::map_blocks;
+use fv_root::Found;
+use fv_store::Store;
+use fv_volmap::VolMap;
+use fv_volume::{Snapshots, VolumeState, entry_count, map_vvbn, read_label};
+use std::alloc::{AllocError, Global};
+
+/// Takes zeros as block `index` of the map of a slot. The one error is want of memory.
+fn take_zeros(map: &mut VolMap, slot: u8, index: u32) -> Result<(), AllocError>
+    requires slot { slot < map_slot_count }
+    requires within { block_bits * index < map.old.span }
+    ensures taken { OnOk result (Loads map.old slot index (replicate 4096 0) map.new) }
+    ensures valid { IsVolume map.new }
+{
+    map.load_slot(slot, index, &ZERO)?;
+    Ok(())
+}
+
+/// Takes block `index` of the map of a slot; a hole is taken as a block of zeros.
+fn read_map_block<D: Disk>(
+    store: &mut Store,
+    disk: &mut D,
+    container: &Container,
+    map: &mut VolMap,
+    span: u32,
+    slot: u8,
+    index: u32,
+) -> Result<(), BlockFault>
+    requires stands { StandsOn (D.shown disk.old) store.old.pairs }
+    requires spans { IsReadable container.now span }
+    requires map { map.old.span ≡ span }
+    requires slot { slot < stored_count }
+    requires within { index < map_blocks span }
+    ensures takes { OnOk result (TakesSlot map.old slot 1 map.new) }
+    ensures read { IsTrue (D.shown disk.old).tells → HasReadSlot (D.shown disk.old).reads container.now span slot index map.old
+        → OnOk result (HasReadSlot (D.shown disk.old).reads container.now span slot (index + 1) map.new) }
+    ensures fault { IsTrue (D.shown disk.old).tells → IfErr result (IsBadSlot (D.shown disk.old).reads container.now span slot) }
+    ensures only_reads { OnlyReads (D.shown disk.old) (D.shown disk.new) }
+    ensures stands { StandsOn (D.shown disk.new) store.new.pairs }
+    ensures cause { HasBlockCause (D.shown disk.old).faults (D.shown disk.new).faults result }
+{
+    let Some(entry) = container.entry_at(map_vvbn(span, slot, index)) else {
+        take_zeros(map, slot, index)?;
+        return Ok(());
+    };
+    let mut block = ZERO;
+    store.get(disk, entry.pvbn, &mut block)?;
+    match map.load_slot(slot, index, &block)? {
+        None => Ok(()),
+        Some(number) => Err(BlockFault::Damaged {
+            at: u64::from(entry.pvbn),
+            want: u64::from(span) - 1,
+            found: u64::from(number),
+        }),
+    }
+}
+
+/// Takes all blocks of the map of a slot.
+fn read_slot<D: Disk>(
+    store: &mut Store,
+    disk: &mut D,
+    container: &Container,
+    map: &mut VolMap,
+    span: u32,
+    slot: u8,
+) -> Result<(), BlockFault>
+    requires stands { StandsOn (D.shown disk.old) store.old.pairs }
+    requires spans { IsReadable container.now span }
+    requires map { map.old.span ≡ span }
+    requires slot { slot < stored_count }
+    ensures takes { OnOk result (TakesSlot map.old slot (map_blocks span) map.new) }
+    ensures read { IsTrue (D.shown disk.old).tells → HasReadSlot (D.shown disk.old).reads container.now span slot 0 map.old
+        → OnOk result (HasReadSlot (D.shown disk.old).reads container.now span slot (map_blocks span) map.new) }
+    ensures fault { IsTrue (D.shown disk.old).tells → IfErr result (IsBadSlot (D.shown disk.old).reads container.now span slot) }
+    ensures only_reads { OnlyReads (D.shown disk.old) (D.shown disk.new) }
+    ensures stands { StandsOn (D.shown disk.new) store.new.pairs }
+    ensures cause { HasBlockCause (D.shown disk.old).faults (D.shown disk.new).faults result }
+{
+    for index in 0..map_blocks(span) {
+        read_map_block(store, disk, container, map, span, slot, index)?;
+    }
+    Ok(())
+}
+
+/// Takes the map of a slot, if it is a snapshot's.
+fn read_next_slot<D: Disk>(
+    store: &mut Store,
+    disk: &mut D,
+    container: &Container,
+    snapshots: &Snapshots,
+    map: &mut VolMap,
+    span: u32,
+    slot: u8,
+) -> Result<(), BlockFault>
+    requires stands { StandsOn (D.shown disk.old) store.old.pairs }
+    requires spans { IsReadable container.now span }
+    requires map { map.old.span ≡ span }
+    requires slot { IsSnapSlot slot }
+    requires used { AreUsedTo snapshots.now slot map.old }
+    ensures map { OnOk result (map.new.span ≡ span) }
+    ensures used { OnOk result (AreUsedTo snapshots.now (slot + 1) map.new) }
+    ensures read { IsTrue (D.shown disk.old).tells → HaveRead (D.shown disk.old).reads container.now span slot map.old
+        → OnOk result (HaveRead (D.shown disk.old).reads container.now span (slot + 1) map.new) }
+    ensures fault { IsTrue (D.shown disk.old).tells → IfErr result (IsBadMap (D.shown disk.old).reads container.now span snapshots.now) }
+    ensures only_reads { OnlyReads (D.shown disk.old) (D.shown disk.new) }
+    ensures stands { StandsOn (D.shown disk.new) store.new.pairs }
+    ensures cause { HasBlockCause (D.shown disk.old).faults (D.shown disk.new).faults result }
+{
+    if !snapshots.has_slot(slot) {
+        return Ok(());
+    }
+    read_slot(store, disk, container, map, span, slot)
+}
+
+/// Reads the maps of a volume with this span: that of the active table, and that of each of its snapshots.
+fn read_map<D: Disk>(
+    alloc: Global,
+    store: &mut Store,
+    disk: &mut D,
+    container: &Container,
+    snapshots: &Snapshots,
+    span: u32,
+) -> Result<VolMap, BlockFault>
+    requires stands { StandsOn (D.shown disk.old) store.old.pairs }
+    requires span { span ≤ greatest_span }
+    requires least { 1 ≤ span }
+    requires entries { length container.now.entries ≡ entry_count span }
+    ensures map { IfOk result (λ map. map.span ≡ span) }
+    ensures used { IfOk result (AreUsedTo snapshots.now stored_count) }
+    ensures read { IsTrue (D.shown disk.old).tells → IfOk result (HaveRead (D.shown disk.old).reads container.now span stored_count) }
+    ensures fault { IsTrue (D.shown disk.old).tells → IfErr result (IsBadMap (D.shown disk.old).reads container.now span snapshots.now) }
+    ensures only_reads { OnlyReads (D.shown disk.old) (D.shown disk.new) }
+    ensures stands { StandsOn (D.shown disk.new) store.new.pairs }
+    ensures cause { HasBlockCause (D.shown disk.old).faults (D.shown disk.new).faults result }
+{
+    let mut map = VolMap::new(alloc, span)?;
+    read_slot(store, disk, container, &mut map, span, 0)?;
+    for slot in 1..25 {
+        read_next_slot(store, disk, container, snapshots, &mut map, span, slot)?;
+    }
+    Ok(map)
+}
+
+/// Reads the container that a label names.
+fn read_container<D: Disk>(
+    alloc: Global,
+    store: &mut Store,
+    disk: &mut D,
+    label: &Label,
+) -> Result<Container, BlockFault>
+    requires stands { StandsOn (D.shown disk.old) store.old.pairs }
+    requires range { IsLabel label.now }
+    ensures spelled { IsTrue (D.shown disk.old).tells → IfOk result (Spelled (D.shown disk.old).reads label.entry.now.container label.entry.now.height) }
+    ensures clean { IsTrue (D.shown disk.old).tells → IfOk result (IsCleanOn (D.shown disk.old).reads) }
+    ensures size { IfOk result (λ container. length container.entries ≡ entry_count label.entry.now.span) }
+    ensures valid { IfOk result IsMapped }
+    ensures fault { IsTrue (D.shown disk.old).tells → IfErr result (IsFault (D.shown disk.old).reads label.entry.now.container label.entry.now.height (entry_count label.entry.now.span)) }
+    ensures only_reads { OnlyReads (D.shown disk.old) (D.shown disk.new) }
+    ensures stands { StandsOn (D.shown disk.new) store.new.pairs }
+    ensures cause { HasBlockCause (D.shown disk.old).faults (D.shown disk.new).faults result }
+{
+    Container::at(
+        alloc,
+        store,
+        disk,
+        entry_count(label.span),
+        label.height,
+        label.container,
+    )
+}
+
+/// Reads the volume of a slot below 64, if it has one, and puts its container into that slot, with the slot
+/// of its parent.
+#[tactic(auto, using(fv_disk::proofs::Resting::reads_then))]
+fn load_volume<D: Disk>(
+    alloc: Global,
+    store: &mut Store,
+    disk: &mut D,
+    found: &Found,
+    containers: &mut Containers,
+    slot: u8,
+) -> Result<Option<VolumeState>, BlockFault>
+    requires stands { StandsOn (D.shown disk.old) store.old.pairs }
+    requires slot { slot < slot_count }
+    requires few { length containers.old.containers ≡ slot_count }
+    requires parent { parent_at containers.old slot ≡ None }
+    ensures leaves { KeepsOthers slot containers.old containers.new }
+    ensures loaded { IsTrue (D.shown disk.old).tells → container_at containers.old slot ≡ None
+        → IfOk result (λ state. IsLoaded (D.shown disk.old).reads found.now slot state (container_at containers.new slot)) }
+    ensures filled { IfOk result (IsFilled slot containers.new) }
+    ensures fault { IsTrue (D.shown disk.old).tells → IfErr result (IsLoadFault (D.shown disk.old).reads found.now) }
+    ensures only_reads { OnlyReads (D.shown disk.old) (D.shown disk.new) }
+    ensures stands { StandsOn (D.shown disk.new) store.new.pairs }
+    ensures cause { HasBlockCause (D.shown disk.old).faults (D.shown disk.new).faults result }
+{
+    let place = found.root.labels[slot as usize];
+    if place == 0 {
+        return Ok(None);
+    }
+    let label = read_label(store, disk, place)?;
+    let container = read_container(alloc, store, disk, &label)?;
+    let snapshots = Snapshots::of_records(alloc, &label.snapshots)?;
+    let map = read_map(alloc, store, disk, &container, &snapshots, label.span)?;
+    containers.put(slot, container, None);
+    let state = VolumeState::of_label(slot, place, &label, snapshots, map);
+    Ok(Some(state))
+}
+
+/// Reads the volume of the next slot.
+fn load_next<D: Disk>(
+    alloc: Global,
+    store: &mut Store,
+    disk: &mut D,
+    found: &Found,
+    containers: &mut Containers,
+    states: &mut Vec<Option<VolumeState>>,
+    slot: u8,
+) -> Result<(), BlockFault>
+    requires stands { StandsOn (D.shown disk.old) store.old.pairs }
+    requires slot { slot < slot_count }
+    requires kept { KeptTo slot states.old.items containers.old }
+    ensures kept { OnOk result (KeptTo (slot + 1) states.new.items containers.new) }
+    ensures loaded { IsTrue (D.shown disk.old).tells → LoadedTo (D.shown disk.old).reads found.now slot states.old.items containers.old
+        → OnOk result (LoadedTo (D.shown disk.old).reads found.now (slot + 1) states.new.items containers.new) }
+    ensures fault { IsTrue (D.shown disk.old).tells → IfErr result (IsLoadFault (D.shown disk.old).reads found.now) }
+    ensures only_reads { OnlyReads (D.shown disk.old) (D.shown disk.new) }
+    ensures stands { StandsOn (D.shown disk.new) store.new.pairs }
+    ensures cause { HasBlockCause (D.shown disk.old).faults (D.shown disk.new).faults result }
+{
+    let state = load_volume(alloc, store, disk, found, containers, slot)?;
+    add(states, state)?;
+    Ok(())
+}
+
+/// Adds a slot; where no memory is found the slots stay.
+fn add(states: &mut Vec<Option<VolumeState>>, state: Option<VolumeState>) -> Result<(), AllocError>
+    ensures added { OnOk result (states.new.items ≡ states.old.items ++ state ∷ []) }
+    ensures failed { OnErr result (states.new.items ≡ states.old.items) }
+{
+    match states.push(state) {
+        Ok(()) => Ok(()),
+        Err(fault) => Err(AllocError::from(fault)),
+    }
+}
+
+/// Reads the volumes of all slots.
+fn load_volumes<D: Disk>(
+    alloc: Global,
+    store: &mut Store,
+    disk: &mut D,
+    found: &Found,
+    containers: &mut Containers,
+    states: &mut Vec<Option<VolumeState>>,
+) -> Result<(), BlockFault>
+    requires stands { StandsOn (D.shown disk.old) store.old.pairs }
+    requires kept { KeptTo 0 states.old.items containers.old }
+    ensures kept { OnOk result (KeptTo slot_count states.new.items containers.new) }
+    ensures loaded { IsTrue (D.shown disk.old).tells → OnOk result (LoadedTo (D.shown disk.old).reads found.now slot_count states.new.items containers.new) }
+    ensures fault { IsTrue (D.shown disk.old).tells → IfErr result (IsLoadFault (D.shown disk.old).reads found.now) }
+    ensures only_reads { OnlyReads (D.shown disk.old) (D.shown disk.new) }
+    ensures stands { StandsOn (D.shown disk.new) store.new.pairs }
+    ensures cause { HasBlockCause (D.shown disk.old).faults (D.shown disk.new).faults result }
+{
+    for slot in 0..64 {
+        load_next(alloc, store, disk, found, containers, states, slot)?;
+    }
+    Ok(())
+}
+
+/// Reads the volumes of all slots, and puts their containers into the slots of `containers`, which has none.
+pub(crate) fn load_states<D: Disk>(
+    alloc: Global,
+    store: &mut Store,
+    disk: &mut D,
+    found: &Found,
+    containers: &mut Containers,
+) -> Result<Vec<Option<VolumeState>>, BlockFault>
+    requires stands { StandsOn (D.shown disk.old) store.old.pairs }
+    requires none { containers.old ≡ no_containers }
+    ensures kept { IfOk result (λ states. KeptTo slot_count states.items containers.new) }
+    ensures loaded { IsTrue (D.shown disk.old).tells → IfOk result (λ states. LoadedTo (D.shown disk.old).reads found.now slot_count states.items containers.new) }
+    ensures fault { IsTrue (D.shown disk.old).tells → IfErr result (IsLoadFault (D.shown disk.old).reads found.now) }
+    ensures only_reads { OnlyReads (D.shown disk.old) (D.shown disk.new) }
+    ensures stands { StandsOn (D.shown disk.new) store.new.pairs }
+    ensures cause { HasBlockCause (D.shown disk.old).faults (D.shown disk.new).faults result }
+{
+    let mut states = Vec::new(alloc);
+    load_volumes(alloc, store, disk, found, containers, &mut states)?;
+    Ok(states)
+}
