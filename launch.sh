@@ -1,32 +1,56 @@
-# Sourced by ./flexvol and ./reference, which set `top` and define `meaning STATUS` for what only they end with:
-# `launch NAME WORDS` runs the program NAME, and ends with its status.
+# shellcheck shell=bash disable=SC2034,SC2154
+# Sourced by ./flexvol, ./reference, ./prove and ./install, which set `top` and `name`, their own name. Who runs a program sets
+# `takes_script`, to 1 where it reads standard input.
 #
-# A program that is built and newer than the crates that it is made of is run at once; `rt ci` leaves it so.
-# Otherwise it is proved and built first, and standard error tells how far that is. With UNPROVED=1 before
-# the command it is compiled and run with no proof, which takes half a minute or more each time.
-# The program prints no text about its status; the launcher says on standard error in a few words what a
-# status other than 0 means. Standard input and output are the program's own.
+# A program that is built, and no older than what it is made of, is run as it stands: ./prove and `rt ci` leave it so.
+# Otherwise `rt try` compiles it and runs it with no proof, anew for each command, and one line on standard error says so.
+# The programs print no text about a status; here standard error says in a few words what one other than 0 means.
+# Standard input and output are the program's own.
 
+# The launcher's own statuses; no program ends with one of them.
 launch_failed=70
+file_in_use=75
+
+# An unproved run ends after so many seconds, and takes so many bytes of a script.
+most_seconds=3600
+most_script=67108864
 
 complain() { # WORDS: says them on standard error under the program's name
     echo "$name: $*" >&2
 }
 
-say_status() { # STATUS
+# What statuses mean that both programs have.
+meaning_of() { # STATUS
     case $1 in
-        0) ;;
-        3) complain "standard input failed" ;;
-        4) complain "standard output failed" ;;
-        6) complain "memory ran out" ;;
-        12) complain "the command line can't be read" ;;
-        *) complain "$(meaning "$1")" ;;
+        3) echo "standard input failed" ;;
+        4) echo "standard output failed" ;;
+        6) echo "memory ran out" ;;
+        12) echo "the command line can't be read: a word of it is no UTF-8" ;;
+        *) echo "ended with status $1" ;;
     esac
 }
 
+# Whether all words are UTF-8. Without iconv the program itself finds out.
+are_text() { # WORDS
+    command -v iconv >/dev/null || return 0
+    printf '%s\0' "$@" | iconv -f UTF-8 -t UTF-8 >/dev/null 2>&1
+}
+
+# Whether a word names the blocks of an aggregate: 1 to 20 decimal digits, from 512 to 1048576.
+is_blocks() { # WORD
+    local LC_ALL=C digits
+    [[ $1 =~ ^[0-9]{1,20}$ ]] || return 1
+    digits=${1#"${1%%[!0]*}"}
+    [ ${#digits} -ge 3 ] && [ ${#digits} -le 7 ] && [ "$digits" -ge 512 ] && [ "$digits" -le 1048576 ]
+}
+
+program_of() { # NAME
+    echo "$top/crates/$1/out/$1"
+}
+
 # The crates of the repository that a program is made of, its own among them, one a line.
-crates_below() {
-    awk -F: -v start="$name" '
+crates_below() { # NAME
+    awk -F: -v start="$1" '
         /^[a-z]/ { split($1, head, " "); below[head[1]] = $2 }
         function visit(crate,   names, count, i) {
             if ((crate in seen) || !(crate in below)) return
@@ -38,104 +62,88 @@ crates_below() {
         END { visit(start) }' "$top/crates.txt"
 }
 
-is_built() {
+# Whether a program stands that is no older than its sources. A folder is newer once a file in it came or went.
+is_built() { # NAME
+    local program crate part places=("$top/crates.txt")
+    program=$(program_of "$1")
     [ -x "$program" ] || return 1
-    local crate folders=()
     while read -r crate; do
-        folders+=("$top/crates/$crate/src" "$top/crates/$crate/specs" "$top/crates/$crate/proofs")
-    done < <(crates_below)
-    [ -z "$(find "${folders[@]}" "$top/crates.txt" -type f -newer "$program" -print -quit 2>/dev/null)" ]
+        for part in src specs proofs; do
+            [ -d "$top/crates/$crate/$part" ] && places+=("$top/crates/$crate/$part")
+        done
+    done < <(crates_below "$1")
+    [ -z "$(find "${places[@]}" -newer "$program" -print -quit)" ]
 }
 
 need_rt() {
     if ! command -v rt >/dev/null; then
-        complain "the kit's command rt is not on the path"
-        exit $launch_failed
+        complain "the kit's command rt isn't on the path, and no proved program stands here; README.md says where the kit comes from"
+        return 1
     fi
 }
 
-# How far a build is: crates proved of how many, the crate that is worked on, minutes so far.
-progress() { # LOG CRATES SECONDS
-    awk -v name="$name" -v crates="$2" -v minutes="$(($3 / 60))" '
-        /^rt: chose --jobs/ { crate = $NF; part = "" }
-        /so far: [0-9]+ of [0-9]+ functions checked/ { part = $0; sub(/.*so far: /, "", part); sub(/ functions checked.*/, "", part) }
-        /^logic=proved/ { proved++; crate = "" }
-        END {
-            now = crate == "" ? "" : ", now " crate (part == "" ? "" : " (" part " functions)")
-            printf "%s: %d of %d crates proved%s, %d minutes so far\n", name, proved, crates, now, minutes
-        }' "$1" >&2
+# How ./prove is called from the folder that the user is in.
+prove_command() {
+    if [ "$PWD" -ef "$top" ]; then echo ./prove; else echo "$top/prove"; fi
 }
 
-build() {
-    need_rt
-    local log=$top/crates/$name/out/build.log crates started=$SECONDS said=$SECONDS
-    crates=$(crates_below | wc -l)
-    complain "not built yet: it is proved and built first, $crates crates. From nothing that takes some 55 processor minutes,"
-    complain "and longer beside other work. UNPROVED=1 before the command runs it unproved at once. The log is $log"
-    mkdir -p "${log%/*}"
-    # Run without words, a program touches nothing. The build has a group of processes of its own, so that an
-    # interrupt ends all of it.
-    set -m
-    (cd "$top/crates/$name" && exec rt run >"$log" 2>&1 </dev/null) &
-    local build=$!
-    set +m
-    trap 'kill -- -$build 2>/dev/null; exit $launch_failed' INT TERM HUP
-    while kill -0 $build 2>/dev/null; do
-        sleep 1
-        if [ $((SECONDS - said)) -ge 30 ]; then
-            said=$SECONDS
-            progress "$log" "$crates" $((SECONDS - started))
-        fi
-    done
-    trap - INT TERM HUP
-    wait $build
-    local status=$?
-    # 1 to 3 are those of `rt` itself; behind a build it ends with the program's own.
-    if [[ $status =~ ^[123]$ ]] || [ $status -ge 128 ] || [ ! -x "$program" ]; then
-        complain "the build failed: see $log"
-        exit $launch_failed
+say_unproved() { # NAME
+    local why="this machine hasn't proved it"
+    [ -x "$(program_of "$1")" ] && why="its sources have changed since it was proved"
+    complain "$why, so it is compiled and run unproved, in about a minute; $(prove_command) proves and builds it"
+}
+
+# Why an unproved run gave no answer: a limit of it, or else the last lines of its log.
+say_unanswered() { # NAME LOG
+    local proved
+    proved="; a proved program has no such limit: $(prove_command)"
+    if grep -q '^checked: no-answer: the program wrote more than 1048576 bytes' "$2"; then
+        complain "an unproved run gives at most 1 MiB of replies, and this one had more: none is shown, and it was stopped$proved"
+    elif grep -q '^checked: no-answer: the program did not end within the time limit' "$2"; then
+        complain "an unproved run has $most_seconds seconds, and this one was stopped then; its replies would have come at its end$proved"
+    else
+        tail -n 10 "$2" | cut -c 1-200 >&2
+        complain "the unproved run gave no answer; these were the last lines of rt try in crates/$1"
     fi
-    touch "$program"
-    complain "built, after $(((SECONDS - started) / 60)) minutes"
+}
+
+# Takes the script whole, before anything is run: `rt try` itself would end it at a pause of two seconds, and past 64 MiB.
+take_script() { # FILE
+    if [ "$takes_script" = 0 ]; then
+        : >"$1"
+    elif ! head -c $((most_script + 1)) >"$1"; then
+        return 3
+    elif [ "$(stat -c %s "$1")" -gt $most_script ]; then
+        complain "an unproved run takes at most 64 MiB of a script, and this one has more, so nothing was run;" \
+            "a proved program takes 4 GiB: $(prove_command)"
+        return $launch_failed
+    fi
 }
 
 # `rt try` ends with the program's status where the program ended, and says so in its last line.
-run_unproved() { # WORDS
-    need_rt
-    local log status word
-    for word in "$@"; do
-        case $word in
-            "$top/crates/$name"/*)
-                complain "with UNPROVED=1 no file below crates/$name can be named"
-                exit $launch_failed ;;
-        esac
-    done
-    complain "UNPROVED=1: it is compiled and run with no proof, which takes half a minute or more"
-    log=$(mktemp)
-    (cd "$top/crates/$name" && rt try -- "$@" 2>"$log")
+run_unproved() { # NAME WORDS
+    local own=$1 work status
+    shift
+    need_rt || return $launch_failed
+    work=$(mktemp -d) || return $launch_failed
+    # shellcheck disable=SC2064
+    trap "rm -rf '$work'" EXIT
+    say_unproved "$own"
+    take_script "$work/script" || return $?
+    (cd "$top/crates/$own" && exec rt try --seconds "$most_seconds" -- "$@" <"$work/script" 2>"$work/log")
     status=$?
-    if ! grep -q "^run=ended status=$status " "$log"; then
-        cat "$log" >&2
-        rm -f "$log"
-        complain "it did not run to its end"
-        exit $launch_failed
+    if ! grep -q "^run=ended status=$status " "$work/log"; then
+        say_unanswered "$own" "$work/log"
+        status=$launch_failed
     fi
-    rm -f "$log"
-    return $status
+    return "$status"
 }
 
-launch() { # NAME WORDS
-    name=$1
-    shift
-    program=$top/crates/$name/out/$name
-    local status
-    if [ "${UNPROVED:-}" = 1 ]; then
-        run_unproved "$@"
+# Runs a program, proved where it stands so, and answers its status.
+run_program() { # NAME WORDS
+    if is_built "$1"; then
+        "$(program_of "$1")" "${@:2}"
     else
-        is_built || build
-        "$program" "$@"
+        run_unproved "$@"
     fi
-    status=$?
-    say_status $status
-    exit $status
 }

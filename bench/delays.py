@@ -31,7 +31,7 @@ import subprocess
 import sys
 import tempfile
 
-from points import BLOCK, BLOCKS, PROGRAM, TOP
+from points import BLOCK, BLOCKS, PROGRAM, need_program
 
 COUNT = 20000
 EACH = 200  # puts for each point while a file is written
@@ -146,8 +146,9 @@ class Program:
     def create(self, name, blocks, lines):
         """An aggregate in which a script ran."""
         path = os.path.join(self.folder, name)
-        maker = self.program or os.path.join(TOP, "flexvol")
-        subprocess.run([maker, path, "create", str(blocks)], check=True, stdout=subprocess.DEVNULL)
+        if self.program is None:
+            need_program()
+        subprocess.run([self.program or PROGRAM, path, "create", str(blocks)], check=True, stdout=subprocess.DEVNULL)
         child = self.start(path)
         ask(child, lines)
         finish(child)

@@ -6,7 +6,7 @@ set -eu
 top=$(cd "$(dirname "$(readlink -f "$0")")/.." && pwd)
 program=${PROGRAM:-$top/crates/reference/out/reference}
 command -v valgrind >/dev/null || { echo "lines: valgrind is not on the path; skipped" >&2; exit 0; }
-[ -x "$program" ] || "$top/reference" 512 </dev/null >/dev/null
+[ -x "$program" ] || "$top/prove"
 
 digits=$(printf '%08192d' 0 | tr 0 7)
 

@@ -18,7 +18,7 @@ import subprocess
 import sys
 import tempfile
 
-from points import BLOCKS, PROGRAM, TOP
+from points import BLOCKS, PROGRAM, need_program
 
 SIZE = 40000
 LINES = {
@@ -112,7 +112,7 @@ def main():
     with tempfile.TemporaryDirectory() as folder:
         path = os.path.join(folder, "aggregate")
         if not os.path.exists(words.program):
-            subprocess.run([os.path.join(TOP, "flexvol"), path, "create", str(BLOCKS)], check=True, stdout=subprocess.DEVNULL)
+            need_program()
         for files in words.files:
             make(words.program, path, files)
             costs = row(by, words.program, path, files, *words.lines, folder)

@@ -18,8 +18,15 @@ BLOCKS = 65536
 BLOCK = 4096
 
 
-def fresh(path):
-    subprocess.run([os.path.join(TOP, "flexvol"), path, "create", str(BLOCKS)], check=True, stdout=subprocess.DEVNULL)
+def need_program():
+    """Proves and builds the program where none stands; the launcher would run it unproved."""
+    if not os.path.exists(PROGRAM):
+        subprocess.run([os.path.join(TOP, "prove")], check=True)
+
+
+def fresh(path, blocks=BLOCKS):
+    need_program()
+    subprocess.run([PROGRAM, path, "create", str(blocks)], check=True, stdout=subprocess.DEVNULL)
 
 
 def run(path, script, prefix=()):

@@ -13,7 +13,7 @@ import shutil
 import subprocess
 import tempfile
 
-from points import PROGRAM, TOP, calls, run
+from points import PROGRAM, calls, fresh, run
 
 BLOCKS = 262144
 EACH = 200  # puts for each `cp` while the volume is filled
@@ -22,7 +22,7 @@ TIMES = 5
 
 def make(path, count):
     """An aggregate with a volume that has a file of so many blocks."""
-    subprocess.run([os.path.join(TOP, "flexvol"), path, "create", str(BLOCKS)], check=True, stdout=subprocess.DEVNULL)
+    fresh(path, BLOCKS)
     lines = [f"vol create a {count + count // 64 + 100} none", "new a f"]
     for index in range(count):
         lines.append(f"put a f {index} {index + 1:08x}")

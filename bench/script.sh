@@ -3,6 +3,7 @@
 # lines, and 20,000 lines, which it is to answer within a minute. Bash counts in 64 bits and wraps, as the draws do.
 set -eu
 top=$(cd "$(dirname "$(readlink -f "$0")")/.." && pwd)
+[ -x "$top/crates/reference/out/reference" ] || "$top/prove"
 
 draw() { # BOUND: a number below it, in `drawn`
     state=$((state * 6364136223846793005 + 1442695040888963407))
