@@ -33,9 +33,6 @@ past_bits t i b past =
     let outside : nat_lt b (area_bits t.blocks) ≡ false = grind (arith, nat_tests) in
     rw outside refl
 
-pub read_none : (i : Image) (found : Found) (map : List Bool) → length map ≡ found.blocks → HasRead i found 0 map
-read_none i found map long = record { len = long; bits = λ b below. absurd (omega arith) }
-
 pub read_more : (i : Image) (found : Found) (old new : List Bool) (k : ℕ) (block : List ℕ) → k < area_blocks found.blocks → block ≡ i (area_place found.blocks found.slot k) → HasRead i found k old → TakesBlock old new k block → HasRead i found (k + 1) new
 read_more i found old new k block within is so_far taken = record {
   len = taken.len ∙ so_far.len;

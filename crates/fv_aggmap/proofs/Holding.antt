@@ -15,12 +15,6 @@ or_same false = refl
 pub held_left : (left right : List Bool) (b : ℕ) → is_member left b ≡ true → is_held left right b ≡ true
 held_left left right b is = rw is refl
 
-pub held_right : (left right : List Bool) (b : ℕ) → is_member right b ≡ true → is_held left right b ≡ true
-held_right left right b is = rw is (or_true (is_member left b))
-
-pub held_neither : (left right : List Bool) (b : ℕ) → is_member left b ≡ false → is_member right b ≡ false → is_held left right b ≡ false
-held_neither left right b one two = rw (one, two) refl
-
 -- each number from `from` up to `at` is held
 abbrev pub AreHeldTo : List Bool → List Bool → ℕ → ℕ → Type 0
 AreHeldTo left right from at = (k : ℕ) → from ≤ k → k < at → is_held left right k ≡ true

@@ -19,7 +19,7 @@ use Rattle.fv_image.specs.Held.{view_at}
 use Rattle.fv_image.specs.Views.{overheads}
 use Rattle.fv_root.specs.Finding.{root_found}
 use Rattle.fv_container.specs.Chains.{container_at}
-use Rattle.fv_volume.specs.declared.pool.Pool.{Pool}
+use Rattle.fv_pool.specs.declared.pool.Pool.{Pool}
 use Rattle.fv_store.specs.Held.{StandsOn}
 use Rattle.fv_volumes.specs.Creating.{Admits, IsNew, Refuses, with_holes}
 use Rattle.fv_volume.specs.States.{state_at}

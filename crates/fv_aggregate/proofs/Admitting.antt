@@ -5,7 +5,7 @@ use Rattle.std.specs.FinMap as fin
 use Rattle.std.proofs.lemmas.Bool.Decides.{nat_tests}
 use Rattle.fv_disk.specs.Shown.{Shown}
 use Rattle.fv_model.specs.declared.answers.Refusal.{Refusal}
-use Rattle.fv_model.specs.declared.answers.Refusal.TheVariants.{Syntax, NoVolume, VolumeExists, NoFile, FileExists, NoSnapshot, SnapshotExists, VolumeFull, AggregateFull, Range, TooMany, SnapshotInUse, VolumeInUse, NotClone, ParentNotClean, WrongKind}
+use Rattle.fv_model.specs.declared.answers.Refusal.TheVariants.{VolumeExists, AggregateFull, Range, TooMany}
 use Rattle.fv_model.specs.declared.commands.Command.TheVariants.{VolCreate}
 use Rattle.fv_model.specs.declared.commands.Kind.{Kind}
 use Rattle.fv_model.specs.Numbers.{is_size}
@@ -15,7 +15,7 @@ use Rattle.fv_model.specs.Space.{commits, overhead, span_of}
 use Rattle.fv_model.specs.Effects.{change_of, effect, empty_volume}
 use Rattle.fv_model.specs.Refusals.{conditions, has_all_volumes, is_aggregate_full, is_taken, refusal}
 use Rattle.fv_laws.proofs.Commits.{commits_new}
-use Rattle.fv_volume.specs.declared.pool.Pool.{Pool}
+use Rattle.fv_pool.specs.declared.pool.Pool.{Pool}
 use Rattle.fv_volume.specs.declared.state.VolumeState.{VolumeState}
 use Rattle.fv_volumes.specs.Creating.{Admits, Refuses, new_ledger_of}
 use Rattle.fv_volume.specs.OneVolume.{volume_for}
@@ -78,18 +78,7 @@ module _ (disk : Shown) (pool : Pool) (states : States) (long : length states �
   refused_held name size kind AggregateFull is =
       let full : is_aggregate_full (effect m (VolCreate name size kind)) ≡ true = grind (arith, nat_tests, after name size kind is.name_is, size_after name size kind, is.full) in
       tried name size kind ∙ (λ j. chain (not (is.size_is j)) (is_free name is.name_is j) (some_more is.slot is.free j) (full j))
-  refused_held name size kind Syntax is = absurd is
-  refused_held name size kind NoVolume is = absurd is
-  refused_held name size kind NoFile is = absurd is
-  refused_held name size kind FileExists is = absurd is
-  refused_held name size kind NoSnapshot is = absurd is
-  refused_held name size kind SnapshotExists is = absurd is
-  refused_held name size kind VolumeFull is = absurd is
-  refused_held name size kind SnapshotInUse is = absurd is
-  refused_held name size kind VolumeInUse is = absurd is
-  refused_held name size kind NotClone is = absurd is
-  refused_held name size kind ParentNotClean is = absurd is
-  refused_held name size kind WrongKind is = absurd is
+  refused_held name size kind r is = absurd is
 
   pub accepted_held : (name : List ℕ) (size : ℕ) (kind : Kind) (slot span : ℕ) → Admits states pool.found.blocks name size kind slot span → refusal m (VolCreate name size kind) ≡ None
   unfolding chain

@@ -1,5 +1,5 @@
 -- A command that is aimed at a volume, or refused before a volume is asked.
-use Rattle.std.proofs.Common.{◌≡◌, ℕ, Bool, true, false, length, List, Option, Some, None, Result, Ok, Err, inl, inr, true≢false, refl, sym, subst, ◌∙◌, ⊎_elim}
+use Rattle.std.proofs.Common.{◌≡◌, ℕ, Bool, true, false, List, Option, Some, None, Result, Ok, Err, inl, inr, true≢false, refl, sym, subst, ◌∙◌, ⊎_elim}
 use Rattle.std.specs.Prelude.{is_some, IsNone}
 use Rattle.fv_disk.specs.Shown.{IsDisk, Shown}
 use Rattle.fv_model.specs.declared.answers.Refusal.{Refusal}
@@ -7,7 +7,7 @@ use Rattle.fv_model.specs.declared.answers.Refusal.TheVariants.{NoSnapshot, NoVo
 use Rattle.fv_model.specs.declared.answers.Reply.{Reply}
 use Rattle.fv_model.specs.declared.answers.Reply.TheVariants.{Refused}
 use Rattle.fv_model.specs.declared.commands.Command.{Command}
-use Rattle.fv_model.specs.declared.commands.Command.TheVariants.{VolCreate, VolDestroy, VolResize, VolGuarantee, VolList, VolStat, New, Put, Get, Len, Cut, Remove, Ls, SnapCreate, SnapDelete, SnapRestore, SnapList, CloneCreate, SplitStart, SplitFinish, Mirror, Clean, Probe, Work, Cp}
+use Rattle.fv_model.specs.declared.commands.Command.TheVariants.{VolDestroy, VolResize, VolGuarantee, VolStat}
 use Rattle.fv_volume.specs.Slots.{NoneHasName}
 use Rattle.fv_volume.specs.States.{States}
 use Rattle.fv_cp.specs.Lent.{FitTogether}
@@ -16,7 +16,7 @@ use Rattle.fv_aggregate.specs.declared.aiming.Task.{Task}
 use Rattle.fv_aggregate.specs.declared.aiming.Task.TheVariants as task
 use Rattle.fv_aggregate.specs.declared.fault.Fault.{Fault}
 use Rattle.fv_aggregate.specs.declared.session.Session.{Session}
-use Rattle.fv_aggregate.specs.Aiming.{Aims, AimsAt, IsAimless, IsServed, Suits}
+use Rattle.fv_aggregate.specs.Aiming.{Aims, AimsAt, IsAimed, IsAimless, IsServed, Suits}
 use Rattle.fv_aggregate.specs.Applying.{HasApplied}
 use Rattle.fv_aggregate.specs.Commands.{has_range, is_built, managed_by, snapped_by}
 use Rattle.fv_aggregate.specs.Managing.{Manages}
@@ -31,6 +31,10 @@ use Rattle.fv_aggregate.proofs.Serving.{look_applied, make_applied, managed_appl
 use Rattle.fv_aggregate.proofs.SnapApplied.{snap_refused}
 use Rattle.fv_aggregate.proofs.SnapCommands.{snap_cases}
 use Rattle.fv_aggregate.proofs.SnapDone.{refused_snapped}
+
+-- what is asked suits the command
+pub suits_as : (states : States) (slot : ℕ) (t u : Task) (c : Command) → t ≡ u → (aimed : IsAimed states slot t c) → Suits u aimed.name c
+suits_as states slot t u c is aimed = subst (λ (k : Task). Suits k aimed.name c) is aimed.suits
 
 -- what is aimed by a name is aimed by the command that has it
 aims_as : (states : States) (c : Command) (name : List ℕ) (near : Bool) (t : Task) (r : Result Aim Refusal) → Suits t name c → has_range c ≡ near → AimsAt states name near t r → Aims states c r
@@ -71,27 +75,7 @@ manages_none s (VolDestroy v) served = absurd (served.not_destroy v refl)
 manages_none s (VolResize v size) served = absurd (served.not_resize v size refl)
 manages_none s (VolGuarantee v kind) served = absurd (served.not_guarantee v kind refl)
 manages_none s (VolStat v) served = absurd (served.not_stat v refl)
-manages_none s (VolCreate v size kind) served = (refl, refl)
-manages_none s VolList served = (refl, refl)
-manages_none s (New v f reserve) served = (refl, refl)
-manages_none s (Put v f i block) served = (refl, refl)
-manages_none s (Get v k f i) served = (refl, refl)
-manages_none s (Len v k f) served = (refl, refl)
-manages_none s (Cut v f length) served = (refl, refl)
-manages_none s (Remove v f) served = (refl, refl)
-manages_none s (Ls v k) served = (refl, refl)
-manages_none s (SnapCreate v k) served = (refl, refl)
-manages_none s (SnapDelete v k) served = (refl, refl)
-manages_none s (SnapRestore v k) served = (refl, refl)
-manages_none s (SnapList v) served = (refl, refl)
-manages_none s (CloneCreate x v k size kind) served = (refl, refl)
-manages_none s (SplitStart x) served = (refl, refl)
-manages_none s (SplitFinish x) served = (refl, refl)
-manages_none s (Mirror v k w size kind) served = (refl, refl)
-manages_none s (Clean v) served = (refl, refl)
-manages_none s (Probe v f i) served = (refl, refl)
-manages_none s (Work n) served = (refl, refl)
-manages_none s Cp served = (refl, refl)
+manages_none s c served = (refl, refl)
 
 no_volume_lost : ◌≡◌ {A = Result Reply Fault} (Ok (Refused NoVolume)) (Ok (Refused NoSnapshot)) → ⊥
 no_volume_lost is = cc

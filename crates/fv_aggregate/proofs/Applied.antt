@@ -1,6 +1,6 @@
 -- The commands as `apply` has them.
-use Rattle.std.proofs.Common.{◌≡◌, ◌≢◌, ◌==◌, ◌⊎◌, inl, inr, ℕ, Bool, true, false, List, Some, None, Result, Ok, Err, true≢false, refl, sym, ap, subst, ◌∙◌, arith}
-use Rattle.std.specs.Prelude.{IfOk, if◌then◌else◌}
+use Rattle.std.proofs.Common.{◌≡◌, ◌≢◌, ◌==◌, ◌||◌, ◌⊎◌, inl, inr, ℕ, Bool, true, false, List, Some, None, Result, Ok, Err, true≢false, refl, sym, ap, subst, ◌∙◌, arith}
+use Rattle.std.specs.Prelude.{IfOk, IsNone, if◌then◌else◌}
 use Rattle.std.specs.Option.{is_some}
 use Rattle.std.specs.FinMap as fin
 use Rattle.fv_disk.specs.Shown.{Shown, IsDisk}
@@ -9,17 +9,18 @@ use Rattle.fv_model.specs.declared.answers.Reply.{Reply}
 use Rattle.fv_model.specs.declared.answers.Reply.TheVariants.{Done, Names, Refused}
 use Rattle.fv_model.specs.declared.commands.Kind.{Kind}
 use Rattle.fv_model.specs.declared.commands.Command.{Command}
-use Rattle.fv_model.specs.declared.commands.Command.TheVariants.{VolCreate, VolDestroy, VolResize, VolGuarantee, VolList, VolStat, New, Put, Get, Len, Cut, Remove, Ls, SnapCreate, SnapDelete, SnapRestore, SnapList, CloneCreate, SplitStart, SplitFinish, Mirror, Clean, Probe, Work, Cp}
+use Rattle.fv_model.specs.declared.commands.Command.TheVariants.{VolCreate, VolDestroy, VolResize, VolGuarantee, VolList, VolStat, New, Put, Get, Len, Cut, Remove, Ls, SnapCreate, SnapDelete, SnapRestore, SnapList, Cp}
 use Rattle.fv_model.specs.Machines.{Machine}
 use Rattle.fv_model.specs.Effects.{change_of}
 use Rattle.fv_model.specs.Refusals.{conditions, next}
 use Rattle.fv_model.specs.Replies.{Allows, answer}
 use Rattle.fv_model.specs.Space.{overhead, span_of}
+use Rattle.fv_cp.specs.Placing.{HaveNoFiles}
 use Rattle.fv_aggregate.specs.declared.fault.Fault.{Fault}
 use Rattle.fv_aggregate.specs.declared.fault.Fault.TheVariants.{Memory}
 use Rattle.fv_aggregate.specs.declared.session.Session.{Session}
-use Rattle.fv_aggregate.specs.Calls.{Goes, GoesFor, IsNoDamage, IsPlain, KeepsAsking}
-use Rattle.fv_aggregate.specs.Commands.{Replies, RepliesBy, volume_asked, changed_by, is_built, machine_after, managed_by, reads_files, room_of, snapped_by}
+use Rattle.fv_aggregate.specs.Calls.{Goes, GoesFor, IsForWant, IsNoDamage, IsPlain, KeepsAsking}
+use Rattle.fv_aggregate.specs.Commands.{Replies, RepliesBy, volume_asked, changed_by, is_built, machine_after, managed_by, reads_files, room_by, room_with, snapped_by}
 use Rattle.fv_aggregate.specs.Standing.{StandsAfter, StandsFor}
 use Rattle.fv_aggregate.specs.Telling.{names_from}
 use Rattle.fv_aggregate.proofs.Standing.{rests_for_last, stays_for}
@@ -46,12 +47,32 @@ rests_for_fault e disk session last m after laws no_damage stands = record {
   whole = no_damage;
 }
 
+-- a fault tells nothing of the command, where it is no such one as is always answered
+pub fault_plain : {D : Type 0} (command : Command) (shown : Shown) (disk : D) (session : Session) (f : Fault) → IsForWant shown session shown session f → (IsNone session.failed → is_built command ≡ false → ⊥)
+    → (command ≡ Cp → HaveNoFiles session.volumes → f ≢ Memory) → (IsNone session.failed → (name : List ℕ) → managed_by command ≡ Some name → ⊥) → (IsNone session.failed → (name : List ℕ) → snapped_by command ≡ Some name → ⊥)
+    → (IsNone session.failed → (name : List ℕ) → command ≡ SnapList name → ⊥) → IsPlain command shown disk session shown disk session (Err f)
+fault_plain command shown disk session f damage built memory whole snap names = record {
+  refused = tt;
+  calm = λ other few. refl;
+  map = λ other stays places few. refl;
+  wanting = λ other places few same. refl;
+  damage = damage;
+  unbuilt = λ fresh none. absurd (built fresh none);
+  listed = λ list. tt;
+  untouched = λ list. (refl, refl);
+  pointed = λ cp. tt;
+  memory = memory;
+  managed = λ fresh name of. absurd (whole fresh name of);
+  snapped = λ fresh name of. absurd (snap fresh name of);
+  snapshots = λ fresh name list. absurd (names fresh name list);
+}
+
 -- ---- vol create
 
 module _ (command : Command) (name : List ℕ) (size : ℕ) (kind : Kind) (is : command ≡ VolCreate name size kind) where
-  pub create_goes : (before : Shown) (old : Session) (after : Shown) (new : Session) (result : Result Reply Fault) → Goes (overhead (span_of size 0 0)) before old after new result → Goes (room_of command) before old after new result
-  unfolding room_of
-  create_goes before old after new result goes = subst (λ (c : Command). Goes (room_of c) before old after new result) (sym is) goes
+  pub create_goes : (before : Shown) (old : Session) (after : Shown) (new : Session) (result : Result Reply Fault) → Goes (overhead (span_of size 0 0)) before old after new result → Goes (room_by old.volumes command) before old after new result
+  unfolding room_with
+  create_goes before old after new result goes = subst (λ (c : Command). Goes (room_by old.volumes c) before old after new result) (sym is) goes
 
   pub create_goes_for : (before : Shown) (last m : Machine) (after : Shown) (new : Session) (result : Result Reply Fault) → GoesFor before last m (next m (VolCreate name size kind)) after new result → GoesFor before last m (machine_after m command) after new result
   unfolding is_built machine_after
@@ -61,9 +82,9 @@ module _ (command : Command) (name : List ℕ) (size : ℕ) (kind : Kind) (is : 
   unfolding is_built
   create_replies m result allowed = subst (λ (c : Command). IfOk result (Replies m c)) (sym is) allowed
 
-  pub create_asks : (before : Shown) (old : Session) (after : Shown) (new : Session) → KeepsAsking (overhead (span_of size 0 0)) before old after new → KeepsAsking (room_of command) before old after new
-  unfolding room_of
-  create_asks before old after new asks = subst (λ (c : Command). KeepsAsking (room_of c) before old after new) (sym is) asks
+  pub create_asks : (before : Shown) (old : Session) (after : Shown) (new : Session) → KeepsAsking (overhead (span_of size 0 0)) before old after new → KeepsAsking (room_by old.volumes command) before old after new
+  unfolding room_with
+  create_asks before old after new asks = subst (λ (c : Command). KeepsAsking (room_by old.volumes c) before old after new) (sym is) asks
 
   pub create_built : (X : Type 0) → is_built command ≡ false → X
   unfolding is_built
@@ -97,9 +118,9 @@ module _ (command : Command) (name : List ℕ) (size : ℕ) (kind : Kind) (is : 
       apart : VolCreate name size kind ≡ SnapList other → ⊥
       apart e = cc
 
-  pub create_room : room_of command ≡ overhead (span_of size 0 0)
-  unfolding room_of
-  create_room = ap room_of is
+  pub create_room : (old : Session) → room_by old.volumes command ≡ overhead (span_of size 0 0)
+  unfolding room_with
+  create_room old = ap (room_by old.volumes) is
 
 -- a volume has room of its own, whatever its size
 pub some_room : (size : ℕ) → overhead (span_of size 0 0) ≡ 0 → ⊥
@@ -142,21 +163,8 @@ list_no_names X command is name names = absurd (apart (sym is ∙ names))
     apart e = cc
 
 pub list_fails : {D : Type 0} (command : Command) → command ≡ VolList → (shown : Shown) (disk : D) (session : Session) → IsPlain command shown disk session shown disk session (Err Memory)
-list_fails command is shown disk session = record {
-  refused = tt;
-  calm = λ other few. refl;
-  map = λ other stays places few. refl;
-  wanting = λ other places few same. refl;
-  damage = tt;
-  unbuilt = λ fresh none. list_built _ command is none;
-  listed = λ list. tt;
-  untouched = λ list. (refl, refl);
-  pointed = λ cp. tt;
-  memory = λ cp. list_no_point _ command is cp;
-  managed = λ fresh name of. list_no_whole _ command is name of;
-  snapped = λ fresh name of. list_no_snap _ command is name of;
-  snapshots = λ fresh name names. list_no_names _ command is name names;
-}
+list_fails command is shown disk session = fault_plain command shown disk session Memory tt (λ fresh none. list_built _ command is none) (λ cp. list_no_point _ command is cp)
+    (λ fresh name of. list_no_whole _ command is name of) (λ fresh name of. list_no_snap _ command is name of) (λ fresh name names. list_no_names _ command is name names)
 
 pub list_done : {D : Type 0} (command : Command) → command ≡ VolList → (shown : Shown) (disk : D) (session : Session) (names : List (List ℕ)) → names ≡ names_from session.volumes 0 64 → IsPlain command shown disk session shown disk session (Ok (Names names))
 list_done command is shown disk session names told = record {
@@ -200,17 +208,17 @@ pub cp_no_files : (X : Type 0) (command : Command) → command ≡ Cp → reads_
 unfolding reads_files
 cp_no_files X command is files = absurd (true≢false (sym files ∙ ap reads_files is))
 
-pub cp_goes : (command : Command) → command ≡ Cp → (before : Shown) (old : Session) (after : Shown) (new : Session) (result : Result Reply Fault) → Goes 0 before old after new result → Goes (room_of command) before old after new result
-unfolding room_of
-cp_goes command is before old after new result goes = subst (λ (c : Command). Goes (room_of c) before old after new result) (sym is) goes
+pub cp_goes : (command : Command) → command ≡ Cp → (before : Shown) (old : Session) (after : Shown) (new : Session) (result : Result Reply Fault) → Goes 0 before old after new result → Goes (room_by old.volumes command) before old after new result
+unfolding room_with
+cp_goes command is before old after new result goes = subst (λ (c : Command). Goes (room_by old.volumes c) before old after new result) (sym is) goes
 
 pub cp_goes_for : (command : Command) → command ≡ Cp → (before : Shown) (last m : Machine) (after : Shown) (new : Session) (result : Result Reply Fault) → GoesFor before last m m after new result → GoesFor before last m (machine_after m command) after new result
 unfolding is_built machine_after conditions change_of
 cp_goes_for command is before last m after new result goes = subst (λ (c : Command). GoesFor before last m (machine_after m c) after new result) (sym is) goes
 
-pub cp_asks : (command : Command) → command ≡ Cp → (before : Shown) (old : Session) (after : Shown) (new : Session) → KeepsAsking 0 before old after new → KeepsAsking (room_of command) before old after new
-unfolding room_of
-cp_asks command is before old after new asks = subst (λ (c : Command). KeepsAsking (room_of c) before old after new) (sym is) asks
+pub cp_asks : (command : Command) → command ≡ Cp → (before : Shown) (old : Session) (after : Shown) (new : Session) → KeepsAsking 0 before old after new → KeepsAsking (room_by old.volumes command) before old after new
+unfolding room_with
+cp_asks command is before old after new asks = subst (λ (c : Command). KeepsAsking (room_by old.volumes c) before old after new) (sym is) asks
 
 pub cp_replies : (command : Command) → command ≡ Cp → (m : Machine) (result : Result Reply Fault) → IfOk result (λ reply. reply ≡ Done) → IfOk result (Replies m command)
 unfolding is_built conditions answer
@@ -243,43 +251,13 @@ managed_or_unbuilt (SnapCreate v s) a b c d asked changed snaps = absurd (some_n
 managed_or_unbuilt (SnapDelete v s) a b c d asked changed snaps = absurd (some_none v snaps)
 managed_or_unbuilt (SnapRestore v s) a b c d asked changed snaps = absurd (some_none v snaps)
 managed_or_unbuilt (SnapList v) a b c d asked changed snaps = absurd (d v refl)
-managed_or_unbuilt (CloneCreate x v s size kind) a b c d asked changed snaps = inr refl
-managed_or_unbuilt (SplitStart x) a b c d asked changed snaps = inr refl
-managed_or_unbuilt (SplitFinish x) a b c d asked changed snaps = inr refl
-managed_or_unbuilt (Mirror v s w size kind) a b c d asked changed snaps = inr refl
-managed_or_unbuilt (Clean v) a b c d asked changed snaps = inr refl
-managed_or_unbuilt (Probe v f i) a b c d asked changed snaps = inr refl
-managed_or_unbuilt (Work n) a b c d asked changed snaps = inr refl
 managed_or_unbuilt Cp a b c d asked changed snaps = absurd (c refl)
+managed_or_unbuilt command a b c d asked changed snaps = inr refl
 
 -- a command that neither asks for files nor changes one reads none
 pub no_files : (command : Command) → volume_asked command ≡ None → changed_by command ≡ None → reads_files command ≡ false
 unfolding reads_files
-no_files (VolCreate v size kind) asked changed = refl
-no_files (VolDestroy v) asked changed = refl
-no_files (VolResize v size) asked changed = refl
-no_files (VolGuarantee v kind) asked changed = refl
-no_files VolList asked changed = refl
-no_files (VolStat v) asked changed = refl
-no_files (New v f reserve) asked changed = none_if (reserve == 0) v changed
-no_files (Put v f i block) asked changed = absurd (some_none v changed)
-no_files (Get v s f i) asked changed = absurd (some_none v asked)
-no_files (Len v s f) asked changed = absurd (some_none v asked)
-no_files (Cut v f length) asked changed = absurd (some_none v changed)
-no_files (Remove v f) asked changed = absurd (some_none v changed)
-no_files (Ls v s) asked changed = absurd (some_none v asked)
-no_files (SnapCreate v s) asked changed = refl
-no_files (SnapDelete v s) asked changed = refl
-no_files (SnapRestore v s) asked changed = refl
-no_files (SnapList v) asked changed = refl
-no_files (CloneCreate x v s size kind) asked changed = refl
-no_files (SplitStart x) asked changed = refl
-no_files (SplitFinish x) asked changed = refl
-no_files (Mirror v s w size kind) asked changed = refl
-no_files (Clean v) asked changed = refl
-no_files (Probe v f i) asked changed = refl
-no_files (Work n) asked changed = refl
-no_files Cp asked changed = refl
+no_files command asked changed = λ j. is_some (changed j) || is_some (asked j)
 
 pub unbuilt_after : (m : Machine) (command : Command) → is_built command ≡ false → machine_after m command ≡ m
 unfolding machine_after

@@ -5,7 +5,7 @@ use Rattle.fv_disk.specs.Shown.{Shown}
 use Rattle.fv_disk.specs.DiskCalls.{OnlyReads}
 use Rattle.fv_model.specs.declared.answers.Reply.{Reply}
 use Rattle.fv_model.specs.declared.commands.Command.{Command}
-use Rattle.fv_model.specs.declared.commands.Command.TheVariants.{VolCreate, VolDestroy, VolResize, VolGuarantee, VolList, VolStat, New, Put, Get, Len, Cut, Remove, Ls, SnapCreate, SnapDelete, SnapRestore, SnapList, CloneCreate, SplitStart, SplitFinish, Mirror, Clean, Probe, Work, Cp}
+use Rattle.fv_model.specs.declared.commands.Command.TheVariants.{Get, Len, Ls, Cp}
 use Rattle.fv_bits.specs.Members.{is_member}
 use Rattle.fv_model.specs.Machines.{Machine}
 use Rattle.fv_aggmap.specs.Space.{Space}
@@ -18,7 +18,7 @@ use Rattle.fv_aggregate.specs.declared.fault.Fault.{Fault}
 use Rattle.fv_aggregate.specs.declared.session.Session.{Session}
 use Rattle.fv_aggregate.specs.Adding.{IsPointed}
 use Rattle.fv_aggregate.specs.Calls.{Goes, GoesFor, KeepsAsking, KeepsEntries, WasRead}
-use Rattle.fv_aggregate.specs.Commands.{changed_by, changes_volume, dirty_limit, file_room, is_refusal, machine_after, room_of, volume_asked, Replies}
+use Rattle.fv_aggregate.specs.Commands.{changed_by, changes_volume, dirty_limit, file_room, is_refusal, machine_after, room_by, volume_asked, Replies}
 use Rattle.fv_aggregate.specs.Looking.{Looks, Makes}
 use Rattle.fv_aggregate.specs.Standing.{HoldsAsCommitted, IsWithoutFiles, Stands, StandsFor}
 use Rattle.fv_aggregate.proofs.Calls.{reads_itself}
@@ -74,28 +74,7 @@ unasked : (c : Command) (name : List ℕ) → changed_by c ≡ Some name → vol
 unasked (Get v s f i) name change = absurd (some_none name change)
 unasked (Len v s f) name change = absurd (some_none name change)
 unasked (Ls v s) name change = absurd (some_none name change)
-unasked (VolCreate v size kind) name change = refl
-unasked (VolDestroy v) name change = refl
-unasked (VolResize v size) name change = refl
-unasked (VolGuarantee v kind) name change = refl
-unasked VolList name change = refl
-unasked (VolStat v) name change = refl
-unasked (New v f reserve) name change = refl
-unasked (Put v f i block) name change = refl
-unasked (Cut v f length) name change = refl
-unasked (Remove v f) name change = refl
-unasked (SnapCreate v s) name change = refl
-unasked (SnapDelete v s) name change = refl
-unasked (SnapRestore v s) name change = refl
-unasked (SnapList v) name change = refl
-unasked (CloneCreate x v s size kind) name change = refl
-unasked (SplitStart x) name change = refl
-unasked (SplitFinish x) name change = refl
-unasked (Mirror v s w size kind) name change = refl
-unasked (Clean v) name change = refl
-unasked (Probe v f i) name change = refl
-unasked (Work n) name change = refl
-unasked Cp name change = refl
+unasked c name change = refl
 
 same_volume : (a b : List ℕ) → ◌≡◌ {A = Option (List ℕ)} (Some a) (Some b) → a ≡ b
 same_volume a b e = cc
@@ -103,11 +82,11 @@ same_volume a b e = cc
 -- ---- a command that asks
 
 module _ (c : Command) (name : List ℕ) (asks : volume_asked c ≡ Some name) (d : Shown) (s : Session) (e : Shown) (n : Session) (r : Result Reply Fault) (looks : Looks d s c e n r) where
-  pub look_goes : Goes (room_of c) d s e n r
-  look_goes = subst (λ (k : ℕ). Goes k d s e n r) (sym (look_room c name asks)) looks.goes
+  pub look_goes : Goes (room_by s.volumes c) d s e n r
+  look_goes = subst (λ (k : ℕ). Goes k d s e n r) (sym (look_room c name asks s.volumes)) looks.goes
 
-  pub look_asks : KeepsAsking (room_of c) d s e n
-  look_asks = subst (λ (k : ℕ). KeepsAsking k d s e n) (sym (look_room c name asks)) looks.asks
+  pub look_asks : KeepsAsking (room_by s.volumes c) d s e n
+  look_asks = subst (λ (k : ℕ). KeepsAsking k d s e n) (sym (look_room c name asks s.volumes)) looks.asks
 
   pub look_goes_for : IsTrue d.tells → (last m : Machine) → StandsFor d s last m → GoesFor d last m (machine_after m c) e n r
   look_goes_for tells last m is = subst (λ (k : Machine). GoesFor d last m k e n r) (sym (look_after c name asks m)) (looks.goes_for tells last m is)
@@ -160,10 +139,10 @@ module _ (c : Command) (name : List ℕ) (of : changed_by c ≡ Some name) (d : 
   none : ◌≡◌ {A = Option (List ℕ)} None (Some name) → ⊥
   none e = cc
 
-  pub make_goes : Goes (room_of c) d s e n r
-  make_goes = subst (λ (k : ℕ). Goes k d s e n r) (sym (change_room name c change)) makes.goes
+  pub make_goes : Goes (room_by s.volumes c) d s e n r
+  make_goes = subst (λ (k : ℕ). Goes k d s e n r) (sym (change_room name c change s.volumes)) makes.goes
 
-  pub make_asks : changes_volume c ≡ false → KeepsAsking (room_of c) d s e n
+  pub make_asks : changes_volume c ≡ false → KeepsAsking (room_by s.volumes c) d s e n
   make_asks calm = absurd (true≢false (sym (change_cases (λ (k : Command). changes_volume k ≡ true) (λ v f. refl) (λ v f i block. refl) (λ v f length. refl) (λ v f. refl) name c change) ∙ calm))
 
   pub make_goes_for : IsTrue d.tells → (last m : Machine) → StandsFor d s last m → GoesFor d last m (machine_after m c) e n r
@@ -179,13 +158,13 @@ module _ (c : Command) (name : List ℕ) (of : changed_by c ≡ Some name) (d : 
   pub make_unasked : (X : Type 0) → IsSome (volume_asked c) → X
   make_unasked X asked = absurd (none_some {A = List ℕ} None refl (subst IsSome (unasked c name of) asked))
 
-  pub make_calm : (room_of c ≡ 0) ⊎ (s.pending + room_of c ≤ dirty_limit) → OnlyReads d e
-  make_calm (inl nothing) = absurd (let some = change_room name c change in omega (arith, nothing, some))
-  make_calm (inr few) = makes.calm (let some = change_room name c change in omega (arith, few, some))
+  pub make_calm : (room_by s.volumes c ≡ 0) ⊎ (s.pending + room_by s.volumes c ≤ dirty_limit) → OnlyReads d e
+  make_calm (inl nothing) = absurd (let some = change_room name c change s.volumes in omega (arith, nothing, some))
+  make_calm (inr few) = makes.calm (let some = change_room name c change s.volumes in omega (arith, few, some))
 
-  pub make_entries : (room_of c ≡ 0) ⊎ (s.pending + room_of c ≤ dirty_limit) → KeepsEntries s n
-  make_entries (inl nothing) = absurd (let some = change_room name c change in omega (arith, nothing, some))
-  make_entries (inr few) = makes.entries (inr (let some = change_room name c change in omega (arith, few, some)))
+  pub make_entries : (room_by s.volumes c ≡ 0) ⊎ (s.pending + room_by s.volumes c ≤ dirty_limit) → KeepsEntries s n
+  make_entries (inl nothing) = absurd (let some = change_room name c change s.volumes in omega (arith, nothing, some))
+  make_entries (inr few) = makes.entries (inr (let some = change_room name c change s.volumes in omega (arith, few, some)))
 
   pub make_unchanged : (X : Type 0) → changed_by c ≡ None → X
   make_unchanged X isnt = absurd (none (sym isnt ∙ of))

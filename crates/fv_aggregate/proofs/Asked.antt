@@ -12,22 +12,23 @@ use Rattle.fv_model.specs.declared.commands.Command.{Command}
 use Rattle.fv_model.specs.declared.commands.Command.TheVariants.{Get, Len, Ls}
 use Rattle.fv_model.specs.Machines.{Machine}
 use Rattle.fv_model.specs.Refusals.{refusal}
-use Rattle.fv_laws.proofs.Changes.{same_name}
 use Rattle.fv_model.specs.Replies.{answer, is_open, Allows, AllowsBy, IsAnswer}
-use Rattle.fv_volume.specs.declared.fault.VolumeFault.{VolumeFault}
-use Rattle.fv_volume.specs.declared.fault.VolumeFault.TheVariants as volume
-use Rattle.fv_volume.specs.declared.pool.Pool.{Pool}
+use Rattle.fv_pool.specs.declared.fault.VolumeFault.{VolumeFault}
+use Rattle.fv_pool.specs.declared.fault.VolumeFault.TheVariants as volume
+use Rattle.fv_pool.specs.declared.pool.Pool.{Pool}
 use Rattle.fv_volume.specs.declared.state.VolumeState.{VolumeState}
 use Rattle.fv_volume.specs.Asking.{standing_read}
-use Rattle.fv_volume.specs.Calls.{Agrees, Asks, CallCause, CallFails, Has, Reads, TableFails}
-use Rattle.fv_volume.specs.Lending.{Lent, lent_for}
+use Rattle.fv_pool.specs.Calls.{CallCause, CallFails, Reads, TableFails}
+use Rattle.fv_volume.specs.Calls.{Agrees, Asks, Has}
+use Rattle.fv_pool.specs.Lending.{Lent, lent_for}
 use Rattle.fv_volume.specs.OneVolume.{home_in, volume_for, IsStanding}
 use Rattle.fv_volume.specs.Placing.{IsStoredWell}
 use Rattle.fv_volume.specs.Slots.{is_named, NoneHasName}
-use Rattle.fv_volume.specs.States.{States, state_at}
+use Rattle.fv_volume.specs.States.{States, state_at, with_state}
 use Rattle.fv_volume.proofs.KeptReads.{read_undamaged}
 use Rattle.fv_tables.specs.Told.{Standing}
 use Rattle.fv_cp.specs.Held.{IsHeldIn}
+use Rattle.fv_cp.specs.Lent.{FitTogether}
 use Rattle.fv_aggregate.specs.declared.fault.Fault.{Fault}
 use Rattle.fv_aggregate.specs.declared.fault.Fault.TheVariants.{DiskFault, Damaged, Memory}
 use Rattle.fv_aggregate.specs.declared.session.Session.{Session}
@@ -40,8 +41,9 @@ use Rattle.fv_aggregate.proofs.HeldMachine.{is_there, not_there, one}
 use Rattle.fv_aggregate.proofs.CallEnds.{goes_broken, goes_damaged, goes_done, goes_for_broken, goes_for_done, goes_for_fault, goes_wanting}
 use Rattle.fv_aggregate.proofs.Calls.{reads_itself}
 use Rattle.fv_aggregate.proofs.Looked.{asks_read, left, reads_alone, stands_for_read, stands_read, was_read}
-use Rattle.fv_aggregate.proofs.Missing.{asked_missing, refused_allows}
+use Rattle.fv_aggregate.proofs.Missing.{asked_closed, asked_missing, refused_allows}
 use Rattle.fv_aggregate.proofs.Numbered.{still_there}
+use Rattle.fv_aggregate.proofs.Returned.{as_told, lent_there, long_lent, named_there, put_back, same_there}
 
 -- an answer is the reply that the machine allows
 pub answer_allows : (m : Machine) (c : Command) (reply : Reply) → refusal m c ≡ None → is_open m c ≡ false → reply ≡ answer m c → Allows m c reply
@@ -204,20 +206,17 @@ module _ (d e : Shown) (laws : IsDisk d) (s : Session) (q : Pool) (c : Command) 
   mine : (last m : Machine) → StandsFor d s last m → IsHeldIn d s.pool slot x
   mine last m is = one d s.pool s.volumes long last is.held slot x there
 
-  as_is : (new : Session) (result wanted : Result Reply Fault) (was : Session) → new ≡ was → result ≡ wanted → Looks d s c e was wanted → Looks d s c e new result
-  as_is new result wanted was same is looks = subst (λ (r : Result Reply Fault). Looks d s c e new r) (sym is) (subst (λ (n : Session). Looks d s c e n wanted) (sym same) looks)
-
   pub looks_by : (r : Result Reply VolumeFault) → AsksState d s.pool x c start e q steps r → (new : Session) (result : Result Reply Fault) → Replied e r now new result → Looks d s c e new result
-  looks_by (Ok reply) asks new result is = as_is new result (Ok reply) now is.1 is.0 (looks_done d e laws s q asks.reads fresh stands c reply asks.cause
+  looks_by (Ok reply) asks new result is = as_told (Looks d s c e) new now result (Ok reply) is.1 is.0 (looks_done d e laws s q asks.reads fresh stands c reply asks.cause
       (answered_by d s long slot x there c (λ reply. reply) reply closed asks.asked))
-  looks_by (Err (volume.Refused r)) asks new result is = as_is new result (Ok (Refused r)) now is.1 is.0 (looks_done d e laws s q asks.reads fresh stands c (Refused r) asks.cause
+  looks_by (Err (volume.Refused r)) asks new result is = as_told (Looks d s c e) new now result (Ok (Refused r)) is.1 is.0 (looks_done d e laws s q asks.reads fresh stands c (Refused r) asks.cause
       (refused_by d s long slot x there c (λ reply. reply) r asks.asked))
-  looks_by (Err volume.DiskFault) asks new result b = as_is new result (Err DiskFault) (record now { failed = new.failed }) b.1.1.1.same (b.1.0 ∙ ap (λ (g : Fault). Err g) b.1.1.0)
+  looks_by (Err volume.DiskFault) asks new result b = as_told (Looks d s c e) new (record now { failed = new.failed }) result (Err DiskFault) b.1.1.1.same (b.1.0 ∙ ap (λ (g : Fault). Err g) b.1.1.0)
       (looks_broken d e laws s q asks.reads fresh stands c new.failed (rose_by _ _ _ e.faults asks.cause) b.1.1.1.written b.1.1.1.unwritten)
-  looks_by (Err (volume.Damaged at want found)) asks new result b = as_is new result (Err (Damaged at want found)) now b.1.1.1 (b.1.0 ∙ ap (λ (g : Fault). Err g) b.1.1.0)
+  looks_by (Err (volume.Damaged at want found)) asks new result b = as_told (Looks d s c e) new now result (Err (Damaged at want found)) b.1.1.1 (b.1.0 ∙ ap (λ (g : Fault). Err g) b.1.1.0)
       (looks_damaged d e laws s q asks.reads fresh stands c at want found (calm_damage _ _ _ e.faults at want found asks.cause) (damaged_at d s slot x there fresh now at want found)
       (λ tells last m is. read_undamaged d s.pool x (mine last m is).stands (mine last m is).well (snapshot_asked c) 0 e.faults at want found asks.cause))
-  looks_by (Err volume.Memory) asks new result b = as_is new result (Err Memory) now b.1.1.1 (b.1.0 ∙ ap (λ (g : Fault). Err g) b.1.1.0)
+  looks_by (Err volume.Memory) asks new result b = as_told (Looks d s c e) new now result (Err Memory) b.1.1.1 (b.1.0 ∙ ap (λ (g : Fault). Err g) b.1.1.0)
       (looks_wanting d e laws s q asks.reads fresh stands c (calm_memory _ _ _ e.faults asks.cause))
 
   -- no step was made
@@ -238,13 +237,33 @@ module _ (d e : Shown) (laws : IsDisk d) (s : Session) (q : Pool) (c : Command) 
       by (Err (volume.Damaged a w f)) is asks = fault_in (volume.Damaged a w f) is
       by (Err volume.Memory) is asks = fault_in volume.Memory is
 
+-- ---- a volume that was lent to the call
+
+module _ (d e : Shown) (laws : IsDisk d) (v s : Session) (same : v ≡ s) (fit : IsNone v.failed → FitTogether v.pool v.volumes) (fresh : IsNone s.failed) (stands : Stands d s) (c : Command) (slot : ℕ) (x : VolumeState)
+    (lent : state_at v.volumes slot ≡ Some x) (asked : IsAsked s.volumes slot c) (q : Pool) (y : VolumeState) (still : y ≡ x) (start steps : ℕ) (r : Result Reply VolumeFault) (asks : AsksState d v.pool x c start e q steps r)
+    (new : Session) (result : Result Reply Fault) (replied : Replied e r (record v { volumes = with_state v.volumes slot (Some y); pool = q }) new result) where
+  as_replied : Replied e r (record v { pool = q }) new result
+  as_replied = subst (λ (n : Session). Replied e r n new result) (λ j. record v { volumes = put_back v.volumes slot x y lent still j; pool = q }) replied
+
+  unfailed : IsNone v.failed
+  unfailed = subst (λ (n : Session). IsNone n.failed) (sym same) fresh
+
+  pub looks_lent : Looks d s c e new result
+  looks_lent = subst (λ (n : Session). Looks d n c e new result) same (looks_by d e laws v q c slot x lent start steps unfailed (subst (Stands d) (sym same) stands) (long_lent v s same fit fresh) (asked_closed c asked.state.name asked.asks) r asks new result as_replied)
+
+  pub known_lent : (last m : Machine) → StandsFor d s last m → OnOk result (steps ≡ start)
+  known_lent = subst (λ (n : Session). (last m : Machine) → StandsFor d n last m → OnOk result (steps ≡ start)) same
+      (known_by d e laws v q c slot x lent start steps unfailed (subst (Stands d) (sym same) stands) (long_lent v s same fit fresh) (asked_closed c asked.state.name asked.asks) r asks new result as_replied)
+
+-- it is asked for its files
+pub asks_lent : (v s : Session) → v ≡ s → (slot : ℕ) (x : VolumeState) → state_at v.volumes slot ≡ Some x → (c : Command) → IsAsked s.volumes slot c → volume_asked c ≡ Some x.name
+asks_lent v s same slot x lent c asked = asked.asks ∙ ap (λ (z : VolumeState). Some z.name) (same_there _ _ _ asked.there (lent_there v s same slot x lent))
+
 -- the command asks for files of the volume that its name finds
 pub asked_at : (states : States) (slot : ℕ) (name : List ℕ) (c : Command) → slot < 64 → is_named (state_at states slot) name ≡ true → volume_asked c ≡ Some name → IsAsked states slot c
-asked_at states slot name c within named asks = by (state_at states slot) refl named
-  where
-    by : (o : Option VolumeState) → state_at states slot ≡ o → is_named o name ≡ true → IsAsked states slot c
-    by None at named = absurd cc
-    by (Some x) at named = record { within = within; state = x; there = at; asks = asks ∙ ap (λ (n : List ℕ). Some n) (sym (same_name x.name name named)) }
+asked_at states slot name c within named asks =
+    let of = named_there (state_at states slot) name named in
+    record { within = within; state = of.0; there = of.1.0; asks = asks ∙ ap (λ (n : List ℕ). Some n) of.1.1 }
 
 -- a volume that isn't there is refused at once
 pub looks_missing : (d : Shown) → IsDisk d → (s : Session) → IsNone s.failed → Stands d s → length s.volumes ≡ 64 → (name : List ℕ) (c : Command) → volume_asked c ≡ Some name → has_range c ≡ true → NoneHasName s.volumes name

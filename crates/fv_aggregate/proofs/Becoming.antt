@@ -10,9 +10,9 @@ use Rattle.fv_model.specs.Volumes.{Volume}
 use Rattle.fv_model.specs.Effects.{Becomes, changed}
 use Rattle.fv_laws.proofs.Changes.{same_name}
 use Rattle.fv_laws.proofs.Orders.{name_total, name_ties}
-use Rattle.fv_volume.specs.declared.pool.Pool.{Pool}
+use Rattle.fv_pool.specs.declared.pool.Pool.{Pool}
 use Rattle.fv_volume.specs.declared.state.VolumeState.{VolumeState}
-use Rattle.fv_volume.specs.Calls.{Reads}
+use Rattle.fv_pool.specs.Calls.{Reads}
 use Rattle.fv_volume.specs.OneVolume.{volume_for}
 use Rattle.fv_volume.specs.States.{States, state_at, with_state}
 use Rattle.fv_volume.proofs.OneVolumes.{still_volume}
@@ -41,6 +41,12 @@ module _ (d e : Shown) (p q : Pool) (reads : Reads d p e q) (states : States) (l
   abbrev stay : States
   stay = with_state states s (Some y)
 
+  stay_long : length stay ≡ 64
+  stay_long = length-set states s (Some y) ∙ long
+
+  here : state_at stay s ≡ Some y
+  here = get_or-set_same states s (Some y) None (let low = is_inside states s x long there in omega (arith, low, long))
+
   abbrev was : Machine
   was = machine_held d p states
 
@@ -49,12 +55,6 @@ module _ (d e : Shown) (p q : Pool) (reads : Reads d p e q) (states : States) (l
 
   abbrev volume : Volume
   volume = volume_for e q y
-
-  stay_long : length stay ≡ 64
-  stay_long = length-set states s (Some y) ∙ long
-
-  here : state_at stay s ≡ Some y
-  here = get_or-set_same states s (Some y) None (let low = is_inside states s x long there in omega (arith, low, long))
 
   same_meant : named_from (λ k v. volume_for e q v) 0 stay ≡ named_from (λ k v. volume_for d p v) 0 stay
   same_meant = same_named (λ k v. volume_for d p v) (λ k v. volume_for e q v) stay 0 (λ k v at. still_volume d e p q reads v)

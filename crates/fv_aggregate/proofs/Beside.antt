@@ -34,16 +34,17 @@ use Rattle.fv_container.specs.Spelled.{is_at, names}
 use Rattle.fv_container.specs.Chains.{container_at, own_entry, parent_at}
 use Rattle.fv_store.specs.Held.{StandsOn}
 use Rattle.fv_volmap.specs.Slots.{Volume as MapSlots, active_of}
-use Rattle.fv_volume.specs.declared.pool.Pool.{Pool}
+use Rattle.fv_pool.specs.declared.pool.Pool.{Pool}
 use Rattle.fv_volume.specs.declared.state.VolumeState.{VolumeState}
-use Rattle.fv_volume.specs.BlocksOver.{entries_in}
+use Rattle.fv_pool.specs.BlocksOver.{entries_in}
 use Rattle.fv_volumes.specs.Creating.{Admits, IsMade, IsNew, new_ledger_of, with_holes}
 use Rattle.fv_volume.specs.Files.{AreNamed, IsLabelled, IsOneMap}
 use Rattle.fv_volume.proofs.MapSlots.{one_empty}
 use Rattle.fv_volume.proofs.StayingMaps.{moves_alone}
 use Rattle.fv_volumes.specs.Housed.{AreHoused}
 use Rattle.fv_volume.specs.OneVolume.{shows, volume_for, IsReady}
-use Rattle.fv_volume.specs.Placing.{AreLedBy, IsLedTo}
+use Rattle.fv_pool.specs.Tables.{AreLedBy}
+use Rattle.fv_volume.specs.Placing.{IsLedTo}
 use Rattle.fv_volume.specs.Slots.{committed_by, is_named, sum_of, IsFirstFree}
 use Rattle.fv_volume.specs.States.{States, empty_head, head_in, parent_in, state_at, with_state}
 use Rattle.fv_volume.specs.Stored.{AreSpacedIn, has_block, has_stored_map, is_of, leads, place_in}

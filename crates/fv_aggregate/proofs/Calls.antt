@@ -3,8 +3,8 @@ use Rattle.std.proofs.Common.{◌≡◌, ◌≤◌, ℕ, Option, Some, Result, O
 use Rattle.std.specs.Prelude.{IsNone}
 use Rattle.fv_disk.specs.Shown.{Shown}
 use Rattle.fv_disk.specs.DiskCalls.{OnlyReads}
-use Rattle.fv_disk.proofs.Resting.{stays_itself}
 use Rattle.fv_model.specs.Machines.{Machine}
+use Rattle.fv_volumes.proofs.Staying.{only_itself}
 use Rattle.fv_aggregate.specs.declared.fault.Fault.{Fault}
 use Rattle.fv_aggregate.specs.declared.fault.Fault.TheVariants.{DiskFault, Damaged, Memory, Failed}
 use Rattle.fv_aggregate.specs.declared.session.Session.{Session}
@@ -22,14 +22,7 @@ pub same_counts : (disk : Shown) → SameCounts disk disk
 same_counts disk = record { faults = refl; write_faults = refl }
 
 pub reads_itself : (disk : Shown) → OnlyReads disk disk
-reads_itself disk = record {
-  stays = stays_itself disk;
-  time = record { later = omega arith; nothing_else = λ t c g low since. inl since; keeps = λ t c g low since. since };
-  given = refl;
-  ends = refl;
-  faults = omega arith;
-  write_faults = refl;
-}
+reads_itself disk = only_itself disk
 
 pub rests_done : {T : Type 0} (x : T) (room : ℕ) (disk : Shown) (session : Session) → IsNone session.failed → Stands disk session → Goes room disk session disk session (Ok x)
 rests_done x room disk session fresh stands = record {

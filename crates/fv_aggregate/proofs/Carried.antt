@@ -11,17 +11,17 @@ use Rattle.fv_model.specs.declared.answers.Reply.TheVariants.{Done, Refused}
 use Rattle.fv_model.specs.declared.commands.Command.{Command}
 use Rattle.fv_model.specs.Machines.{Machine}
 use Rattle.fv_model.specs.Refusals.{next, refusal}
-use Rattle.fv_laws.proofs.Changes.{same_name}
-use Rattle.fv_volume.specs.declared.fault.VolumeFault.{VolumeFault}
-use Rattle.fv_volume.specs.declared.fault.VolumeFault.TheVariants as volume
-use Rattle.fv_volume.specs.declared.pool.Pool.{Pool}
+use Rattle.fv_pool.specs.declared.fault.VolumeFault.{VolumeFault}
+use Rattle.fv_pool.specs.declared.fault.VolumeFault.TheVariants as volume
+use Rattle.fv_pool.specs.declared.pool.Pool.{Pool}
 use Rattle.fv_volume.specs.declared.state.VolumeState.{VolumeState}
 use Rattle.fv_volume.specs.Changing.{IsChangeOf}
-use Rattle.fv_volume.specs.Placing.{pending_of}
+use Rattle.fv_pool.specs.Tables.{pending_of}
 use Rattle.fv_volume.specs.Slots.{is_named, NoneHasName}
 use Rattle.fv_volume.specs.States.{States, state_at, with_state}
 use Rattle.fv_volume.proofs.Undamaged.{no_damage}
 use Rattle.fv_cp.specs.Held.{IsHeldIn}
+use Rattle.fv_cp.specs.Lent.{FitTogether}
 use Rattle.fv_aggregate.specs.declared.fault.Fault.{Fault}
 use Rattle.fv_aggregate.specs.declared.fault.Fault.TheVariants.{DiskFault, Damaged, Memory}
 use Rattle.fv_aggregate.specs.declared.session.Session.{Session}
@@ -37,6 +37,7 @@ use Rattle.fv_aggregate.proofs.Calls.{reads_itself}
 use Rattle.fv_aggregate.proofs.Changing.{change_allows, change_of_volume}
 use Rattle.fv_aggregate.proofs.HeldMachine.{not_there}
 use Rattle.fv_aggregate.proofs.Looked.{stands_for_read, stands_read, was_read}
+use Rattle.fv_aggregate.proofs.Returned.{as_told, lent_there, long_lent, named_there, put_back, same_there}
 use Rattle.fv_aggregate.proofs.Missing.{no_change, refused_allows, refused_next}
 
 -- ---- judged
@@ -48,11 +49,8 @@ module _ (d e : Shown) (laws : IsDisk d) (s : Session) (q : Pool) (c : Command) 
   its : (last m : Machine) → StandsFor d s last m → IsHeldIn d s.pool slot x
   its last m is = mine d s.pool s.volumes long last is.held slot x there
 
-  judged_as : (new : Session) (result wanted : Result Reply Fault) (was : Session) → new ≡ was → result ≡ wanted → HasJudged d s c e was wanted → HasJudged d s c e new result
-  judged_as new result wanted was same is judged = subst (λ (r : Result Reply Fault). HasJudged d s c e new r) (sym is) (subst (λ (n : Session). HasJudged d s c e n wanted) (sym same) judged)
-
   pub judged_by : (r : Result Unit VolumeFault) → JudgesState d s.pool x (beside s.volumes slot) c e q r → (new : Session) (result : Result Reply Fault) → Replied e (done_as r) now new result → HasJudged d s c e new result
-  judged_by (Ok u) did new result is = judged_as new result (Ok Done) now is.1 is.0 (record {
+  judged_by (Ok u) did new result is = as_told (HasJudged d s c e) new now result (Ok Done) is.1 is.0 (record {
     goes = goes_done d e laws s now 0 did.reads.only_reads fresh fresh (stands_read d e s q did.reads stands) Done did.cause (omega arith);
     goes_for = λ tells last m is. goes_for_done d e laws s now 0 did.reads.only_reads fresh fresh (stands_read d e s q did.reads stands) Done last m m is (stands_for_read d e s q did.reads last m is);
     judges = λ tells last m is. ap (λ (k : Machine). refusal k c) (sym is.machine) ∙ did.agrees (its last m is).stands _ (has_within d s.pool s.volumes long last is.held slot x there);
@@ -60,7 +58,7 @@ module _ (d e : Shown) (laws : IsDisk d) (s : Session) (q : Pool) (c : Command) 
     entries = kept_entries s now did.reads.leaves.containers;
     read = was_read d e s q did.reads;
   })
-  judged_by (Err (volume.Refused r)) did new result is = judged_as new result (Ok (Refused r)) now is.1 is.0 (record {
+  judged_by (Err (volume.Refused r)) did new result is = as_told (HasJudged d s c e) new now result (Ok (Refused r)) is.1 is.0 (record {
     goes = goes_done d e laws s now 0 did.reads.only_reads fresh fresh (stands_read d e s q did.reads stands) (Refused r) did.cause (omega arith);
     goes_for = λ tells last m is. goes_for_done d e laws s now 0 did.reads.only_reads fresh fresh (stands_read d e s q did.reads stands) (Refused r) last m m is (stands_for_read d e s q did.reads last m is);
     judges = λ tells last m is. ap (λ (k : Machine). refusal k c) (sym is.machine) ∙ did.agrees (its last m is).stands _ (has_within d s.pool s.volumes long last is.held slot x there);
@@ -68,7 +66,7 @@ module _ (d e : Shown) (laws : IsDisk d) (s : Session) (q : Pool) (c : Command) 
     entries = kept_entries s now did.reads.leaves.containers;
     read = was_read d e s q did.reads;
   })
-  judged_by (Err volume.DiskFault) did new result b = judged_as new result (Err DiskFault) (record now { failed = new.failed }) b.1.1.1.same (b.1.0 ∙ ap (λ (g : Fault). Err g) b.1.1.0) (record {
+  judged_by (Err volume.DiskFault) did new result b = as_told (HasJudged d s c e) new (record now { failed = new.failed }) result (Err DiskFault) b.1.1.1.same (b.1.0 ∙ ap (λ (g : Fault). Err g) b.1.1.0) (record {
     goes = goes_broken d e laws s now 0 did.reads.only_reads fresh fresh (stands_read d e s q did.reads stands) new.failed (rose_by _ _ _ e.faults did.cause) b.1.1.1.written b.1.1.1.unwritten (omega arith);
     goes_for = λ tells last m is. goes_for_broken d e laws s now 0 did.reads.only_reads fresh fresh (stands_read d e s q did.reads stands) new.failed last m m is (stands_for_read d e s q did.reads last m is);
     judges = λ tells last m is. tt;
@@ -76,7 +74,7 @@ module _ (d e : Shown) (laws : IsDisk d) (s : Session) (q : Pool) (c : Command) 
     entries = kept_entries s (record now { failed = new.failed }) did.reads.leaves.containers;
     read = tt;
   })
-  judged_by (Err (volume.Damaged at want found)) did new result b = judged_as new result (Err (Damaged at want found)) now b.1.1.1 (b.1.0 ∙ ap (λ (g : Fault). Err g) b.1.1.0) (record {
+  judged_by (Err (volume.Damaged at want found)) did new result b = as_told (HasJudged d s c e) new now result (Err (Damaged at want found)) b.1.1.1 (b.1.0 ∙ ap (λ (g : Fault). Err g) b.1.1.0) (record {
     goes = goes_damaged d e laws s now 0 did.reads.only_reads fresh fresh (stands_read d e s q did.reads stands) at want found (calm_damage _ _ _ e.faults at want found did.cause) (damaged_at d s slot x there fresh now at want found) (omega arith);
     goes_for = λ tells last m is. absurd (no_damage d s.pool x (its last m is).stands (its last m is).well 0 e.faults at want found did.cause);
     judges = λ tells last m is. tt;
@@ -84,7 +82,7 @@ module _ (d e : Shown) (laws : IsDisk d) (s : Session) (q : Pool) (c : Command) 
     entries = kept_entries s now did.reads.leaves.containers;
     read = tt;
   })
-  judged_by (Err volume.Memory) did new result b = judged_as new result (Err Memory) now b.1.1.1 (b.1.0 ∙ ap (λ (g : Fault). Err g) b.1.1.0) (record {
+  judged_by (Err volume.Memory) did new result b = as_told (HasJudged d s c e) new now result (Err Memory) b.1.1.1 (b.1.0 ∙ ap (λ (g : Fault). Err g) b.1.1.0) (record {
     goes = goes_wanting d e laws s now 0 did.reads.only_reads fresh fresh (stands_read d e s q did.reads stands) (calm_memory _ _ _ e.faults did.cause) (omega arith);
     goes_for = λ tells last m is. goes_for_fault d e laws s now 0 did.reads.only_reads fresh fresh (stands_read d e s q did.reads stands) Memory last m m tt is (stands_for_read d e s q did.reads last m is);
     judges = λ tells last m is. tt;
@@ -98,9 +96,6 @@ module _ (d e : Shown) (laws : IsDisk d) (s : Session) (q : Pool) (c : Command) 
   module _ (y : VolumeState) (more : ℕ) (more_is : more ≡ counted (pending_of x.files) (pending_of y.files)) (few : s.pending + 16 ≤ 256) (change : IsChangeOf x.name c) where
     abbrev after : Session
     after = record s { volumes = with_state s.volumes slot (Some y); pool = q; pending = s.pending + more }
-
-    makes_as : (new : Session) (result wanted : Result Reply Fault) (was : Session) → new ≡ was → result ≡ wanted → Makes file_room d s c e was wanted → Makes file_room d s c e new result
-    makes_as new result wanted was same is makes = subst (λ (r : Result Reply Fault). Makes file_room d s c e new r) (sym is) (subst (λ (n : Session). Makes file_room d s c e n wanted) (sym same) makes)
 
     few_added : s.pending + more ≤ s.pending + 16
     few_added = omega (arith, more_is)
@@ -135,7 +130,7 @@ module _ (d e : Shown) (laws : IsDisk d) (s : Session) (q : Pool) (c : Command) 
         λ j. record s { volumes = states j; pool = q; pending = nothing j }
 
     pub makes_by : (r : Result Unit VolumeFault) → ChangesState d s.pool x (beside s.volumes slot) c e q y r → (new : Session) (result : Result Reply Fault) → Replied e (done_as r) after new result → Makes file_room d s c e new result
-    makes_by (Ok u) did new result is = makes_as new result (Ok Done) after is.1 is.0 (record {
+    makes_by (Ok u) did new result is = as_told (Makes file_room d s c e) new after result (Ok Done) is.1 is.0 (record {
       goes = goes_done d e laws s after 16 did.reads.only_reads fresh fresh (stand (Ok u) did) Done did.cause few_added;
       goes_for = λ tells last m is. goes_for_done d e laws s after 16 did.reads.only_reads fresh fresh (stand (Ok u) did) Done last m (next m c) is (for_done u did last m is);
       reply = λ tells last m is. change_allows x.name c change m (is_accepted u did last m is);
@@ -143,7 +138,7 @@ module _ (d e : Shown) (laws : IsDisk d) (s : Session) (q : Pool) (c : Command) 
       calm = λ low. did.reads.only_reads;
       entries = λ low. kept_entries s after did.reads.leaves.containers;
     })
-    makes_by (Err (volume.Refused r)) did new result is = makes_as new result (Ok (Refused r)) now (is.1 ∙ as_read (did.head.refused r refl)) is.0 (record {
+    makes_by (Err (volume.Refused r)) did new result is = as_told (Makes file_room d s c e) new now result (Ok (Refused r)) (is.1 ∙ as_read (did.head.refused r refl)) is.0 (record {
       goes = goes_done d e laws s now 16 did.reads.only_reads fresh fresh (stands_read d e s q did.reads stands) (Refused r) did.cause (omega arith);
       goes_for = λ tells last m is. subst (λ (n : Machine). GoesFor d last m n e now (Ok (Refused r))) (sym (refused_next m c r (is_refused r did last m is)))
           (goes_for_done d e laws s now 16 did.reads.only_reads fresh fresh (stands_read d e s q did.reads stands) (Refused r) last m m is (stands_for_read d e s q did.reads last m is));
@@ -152,7 +147,7 @@ module _ (d e : Shown) (laws : IsDisk d) (s : Session) (q : Pool) (c : Command) 
       calm = λ low. did.reads.only_reads;
       entries = λ low. kept_entries s now did.reads.leaves.containers;
     })
-    makes_by (Err volume.DiskFault) did new result b = makes_as new result (Err DiskFault) (record after { failed = new.failed }) b.1.1.1.same (b.1.0 ∙ ap (λ (g : Fault). Err g) b.1.1.0) (record {
+    makes_by (Err volume.DiskFault) did new result b = as_told (Makes file_room d s c e) new (record after { failed = new.failed }) result (Err DiskFault) b.1.1.1.same (b.1.0 ∙ ap (λ (g : Fault). Err g) b.1.1.0) (record {
       goes = goes_broken d e laws s after 16 did.reads.only_reads fresh fresh (stand (Err volume.DiskFault) did) new.failed (rose_by _ _ _ e.faults did.cause) b.1.1.1.written b.1.1.1.unwritten few_added;
       goes_for = λ tells last m is. goes_for_broken d e laws s after 16 did.reads.only_reads fresh fresh (stand (Err volume.DiskFault) did) new.failed last m (next m c) is (for_left volume.DiskFault did last m is);
       reply = λ tells last m is. tt;
@@ -160,7 +155,7 @@ module _ (d e : Shown) (laws : IsDisk d) (s : Session) (q : Pool) (c : Command) 
       calm = λ low. did.reads.only_reads;
       entries = λ low. kept_entries s (record after { failed = new.failed }) did.reads.leaves.containers;
     })
-    makes_by (Err (volume.Damaged at want found)) did new result b = makes_as new result (Err (Damaged at want found)) after b.1.1.1 (b.1.0 ∙ ap (λ (g : Fault). Err g) b.1.1.0) (record {
+    makes_by (Err (volume.Damaged at want found)) did new result b = as_told (Makes file_room d s c e) new after result (Err (Damaged at want found)) b.1.1.1 (b.1.0 ∙ ap (λ (g : Fault). Err g) b.1.1.0) (record {
       goes = goes_damaged d e laws s after 16 did.reads.only_reads fresh fresh (stand (Err (volume.Damaged at want found)) did) at want found (calm_damage _ _ _ e.faults at want found did.cause) (damaged_at d s slot x there fresh after at want found) few_added;
       goes_for = λ tells last m is. absurd (no_damage d s.pool x (its last m is).stands (its last m is).well 0 e.faults at want found did.cause);
       reply = λ tells last m is. tt;
@@ -168,7 +163,7 @@ module _ (d e : Shown) (laws : IsDisk d) (s : Session) (q : Pool) (c : Command) 
       calm = λ low. did.reads.only_reads;
       entries = λ low. kept_entries s after did.reads.leaves.containers;
     })
-    makes_by (Err volume.Memory) did new result b = makes_as new result (Err Memory) after b.1.1.1 (b.1.0 ∙ ap (λ (g : Fault). Err g) b.1.1.0) (record {
+    makes_by (Err volume.Memory) did new result b = as_told (Makes file_room d s c e) new after result (Err Memory) b.1.1.1 (b.1.0 ∙ ap (λ (g : Fault). Err g) b.1.1.0) (record {
       goes = goes_wanting d e laws s after 16 did.reads.only_reads fresh fresh (stand (Err volume.Memory) did) (calm_memory _ _ _ e.faults did.cause) few_added;
       goes_for = λ tells last m is. goes_for_fault d e laws s after 16 did.reads.only_reads fresh fresh (stand (Err volume.Memory) did) Memory last m (next m c) tt is (for_left volume.Memory did last m is);
       reply = λ tells last m is. tt;
@@ -176,6 +171,32 @@ module _ (d e : Shown) (laws : IsDisk d) (s : Session) (q : Pool) (c : Command) 
       calm = λ low. did.reads.only_reads;
       entries = λ low. kept_entries s after did.reads.leaves.containers;
     })
+
+-- ---- a volume that was lent to the call
+
+-- the command is a change of it
+pub change_lent : (v s : Session) → v ≡ s → (slot : ℕ) (x : VolumeState) → state_at v.volumes slot ≡ Some x → (c : Command) → IsChangeAt s.volumes slot c → IsChangeOf x.name c
+change_lent v s same slot x lent c aimed = subst (λ (z : VolumeState). IsChangeOf z.name c) (same_there _ _ _ aimed.there (lent_there v s same slot x lent)) aimed.change
+
+module _ (d e : Shown) (laws : IsDisk d) (v s : Session) (same : v ≡ s) (fit : IsNone v.failed → FitTogether v.pool v.volumes) (fresh : IsNone s.failed) (stands : Stands d s) (c : Command) (slot : ℕ) (x : VolumeState)
+    (lent : state_at v.volumes slot ≡ Some x) (others : ℕ) (sum : others ≡ beside v.volumes slot) (q : Pool) (y : VolumeState) (r : Result Unit VolumeFault) (told : Result Reply VolumeFault) (is : told ≡ done_as r) (new : Session)
+    (result : Result Reply Fault) where
+  unfailed : IsNone v.failed
+  unfailed = subst (λ (n : Session). IsNone n.failed) (sym same) fresh
+
+  stand_lent : Stands d v
+  stand_lent = subst (Stands d) (sym same) stands
+
+  pub judged_lent : y ≡ x → JudgesState d v.pool x others c e q r → Replied e told (record v { volumes = with_state v.volumes slot (Some y); pool = q }) new result → HasJudged d s c e new result
+  judged_lent still did replied = subst (λ (n : Session). HasJudged d n c e new result) same
+      (judged_by d e laws v q c slot x lent (long_lent v s same fit fresh) unfailed stand_lent r (subst (λ (k : ℕ). JudgesState d v.pool x k c e q r) sum did) new result
+      (subst (λ (n : Session). Replied e (done_as r) n new result) (λ j. record v { volumes = put_back v.volumes slot x y lent still j; pool = q }) (subst (λ (t : Result Reply VolumeFault). Replied e t (record v { volumes = with_state v.volumes slot (Some y); pool = q }) new result) is replied)))
+
+  pub makes_lent : (more : ℕ) → more ≡ counted (pending_of x.files) (pending_of y.files) → s.pending + 16 ≤ 256 → IsChangeOf x.name c → ChangesState d v.pool x others c e q y r
+      → Replied e told (record v { volumes = with_state v.volumes slot (Some y); pool = q; pending = v.pending + more }) new result → Makes file_room d s c e new result
+  makes_lent more more_is few change did replied = subst (λ (n : Session). Makes file_room d n c e new result) same
+      (makes_by d e laws v q c slot x lent (long_lent v s same fit fresh) unfailed stand_lent y more more_is (subst (λ (n : Session). n.pending + 16 ≤ 256) (sym same) few) change r (subst (λ (k : ℕ). ChangesState d v.pool x k c e q y r) sum did) new result
+      (subst (λ (t : Result Reply VolumeFault). Replied e t (record v { volumes = with_state v.volumes slot (Some y); pool = q; pending = v.pending + more }) new result) is replied))
 
 -- ---- before a volume is asked
 
@@ -196,8 +217,6 @@ refused_missing d s long name c none change near last m is = no_change m name (s
 
 -- the command changes a file of the volume that its name finds
 pub aimed_at : (states : States) (slot : ℕ) (name : List ℕ) (c : Command) → slot < 64 → is_named (state_at states slot) name ≡ true → changed_by c ≡ Some name → IsChangeAt states slot c
-aimed_at states slot name c within named change = by (state_at states slot) refl named
-  where
-    by : (o : Option VolumeState) → state_at states slot ≡ o → is_named o name ≡ true → IsChangeAt states slot c
-    by None at named = absurd cc
-    by (Some x) at named = record { within = within; state = x; there = at; change = subst (λ (n : List ℕ). IsChangeOf n c) (sym (same_name x.name name named)) (change_of_volume name c change) }
+aimed_at states slot name c within named change =
+    let of = named_there (state_at states slot) name named in
+    record { within = within; state = of.0; there = of.1.0; change = subst (λ (n : List ℕ). IsChangeOf n c) of.1.1 (change_of_volume name c change) }

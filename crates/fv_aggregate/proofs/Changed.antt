@@ -1,8 +1,7 @@
 -- What volumes and a session stand for once the files of one volume were changed in memory.
-use Rattle.std.proofs.Common.{◌≡◌, ◌≢◌, ◌<◌, ◌≤◌, ◌+◌, ◌-◌, ◌^◌, ℕ, cond, length, Option, Some, None, Result, Ok, Err, sym, ap, subst, ◌∙◌, ⊎_elim, arith, length-set, get_or-set_other, get_or-set_same}
+use Rattle.std.proofs.Common.{◌≡◌, ◌<◌, ◌≤◌, ◌+◌, ◌-◌, ◌^◌, ℕ, cond, length, Option, Some, None, Result, Ok, Err, sym, ap, subst, ◌∙◌, arith}
 use Rattle.std.specs.Prelude.{IfSome, max, min}
 use Rattle.std.specs.Option.{is_some}
-use Rattle.std.proofs.lemmas.Bool.{cases_eq}
 use Rattle.std.proofs.lemmas.List.Sums.{sum_by-set}
 use Rattle.fv_disk.specs.Shown.{Shown}
 use Rattle.fv_model.specs.declared.answers.Refusal.{Refusal}
@@ -14,23 +13,21 @@ use Rattle.fv_model.specs.Refusals.{next, refusal}
 use Rattle.fv_laws.proofs.Admission.{admitted}
 use Rattle.fv_laws.proofs.Commits.{commits_put, now_there}
 use Rattle.fv_image.specs.Held.{view_at}
-use Rattle.fv_image.specs.Views.{entry_count, overheads}
+use Rattle.fv_image.specs.Views.{overheads}
 use Rattle.fv_root.specs.declared.find.Found.{Found}
 use Rattle.fv_root.specs.Finding.{root_found, IsInRange}
 use Rattle.fv_aggmap.specs.Space.{Space, blocks_of}
 use Rattle.fv_charge.specs.Ledgers.{committed}
-use Rattle.fv_container.specs.Chains.{Slots, container_at}
-use Rattle.fv_container.specs.Mapped.{Mapped}
-use Rattle.fv_volume.specs.declared.fault.VolumeFault.{VolumeFault}
-use Rattle.fv_volume.specs.declared.pool.Pool.{Pool}
+use Rattle.fv_container.specs.Chains.{Slots}
+use Rattle.fv_pool.specs.declared.fault.VolumeFault.{VolumeFault}
+use Rattle.fv_pool.specs.declared.pool.Pool.{Pool}
 use Rattle.fv_volume.specs.declared.state.VolumeState.{VolumeState}
-use Rattle.fv_volume.specs.Calls.{Changes, Has, HasWithin, Reads}
-use Rattle.fv_volume.specs.Files.{IsLabelled}
+use Rattle.fv_volume.specs.Calls.{Changes, Has, HasWithin}
+use Rattle.fv_pool.specs.Calls.{Reads}
 use Rattle.fv_volumes.specs.Housed.{AreHoused}
-use Rattle.fv_volume.specs.Keeping.{Blocks, IsUnkept}
-use Rattle.fv_volume.specs.Loading.{Houses}
+use Rattle.fv_pool.specs.Keeping.{Blocks, IsUnkept}
 use Rattle.fv_volume.specs.OneVolume.{volume_for, IsReady, IsStanding}
-use Rattle.fv_volume.specs.Placing.{pending_of}
+use Rattle.fv_pool.specs.Tables.{pending_of}
 use Rattle.fv_volume.specs.Slots.{committed_by, sum_of}
 use Rattle.fv_volume.specs.States.{States, parent_in, state_at, with_state}
 use Rattle.fv_volume.specs.Writing.{IsTaken, on_disk}
@@ -44,6 +41,7 @@ use Rattle.fv_aggregate.specs.Standing.{clear_blocks, overhead_by, overheads_in,
 use Rattle.fv_aggregate.proofs.Becoming.{machine_becomes, machine_stays}
 use Rattle.fv_aggregate.proofs.Called.{but_for_numbers, called_held, IsCalled}
 use Rattle.fv_aggregate.proofs.HeldMachine.{blocks_are, commits_are, is_admitted, is_there, one}
+use Rattle.fv_aggregate.proofs.Replaced.{each_slot, housed_as, same_sum, within}
 use Rattle.fv_aggregate.proofs.Looked.{clear_read, known_read, last_overheads, placed_read, ready_read, settled_read, stands_read}
 
 -- ---- the volumes, whatever the disk tells
@@ -53,50 +51,17 @@ module _ (d e : Shown) (p q : Pool) (states : States) (s : ℕ) (x y : VolumeSta
   abbrev stay : States
   stay = with_state states s (Some y)
 
-  inside : s < length states
-  inside = let low = is_inside states s x long there in omega (arith, low, long)
-
-  here : state_at stay s ≡ Some y
-  here = get_or-set_same states s (Some y) None inside
-
-  other : (k : ℕ) → k ≢ s → state_at stay k ≡ state_at states k
-  other k differ = get_or-set_other states s k (Some y) None differ
-
   pub named : y.name ≡ x.name
   named = ap (λ (z : VolumeState). z.name) same
 
   pub ready_changed : AreReady d p states → AreReady e q stay
-  ready_changed were k = ⊎_elim
-      (λ (at : k ≡ s). subst (λ (n : ℕ). IfSome (state_at stay n) (IsReadyIn e q n)) (sym at) (subst (λ (o : Option VolumeState). IfSome o (IsReadyIn e q s)) (sym here)
-      (record { slot = ap (λ (z : VolumeState). z.slot) same ∙ own.slot; ready = ready })))
-      (λ (differ : k ≢ s). subst (λ (o : Option VolumeState). IfSome o (IsReadyIn e q k)) (sym (other k differ)) (ready_read d e p q reads states were k))
-      (cases_eq k s)
+  ready_changed were = each_slot states long s x y there (λ k o. IfSome o (IsReadyIn e q k)) (record { slot = ap (λ (z : VolumeState). z.slot) same ∙ own.slot; ready = ready }) (λ k differ. ready_read d e p q reads states were k)
     where
       own : IsReadyIn d p s x
       own = subst (λ (o : Option VolumeState). IfSome o (IsReadyIn d p s)) there (were s)
 
-  houses : (c : Option Mapped) → Houses (Some x) c → Houses (Some y) c
-  houses None never = never
-  houses (Some map) count = count ∙ ap (λ (z : VolumeState). entry_count z.span) (sym same)
-
   housed : AreHoused p.containers states → AreHoused p.containers stay
-  housed was = record {
-    long = length-set states s (Some y) ∙ long;
-    volumes = λ k. ⊎_elim
-        (λ (at : k ≡ s). subst (λ (n : ℕ). IfSome (state_at stay n) (IsLabelled n)) (sym at) (subst (λ (o : Option VolumeState). IfSome o (IsLabelled s)) (sym here)
-        (subst (λ (n : ℕ). IsLabelled n y) (ap (λ (z : VolumeState). z.slot) same ∙ (subst (λ (o : Option VolumeState). IfSome o (IsLabelled s)) there (was.volumes s)).slot_is) ready.labelled)))
-        (λ (differ : k ≢ s). subst (λ (o : Option VolumeState). IfSome o (IsLabelled k)) (sym (other k differ)) (was.volumes k))
-        (cases_eq k s);
-    each = λ k. ⊎_elim
-        (λ (at : k ≡ s). subst (λ (n : ℕ). Houses (state_at stay n) (container_at p.containers n)) (sym at) (subst (λ (o : Option VolumeState). Houses o (container_at p.containers s)) (sym here)
-        (houses (container_at p.containers s) (subst (λ (o : Option VolumeState). Houses o (container_at p.containers s)) there (was.each s)))))
-        (λ (differ : k ≢ s). subst (λ (o : Option VolumeState). Houses o (container_at p.containers k)) (sym (other k differ)) (was.each k))
-        (cases_eq k s);
-    parents = λ k. was.parents k ∙ ⊎_elim
-        (λ (at : k ≡ s). ap (λ (n : ℕ). parent_in (state_at states n)) at ∙ ap parent_in there ∙ ap (λ (z : VolumeState). parent_in (Some z)) (sym same) ∙ sym (ap parent_in here) ∙ sym (ap (λ (n : ℕ). parent_in (state_at stay n)) at))
-        (λ (differ : k ≢ s). ap parent_in (sym (other k differ)))
-        (cases_eq k s);
-  }
+  housed was = housed_as states long s x y there p.containers ready.labelled (ap (λ (z : VolumeState). z.slot) same) (ap (λ (z : VolumeState). z.span) same) (ap (λ (z : VolumeState). parent_in (Some z)) same) was
 
   -- the session's parts fit together
   pub fit_changed : FitTogether p states → FitTogether q stay
@@ -109,28 +74,22 @@ module _ (d e : Shown) (p q : Pool) (states : States) (s : ℕ) (x y : VolumeSta
 
   -- the overheads stay
   pub same_overheads : overheads_in stay ≡ overheads_in states
-  same_overheads =
-      let sum = sum_by-set overhead_by states s (Some y) None inside in
-      let own : overhead_by (state_at states s) ≡ overhead_by (Some y) = ap overhead_by there ∙ sym (ap (λ (z : VolumeState). overhead_by (Some z)) same) in
-      omega (arith, sum, own)
+  same_overheads = same_sum states long s x y there overhead_by (ap (λ (z : VolumeState). overhead_by (Some z)) same)
 
   -- and so do the maps that wait
   pub same_waiting : maps_waiting stay ≡ maps_waiting states
-  same_waiting =
-      let sum = sum_by-set waiting_by states s (Some y) None inside in
-      let own : waiting_by (state_at states s) ≡ waiting_by (Some y) = ap waiting_by there ∙ sym (ap (λ (z : VolumeState). waiting_by (Some z)) same) in
-      omega (arith, sum, own)
+  same_waiting = same_sum states long s x y there waiting_by (ap (λ (z : VolumeState). waiting_by (Some z)) same)
 
   -- so many blocks more are pending at most
   pub pending_within : pending_of y.files ≤ pending_of x.files + 14 → pending_files stay ≤ pending_files states + (pending_of y.files - pending_of x.files)
   pending_within room =
-      let sum = sum_by-set pending_by states s (Some y) None inside in
+      let sum = sum_by-set pending_by states s (Some y) None (within states long s x y there) in
       let own : pending_by (state_at states s) ≡ pending_of x.files = ap pending_by there in
       omega (arith, sum, own)
 
   pub own_pending : pending_of x.files ≤ pending_files states
   own_pending =
-      let part = sum_by-set pending_by states s None None inside in
+      let part = sum_by-set pending_by states s None None (within states long s x y there) in
       let own : pending_by (state_at states s) ≡ pending_of x.files = ap pending_by there in
       omega (arith, part, own)
 
@@ -176,6 +135,19 @@ module _ (d : Shown) (p : Pool) (states : States) (long : length states ≡ 64) 
     low : s < length states
     low = let is = is_inside states s x long there in omega (arith, is, long)
 
+    -- what the call leaves of it, done or not
+    called_by : (r : Result Unit VolumeFault) → ChangesState d p x (beside states s) c e q y r → y.ledger.charge ≤ y.size → IsCalled e q x y
+    called_by r did within = record {
+      same = did.head.same;
+      unchanged = λ un. but_for_numbers x y (did.head.idle un);
+      maps = did.head.maps;
+      ready = did.ready;
+      stands = did.standing mine.stands;
+      led = (did.table mine.stands).led mine.led;
+      well = (did.table mine.stands).well mine.well;
+      within = within;
+    }
+
     -- ---- it was done
 
     module _ (u : Unit {0}) (did : ChangesState d p x (beside states s) c e q y (Ok u)) where
@@ -213,16 +185,7 @@ module _ (d : Shown) (p : Pool) (states : States) (long : length states ≡ 64) 
           omega (arith, uses, charged)
 
       called_done : IsCalled e q x y
-      called_done = record {
-        same = did.head.same;
-        unchanged = λ un. but_for_numbers x y (did.head.idle un);
-        maps = did.head.maps;
-        ready = did.ready;
-        stands = stand;
-        led = (did.table mine.stands).led mine.led;
-        well = (did.table mine.stands).well mine.well;
-        within = within_done;
-      }
+      called_done = called_by (Ok u) did within_done
 
       pub held_done : IsHeld e q (with_state states s (Some y)) last
       held_done = called_held d e p q did.reads states last held long s x y there called_done total_done
@@ -245,16 +208,7 @@ module _ (d : Shown) (p : Pool) (states : States) (long : length states ≡ 64) 
           omega (arith, sum, own, same, fits)
 
       called_left : IsCalled e q x y
-      called_left = record {
-        same = did.head.same;
-        unchanged = λ un. but_for_numbers x y (did.head.idle un);
-        maps = did.head.maps;
-        ready = did.ready;
-        stands = left_stand;
-        led = (did.table mine.stands).led mine.led;
-        well = (did.table mine.stands).well mine.well;
-        within = subst (λ (z : VolumeState). z.ledger.charge ≤ z.size) (sym did.head.failed) mine.within;
-      }
+      called_left = called_by (Err f) did (subst (λ (z : VolumeState). z.ledger.charge ≤ z.size) (sym did.head.failed) mine.within)
 
       pub held_left : IsHeld e q (with_state states s (Some y)) last
       held_left = called_held d e p q did.reads states last held long s x y there called_left total_left

@@ -5,15 +5,16 @@ use Rattle.std.specs.Option.{is_some}
 use Rattle.std.proofs.lemmas.Bool.Decides.{nat_tests}
 use Rattle.fv_model.specs.declared.answers.Refusal.{Refusal}
 use Rattle.fv_model.specs.declared.answers.Reply.{Reply}
-use Rattle.fv_model.specs.declared.answers.Reply.TheVariants.{Content, Done, Names, Number, Refused, Stat}
+use Rattle.fv_model.specs.declared.answers.Reply.TheVariants.{Done, Refused}
 use Rattle.fv_model.specs.declared.commands.Command.{Command}
-use Rattle.fv_model.specs.declared.commands.Command.TheVariants.{VolCreate, VolDestroy, VolResize, VolGuarantee, VolList, VolStat, New, Put, Get, Len, Cut, Remove, Ls, SnapCreate, SnapDelete, SnapRestore, SnapList, CloneCreate, SplitStart, SplitFinish, Mirror, Clean, Probe, Work, Cp}
+use Rattle.fv_model.specs.declared.commands.Command.TheVariants.{New, Put, Get, Len, Cut, Remove, Ls}
 use Rattle.fv_model.specs.Machines.{Machine}
 use Rattle.fv_model.specs.Effects.{change_of}
 use Rattle.fv_model.specs.Refusals.{next, refusal}
 use Rattle.fv_model.specs.Replies.{answer, is_open, Allows, AllowsBy, IsAnswer}
 use Rattle.fv_volume.specs.Changing.{IsChangeOf}
-use Rattle.fv_aggregate.specs.Commands.{volume_asked, changed_by, is_built, machine_after, reads_files, room_of, Replies, RepliesBy}
+use Rattle.fv_volume.specs.States.{States}
+use Rattle.fv_aggregate.specs.Commands.{volume_asked, changed_by, is_built, machine_after, reads_files, room_by, room_with, Replies, RepliesBy}
 use Rattle.fv_aggregate.specs.Looking.{refusal_in, Judges}
 use Rattle.fv_aggregate.proofs.Asked.{answer_allows}
 use Rattle.fv_aggregate.proofs.Missing.{asked_cases}
@@ -25,27 +26,7 @@ change_cases P new put cut rm name (New v f reserve) is = subst (λ (n : ℕ). P
 change_cases P new put cut rm name (Put v f i block) is = put v f i block
 change_cases P new put cut rm name (Cut v f length) is = cut v f length
 change_cases P new put cut rm name (Remove v f) is = rm v f
-change_cases P new put cut rm name (VolCreate v size kind) is = absurd is
-change_cases P new put cut rm name (VolDestroy v) is = absurd is
-change_cases P new put cut rm name (VolResize v size) is = absurd is
-change_cases P new put cut rm name (VolGuarantee v kind) is = absurd is
-change_cases P new put cut rm name VolList is = absurd is
-change_cases P new put cut rm name (VolStat v) is = absurd is
-change_cases P new put cut rm name (Get v s f i) is = absurd is
-change_cases P new put cut rm name (Len v s f) is = absurd is
-change_cases P new put cut rm name (Ls v s) is = absurd is
-change_cases P new put cut rm name (SnapCreate v s) is = absurd is
-change_cases P new put cut rm name (SnapDelete v s) is = absurd is
-change_cases P new put cut rm name (SnapRestore v s) is = absurd is
-change_cases P new put cut rm name (SnapList v) is = absurd is
-change_cases P new put cut rm name (CloneCreate x v s size kind) is = absurd is
-change_cases P new put cut rm name (SplitStart x) is = absurd is
-change_cases P new put cut rm name (SplitFinish x) is = absurd is
-change_cases P new put cut rm name (Mirror v s w size kind) is = absurd is
-change_cases P new put cut rm name (Clean v) is = absurd is
-change_cases P new put cut rm name (Probe v f i) is = absurd is
-change_cases P new put cut rm name (Work n) is = absurd is
-change_cases P new put cut rm name Cp is = absurd is
+change_cases P new put cut rm name c is = absurd is
 
 module _ (name : List ℕ) (c : Command) (change : IsChangeOf name c) where
   change_closed : (m : Machine) → is_open m c ≡ false
@@ -67,9 +48,9 @@ module _ (name : List ℕ) (c : Command) (change : IsChangeOf name c) where
       answered ∙ change_answer m
 
   -- each is built, and has the room of a command on files
-  pub change_room : room_of c ≡ 16
-  unfolding room_of
-  change_room = change_cases (λ (k : Command). room_of k ≡ 16) (λ v f. refl) (λ v f i block. refl) (λ v f length. refl) (λ v f. refl) name c change
+  pub change_room : (states : States) → room_by states c ≡ 16
+  unfolding room_with
+  change_room states = change_cases (λ (k : Command). room_by states k ≡ 16) (λ v f. refl) (λ v f i block. refl) (λ v f length. refl) (λ v f. refl) name c change
 
   change_built : is_built c ≡ true
   unfolding is_built
@@ -93,9 +74,9 @@ either m true = refl
 either m false = refl
 
 module _ (c : Command) (name : List ℕ) (asks : volume_asked c ≡ Some name) where
-  pub look_room : room_of c ≡ 0
-  unfolding room_of
-  look_room = asked_cases (λ (k : Command). room_of k ≡ 0) name (λ s f i. refl) (λ s f. refl) (λ s. refl) c asks
+  pub look_room : (states : States) → room_by states c ≡ 0
+  unfolding room_with
+  look_room states = asked_cases (λ (k : Command). room_by states k ≡ 0) name (λ s f i. refl) (λ s f. refl) (λ s. refl) c asks
 
   look_built : is_built c ≡ true
   unfolding is_built
@@ -136,27 +117,7 @@ change_of_volume name (New v f reserve) is = by (reserve == 0) refl is
 change_of_volume name (Put v f i block) is = same_some v name is
 change_of_volume name (Cut v f length) is = same_some v name is
 change_of_volume name (Remove v f) is = same_some v name is
-change_of_volume name (VolCreate v size kind) is = absurd (nothing is)
-change_of_volume name (VolDestroy v) is = absurd (nothing is)
-change_of_volume name (VolResize v size) is = absurd (nothing is)
-change_of_volume name (VolGuarantee v kind) is = absurd (nothing is)
-change_of_volume name VolList is = absurd (nothing is)
-change_of_volume name (VolStat v) is = absurd (nothing is)
-change_of_volume name (Get v s f i) is = absurd (nothing is)
-change_of_volume name (Len v s f) is = absurd (nothing is)
-change_of_volume name (Ls v s) is = absurd (nothing is)
-change_of_volume name (SnapCreate v s) is = absurd (nothing is)
-change_of_volume name (SnapDelete v s) is = absurd (nothing is)
-change_of_volume name (SnapRestore v s) is = absurd (nothing is)
-change_of_volume name (SnapList v) is = absurd (nothing is)
-change_of_volume name (CloneCreate x v s size kind) is = absurd (nothing is)
-change_of_volume name (SplitStart x) is = absurd (nothing is)
-change_of_volume name (SplitFinish x) is = absurd (nothing is)
-change_of_volume name (Mirror v s w size kind) is = absurd (nothing is)
-change_of_volume name (Clean v) is = absurd (nothing is)
-change_of_volume name (Probe v f i) is = absurd (nothing is)
-change_of_volume name (Work n) is = absurd (nothing is)
-change_of_volume name Cp is = absurd (nothing is)
+change_of_volume name c is = absurd (nothing is)
 
 -- what is judged is refused with the refusal that the reply is
 pub judged_refusal : (reply : Reply) (r : Refusal) → refusal_in reply ≡ Some r → reply ≡ Refused r
@@ -164,17 +125,9 @@ judged_refusal (Refused r) q is = ap (λ (k : Refusal). Refused k) (same r q is)
   where
     same : (a b : Refusal) → ◌≡◌ {A = Option Refusal} (Some a) (Some b) → a ≡ b
     same a b e = cc
-judged_refusal Done q is = cc
-judged_refusal (Content block) q is = cc
-judged_refusal (Number n) q is = cc
-judged_refusal (Names names) q is = cc
-judged_refusal (Stat stat) q is = cc
+judged_refusal reply q is = cc
 
 -- and accepted where it is none
 pub judged_accepted : (m : Machine) (c : Command) (reply : Reply) → refusal_in reply ≡ None → Judges m c reply → refusal m c ≡ None
-judged_accepted m c Done other is = is
-judged_accepted m c (Content block) other is = is
-judged_accepted m c (Number n) other is = is
-judged_accepted m c (Names names) other is = is
-judged_accepted m c (Stat stat) other is = is
 judged_accepted m c (Refused r) other is = cc
+judged_accepted m c reply other is = is

@@ -17,7 +17,7 @@ use Rattle.fv_image.specs.Views.{View, slots}
 use Rattle.fv_image.specs.Volumes.{named_with, told_with, volume_with, volumes_with}
 use Rattle.fv_image.proofs.Uses.{no_entries}
 use Rattle.fv_charge.specs.Ledgers.{IsLedgerOf}
-use Rattle.fv_volume.specs.declared.pool.Pool.{Pool}
+use Rattle.fv_pool.specs.declared.pool.Pool.{Pool}
 use Rattle.fv_volume.specs.declared.state.VolumeState.{VolumeState}
 use Rattle.fv_volume.specs.Files.{AreNamed, AreStates, IsState}
 use Rattle.fv_volume.specs.States.{States, head_in, state_at, view_over}

@@ -8,7 +8,7 @@ use Rattle.fv_model.specs.Machines.{Machine}
 use Rattle.fv_model.specs.Tables.{empty_table}
 use Rattle.fv_laws.specs.Positions.{HasNoReserve}
 use Rattle.fv_charge.specs.Ledgers.{IsLedgerOf}
-use Rattle.fv_volume.specs.declared.pool.Pool.{Pool}
+use Rattle.fv_pool.specs.declared.pool.Pool.{Pool}
 use Rattle.fv_volume.specs.declared.state.VolumeState.{VolumeState}
 use Rattle.fv_volume.specs.Calls.{Has}
 use Rattle.fv_volume.specs.OneVolume.{content_for, volume_as, Content}

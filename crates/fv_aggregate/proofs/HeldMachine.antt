@@ -15,7 +15,7 @@ use Rattle.fv_laws.proofs.Orders.{name_total}
 use Rattle.fv_laws.proofs.Changes.{itself, same_name}
 use Rattle.fv_laws.proofs.Commits.{commit_at}
 use Rattle.fv_image.specs.Views.{slots}
-use Rattle.fv_volume.specs.declared.pool.Pool.{Pool}
+use Rattle.fv_pool.specs.declared.pool.Pool.{Pool}
 use Rattle.fv_volume.specs.declared.state.VolumeState.{VolumeState}
 use Rattle.fv_volume.specs.OneVolume.{volume_for}
 use Rattle.fv_volume.specs.Slots.{is_named, sum_of, NoneHasName}
@@ -115,13 +115,12 @@ module _ (disk : Shown) (pool : Pool) (states : States) (long : length states �
 
   module _ (before : Machine) (held : IsHeld disk pool states before) where
     pub distinct : AreDistinct (named_from meant 0 states)
-    distinct = distinct_from meant states 0 (λ e s x y lt here there. so e s x y lt here there (is_same_name y.name x.name) refl)
+    distinct = distinct_from meant states 0 (λ e s x y lt here there. unless (is_same_name y.name x.name)
+        (λ is. let one : e ≡ s = to_pair states held.names e s x y here there (sym (same_name y.name x.name is)) in omega (arith, lt, one)))
       where
-        so : (e s : ℕ) (x y : VolumeState) → e < s → state_at states e ≡ Some x → state_at states s ≡ Some y → (b : Bool) → is_same_name y.name x.name ≡ b → b ≡ false
-        so e s x y lt here there false is = refl
-        so e s x y lt here there true is =
-            let one : e ≡ s = to_pair states held.names e s x y here there (sym (same_name y.name x.name is)) in
-            absurd (omega (arith, lt, one))
+        unless : (b : Bool) → (b ≡ true → ⊥) → b ≡ false
+        unless true never = absurd (never refl)
+        unless false never = refl
 
     pub one : (s : ℕ) (x : VolumeState) → state_at states s ≡ Some x → IsHeldIn disk pool s x
     one s x there = subst (λ (o : Option VolumeState). IfSome o (IsHeldIn disk pool s)) there (held.each s)

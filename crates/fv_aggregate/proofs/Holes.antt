@@ -1,18 +1,16 @@
 -- Where no consistency point runs no entry of a volume becomes a hole: each stays, or leads to a block that the last root doesn't hold.
-use Rattle.std.proofs.Common.{◌≡◌, ◌≢◌, ◌≤◌, ◌<◌, ◌+◌, ◌⊎◌, ℕ, List, Option, None, inl, inr, ⊎_elim, true≢false, sym, ap, subst, ◌∙◌, arith, get_or-set_other}
-use Rattle.std.specs.Prelude.{IsSome}
-use Rattle.std.proofs.lemmas.Bool.{cases_eq}
-use Rattle.fv_disk.specs.Shown.{Shown}
+use Rattle.std.proofs.Common.{◌≡◌, ◌≢◌, ◌≤◌, ◌<◌, ◌+◌, ◌⊎◌, ℕ, Bool, false, List, Option, None, inl, inr, true≢false, sym, ap, subst, ◌∙◌, arith, get_or-set_other}
+use Rattle.std.specs.Prelude.{IsSome, nat_le}
+use Rattle.std.proofs.lemmas.Bool.Decides.{nat_tests}
 use Rattle.fv_model.specs.declared.commands.Kind.{Kind}
 use Rattle.fv_aggmap.specs.Space.{Space}
 use Rattle.fv_container.specs.Chains.{Slots, container_at, own_entry}
 use Rattle.fv_container.specs.Mapped.{Mapped}
-use Rattle.fv_volume.specs.declared.pool.Pool.{Pool}
+use Rattle.fv_pool.specs.declared.pool.Pool.{Pool}
 use Rattle.fv_volume.specs.declared.state.VolumeState.{VolumeState}
-use Rattle.fv_volume.specs.BlocksOver.{LeavesPool}
-use Rattle.fv_volume.specs.Lending.{IsNewEntry}
+use Rattle.fv_pool.specs.BlocksOver.{LeavesPool}
 use Rattle.fv_volume.specs.States.{state_at}
-use Rattle.fv_cp.specs.Placing.{IsPlacedAs, IsSpareEntry, PlacesEntries}
+use Rattle.fv_cp.specs.Placing.{PlacesEntries}
 use Rattle.fv_aggregate.specs.declared.session.Session.{Session}
 use Rattle.fv_aggregate.specs.Adding.{IsAdded}
 use Rattle.fv_aggregate.specs.Calls.{KeepsEntries, MakesNoHoles}
@@ -25,22 +23,6 @@ kept_entries old new same s v = inl (ap (λ (c : Slots). own_entry (container_at
 pub read_entries : (old mid new : Session) → LeavesPool old.pool mid.pool → KeepsEntries mid new → KeepsEntries old new
 read_entries old mid new leaves keeps =
     subst (λ (m : Space). PlacesEntries m old.pool.containers new.pool.containers) leaves.map (subst (λ (c : Slots). PlacesEntries mid.pool.map c new.pool.containers) leaves.containers keeps)
-
--- files of a volume were placed
-pub placed_entries : (d : Shown) (p q : Pool) (x y : VolumeState) → IsPlacedAs d p x d q y → PlacesEntries p.map p.containers q.containers
-placed_entries d p q x y placed s v = ⊎_elim
-    (λ (here : s ≡ x.slot). subst (λ (n : ℕ). Placed n) (sym here) own)
-    (λ (differ : s ≢ x.slot). inl (ap (λ (c : Option Mapped). own_entry c v) (placed.goes.goes.goes.others s differ)))
-    (cases_eq s x.slot)
-  where
-    Placed : ℕ → Type 0
-    Placed n = (own_entry (container_at q.containers n) v ≡ own_entry (container_at p.containers n) v) ⊎ IsSpareEntry p.map (own_entry (container_at q.containers n) v)
-
-    own : Placed x.slot
-    own = ⊎_elim
-        (λ (same : own_entry (container_at q.containers x.slot) v ≡ own_entry (container_at p.containers x.slot) v). inl same)
-        (λ (new : IsNewEntry p.map p.containers q.containers x.slot v). inr (record { entry = new.entry; stands = new.stands; lies = new.takes.lies; spare = new.takes.spare }))
-        (placed.goes.goes.goes.entries v)
 
 -- a volume was added in a free slot
 pub added_entries : (old : Session) (name : List ℕ) (size : ℕ) (kind : Kind) (room : ℕ) (new : Session) → IsAdded old name size kind room new → MakesNoHoles old new
@@ -55,6 +37,10 @@ added_entries old name size kind room new added s there v = inl (ap (λ (c : Opt
 -- so it is of each volume
 pub no_holes : (old new : Session) → KeepsEntries old new → MakesNoHoles old new
 no_holes old new keeps s there v = keeps s v
+
+-- a room that doesn't fit passes the dirty limit
+pub passes_limit : (pending room : ℕ) (fits : Bool) → fits ≡ nat_le (pending + room) 256 → fits ≡ false → 256 < pending + room
+passes_limit pending room fits is none = let full : nat_le (pending + room) 256 ≡ false = sym is ∙ none in grind (arith, nat_tests, full)
 
 -- no room had to be made where room had to be made
 pub never_within : {X : Type 0} (room pending : ℕ) → (room ≡ 0 → ⊥) → 256 < pending + room → (room ≡ 0) ⊎ (pending + room ≤ 256) → X

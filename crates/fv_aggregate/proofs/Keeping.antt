@@ -7,15 +7,15 @@ use Rattle.fv_disk.specs.Shown.{Shown}
 use Rattle.fv_model.specs.declared.answers.Refusal.{Refusal}
 use Rattle.fv_model.specs.declared.answers.Reply.{Reply}
 use Rattle.fv_model.specs.declared.commands.Command.{Command}
-use Rattle.fv_model.specs.declared.commands.Command.TheVariants.{VolCreate, VolDestroy, VolResize, VolGuarantee, VolList, VolStat, New, Put, Get, Len, Cut, Remove, Ls, SnapCreate, SnapDelete, SnapRestore, SnapList, CloneCreate, SplitStart, SplitFinish, Mirror, Clean, Probe, Work, Cp}
+use Rattle.fv_model.specs.declared.commands.Command.TheVariants.{VolDestroy, VolResize, VolGuarantee, New, Put, Cut, Remove}
 use Rattle.fv_laws.proofs.Changes.{itself}
 use Rattle.fv_model.specs.declared.commands.Kind.{Kind}
 use Rattle.fv_model.specs.Spelling.{is_same_name}
-use Rattle.fv_volume.specs.declared.pool.Pool.{Pool}
+use Rattle.fv_pool.specs.declared.pool.Pool.{Pool}
 use Rattle.fv_volumes.specs.Destroying.{Destroys}
 use Rattle.fv_volume.specs.Promising.{promised, PromisesOne}
-use Rattle.fv_volume.specs.declared.fault.VolumeFault.{VolumeFault}
-use Rattle.fv_volume.specs.declared.fault.VolumeFault.TheVariants as volume
+use Rattle.fv_pool.specs.declared.fault.VolumeFault.{VolumeFault}
+use Rattle.fv_pool.specs.declared.fault.VolumeFault.TheVariants as volume
 use Rattle.fv_volume.specs.declared.state.VolumeState.{VolumeState}
 use Rattle.fv_volume.specs.Changing.{keeps_numbers, IsChangeOf}
 use Rattle.fv_volume.specs.Slots.{is_named, HasName}
@@ -72,27 +72,7 @@ may_lose name (New v f reserve) is loses = ap (λ (n : List ℕ). Some n) is.0
 may_lose name (Remove v f) is loses = ap (λ (n : List ℕ). Some n) is
 may_lose name (Put v f i block) is loses = absurd (true≢false loses)
 may_lose name (Cut v f n) is loses = absurd (true≢false loses)
-may_lose name (VolCreate v size kind) is loses = absurd is
-may_lose name (VolDestroy v) is loses = absurd is
-may_lose name (VolResize v size) is loses = absurd is
-may_lose name (VolGuarantee v kind) is loses = absurd is
-may_lose name VolList is loses = absurd is
-may_lose name (VolStat v) is loses = absurd is
-may_lose name (Get v s f i) is loses = absurd is
-may_lose name (Len v s f) is loses = absurd is
-may_lose name (Ls v s) is loses = absurd is
-may_lose name (SnapCreate v s) is loses = absurd is
-may_lose name (SnapDelete v s) is loses = absurd is
-may_lose name (SnapRestore v s) is loses = absurd is
-may_lose name (SnapList v) is loses = absurd is
-may_lose name (CloneCreate x v s size kind) is loses = absurd is
-may_lose name (SplitStart x) is loses = absurd is
-may_lose name (SplitFinish x) is loses = absurd is
-may_lose name (Mirror v s w size kind) is loses = absurd is
-may_lose name (Clean v) is loses = absurd is
-may_lose name (Probe v f i) is loses = absurd is
-may_lose name (Work n) is loses = absurd is
-may_lose name Cp is loses = absurd is
+may_lose name c is loses = absurd is
 
 -- what a call answered for a volume leaves the volumes
 pub replied_volumes : (d : Shown) (r : Result Reply VolumeFault) (old new : Session) (result : Result Reply Fault) → Replied d r old new result → new.volumes ≡ old.volumes
@@ -143,25 +123,4 @@ pub keeps_managed : (old : Session) (c : Command) (new : Session) (reply : Reply
 keeps_managed old (VolDestroy v) new reply long is = gone_keeps old v new.volumes new.pool is.result long is.answers
 keeps_managed old (VolResize v size) new reply long is = keeps_but _ old.volumes new.volumes (promised_keeps old (VolResize v size) v old.pool.found.blocks _ _ new.volumes is.result long is.answers.1)
 keeps_managed old (VolGuarantee v kind) new reply long is = keeps_but _ old.volumes new.volumes (promised_keeps old (VolGuarantee v kind) v old.pool.found.blocks _ _ new.volumes is.result long is.answers.1)
-keeps_managed old (VolStat v) new reply long is = keeps_but _ old.volumes new.volumes (keeps_same old.volumes new.volumes (ap (λ (k : Session). k.volumes) is.0))
-keeps_managed old (VolCreate v size kind) new reply long is = keeps_but _ old.volumes new.volumes (keeps_same old.volumes new.volumes (ap (λ (k : Session). k.volumes) is.0))
-keeps_managed old VolList new reply long is = keeps_but _ old.volumes new.volumes (keeps_same old.volumes new.volumes (ap (λ (k : Session). k.volumes) is.0))
-keeps_managed old (New v f reserve) new reply long is = keeps_but _ old.volumes new.volumes (keeps_same old.volumes new.volumes (ap (λ (k : Session). k.volumes) is.0))
-keeps_managed old (Put v f i block) new reply long is = keeps_but _ old.volumes new.volumes (keeps_same old.volumes new.volumes (ap (λ (k : Session). k.volumes) is.0))
-keeps_managed old (Get v s f i) new reply long is = keeps_but _ old.volumes new.volumes (keeps_same old.volumes new.volumes (ap (λ (k : Session). k.volumes) is.0))
-keeps_managed old (Len v s f) new reply long is = keeps_but _ old.volumes new.volumes (keeps_same old.volumes new.volumes (ap (λ (k : Session). k.volumes) is.0))
-keeps_managed old (Cut v f n) new reply long is = keeps_but _ old.volumes new.volumes (keeps_same old.volumes new.volumes (ap (λ (k : Session). k.volumes) is.0))
-keeps_managed old (Remove v f) new reply long is = keeps_but _ old.volumes new.volumes (keeps_same old.volumes new.volumes (ap (λ (k : Session). k.volumes) is.0))
-keeps_managed old (Ls v s) new reply long is = keeps_but _ old.volumes new.volumes (keeps_same old.volumes new.volumes (ap (λ (k : Session). k.volumes) is.0))
-keeps_managed old (SnapCreate v s) new reply long is = keeps_but _ old.volumes new.volumes (keeps_same old.volumes new.volumes (ap (λ (k : Session). k.volumes) is.0))
-keeps_managed old (SnapDelete v s) new reply long is = keeps_but _ old.volumes new.volumes (keeps_same old.volumes new.volumes (ap (λ (k : Session). k.volumes) is.0))
-keeps_managed old (SnapRestore v s) new reply long is = keeps_but _ old.volumes new.volumes (keeps_same old.volumes new.volumes (ap (λ (k : Session). k.volumes) is.0))
-keeps_managed old (SnapList v) new reply long is = keeps_but _ old.volumes new.volumes (keeps_same old.volumes new.volumes (ap (λ (k : Session). k.volumes) is.0))
-keeps_managed old (CloneCreate x v s size kind) new reply long is = keeps_but _ old.volumes new.volumes (keeps_same old.volumes new.volumes (ap (λ (k : Session). k.volumes) is.0))
-keeps_managed old (SplitStart x) new reply long is = keeps_but _ old.volumes new.volumes (keeps_same old.volumes new.volumes (ap (λ (k : Session). k.volumes) is.0))
-keeps_managed old (SplitFinish x) new reply long is = keeps_but _ old.volumes new.volumes (keeps_same old.volumes new.volumes (ap (λ (k : Session). k.volumes) is.0))
-keeps_managed old (Mirror v s w size kind) new reply long is = keeps_but _ old.volumes new.volumes (keeps_same old.volumes new.volumes (ap (λ (k : Session). k.volumes) is.0))
-keeps_managed old (Clean v) new reply long is = keeps_but _ old.volumes new.volumes (keeps_same old.volumes new.volumes (ap (λ (k : Session). k.volumes) is.0))
-keeps_managed old (Probe v f i) new reply long is = keeps_but _ old.volumes new.volumes (keeps_same old.volumes new.volumes (ap (λ (k : Session). k.volumes) is.0))
-keeps_managed old (Work n) new reply long is = keeps_but _ old.volumes new.volumes (keeps_same old.volumes new.volumes (ap (λ (k : Session). k.volumes) is.0))
-keeps_managed old Cp new reply long is = keeps_but _ old.volumes new.volumes (keeps_same old.volumes new.volumes (ap (λ (k : Session). k.volumes) is.0))
+keeps_managed old c new reply long is = keeps_but _ old.volumes new.volumes (keeps_same old.volumes new.volumes (ap (λ (k : Session). k.volumes) is.0))

@@ -1,5 +1,6 @@
 mod Sums
 pub mod Clear
+pub mod Rooms
 mod Asking
 mod Calls
 mod Standing
@@ -34,6 +35,7 @@ mod Applying
 mod Having
 mod Resized
 mod Removing
+mod Replaced
 mod Managed
 mod ManagedCalls
 mod Keeping

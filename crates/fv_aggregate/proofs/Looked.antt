@@ -1,30 +1,27 @@
 -- What a session stands for once blocks were read for it.
-use Rattle.std.proofs.Common.{◌≡◌, ℕ, ◌≤◌, [], ◌∷◌, Option, Some, None, refl, sym, ap, subst, ◌∙◌, arith}
+use Rattle.std.proofs.Common.{◌≡◌, ℕ, [], ◌∷◌, Option, Some, None, refl, sym, ap, subst, ◌∙◌, arith}
 use Rattle.std.specs.Prelude.{IfSome, IsTrue, flat_map}
 use Rattle.std.specs.FinMap as fin
 use Rattle.fv_disk.specs.Shown.{Image, Shown, IsSettled}
 use Rattle.fv_store.specs.Held.{StandsOn}
 use Rattle.fv_disk.specs.DiskCalls.{OnlyReads}
-use Rattle.fv_model.specs.Machines.{Machine, capacity}
+use Rattle.fv_model.specs.Machines.{Machine}
 use Rattle.fv_model.specs.Spelling.{name_cmp}
-use Rattle.fv_image.specs.Held.{layout_at, view_at, AllKeep}
+use Rattle.fv_image.specs.Held.{view_at}
 use Rattle.fv_image.specs.Views.{slots, overheads}
-use Rattle.fv_image.specs.WholeMachine.{Tells}
 use Rattle.fv_root.specs.declared.find.Found.{Found}
 use Rattle.fv_root.specs.Finding.{IsFound, IsInRange, root_found}
 use Rattle.fv_root.specs.Commits.{IsFoundOn}
 use Rattle.fv_aggmap.specs.Space.{Space, blocks_of}
-use Rattle.fv_container.specs.Chains.{Slots, container_at}
-use Rattle.fv_volume.specs.declared.pool.Pool.{Pool}
+use Rattle.fv_container.specs.Chains.{Slots}
+use Rattle.fv_pool.specs.declared.pool.Pool.{Pool}
 use Rattle.fv_volume.specs.declared.state.VolumeState.{VolumeState}
-use Rattle.fv_volume.specs.Calls.{Reads}
+use Rattle.fv_pool.specs.Calls.{Reads}
 use Rattle.fv_volumes.specs.Housed.{AreHoused}
-use Rattle.fv_volume.specs.Keeping.{Blocks, IsUnkept}
-use Rattle.fv_volume.specs.Slots.{sum_of}
+use Rattle.fv_pool.specs.Keeping.{Blocks, IsUnkept}
 use Rattle.fv_volume.specs.Writing.{IsTaken, on_disk}
-use Rattle.fv_volume.specs.States.{States, state_at}
-use Rattle.fv_volume.specs.Stored.{AreSpacedIn}
-use Rattle.fv_volumes.specs.UnderRoot.{IsLentAt, IsMapOf}
+use Rattle.fv_volume.specs.States.{States, state_at, with_state}
+use Rattle.fv_volumes.specs.UnderRoot.{IsMapOf}
 use Rattle.fv_volume.proofs.OneVolumes.{still_ready, still_volume}
 use Rattle.fv_cp.specs.Held.{machine_held, named_held, IsHeld, IsHeldIn}
 use Rattle.fv_cp.specs.Known.{AreKnown}
@@ -33,7 +30,8 @@ use Rattle.fv_cp.specs.Placing.{AreReady, IsReadyIn}
 use Rattle.fv_aggregate.specs.declared.session.Session.{Session}
 use Rattle.fv_aggregate.specs.Calls.{KeepsAsking, WasRead}
 use Rattle.fv_aggregate.specs.Standing.{clear_blocks, taken_since, Stands, StandsFor}
-use Rattle.fv_aggregate.proofs.Called.{held_in_read}
+use Rattle.fv_aggregate.proofs.Called.{held_in_read, held_over}
+use Rattle.fv_aggregate.proofs.Returned.{put_back}
 use Rattle.fv_aggregate.proofs.Standing.{known_still}
 
 module _ (d e : Shown) (p q : Pool) (reads : Reads d p e q) where
@@ -45,25 +43,7 @@ module _ (d e : Shown) (p q : Pool) (reads : Reads d p e q) where
   over_slot A B to (Some x) is = to x is
 
   pub held_read : (states : States) (before : Machine) → IsHeld d p states before → IsHeld e q states before
-  held_read states before is =
-      let same = reads.only_reads.stays.reads in
-      let found = reads.leaves.found in
-      record {
-        found = subst (IsFoundOn e) (sym found) (record {
-          reads = subst (λ (i : Image). IsFound i p.found) (sym same) is.found.reads;
-          images = λ c now. is.found.images c (reads.only_reads.stays.no_more c now);
-        });
-        tells = subst (λ (f : Found). Tells (layout_at (root_found f) e.reads) before) (sym found) (subst (λ (i : Image). Tells (layout_at (root_found p.found) i) before) (sym same) is.tells);
-        keeps = subst (λ (f : Found). AllKeep (root_found f) e.reads e) (sym found) (subst (λ (i : Image). AllKeep (root_found p.found) i e) (sym same) (λ c now. is.keeps c (reads.only_reads.stays.no_more c now)));
-        map = subst (λ (m : Space). IsMapOf e.reads q.found m) (sym reads.leaves.map) (subst (λ (f : Found). IsMapOf e.reads f p.map) (sym found) (subst (λ (i : Image). IsMapOf i p.found p.map) (sym same) is.map));
-        slots = λ s low. subst (λ (c : Slots). IsLentAt e.reads q.found s (state_at states s) (container_at c s)) (sym reads.leaves.containers)
-            (subst (λ (f : Found). IsLentAt e.reads f s (state_at states s) (container_at p.containers s)) (sym found) (subst (λ (i : Image). IsLentAt i p.found s (state_at states s) (container_at p.containers s)) (sym same) (is.slots s low)));
-        spaced = subst (λ (c : Slots). AreSpacedIn q.found.blocks q.map.next (state_at states) (container_at c)) (sym reads.leaves.containers)
-            (subst (λ (m : Space). AreSpacedIn q.found.blocks m.next (state_at states) (container_at p.containers)) (sym reads.leaves.map) (subst (λ (f : Found). AreSpacedIn f.blocks p.map.next (state_at states) (container_at p.containers)) (sym found) is.spaced));
-        names = is.names;
-        each = λ s. over_slot (IsHeldIn d p s) (IsHeldIn e q s) (held_in_read d e p q reads s) (state_at states s) (is.each s);
-        commits = subst (λ (f : Found). sum_of states ≤ capacity f.blocks) (sym found) is.commits;
-      }
+  held_read states before is = held_over d e p q reads states before is is.slots is.spaced is.names (λ s. over_slot (IsHeldIn d p s) (IsHeldIn e q s) (held_in_read d e p q reads s) (state_at states s) (is.each s)) is.commits
 
   pub machine_read : (states : States) → machine_held e q states ≡ machine_held d p states
   unfolding machine_held
@@ -87,6 +67,10 @@ module _ (d e : Shown) (p q : Pool) (reads : Reads d p e q) where
     housed = subst (λ (c : Slots). AreHoused c states) (sym reads.leaves.containers) fit.housed;
     kept = λ b taken. subst (λ (k : Blocks). IsUnkept k b) (sym reads.leaves.kept) (fit.kept b (subst (λ (m : Space). IsTaken (on_disk m) b) reads.leaves.map taken));
   }
+
+  -- also where a volume was lent and is as it was
+  pub fit_lent : (states : States) (slot : ℕ) (x y : VolumeState) → state_at states slot ≡ Some x → y ≡ x → FitTogether p states → FitTogether q (with_state states slot (Some y))
+  fit_lent states slot x y there same fit = subst (FitTogether q) (sym (put_back states slot x y there same)) (fit_read states fit)
 
 -- ---- a session
 

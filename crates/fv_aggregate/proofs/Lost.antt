@@ -9,20 +9,21 @@ use Rattle.fv_model.specs.declared.answers.Refusal.TheVariants.{NoSnapshot, Rang
 use Rattle.fv_model.specs.declared.answers.Reply.{Reply}
 use Rattle.fv_model.specs.declared.answers.Reply.TheVariants.{Refused}
 use Rattle.fv_model.specs.declared.commands.Command.{Command}
-use Rattle.fv_volume.specs.declared.fault.VolumeFault.{VolumeFault}
-use Rattle.fv_volume.specs.declared.fault.VolumeFault.TheVariants as volume
-use Rattle.fv_volume.specs.declared.pool.Pool.{Pool}
+use Rattle.fv_pool.specs.declared.fault.VolumeFault.{VolumeFault}
+use Rattle.fv_pool.specs.declared.fault.VolumeFault.TheVariants as volume
+use Rattle.fv_pool.specs.declared.pool.Pool.{Pool}
 use Rattle.fv_volume.specs.declared.state.VolumeState.{VolumeState}
 use Rattle.fv_volume.specs.Asking.{table_named, IsRefusedUnread, RefusesLost}
 use Rattle.fv_volume.specs.Slots.{HasName, is_named}
-use Rattle.fv_volume.specs.States.{States, state_at}
+use Rattle.fv_volume.specs.States.{States, state_at, with_state}
 use Rattle.fv_aggregate.specs.declared.fault.Fault.{Fault}
 use Rattle.fv_aggregate.specs.declared.session.Session.{Session}
 use Rattle.fv_container.specs.Chains.{slot_count}
-use Rattle.fv_aggregate.specs.Calls.{LacksSnapshot}
+use Rattle.fv_aggregate.specs.Calls.{IsUntouched, LacksSnapshot}
 use Rattle.fv_aggregate.specs.Commands.{finds_file, is_refusal, snapshot_asked, volume_asked}
 use Rattle.fv_aggregate.specs.Looking.{Replied}
 use Rattle.fv_aggregate.proofs.Missing.{asked_cases}
+use Rattle.fv_aggregate.proofs.Returned.{lent_has, put_back}
 
 -- ---- by what a volume answers
 
@@ -75,6 +76,16 @@ module _ (D : Type 0) (x : VolumeState) (old new : D) (p q : Pool) (c : Command)
 -- what a session answers for it
 pub replied_lost : (e : Shown) (r : Result Reply VolumeFault) (old new : Session) (result : Result Reply Fault) → r ≡ Err (volume.Refused NoSnapshot) → Replied e r old new result → (result ≡ Ok (Refused NoSnapshot)) × (new ≡ old)
 replied_lost e r old new result is replied = subst (λ (z : Result Reply VolumeFault). Replied e z old new result) is replied
+
+-- a session whose volume was lent to the call is as it was
+pub lost_lent : {D : Type 0} (disk left : D) (e : Shown) (v s : Session) → v ≡ s → (slot : ℕ) (x : VolumeState) → state_at v.volumes slot ≡ Some x → (c : Command) (q : Pool) (y : VolumeState) → y ≡ x → (r : Result Reply VolumeFault)
+    → (table_named x (snapshot_asked c) ≡ None → IsRefusedUnread NoSnapshot disk v.pool left q r) → (new : Session) (result : Result Reply Fault) → Replied e r (record v { volumes = with_state v.volumes slot (Some y); pool = q }) new result
+    → IfSome (state_at s.volumes slot) (λ z. table_named z (snapshot_asked c) ≡ None → (result ≡ Ok (Refused NoSnapshot)) × IsUntouched disk s left new)
+lost_lent disk left e v s same slot x lent c q y still r refuses new result replied = lent_has v s same slot x lent (λ z. table_named z (snapshot_asked c) ≡ None → (result ≡ Ok (Refused NoSnapshot)) × IsUntouched disk s left new)
+    (λ none.
+    let at = refuses none in
+    let is = replied_lost e r (record v { volumes = with_state v.volumes slot (Some y); pool = q }) new result at.answer replied in
+    (is.0, (at.same_disk, is.1 ∙ (λ j. record v { volumes = put_back v.volumes slot x y lent still j; pool = at.same_pool j }) ∙ same)))
 
 same_refusal : (r : Refusal) → ◌≡◌ {A = Result Reply Fault} (Ok (Refused r)) (Ok (Refused NoSnapshot)) → r ≡ NoSnapshot
 same_refusal r is = cc

@@ -9,14 +9,14 @@ use Rattle.fv_model.specs.declared.answers.Refusal.TheVariants.{NoVolume, Syntax
 use Rattle.fv_model.specs.declared.answers.Reply.{Reply}
 use Rattle.fv_model.specs.declared.answers.Reply.TheVariants.{Done, Refused, Stat as Numbers}
 use Rattle.fv_model.specs.declared.commands.Command.{Command}
-use Rattle.fv_model.specs.declared.commands.Command.TheVariants.{VolCreate, VolDestroy, VolResize, VolGuarantee, VolList, VolStat, New, Put, Get, Len, Cut, Remove, Ls, SnapCreate, SnapDelete, SnapRestore, SnapList, CloneCreate, SplitStart, SplitFinish, Mirror, Clean, Probe, Work, Cp}
+use Rattle.fv_model.specs.declared.commands.Command.TheVariants.{VolDestroy, VolResize, VolGuarantee, VolStat}
 use Rattle.fv_model.specs.declared.commands.Kind.{Kind}
 use Rattle.fv_model.specs.Machines.{Machine}
 use Rattle.fv_model.specs.Effects.{change_of, effect}
 use Rattle.fv_model.specs.Refusals.{conditions, first_of, next, refusal}
 use Rattle.fv_model.specs.Replies.{answer, is_open, stat_of, Allows}
 use Rattle.fv_model.specs.Volumes.{Volume}
-use Rattle.fv_volume.specs.declared.pool.Pool.{Pool}
+use Rattle.fv_pool.specs.declared.pool.Pool.{Pool}
 use Rattle.fv_volume.specs.declared.state.VolumeState.{VolumeState}
 use Rattle.fv_volumes.specs.Destroying.{Destroys}
 use Rattle.fv_volume.specs.OneVolume.{content_for, volume_for}
@@ -80,15 +80,16 @@ some_same a b e = cc
 module _ (disk : Shown) (session : Session) where
   -- ---- a session that stays
 
-  -- a command that isn't built
-  unbuilt_over : (c : Command) → is_built c ≡ false → managed_by c ≡ None → IsManagedOver disk session c session (Refused Syntax)
-  unbuilt_over c none nothing = record {
-    managed = λ name is. absurd (apart name (sym nothing ∙ is));
-    unbuilt = λ isnt. refl;
+  -- what is said of its reply is enough
+  stays_over : (c : Command) (reply : Reply) → ((name : List ℕ) → managed_by c ≡ Some name → IsManaged session c name session reply) → (is_built c ≡ false → reply ≡ Refused Syntax)
+      → (Stands disk session → (last m : Machine) → StandsFor disk session last m → StandsFor disk session last (machine_after m c)) → ((last m : Machine) → StandsFor disk session last m → Replies m c reply) → IsManagedOver disk session c session reply
+  stays_over c reply managed unbuilt stands_for replies = record {
+    managed = managed;
+    unbuilt = unbuilt;
     refused = λ refused. refl;
     stands = λ stands. stands;
-    stands_for = λ there last m stands. subst (λ (k : Machine). StandsFor disk session last k) (sym (unbuilt_after m c none)) stands;
-    replies = λ last m stands. unbuilt_replies m c none;
+    stands_for = stands_for;
+    replies = replies;
     asked = λ calm. omega arith;
     files = λ without. without;
     map = λ stays. refl;
@@ -97,6 +98,11 @@ module _ (disk : Shown) (session : Session) where
     pending = refl;
     failed = refl;
   }
+
+  -- a command that isn't built
+  unbuilt_over : (c : Command) → is_built c ≡ false → managed_by c ≡ None → IsManagedOver disk session c session (Refused Syntax)
+  unbuilt_over c none nothing = stays_over c (Refused Syntax) (λ name is. absurd (apart name (sym nothing ∙ is))) (λ isnt. refl)
+      (λ there last m stands. subst (λ (k : Machine). StandsFor disk session last k) (sym (unbuilt_after m c none)) stands) (λ last m stands. unbuilt_replies m c none)
     where
       apart : (v : List ℕ) → ◌≡◌ {A = Option (List ℕ)} None (Some v) → ⊥
       apart v e = cc
@@ -104,21 +110,9 @@ module _ (disk : Shown) (session : Session) where
   -- a command that is refused, as by the machine
   refused_over : (c : Command) (r : Refusal) → is_built c ≡ true → ((name : List ℕ) → managed_by c ≡ Some name → IsManaged session c name session (Refused r))
       → ((last m : Machine) → StandsFor disk session last m → refusal m c ≡ Some r) → IsManagedOver disk session c session (Refused r)
-  refused_over c r built managed refused = record {
-    managed = managed;
-    unbuilt = λ isnt. absurd (true≢false (sym built ∙ isnt));
-    refused = λ is. refl;
-    stands = λ stands. stands;
-    stands_for = λ there last m stands. subst (λ (k : Machine). StandsFor disk session last k) (sym (after_built m c built ∙ refused_next m c r (refused last m stands))) stands;
-    replies = λ last m stands. replies_built m c (Refused r) built (refused_allows m c r (refused last m stands));
-    asked = λ calm. omega arith;
-    files = λ without. without;
-    map = λ stays. refl;
-    containers = λ stays. refl;
-    found = refl;
-    pending = refl;
-    failed = refl;
-  }
+  refused_over c r built managed refused = stays_over c (Refused r) managed (λ isnt. absurd (true≢false (sym built ∙ isnt)))
+      (λ there last m stands. subst (λ (k : Machine). StandsFor disk session last k) (sym (after_built m c built ∙ refused_next m c r (refused last m stands))) stands)
+      (λ last m stands. replies_built m c (Refused r) built (refused_allows m c r (refused last m stands)))
 
   module _ (fit : FitTogether session.pool session.volumes) where
     -- ---- another size or kind
@@ -183,26 +177,14 @@ module _ (disk : Shown) (session : Session) where
     resize_over : (name : List ℕ) (size : ℕ) (new : States) (r : Result Unit Refusal) → PromisesOne session.volumes session.pool.found.blocks (VolResize name size) name (λ x. size) (λ x. x.kind) new r
         → IsManagedOver disk session (VolResize name size) (record session { volumes = new }) (told_as r)
     unfolding is_built answer
-    resize_over name size new r = promise_over (VolResize name size) name (λ x. size) (λ x. x.kind) new refl refl refl refl (λ e. no_stat e) (λ e. no_removal e)
+    resize_over name size new r = promise_over (VolResize name size) name (λ x. size) (λ x. x.kind) new refl refl refl refl (λ e. cc) (λ e. cc)
         (λ m. done_allowed m (VolResize name size) refl refl) (λ done. (refl, done)) r
-      where
-        no_stat : VolResize name size ≡ VolStat name → ⊥
-        no_stat e = cc
-
-        no_removal : VolResize name size ≡ VolDestroy name → ⊥
-        no_removal e = cc
 
     guarantee_over : (name : List ℕ) (kind : Kind) (new : States) (r : Result Unit Refusal) → PromisesOne session.volumes session.pool.found.blocks (VolGuarantee name kind) name (λ x. x.size) (λ x. kind) new r
         → IsManagedOver disk session (VolGuarantee name kind) (record session { volumes = new }) (told_as r)
     unfolding is_built answer
-    guarantee_over name kind new r = promise_over (VolGuarantee name kind) name (λ x. x.size) (λ x. kind) new refl refl refl refl (λ e. no_stat e) (λ e. no_removal e)
+    guarantee_over name kind new r = promise_over (VolGuarantee name kind) name (λ x. x.size) (λ x. kind) new refl refl refl refl (λ e. cc) (λ e. cc)
         (λ m. done_allowed m (VolGuarantee name kind) refl refl) (λ done. (refl, done)) r
-      where
-        no_stat : VolGuarantee name kind ≡ VolStat name → ⊥
-        no_stat e = cc
-
-        no_removal : VolGuarantee name kind ≡ VolDestroy name → ⊥
-        no_removal e = cc
 
     -- ---- a removal
 
@@ -331,30 +313,19 @@ module _ (disk : Shown) (session : Session) where
 
         stat_told : IsManagedOver disk session asks session reply
         unfolding is_built
-        stat_told = record {
-          managed = by_the_name reply (record {
-            far = λ out. absurd (true≢false out);
-            missing = λ near none. absurd (true≢false (sym is.named.named ∙ none.none is.slot is.within));
-            told = λ asked slot small has. is;
-            removed = λ other. absurd (no_removal other);
-            answered = λ other. absurd (other refl);
-            done = λ done. absurd (not_done (sym is.told ∙ done));
-            stays = λ is. refl;
-            rest = refl;
-          });
-          unbuilt = λ isnt. absurd (true≢false isnt);
-          refused = λ refused. refl;
-          stands = λ stands. stands;
-          stands_for = λ here last m stands. subst (λ (k : Machine). StandsFor disk session last k) (sym (stat_after m)) stands;
-          replies = λ last m stands. replies_built m asks reply refl (answered last m stands);
-          asked = λ calm. omega arith;
-          files = λ without. without;
-          map = λ stays. refl;
-          containers = λ stays. refl;
-          found = refl;
-          pending = refl;
-          failed = refl;
-        }
+        stat_told = stays_over asks reply
+            (by_the_name reply (record {
+              far = λ out. absurd (true≢false out);
+              missing = λ near none. absurd (true≢false (sym is.named.named ∙ none.none is.slot is.within));
+              told = λ asked slot small has. is;
+              removed = λ other. absurd (no_removal other);
+              answered = λ other. absurd (other refl);
+              done = λ done. absurd (not_done (sym is.told ∙ done));
+              stays = λ is. refl;
+              rest = refl;
+            }))
+            (λ isnt. absurd (true≢false isnt)) (λ here last m stands. subst (λ (k : Machine). StandsFor disk session last k) (sym (stat_after m)) stands)
+            (λ last m stands. replies_built m asks reply refl (answered last m stands))
           where
             not_done : Numbers (told_by x) ≡ Done → ⊥
             not_done e = cc
@@ -384,24 +355,4 @@ module _ (disk : Shown) (session : Session) where
         (λ (none : NoneHasName session.volumes v × (reply ≡ Refused NoVolume)). left_as (VolStat v) new reply (Refused NoVolume) is.0 none.1 (stat_missing v none.0))
         (λ (told : IsTold session v reply). left_as (VolStat v) new reply reply is.0 refl (stat_told v reply told))
         is.1
-    manages_over (VolCreate v size kind) either new reply is = others _ refl either new reply is
-    manages_over VolList either new reply is = others _ refl either new reply is
-    manages_over (New v f reserve) either new reply is = others _ refl either new reply is
-    manages_over (Put v f i block) either new reply is = others _ refl either new reply is
-    manages_over (Get v s f i) either new reply is = others _ refl either new reply is
-    manages_over (Len v s f) either new reply is = others _ refl either new reply is
-    manages_over (Cut v f length) either new reply is = others _ refl either new reply is
-    manages_over (Remove v f) either new reply is = others _ refl either new reply is
-    manages_over (Ls v s) either new reply is = others _ refl either new reply is
-    manages_over (SnapCreate v s) either new reply is = others _ refl either new reply is
-    manages_over (SnapDelete v s) either new reply is = others _ refl either new reply is
-    manages_over (SnapRestore v s) either new reply is = others _ refl either new reply is
-    manages_over (SnapList v) either new reply is = others _ refl either new reply is
-    manages_over (CloneCreate x v s size kind) either new reply is = others _ refl either new reply is
-    manages_over (SplitStart x) either new reply is = others _ refl either new reply is
-    manages_over (SplitFinish x) either new reply is = others _ refl either new reply is
-    manages_over (Mirror v s w size kind) either new reply is = others _ refl either new reply is
-    manages_over (Clean v) either new reply is = others _ refl either new reply is
-    manages_over (Probe v f i) either new reply is = others _ refl either new reply is
-    manages_over (Work n) either new reply is = others _ refl either new reply is
-    manages_over Cp either new reply is = others _ refl either new reply is
+    manages_over c either new reply is = others _ refl either new reply is

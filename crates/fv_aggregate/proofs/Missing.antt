@@ -8,7 +8,7 @@ use Rattle.fv_model.specs.declared.answers.Refusal.{Refusal}
 use Rattle.fv_model.specs.declared.answers.Refusal.TheVariants.{NoVolume, NoFile, FileExists, NoSnapshot, Range, TooMany, WrongKind}
 use Rattle.fv_model.specs.declared.answers.Reply.TheVariants.{Refused}
 use Rattle.fv_model.specs.declared.commands.Command.{Command}
-use Rattle.fv_model.specs.declared.commands.Command.TheVariants.{VolCreate, VolDestroy, VolResize, VolGuarantee, VolList, VolStat, New, Put, Get, Len, Cut, Remove, Ls, SnapCreate, SnapDelete, SnapRestore, SnapList, CloneCreate, SplitStart, SplitFinish, Mirror, Clean, Probe, Work, Cp}
+use Rattle.fv_model.specs.declared.commands.Command.TheVariants.{New, Put, Get, Len, Cut, Remove, Ls}
 use Rattle.fv_model.specs.Machines.{Machine}
 use Rattle.fv_model.specs.Numbers.{is_index, is_reserve}
 use Rattle.fv_model.specs.Refusals.{conditions, first_of, has_all_changes, has_all_files, has_file, is_missing, lacks_file, lacks_snapshot, next, of_file, of_volume, refusal, space}
@@ -49,11 +49,6 @@ far_get m v s f i far = ap (λ (b : Bool). first_of ((Range, not b) ∷ (NoVolum
 same_some : (a b : List ℕ) → ◌≡◌ {A = Option (List ℕ)} (Some a) (Some b) → a ≡ b
 same_some a b e = cc
 
--- a file is made where the command is built: without a reserve
-made_in : (t : Bool) (a b : List ℕ) → ◌≡◌ {A = Option (List ℕ)} (if t then Some a else None) (Some b) → a ≡ b
-made_in true a b e = same_some a b e
-made_in false a b e = cc
-
 nothing : {v : List ℕ} → ◌≡◌ {A = Option (List ℕ)} None (Some v) → ⊥
 nothing e = cc
 
@@ -86,27 +81,7 @@ module _ (m : Machine) (home : List ℕ) (none : fin.get m.volumes home ≡ None
   no_change (Put v f i block) change near = no_put v f i block (same_some v home change) near
   no_change (Cut v f length) change near = no_cut v f length (same_some v home change) near
   no_change (Remove v f) change near = no_removal v f (same_some v home change)
-  no_change (VolCreate v size kind) change near = absurd (nothing change)
-  no_change (VolDestroy v) change near = absurd (nothing change)
-  no_change (VolResize v size) change near = absurd (nothing change)
-  no_change (VolGuarantee v kind) change near = absurd (nothing change)
-  no_change VolList change near = absurd (nothing change)
-  no_change (VolStat v) change near = absurd (nothing change)
-  no_change (Get v s f i) change near = absurd (nothing change)
-  no_change (Len v s f) change near = absurd (nothing change)
-  no_change (Ls v s) change near = absurd (nothing change)
-  no_change (SnapCreate v s) change near = absurd (nothing change)
-  no_change (SnapDelete v s) change near = absurd (nothing change)
-  no_change (SnapRestore v s) change near = absurd (nothing change)
-  no_change (SnapList v) change near = absurd (nothing change)
-  no_change (CloneCreate x v s size kind) change near = absurd (nothing change)
-  no_change (SplitStart x) change near = absurd (nothing change)
-  no_change (SplitFinish x) change near = absurd (nothing change)
-  no_change (Mirror v s w size kind) change near = absurd (nothing change)
-  no_change (Clean v) change near = absurd (nothing change)
-  no_change (Probe v f i) change near = absurd (nothing change)
-  no_change (Work n) change near = absurd (nothing change)
-  no_change Cp change near = absurd (nothing change)
+  no_change c change near = absurd (nothing change)
 
 module _ (m : Machine) (home : List ℕ) where
   far_put : (v f : List ℕ) (i : ℕ) (block : List ℕ) → is_index i ≡ false → refusal m (Put v f i block) ≡ Some Range
@@ -123,27 +98,7 @@ module _ (m : Machine) (home : List ℕ) where
   far_change (Put v f i block) change far = far_put v f i block far
   far_change (Cut v f length) change far = far_cut v f length far
   far_change (Remove v f) change far = cc
-  far_change (VolCreate v size kind) change far = absurd (nothing change)
-  far_change (VolDestroy v) change far = absurd (nothing change)
-  far_change (VolResize v size) change far = absurd (nothing change)
-  far_change (VolGuarantee v kind) change far = absurd (nothing change)
-  far_change VolList change far = absurd (nothing change)
-  far_change (VolStat v) change far = absurd (nothing change)
-  far_change (Get v s f i) change far = absurd (nothing change)
-  far_change (Len v s f) change far = absurd (nothing change)
-  far_change (Ls v s) change far = absurd (nothing change)
-  far_change (SnapCreate v s) change far = absurd (nothing change)
-  far_change (SnapDelete v s) change far = absurd (nothing change)
-  far_change (SnapRestore v s) change far = absurd (nothing change)
-  far_change (SnapList v) change far = absurd (nothing change)
-  far_change (CloneCreate x v s size kind) change far = absurd (nothing change)
-  far_change (SplitStart x) change far = absurd (nothing change)
-  far_change (SplitFinish x) change far = absurd (nothing change)
-  far_change (Mirror v s w size kind) change far = absurd (nothing change)
-  far_change (Clean v) change far = absurd (nothing change)
-  far_change (Probe v f i) change far = absurd (nothing change)
-  far_change (Work n) change far = absurd (nothing change)
-  far_change Cp change far = absurd (nothing change)
+  far_change c change far = absurd (nothing change)
 
 -- ---- commands that ask
 
@@ -153,28 +108,7 @@ pub asked_cases : (P : Command → Type 0) (name : List ℕ) → ((s : Option (L
 asked_cases P name get len ls (Get v s f i) is = subst (λ (n : List ℕ). P (Get n s f i)) (sym (same_some v name is)) (get s f i)
 asked_cases P name get len ls (Len v s f) is = subst (λ (n : List ℕ). P (Len n s f)) (sym (same_some v name is)) (len s f)
 asked_cases P name get len ls (Ls v s) is = subst (λ (n : List ℕ). P (Ls n s)) (sym (same_some v name is)) (ls s)
-asked_cases P name get len ls (New v f reserve) is = absurd (nothing is)
-asked_cases P name get len ls (Put v f i block) is = absurd (nothing is)
-asked_cases P name get len ls (Cut v f length) is = absurd (nothing is)
-asked_cases P name get len ls (Remove v f) is = absurd (nothing is)
-asked_cases P name get len ls (VolCreate v size kind) is = absurd (nothing is)
-asked_cases P name get len ls (VolDestroy v) is = absurd (nothing is)
-asked_cases P name get len ls (VolResize v size) is = absurd (nothing is)
-asked_cases P name get len ls (VolGuarantee v kind) is = absurd (nothing is)
-asked_cases P name get len ls VolList is = absurd (nothing is)
-asked_cases P name get len ls (VolStat v) is = absurd (nothing is)
-asked_cases P name get len ls (SnapCreate v s) is = absurd (nothing is)
-asked_cases P name get len ls (SnapDelete v s) is = absurd (nothing is)
-asked_cases P name get len ls (SnapRestore v s) is = absurd (nothing is)
-asked_cases P name get len ls (SnapList v) is = absurd (nothing is)
-asked_cases P name get len ls (CloneCreate x v s size kind) is = absurd (nothing is)
-asked_cases P name get len ls (SplitStart x) is = absurd (nothing is)
-asked_cases P name get len ls (SplitFinish x) is = absurd (nothing is)
-asked_cases P name get len ls (Mirror v s w size kind) is = absurd (nothing is)
-asked_cases P name get len ls (Clean v) is = absurd (nothing is)
-asked_cases P name get len ls (Probe v f i) is = absurd (nothing is)
-asked_cases P name get len ls (Work n) is = absurd (nothing is)
-asked_cases P name get len ls Cp is = absurd (nothing is)
+asked_cases P name get len ls c is = absurd (nothing is)
 
 module _ (c : Command) (name : List ℕ) (asks : volume_asked c ≡ Some name) where
   -- each has one answer

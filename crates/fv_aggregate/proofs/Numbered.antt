@@ -2,6 +2,7 @@
 use Rattle.std.proofs.Common.{◌≡◌, ◌≤◌, ℕ, Option, Some, None, Result, Ok, Err, refl, sym, ap, subst, ◌∙◌, arith, ◌⊎◌, ◌+◌}
 use Rattle.std.specs.Prelude.{IfOk, IsTrue, OnOk}
 use Rattle.std.specs.Option.{option_map}
+use Rattle.fv_disk.specs.DiskCalls.{OnlyReads}
 use Rattle.fv_disk.specs.Shown.{Shown}
 use Rattle.fv_disk.proofs.Resting.{reads_then}
 use Rattle.fv_model.specs.declared.answers.Reply.{Reply}
@@ -14,7 +15,7 @@ use Rattle.fv_volume.specs.States.{States, state_at}
 use Rattle.fv_cp.specs.Placing.{HasNoFiles, HaveNoFiles}
 use Rattle.fv_aggregate.specs.declared.fault.Fault.{Fault}
 use Rattle.fv_aggregate.specs.declared.session.Session.{Session}
-use Rattle.fv_aggregate.specs.Calls.{but_numbers, GoesFor, HasDamage, KeepsAsking, SameButNumbers, WasRead}
+use Rattle.fv_aggregate.specs.Calls.{but_numbers, Goes, GoesFor, HasDamage, KeepsAsking, KeepsEntries, SameButNumbers, WasRead}
 use Rattle.fv_aggregate.specs.Commands.{file_room, is_refusal}
 use Rattle.fv_aggregate.specs.Looking.{Looks, Makes}
 use Rattle.fv_aggregate.specs.Numbering.{HasNumbered}
@@ -61,11 +62,23 @@ read_then d s e n g p first second = record {
   same = second.same ∙ ap (λ (k : Session). record k { volumes = p.volumes; pool = p.pool }) first.same;
 }
 
+-- a command that changes a file ends with a fault before its volume is called
+pub makes_early : {T : Type 0} (d : Shown) (s : Session) (c : Command) (e : Shown) (n : Session) (f : Fault) → Goes {T = T} 0 d s e n (Err f) → (IsTrue d.tells → (last m : Machine) → StandsFor d s last m → GoesFor {T = T} d last m m e n (Err f))
+    → OnlyReads d e → KeepsEntries s n → Makes file_room d s c e n (Err f)
+makes_early d s c e n f goes goes_for reads entries = record {
+  goes = goes_wider 16 d s e n f goes;
+  goes_for = λ tells last m is. fails_early d last m (next m c) e n f (goes_for tells last m is);
+  reply = λ tells last m is. tt;
+  refused = λ tells last m is. tt;
+  calm = λ low. reads;
+  entries = λ low. entries;
+}
+
 -- ---- the numbers couldn't be read
 
 module _ (d : Shown) (s : Session) (c : Command) (e : Shown) (n : Session) (f : Fault) (failed : HasNumbered d s e n (Err f)) where
-  pub look_unnumbered : Looks d s c e n (Err f)
-  look_unnumbered = record {
+  pub look_unnumbered : (r : Result Reply Fault) → r ≡ Err f → Looks d s c e n r
+  look_unnumbered r is = subst (Looks d s c e n) (sym is) (record {
     goes = goes_wider 0 d s e n f failed.goes;
     asks = failed.asks;
     goes_for = λ tells last m is. fails_early d last m m e n f (failed.goes_for tells last m is);
@@ -73,17 +86,10 @@ module _ (d : Shown) (s : Session) (c : Command) (e : Shown) (n : Session) (f : 
     only_reads = failed.only_reads;
     entries = failed.entries;
     read = tt;
-  }
+  })
 
-  pub make_unnumbered : Makes file_room d s c e n (Err f)
-  make_unnumbered = record {
-    goes = goes_wider 16 d s e n f failed.goes;
-    goes_for = λ tells last m is. fails_early d last m (next m c) e n f (failed.goes_for tells last m is);
-    reply = λ tells last m is. tt;
-    refused = λ tells last m is. tt;
-    calm = λ low. failed.only_reads;
-    entries = λ low. failed.entries;
-  }
+  pub make_unnumbered : (r : Result Reply Fault) → r ≡ Err f → Makes file_room d s c e n r
+  make_unnumbered r is = subst (Makes file_room d s c e n) (sym is) (makes_early d s c e n f failed.goes failed.goes_for failed.only_reads failed.entries)
 
 -- ---- they were read, and then a command was carried out
 

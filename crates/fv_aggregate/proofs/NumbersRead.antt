@@ -6,20 +6,22 @@ use Rattle.std.proofs.lemmas.Bool.{cases_eq}
 use Rattle.std.proofs.lemmas.List.Sums.{sum_by-set}
 use Rattle.fv_disk.specs.Shown.{Shown, IsDisk}
 use Rattle.fv_disk.specs.declared.fault.BlockFault.{BlockFault}
+use Rattle.fv_pool.specs.declared.fault.VolumeFault.{VolumeFault}
 use Rattle.fv_disk.specs.declared.fault.BlockFault.TheVariants as block
 use Rattle.fv_model.specs.Machines.{Machine, capacity}
 use Rattle.fv_image.specs.Held.{view_at}
 use Rattle.fv_image.specs.Views.{overheads}
 use Rattle.fv_root.specs.Finding.{root_found}
 use Rattle.fv_charge.specs.Ledgers.{committed}
-use Rattle.fv_volume.specs.declared.pool.Pool.{Pool}
+use Rattle.fv_pool.specs.declared.pool.Pool.{Pool}
 use Rattle.fv_volume.specs.declared.state.VolumeState.{VolumeState}
 use Rattle.fv_volmap.specs.Slots.{slot_at}
-use Rattle.fv_volume.specs.BlocksOver.{free_numbers}
-use Rattle.fv_volume.specs.Calls.{Reads}
-use Rattle.fv_volume.specs.Causes.{of_block}
+use Rattle.fv_pool.specs.BlocksOver.{free_numbers}
+use Rattle.fv_pool.specs.Calls.{Reads}
+use Rattle.fv_pool.specs.Causes.{of_block}
 use Rattle.fv_volume.specs.OneVolume.{volume_for, IsReady, IsStanding}
-use Rattle.fv_volume.specs.Placing.{pending_of, IsLedTo, IsStoredWell}
+use Rattle.fv_pool.specs.Tables.{pending_of}
+use Rattle.fv_volume.specs.Placing.{IsLedTo, IsStoredWell}
 use Rattle.fv_volume.specs.Slots.{committed_by, sum_of}
 use Rattle.fv_volume.specs.States.{States, state_at, with_state}
 use Rattle.fv_volume.proofs.OneVolumes.{still_volume}
@@ -34,7 +36,7 @@ use Rattle.fv_aggregate.specs.declared.fault.Fault.TheVariants.{DiskFault, Damag
 use Rattle.fv_aggregate.specs.declared.session.Session.{Session}
 use Rattle.fv_aggregate.specs.Calls.{but_numbers, KeepsAsking, SameButNumbers, WasRead}
 use Rattle.fv_aggregate.specs.Looking.{Breaks}
-use Rattle.fv_aggregate.specs.Numbering.{HasNumbered, IsSlotNumbered, NumbersState}
+use Rattle.fv_aggregate.specs.Numbering.{HasNumbered, NumbersState}
 use Rattle.fv_aggregate.specs.Known.{KeepsNumbers, KnowsNumbers}
 use Rattle.fv_aggregate.proofs.Holes.{kept_entries}
 use Rattle.fv_aggregate.proofs.Keeping.{keeps_none, keeps_with}
@@ -44,6 +46,7 @@ use Rattle.fv_aggregate.proofs.Becoming.{machine_stays}
 use Rattle.fv_aggregate.proofs.CallEnds.{goes_broken, goes_damaged, goes_done, goes_for_broken, goes_for_done, goes_for_fault, goes_wanting}
 use Rattle.fv_aggregate.proofs.Called.{called_held, IsCalled}
 use Rattle.fv_aggregate.proofs.Changed.{fit_changed, mine, pending_within, ready_changed, same_overheads, same_waiting}
+use Rattle.fv_aggregate.proofs.Returned.{as_told, long_lent}
 use Rattle.fv_aggregate.proofs.Looked.{clear_read, known_read, last_overheads, placed_read, settled_read, stands_read}
 
 -- a volume that is the same but for those numbers is left as a change leaves it, too
@@ -186,11 +189,8 @@ module _ (d e : Shown) (laws : IsDisk d) (s : Session) (q : Pool) (slot : ℕ) (
     kept = kept_it (Ok u) did;
   }
 
-  failed_as : (new : Session) (f wanted : Fault) (was : Session) → new ≡ was → f ≡ wanted → HasNumbered d s e was (Err wanted) → HasNumbered d s e new (Err f)
-  failed_as new f wanted was same is read = subst (λ (g : Fault). HasNumbered d s e new (Err g)) (sym is) (subst (λ (n : Session). HasNumbered d s e n (Err wanted)) (sym same) read)
-
   pub numbered_failed : (b : BlockFault) → NumbersState d s.pool x e q y (Err b) → (new : Session) (f : Fault) → Breaks e (of_block b) now new f → HasNumbered d s e new (Err f)
-  numbered_failed block.DiskFault did new f b = failed_as new f DiskFault (record now { failed = new.failed }) b.1.same b.0 (record {
+  numbered_failed block.DiskFault did new f b = as_told (λ (n : Session) (g : Fault). HasNumbered d s e n (Err g)) new (record now { failed = new.failed }) f DiskFault b.1.same b.0 (record {
     goes = goes_broken d e laws s now 0 did.reads.only_reads fresh fresh (stand (Err block.DiskFault) did) new.failed (rose_by _ _ _ e.faults did.cause) b.1.written b.1.unwritten (omega arith);
     asks = λ tells kept asks none. let is = asks_it (Err block.DiskFault) did tells kept asks fresh in record { asked = is.asked; pending = is.pending };
     goes_for = λ tells last m is. goes_for_broken d e laws s now 0 did.reads.only_reads fresh fresh (stand (Err block.DiskFault) did) new.failed last m m is (for_it (Err block.DiskFault) did last m is);
@@ -199,7 +199,7 @@ module _ (d e : Shown) (laws : IsDisk d) (s : Session) (q : Pool) (slot : ℕ) (
     read = tt;
     kept = kept_it (Err block.DiskFault) did;
   })
-  numbered_failed (block.Damaged at want found) did new f b = failed_as new f (Damaged at want found) now b.1 b.0 (record {
+  numbered_failed (block.Damaged at want found) did new f b = as_told (λ (n : Session) (g : Fault). HasNumbered d s e n (Err g)) new now f (Damaged at want found) b.1 b.0 (record {
     goes = goes_damaged d e laws s now 0 did.reads.only_reads fresh fresh (stand (Err (block.Damaged at want found)) did) at want found (calm_damage _ _ _ e.faults at want found did.cause) (damaged_at d s slot x there fresh now at want found) (omega arith);
     asks = asks_it (Err (block.Damaged at want found)) did;
     goes_for = λ tells last m is.
@@ -210,7 +210,7 @@ module _ (d e : Shown) (laws : IsDisk d) (s : Session) (q : Pool) (slot : ℕ) (
     read = tt;
     kept = kept_it (Err (block.Damaged at want found)) did;
   })
-  numbered_failed block.Memory did new f b = failed_as new f Memory now b.1 b.0 (record {
+  numbered_failed block.Memory did new f b = as_told (λ (n : Session) (g : Fault). HasNumbered d s e n (Err g)) new now f Memory b.1 b.0 (record {
     goes = goes_wanting d e laws s now 0 did.reads.only_reads fresh fresh (stand (Err block.Memory) did) (calm_memory _ _ _ e.faults did.cause) (omega arith);
     asks = asks_it (Err block.Memory) did;
     goes_for = λ tells last m is. goes_for_fault d e laws s now 0 did.reads.only_reads fresh fresh (stand (Err block.Memory) did) Memory last m m tt is (for_it (Err block.Memory) did last m is);
@@ -220,14 +220,29 @@ module _ (d e : Shown) (laws : IsDisk d) (s : Session) (q : Pool) (slot : ℕ) (
     kept = kept_it (Err block.Memory) did;
   })
 
--- the volume of a slot, of which the numbers were read
-pub record IsNumberedAt (d e : Shown) (p q : Pool) (states stay : States) (slot : ℕ) (r : Result Unit BlockFault) : Type 0 where
-  pub was : VolumeState
-  pub there : state_at states slot ≡ Some was
-  pub done : IsSlotNumbered d p states slot was e q stay r
+-- ---- a volume that was lent to the call
 
--- its volumes fit together still
-pub fit_numbered : (d e : Shown) (p q : Pool) (states left : States) (slot : ℕ) (r : Result Unit BlockFault) → IsNumberedAt d e p q states left slot r → FitTogether p states → FitTogether q left
-fit_numbered d e p q states left slot r is fit =
-    let n = is.done.numbers in
-    subst (FitTogether q) (sym is.done.row) (fit_changed d e p q states slot is.was is.done.now is.there n.reads (as_left is.was is.done.now n.same) n.ready fit.housed.long fit)
+-- the session's volumes fit together still
+pub fit_numbered : (d e : Shown) (p q : Pool) (states : States) (slot : ℕ) (x y : VolumeState) → state_at states slot ≡ Some x → Reads d p e q → y ≡ record x { numbers = y.numbers } → IsReady e q y → FitTogether p states → FitTogether q (with_state states slot (Some y))
+fit_numbered d e p q states slot x y there reads same ready fit = fit_changed d e p q states slot x y there reads (as_left x y same) ready fit.housed.long fit
+
+module _ (d e : Shown) (laws : IsDisk d) (v s : Session) (same : v ≡ s) (fit : IsNone v.failed → FitTogether v.pool v.volumes) (fresh : IsNone s.failed) (stands : Stands d s) (q : Pool) (slot : ℕ) (x y : VolumeState)
+    (lent : state_at v.volumes slot ≡ Some x) where
+  abbrev after : Session
+  after = record v { volumes = with_state v.volumes slot (Some y); pool = q }
+
+  unfailed : IsNone v.failed
+  unfailed = subst (λ (n : Session). IsNone n.failed) (sym same) fresh
+
+  stand_lent : Stands d v
+  stand_lent = subst (Stands d) (sym same) stands
+
+  pub done_lent : NumbersState d v.pool x e q y (Ok tt) → HasNumbered d s e after (Ok tt)
+  done_lent did = subst (λ (n : Session). HasNumbered d n e after (Ok tt)) same (numbered_done d e laws v q slot x y lent (long_lent v s same fit fresh) unfailed stand_lent tt did)
+
+  pub failed_lent : (b : BlockFault) → NumbersState d v.pool x e q y (Err b) → (told : VolumeFault) → told ≡ of_block b → (new : Session) (f : Fault) → Breaks e told after new f → HasNumbered d s e new (Err f)
+  failed_lent b did told is new f broke = subst (λ (n : Session). HasNumbered d n e new (Err f)) same
+      (numbered_failed d e laws v q slot x y lent (long_lent v s same fit fresh) unfailed stand_lent b did new f (subst (λ (g : VolumeFault). Breaks e g after new f) is broke))
+
+  pub knows_lent : Reads d v.pool e q → y ≡ record x { numbers = y.numbers } → IsReady e q y → is_some y.numbers ≡ true → KnowsNumbers (state_at (with_state v.volumes slot (Some y)) slot)
+  knows_lent reads still ready there = knows_numbered d e v q slot x y lent (long_lent v s same fit fresh) reads still ready there

@@ -32,7 +32,7 @@ use Rattle.fv_aggmap.specs.Space.{blocks_of}
 use Rattle.fv_aggmap.proofs.Room.{room_when_sound}
 use Rattle.fv_disk.specs.declared.fault.BlockFault.{BlockFault}
 use Rattle.fv_disk.specs.declared.fault.BlockFault.TheVariants.{DiskFault, Damaged, Memory}
-use Rattle.fv_volume.specs.Keeping.{Blocks}
+use Rattle.fv_pool.specs.Keeping.{Blocks}
 use Rattle.fv_volume.specs.declared.state.VolumeState.{VolumeState}
 use Rattle.fv_volume.specs.Files.{HasOwnSlots, IsLabelled, IsState}
 use Rattle.fv_volume.specs.Loading.{IsCounted, IsLoadFault, KeptTo}
@@ -40,7 +40,7 @@ use Rattle.fv_volume.specs.OneVolume.{IsReady}
 use Rattle.fv_volume.specs.States.{States, state_at, view_over}
 use Rattle.fv_volume.specs.Trees.{no_trees}
 use Rattle.fv_volumes.proofs.Trees.{unchanged_machine}
-use Rattle.fv_volume.specs.declared.pool.Pool.{Pool}
+use Rattle.fv_pool.specs.declared.pool.Pool.{Pool}
 use Rattle.fv_aggregate.specs.declared.fault.OpenFault.{OpenFault}
 use Rattle.fv_aggregate.specs.declared.session.Session.{Session}
 use Rattle.fv_aggregate.specs.Causes.{IsOpenFault, of_block}
@@ -55,12 +55,6 @@ use Rattle.fv_aggregate.proofs.Sums.{none_pending, none_waiting, overheads_are}
 use Rattle.fv_aggregate.proofs.Lent.{reach_opened, slots_opened, spaced_opened}
 
 -- ---- faults
-
--- a map or volumes that can't be read under the root that was found
-pub map_fault : (i : Image) (found : Found) → IsFound i found → (e : BlockFault) → IsMapFault i found e → IsOpenFault i (of_block e)
-map_fault i found is DiskFault fault = tt
-map_fault i found is (Damaged at want number) fault = inr (record { root = found; found = is; fault = inl fault })
-map_fault i found is Memory fault = tt
 
 pub load_fault : (i : Image) (found : Found) → IsFound i found → (e : BlockFault) → IsLoadFault i found e → IsOpenFault i (of_block e)
 load_fault i found is DiskFault fault = tt

@@ -36,9 +36,9 @@ use Rattle.fv_cp.specs.Points.{LacksRoom}
 use Rattle.fv_cp.specs.Settling.{GoesOnWhole, HaveFullRoom, IsHeldPoint, IsStill, OldOrHeld, StillHeld, WholeCounts, WholeFails}
 use Rattle.fv_disk.specs.declared.fault.BlockFault.TheVariants as block
 use Rattle.fv_volmap.specs.Slots.{stored_count}
-use Rattle.fv_volume.specs.declared.fault.VolumeFault.{VolumeFault}
-use Rattle.fv_volume.specs.declared.fault.VolumeFault.TheVariants as cp
-use Rattle.fv_volume.specs.declared.pool.Pool.{Pool}
+use Rattle.fv_pool.specs.declared.fault.VolumeFault.{VolumeFault}
+use Rattle.fv_pool.specs.declared.fault.VolumeFault.TheVariants as cp
+use Rattle.fv_pool.specs.declared.pool.Pool.{Pool}
 use Rattle.fv_volume.specs.declared.state.VolumeState.{VolumeState}
 use Rattle.fv_volumes.specs.Creating.{Admits}
 use Rattle.fv_volume.specs.Loading.{IsLoaded}
@@ -61,15 +61,21 @@ use Rattle.fv_aggregate.proofs.Sums.{all_within, none_pending, none_waiting, one
 pub still_as : (old : Shown) (pool : Pool) (states : States) (new : Shown) (left : Pool) (stay : States) (said fault : VolumeFault) → said ≡ fault → IsStill old pool states new left stay said → IsStill old pool states new left stay fault
 still_as old pool states new left stay said fault is still = subst (IsStill old pool states new left stay) is still
 
--- so it is of a session
-pub still_said : (old : Shown) (before session : Session) → before ≡ session → (new : Shown) (left : Pool) (stay : States) (said fault : VolumeFault) → said ≡ fault
-    → IsStill old before.pool before.volumes new left stay said → IsStill old session.pool session.volumes new left stay fault
-still_said old before session same new left stay said fault is still =
-    subst (λ (s : Session). IsStill old s.pool s.volumes new left stay fault) same (still_as old before.pool before.volumes new left stay said fault is still)
+pub fails_as : (was session : Session) → was ≡ session → (left : Pool) (stay : States) (said fault : VolumeFault) → said ≡ fault → WholeFails was.volumes left stay said → WholeFails session.volumes left stay fault
+fails_as was session same left stay said fault is fails = subst (λ (s : Session). WholeFails s.volumes left stay fault) same (subst (WholeFails was.volumes left stay) is fails)
 
--- its parts, where the flags stayed
-pub parts_as : (before session : Session) → before ≡ session → (left : Pool) (stay : States) (delays : List Bool) → delays ≡ before.delays → record before { pool = left; volumes = stay; delays = delays } ≡ record session { pool = left; volumes = stay }
-parts_as before session same left stay delays stays = λ j. record (same j) { pool = left; volumes = stay; delays = (stays ∙ ap (λ (s : Session). s.delays) same) j }
+-- A session after it: some files may have been placed, and its other parts stayed.
+pub record HasStayed (before : Shown) (old : Session) (after : Shown) (new : Session) : Type 0 where
+  pub still : StillHeld before old.pool old.volumes after new.pool new.volumes
+  pub parts : new ≡ record old { pool = new.pool; volumes = new.volumes }
+
+pub stayed : (before : Shown) (was old : Session) → was ≡ old → (after : Shown) (left : Pool) (stay : States) (delays : List Bool) → delays ≡ was.delays → (said fault : VolumeFault) → said ≡ fault → IsStill before was.pool was.volumes after left stay said
+    → (IsStill before was.pool was.volumes after left stay fault → StillHeld before was.pool was.volumes after left stay) → HasStayed before old after (record was { pool = left; volumes = stay; delays = delays })
+stayed before was old same after left stay delays flags said fault is still held =
+    subst (λ (s : Session). HasStayed before s after (record was { pool = left; volumes = stay; delays = delays })) same (record {
+      still = held (still_as before was.pool was.volumes after left stay said fault is still);
+      parts = λ j. record was { pool = left; volumes = stay; delays = flags j };
+    })
 
 -- ---- before a point
 
@@ -83,36 +89,25 @@ has_full_room disk session last m stands =
       blocks = omega (arith, all, all_within session.volumes, stands.pending, stands.room);
     }
 
--- what the session stands for, by its parts
-pub held_as : (disk : Shown) (session : Session) (last m : Machine) → StandsFor disk session last m → (pool : Pool) (states : States) → session.pool ≡ pool → session.volumes ≡ states → IsHeld disk pool states last
-held_as disk session last m stands pool states same_pool same_states = subst (λ (p : Pool). IsHeld disk p states last) same_pool (subst (λ (v : States). IsHeld disk session.pool v last) same_states stands.held)
-
--- what it knows of delayed entries, and the room that a point has
-pub known_as : (disk : Shown) (session : Session) (last m : Machine) → StandsFor disk session last m → (pool : Pool) (delays : List Bool) → session.pool ≡ pool → session.delays ≡ delays → AreKnown disk.reads pool.found delays
-known_as disk session last m stands pool delays same_pool same_delays = known_still disk.reads disk.reads session.pool.found pool.found session.delays delays refl (ap (λ (p : Pool). p.found) (sym same_pool)) (sym same_delays) stands.delays
-
-pub full_as : (disk : Shown) (session : Session) (last m : Machine) → StandsFor disk session last m → (pool : Pool) (states : States) → session.pool ≡ pool → session.volumes ≡ states → HaveFullRoom pool states
-full_as disk session last m stands pool states same_pool same_states = subst (λ (p : Pool). HaveFullRoom p states) same_pool (subst (λ (v : States). HaveFullRoom session.pool v) same_states (has_full_room disk session last m stands))
-
+-- the machine that it stands for, by its parts
 held_is : (disk : Shown) (session : Session) (last m : Machine) → StandsFor disk session last m → (pool : Pool) (states : States) → session.pool ≡ pool → session.volumes ≡ states → machine_held disk pool states ≡ m
 held_is disk session last m stands pool states same_pool same_states = (λ j. machine_held disk (sym same_pool j) (sym same_states j)) ∙ stands.machine
 
--- what a crash leaves at each moment of a point
-pub point_moments : (old new : Shown) (session : Session) (last m : Machine) → StandsFor old session last m → (pool : Pool) (states : States) → session.pool ≡ pool → session.volumes ≡ states
-    → Leaves old new (OldOrHeld old pool states last) → Leaves old new (λ c g. OneOf last m m c × (g ≡ old.given))
-point_moments old new session last m stands pool states same_pool same_states left =
-    let machine : machine_held old pool states ≡ m = held_is old session last m stands pool states same_pool same_states in
-    weaken old new (OldOrHeld old pool states last) (λ c g. OneOf last m m c × (g ≡ old.given)) (λ c g one. (⊎_elim (λ l. inl l.stands) (λ held. inr (inl (held.stands ∙ ap Some machine))) one.0, one.1)) left
+-- What a point says of each moment, by the machine of the last one.
+abbrev pub SaysMoments : Shown → Shown → Session → Type 0
+SaysMoments old new session = (last : Machine) → IsHeld old session.pool session.volumes last → AreKnown old.reads session.pool.found session.delays → HaveFullRoom session.pool session.volumes
+    → Leaves old new (OldOrHeld old session.pool session.volumes last)
 
--- it is of the old side or of the new one
-pub point_sides : (old new : Shown) (session : Session) (last m : Machine) → StandsFor old session last m → (pool : Pool) (states : States) (delays : List Bool) → session.pool ≡ pool → session.volumes ≡ states → session.delays ≡ delays
-    → ((before : Machine) → IsHeld old pool states before → AreKnown old.reads pool.found delays → HaveFullRoom pool states → Leaves old new (OldOrHeld old pool states before)) → Leaves old new (OldOrHeld old session.pool session.volumes last)
-point_sides old new session last m stands pool states delays same_pool same_states same_delays left =
-    let held = held_as old session last m stands pool states same_pool same_states in
-    let known = known_as old session last m stands pool delays same_pool same_delays in
-    let full = full_as old session last m stands pool states same_pool same_states in
-    subst (λ (p : Pool). Leaves old new (OldOrHeld old p session.volumes last)) (sym same_pool)
-    (subst (λ (v : States). Leaves old new (OldOrHeld old pool v last)) (sym same_states) (left last held known full))
+module _ (old new : Shown) (was session : Session) (same : was ≡ session) (said : SaysMoments old new was) where
+  -- what a crash leaves at each moment is of the old side or of the new one
+  pub point_sides : (last m : Machine) → StandsFor old session last m → Leaves old new (OldOrHeld old session.pool session.volumes last)
+  point_sides = subst (λ (s : Session). (last m : Machine) → StandsFor old s last m → Leaves old new (OldOrHeld old s.pool s.volumes last)) same
+      (λ last m stands. said last stands.held stands.delays (has_full_room old was last m stands))
+
+  -- and stands for one of the two machines
+  pub point_moments : (last m : Machine) → StandsFor old session last m → Leaves old new (λ c g. OneOf last m m c × (g ≡ old.given))
+  point_moments last m stands = weaken old new (OldOrHeld old session.pool session.volumes last) (λ c g. OneOf last m m c × (g ≡ old.given))
+      (λ c g one. (⊎_elim (λ l. inl l.stands) (λ held. inr (inl (held.stands ∙ ap Some stands.machine))) one.0, one.1)) (point_sides last m stands)
 
 -- ---- a point as a call
 
@@ -146,7 +141,13 @@ pub point_failed_for : (before : Shown) (last m : Machine) (after : Shown) (new 
 point_failed_for before last m after new moments failed = record { any_moment = moments; done = tt; still = λ fresh. absurd (both new.failed after.faults fresh failed); whole = tt }
 
 -- A point that came to no end, but by no fault of the disk: some files may have been placed.
-module _ (before : Shown) (old : Session) (after : Shown) (new : Session) (still : StillHeld before old.pool old.volumes after new.pool new.volumes) (parts : new ≡ record old { pool = new.pool; volumes = new.volumes }) where
+module _ (before : Shown) (old : Session) (after : Shown) (new : Session) (has : HasStayed before old after new) where
+  abbrev still : StillHeld before old.pool old.volumes after new.pool new.volumes
+  still = has.still
+
+  abbrev parts : new ≡ record old { pool = new.pool; volumes = new.volumes }
+  parts = has.parts
+
   reads : OnlyReads before after
   reads = still.placed.only_reads
 
@@ -375,3 +376,22 @@ module _ (old : Shown) (pool : Pool) (states : States) (new : Shown) (left : Poo
         let rule : leaves_room w want ≡ true = is.room.wanted (omega (arith, fits, promised, ap capacity blocks)) in
         let free = room_when_loaded new.reads left.found left.map want loaded sound rule in
         subst (λ (p : Pool). overheads (view_at (root_found p.found) new.reads) + max 256 (after.pending + want) ≤ clear_blocks p.map) (sym new_pool) (omega (arith, none, free, clear_is_free left.map loaded.same))
+
+-- so it is of a session whose parts were these
+module _ (old new : Shown) (was session : Session) (same : was ≡ session) (want : ℕ) (left : Pool) (stay : States) (delays : List Bool)
+    (said : (last : Machine) → IsHeld old was.pool was.volumes last → AreKnown old.reads was.pool.found was.delays → HaveFullRoom was.pool was.volumes → IsHeldPoint old was.pool was.volumes want new left stay delays)
+    (loaded : IsMapLoaded new.reads left.found left.map) (last m : Machine) (stands : StandsFor old session last m) where
+  abbrev pub pointed_session : Session
+  pointed_session = record was { pool = left; volumes = stay; delays = delays; pending = 0 }
+
+  stood : StandsFor old was last m
+  stood = subst (λ (s : Session). StandsFor old s last m) (sym same) stands
+
+  pub point_is : IsHeldPoint old was.pool was.volumes want new left stay delays
+  point_is = said last stood.held stood.delays (has_full_room old was last m stood)
+
+  pub stands_pointed : length stay ≡ 64 → HaveNoFiles stay → StandsFor new pointed_session m m
+  stands_pointed long bare = pointed old was.pool was.volumes new left stay want delays point_is loaded was last m stood refl refl long bare pointed_session refl refl refl refl
+
+  pub room_pointed : commits m + 2 * want ≤ capacity m.blocks → HasRoom new pointed_session want
+  room_pointed fits = point_room old was.pool was.volumes new left stay want delays point_is loaded was last m stood refl refl pointed_session refl refl fits

@@ -21,23 +21,16 @@ use Rattle.fv_aggregate.specs.Commands.{dirty_limit, file_room, is_refusal}
 use Rattle.fv_aggregate.specs.Looking.{refusal_in, HasJudged, IsChangeAt, Makes}
 use Rattle.fv_aggregate.specs.Standing.{StandsFor}
 use Rattle.fv_aggregate.proofs.Holes.{never_within}
-use Rattle.fv_aggregate.proofs.CallEnds.{fails_early, goes_after, goes_for_after, goes_wider, replies_wider}
+use Rattle.fv_aggregate.proofs.CallEnds.{fails_early, goes_after, goes_for_after, replies_wider}
 use Rattle.fv_aggregate.proofs.Changing.{change_done, judged_accepted}
 use Rattle.fv_aggregate.proofs.Missing.{refused_allows, refused_next}
-use Rattle.fv_aggregate.proofs.Numbered.{still_there}
+use Rattle.fv_aggregate.proofs.Numbered.{makes_early, still_there}
 
 -- ---- it ends where it was judged
 
 module _ (d : Shown) (s : Session) (c : Command) (e : Shown) (n : Session) where
-  pub judging_failed : (f : Fault) → HasJudged d s c e n (Err f) → Makes file_room d s c e n (Err f)
-  judging_failed f judged = record {
-    goes = goes_wider 16 d s e n f judged.goes;
-    goes_for = λ tells last m is. fails_early d last m (next m c) e n f (judged.goes_for tells last m is);
-    reply = λ tells last m is. tt;
-    refused = λ tells last m is. tt;
-    calm = λ low. judged.only_reads;
-    entries = λ low. judged.entries;
-  }
+  pub judging_failed : (f : Fault) → HasJudged d s c e n (Err f) → (r : Result Reply Fault) → r ≡ Err f → Makes file_room d s c e n r
+  judging_failed f judged r is = subst (Makes file_room d s c e n) (sym is) (makes_early d s c e n f judged.goes judged.goes_for judged.only_reads judged.entries)
 
   pub judged_refused : (r : Refusal) → HasJudged d s c e n (Ok (Refused r)) → Makes file_room d s c e n (Ok (Refused r))
   judged_refused r judged = record {

@@ -95,15 +95,19 @@ module _ (old : Shown) (before : Session) (want : ℕ) (new : Shown) (after : Se
   entries_left = record {
     mid = e.mid;
     between = e.between;
+    there = λ s x at. housed_there x (container_at e.mid.containers s) (subst (λ (o : Option VolumeState). Houses o (container_at e.mid.containers s)) at (e.housed.each s));
     found = e.found;
     same = e.others;
     maps = e.maps;
     placed = e.placed;
+    written = λ s v x map inside there lies writes. map_written s v x map inside there lies writes;
+    others = λ s v x map inside there lies stays. other_shown s v x map inside there lies stays;
     unused = e.unused;
     rest = e.rest;
     chosen = e.chosen;
     missing = is.missing;
-    there = λ s x at. housed_there x (container_at e.mid.containers s) (subst (λ (o : Option VolumeState). Houses o (container_at e.mid.containers s)) at (e.housed.each s));
-    written = λ s v x map inside there lies writes. map_written s v x map inside there lies writes;
-    others = λ s v x map inside there lies stays. other_shown s v x map inside there lies stays;
   }
+
+-- so it is of a session whose parts were these
+pub entries_behind : (old : Shown) (was session : Session) → was ≡ session → (want : ℕ) (new : Shown) (after : Session) → IsHeldPoint old was.pool was.volumes want new after.pool after.volumes after.delays → IsMapLoaded new.reads after.pool.found after.pool.map → ReclaimsEntries want session new after
+entries_behind old was session same want new after is loaded = subst (λ (s : Session). ReclaimsEntries want s new after) same (entries_left old was want new after is loaded)

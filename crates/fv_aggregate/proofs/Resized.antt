@@ -3,6 +3,7 @@ use Rattle.std.proofs.Common.{◌≡◌, ℕ, cond, List, Option, None, Result, 
 use Rattle.std.specs.Option.{is_some}
 use Rattle.fv_disk.specs.Shown.{Shown}
 use Rattle.fv_model.specs.declared.answers.Refusal.{Refusal}
+use Rattle.fv_model.specs.declared.answers.Reply.{Reply}
 use Rattle.fv_model.specs.declared.commands.Command.{Command}
 use Rattle.fv_model.specs.declared.commands.Kind.{Kind}
 use Rattle.fv_model.specs.Machines.{Machine}
@@ -10,7 +11,7 @@ use Rattle.fv_model.specs.Effects.{Becomes, changed, effect}
 use Rattle.fv_model.specs.Refusals.{next, refusal}
 use Rattle.fv_store.specs.Held.{StandsOn}
 use Rattle.fv_container.specs.Chains.{container_at}
-use Rattle.fv_volume.specs.declared.pool.Pool.{Pool}
+use Rattle.fv_pool.specs.declared.pool.Pool.{Pool}
 use Rattle.fv_volume.specs.declared.state.VolumeState.{VolumeState}
 use Rattle.fv_volume.specs.Calls.{Has}
 use Rattle.fv_volume.specs.OneVolume.{content_for, volume_for}
@@ -21,6 +22,7 @@ use Rattle.fv_cp.specs.Held.{machine_held, IsHeld}
 use Rattle.fv_cp.specs.Lent.{FitTogether, waiting_by}
 use Rattle.fv_cp.specs.Placing.{pending_by}
 use Rattle.fv_aggregate.specs.declared.session.Session.{Session}
+use Rattle.fv_aggregate.specs.Managing.{told_as, IsBy}
 use Rattle.fv_aggregate.specs.Standing.{overhead_by, IsWithoutFiles, Stands, StandsFor}
 use Rattle.fv_aggregate.proofs.Becoming.{machine_becomes}
 use Rattle.fv_aggregate.proofs.Calls.{reads_itself}
@@ -30,9 +32,6 @@ use Rattle.fv_aggregate.proofs.Looked.{reads_alone}
 module _ (session : Session) (c : Command) (name : List ℕ) (size : VolumeState → ℕ) (kind : VolumeState → Kind) (new : States) (is : IsPromised session.volumes session.pool.found.blocks c name size kind new) where
   abbrev pool : Pool
   pool = session.pool
-
-  abbrev states : States
-  states = session.volumes
 
   abbrev x : VolumeState
   x = is.state
@@ -44,11 +43,11 @@ module _ (session : Session) (c : Command) (name : List ℕ) (size : VolumeState
   now = record session { volumes = new }
 
   -- its parts fit together
-  pub fit_promised : FitTogether pool states → FitTogether pool new
+  pub fit_promised : FitTogether pool session.volumes → FitTogether pool new
   fit_promised fit = record {
     range = fit.range;
     size = fit.size;
-    housed = housed_promised states pool.found.blocks c name size kind new is pool.containers fit.housed;
+    housed = housed_promised session.volumes pool.found.blocks c name size kind new is pool.containers fit.housed;
     kept = fit.kept;
   }
 
@@ -58,21 +57,21 @@ module _ (session : Session) (c : Command) (name : List ℕ) (size : VolumeState
     found = stands.found;
     map = stands.map;
     cache = stands.cache;
-    ready = ready_promised states pool.found.blocks c name size kind new is disk pool stands.ready;
+    ready = ready_promised session.volumes pool.found.blocks c name size kind new is disk pool stands.ready;
   }
 
   -- no file came into memory
   pub files_promised : IsWithoutFiles session → IsWithoutFiles now
   files_promised without = record {
-    none = each_promised states pool.found.blocks c name size kind new is (λ s z. z.files ≡ None) (λ none. none) without.none;
+    none = each_promised session.volumes pool.found.blocks c name size kind new is (λ s z. z.files ≡ None) (λ none. none) without.none;
     taken = without.taken;
   }
 
   -- ---- where it stood for a machine
 
-  module _ (disk : Shown) (fit : FitTogether pool states) (cache : StandsOn disk pool.store.pairs) (last : Machine) (held : IsHeld disk pool states last) where
+  module _ (disk : Shown) (fit : FitTogether pool session.volumes) (cache : StandsOn disk pool.store.pairs) (last : Machine) (held : IsHeld disk pool session.volumes last) where
     abbrev m : Machine
-    m = machine_held disk pool states
+    m = machine_held disk pool session.volumes
 
     held_now : IsHeld disk pool new last
     held_now = record {
@@ -80,31 +79,31 @@ module _ (session : Session) (c : Command) (name : List ℕ) (size : VolumeState
       tells = held.tells;
       keeps = held.keeps;
       map = held.map;
-      slots = lent_promised states pool.found.blocks c name size kind new is disk.reads pool.found pool.containers held.slots;
-      spaced = spaced_promised states pool.found.blocks c name size kind new is pool.found.blocks pool.map.next (container_at pool.containers) held.spaced;
-      names = names_promised states pool.found.blocks c name size kind new is held.names;
-      each = held_promised states pool.found.blocks c name size kind new is disk pool held.each;
+      slots = lent_promised session.volumes pool.found.blocks c name size kind new is disk.reads pool.found pool.containers held.slots;
+      spaced = spaced_promised session.volumes pool.found.blocks c name size kind new is pool.found.blocks pool.map.next (container_at pool.containers) held.spaced;
+      names = names_promised session.volumes pool.found.blocks c name size kind new is held.names;
+      each = held_promised session.volumes pool.found.blocks c name size kind new is disk pool held.each;
       commits = is.sum;
     }
 
     has : Has name (volume_for disk pool x) m
-    has = subst (λ (n : List ℕ). Has n (volume_for disk pool x) m) is.named (is_there disk pool states fit.housed.long last held is.slot x is.there)
+    has = subst (λ (n : List ℕ). Has n (volume_for disk pool x) m) is.named (is_there disk pool session.volumes fit.housed.long last held is.slot x is.there)
 
     -- the machine's volume becomes that one
     becomes : machine_held disk pool new ≡ changed m (Becomes name (volume_for disk pool y))
     becomes = ap (λ (s : States). machine_held disk pool s) is.row
-        ∙ machine_becomes disk disk pool pool (reads_alone disk disk pool (reads_itself disk) cache) states fit.housed.long last held is.slot x y is.there refl (subst (λ (s : States). IsHeld disk pool s last) is.row held_now)
+        ∙ machine_becomes disk disk pool pool (reads_alone disk disk pool (reads_itself disk) cache) session.volumes fit.housed.long last held is.slot x y is.there refl (subst (λ (s : States). IsHeld disk pool s last) is.row held_now)
         ∙ ap (λ (n : List ℕ). changed m (Becomes n (volume_for disk pool y))) is.named
 
     -- so it is the machine after the command, where that is accepted
     machine_promised : refusal m c ≡ None → machine_held disk pool new ≡ next m c
     machine_promised accepted = becomes ∙ sym (ap (λ (o : Option Refusal). cond (is_some o) m (effect m c)) accepted ∙ ap (changed m) (is.becomes (content_for disk pool x) m has))
 
-  pub stands_for_promised : (disk : Shown) → FitTogether pool states → Stands disk session → (last m : Machine) → StandsFor disk session last m → refusal m c ≡ None → StandsFor disk now last (next m c)
+  pub stands_for_promised : (disk : Shown) → FitTogether pool session.volumes → Stands disk session → (last m : Machine) → StandsFor disk session last m → refusal m c ≡ None → StandsFor disk now last (next m c)
   stands_for_promised disk fit there last m stands accepted =
-      let files = sum_promised states pool.found.blocks c name size kind new is pending_by refl in
-      let over = sum_promised states pool.found.blocks c name size kind new is overhead_by refl in
-      let maps = sum_promised states pool.found.blocks c name size kind new is waiting_by refl in
+      let files = sum_promised session.volumes pool.found.blocks c name size kind new is pending_by refl in
+      let over = sum_promised session.volumes pool.found.blocks c name size kind new is overhead_by refl in
+      let maps = sum_promised session.volumes pool.found.blocks c name size kind new is waiting_by refl in
       record {
         held = held_now disk fit there.cache last stands.held;
         machine = machine_promised disk fit there.cache last stands.held (subst (λ (k : Machine). refusal k c ≡ None) (sym stands.machine) accepted) ∙ ap (λ (k : Machine). next k c) stands.machine;
@@ -121,3 +120,13 @@ pub fit_resized : (session : Session) (c : Command) (name : List ℕ) (size : Vo
     → (r : Result Unit Refusal) → PromisesOne session.volumes session.pool.found.blocks c name size kind new r → FitTogether session.pool new
 fit_resized session c name size kind new fit (Ok u) did = fit_promised session c name size kind new did.done fit
 fit_resized session c name size kind new fit (Err r) did = subst (FitTogether session.pool) (sym did.stays) fit
+
+-- what is answered is by the call on the volumes
+pub promised_by : (v s : Session) → v ≡ s → (c : Command) (name : List ℕ) (size : VolumeState → ℕ) (kind : VolumeState → Kind) (new : States) (r : Result Unit Refusal) → PromisesOne v.volumes v.pool.found.blocks c name size kind new r
+    → (reply : Reply) → reply ≡ told_as r → IsBy (λ q. (v.pool ≡ s.pool) × PromisesOne s.volumes s.pool.found.blocks c name size kind new q) s (record v { volumes = new }) reply
+promised_by v s same c name size kind new r did reply told = record {
+  result = r;
+  reply_is = told;
+  answers = (ap (λ (n : Session). n.pool) same, subst (λ (n : Session). PromisesOne n.volumes n.pool.found.blocks c name size kind new r) same did);
+  rest = λ j. record (same j) { volumes = new; pool = v.pool };
+}

@@ -20,12 +20,12 @@ use Rattle.fv_aggregate.specs.declared.fault.Fault.TheVariants.{Failed, Memory}
 use Rattle.fv_aggregate.specs.declared.session.Session.{Session}
 use Rattle.fv_aggregate.specs.Applying.{HasApplied}
 use Rattle.fv_aggregate.specs.Calls.{Goes, GoesFor, IsPlain, IsUntouched, LacksSnapshot}
-use Rattle.fv_aggregate.specs.Commands.{changed_by, file_room, finds_file, has_range, is_built, is_get, machine_after, managed_by, reads_files, room_of, snapped_by, volume_asked, Replies}
+use Rattle.fv_aggregate.specs.Commands.{changed_by, file_room, finds_file, has_range, is_built, is_get, machine_after, managed_by, reads_files, room_by, snapped_by, volume_asked, Replies}
 use Rattle.fv_aggregate.specs.Known.{KeepsNumbers, KeepsNumbersBut, KnowsNamed, KnowsNumbers, MayLose}
 use Rattle.fv_aggregate.specs.Looking.{HasSnapped, Looks, Makes}
 use Rattle.fv_aggregate.specs.Managing.{Manages}
 use Rattle.fv_aggregate.specs.Standing.{Stands, StandsFor}
-use Rattle.fv_aggregate.proofs.Applied.{no_files, rests_for, rests_for_fault}
+use Rattle.fv_aggregate.proofs.Applied.{fault_plain, no_files, rests_for, rests_for_fault}
 use Rattle.fv_aggregate.proofs.Applying.{look_asks, look_files, look_goes, look_goes_for, look_name, look_no_point, look_refused, look_reply, look_same, make_asks, make_calm, make_entries, make_goes, make_goes_for, make_name, make_no_point, make_reply, make_unasked, make_unchanged, no_step, not_dead, rests_as, same_map}
 use Rattle.fv_aggregate.proofs.Calls.{reads_itself, rests_asks, rests_done, rests_wanting, stays_failed}
 use Rattle.fv_aggregate.proofs.Changing.{change_of_volume, change_reads, look_reads}
@@ -51,12 +51,12 @@ not_none X states slot name within named none = absurd (true≢false (sym named.
 
 module _ {D : Type 0} (c : Command) (d : Shown) (at : D) (s : Session) (steps : ℕ) where
   -- a command that reads no file, and is no `cp`
-  rests_applied : (r : Result Reply Fault) → IsNone s.failed → reads_files c ≡ false → c ≢ Cp → Goes (room_of c) d s d s r
+  rests_applied : (r : Result Reply Fault) → IsNone s.failed → reads_files c ≡ false → c ≢ Cp → Goes (room_by s.volumes c) d s d s r
       → (IsTrue d.tells → (last m : Machine) → StandsFor d s last m → GoesFor d last m (machine_after m c) d s r) → (IsTrue d.tells → (last m : Machine) → StandsFor d s last m → IfOk r (Replies m c)) → IsPlain c d at s d at s r
       → HasApplied c d at s steps d at s steps r
   rests_applied r fresh reads other goes goes_for reply plain = record {
     goes = goes;
-    asks = λ none. rests_asks (room_of c) d s;
+    asks = λ none. rests_asks (room_by s.volumes c) d s;
     goes_for = goes_for;
     reply = reply;
     plain = λ none. plain;
@@ -76,36 +76,23 @@ module _ {D : Type 0} (c : Command) (d : Shown) (at : D) (s : Session) (steps : 
   pub rests_answers : IsDisk d → (y : Reply) → IsNone s.failed → Stands d s → reads_files c ≡ false → c ≢ Cp → ((m : Machine) → machine_after m c ≡ m)
       → (IsTrue d.tells → (last m : Machine) → StandsFor d s last m → Replies m c y) → IsPlain c d at s d at s (Ok y) → HasApplied c d at s steps d at s steps (Ok y)
   rests_answers laws y fresh stands reads other after replies plain =
-      rests_applied (Ok y) fresh reads other (rests_done y (room_of c) d s fresh stands) (λ tells last m held. rests_for y d s last m (machine_after m c) laws (after m) held) replies plain
+      rests_applied (Ok y) fresh reads other (rests_done y (room_by s.volumes c) d s fresh stands) (λ tells last m held. rests_for y d s last m (machine_after m c) laws (after m) held) replies plain
 
   -- and one for which memory lacks
   pub rests_lacks : IsDisk d → IsNone s.failed → Stands d s → reads_files c ≡ false → c ≢ Cp → IsPlain c d at s d at s (Err Memory) → (r : Result Reply Fault) → r ≡ Err Memory → HasApplied c d at s steps d at s steps r
   rests_lacks laws fresh stands reads other plain r is =
-      subst (HasApplied c d at s steps d at s steps) (sym is) (rests_applied (Err Memory) fresh reads other (rests_wanting (room_of c) d s fresh stands)
+      subst (HasApplied c d at s steps d at s steps) (sym is) (rests_applied (Err Memory) fresh reads other (rests_wanting (room_by s.volumes c) d s fresh stands)
       (λ tells last m held. rests_for_fault Memory d s last m (machine_after m c) laws tt held) (λ tells last m held. tt) plain)
 
   -- a session that has failed
   pub failed_applied : IsDisk d → (n : ℕ) → s.failed ≡ Some n → HasApplied c d at s steps d at s steps (Err (Failed n))
   failed_applied laws n is = record {
-    goes = stays_failed n (room_of c) d s is;
-    asks = λ none. rests_asks (room_of c) d s;
+    goes = stays_failed n (room_by s.volumes c) d s is;
+    asks = λ none. rests_asks (room_by s.volumes c) d s;
     goes_for = λ tells last m stands. rests_for_fault (Failed n) d s last m (machine_after m c) laws tt stands;
     reply = λ tells last m stands. tt;
-    plain = λ none. record {
-      refused = tt;
-      calm = λ other few. refl;
-      map = λ other stays places few. refl;
-      wanting = λ other places few memory. refl;
-      damage = tt;
-      unbuilt = λ fresh none. not_dead _ s fresh some;
-      listed = λ list. tt;
-      untouched = λ list. (refl, refl);
-      pointed = λ cp. tt;
-      memory = λ cp none. not_memory n;
-      managed = λ fresh name of. not_dead _ s fresh some;
-      snapped = λ fresh name of none. not_dead _ s fresh some;
-      snapshots = λ fresh name list. not_dead _ s fresh some;
-    };
+    plain = λ none. fault_plain c d at s (Failed n) tt (λ fresh none. not_dead _ s fresh some) (λ cp none. not_memory n)
+        (λ fresh name of. not_dead _ s fresh some) (λ fresh name of. not_dead _ s fresh some) (λ fresh name list. not_dead _ s fresh some);
     on_files = λ files. record {
       range = λ fresh far. not_dead _ s fresh some;
       missing = λ fresh near name of none. not_dead _ s fresh some;
@@ -136,8 +123,8 @@ pub managed_applied : {D : Type 0} (c : Command) (d : Shown) (laws : IsDisk d) (
 managed_applied c d laws at old fit fresh stands steps new reply either manages reads snaps no_list no_point no_names =
     let over = manages_over d old fit c either new reply manages in
     record {
-      goes = managed_goes d old c new reply over (room_of c) fresh stands;
-      asks = managed_asks d old c new reply over (room_of c);
+      goes = managed_goes d old c new reply over (room_by old.volumes c) fresh stands;
+      asks = managed_asks d old c new reply over (room_by old.volumes c);
       goes_for = λ tells last m held. managed_for d old c new reply over laws stands last m held;
       reply = λ tells last m held. over.replies last m held;
       plain = λ plain. managed_plain d old c new reply over at no_list no_point no_names snaps;

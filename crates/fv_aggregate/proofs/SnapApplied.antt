@@ -10,10 +10,8 @@ use Rattle.fv_model.specs.declared.commands.Command.{Command}
 use Rattle.fv_model.specs.declared.commands.Command.TheVariants.{Cp, SnapList, VolList}
 use Rattle.fv_model.specs.Machines.{Machine}
 use Rattle.fv_model.specs.Refusals.{refusal}
-use Rattle.fv_volume.specs.Slots.{is_named, NoneHasName}
+use Rattle.fv_volume.specs.Slots.{is_named, HasName, NoneHasName}
 use Rattle.fv_volume.specs.States.{state_at, States}
-use Rattle.fv_volume.specs.declared.state.VolumeState.{VolumeState}
-use Rattle.fv_laws.proofs.Changes.{same_name}
 use Rattle.fv_aggregate.specs.declared.fault.Fault.{Fault}
 use Rattle.fv_aggregate.specs.declared.fault.Fault.TheVariants.{Memory}
 use Rattle.fv_aggregate.specs.declared.session.Session.{Session}
@@ -22,15 +20,14 @@ use Rattle.fv_aggregate.specs.Commands.{machine_after, snapped_by, Replies}
 use Rattle.fv_aggregate.specs.Looking.{HasSnapped, IsSnapAimed}
 use Rattle.fv_aggregate.specs.Standing.{StandsFor}
 use Rattle.fv_aggregate.proofs.HeldMachine.{not_there}
+use Rattle.fv_aggregate.proofs.Returned.{named_there}
 use Rattle.fv_aggregate.proofs.SnapCommands.{snap_after, snap_built, snap_missing, snap_other, snap_replies, snap_whole}
 
 -- the command is aimed at the volume that its name finds
-pub snap_aimed_at : (states : States) (slot : ℕ) (name : List ℕ) (c : Command) → slot < 64 → is_named (state_at states slot) name ≡ true → snapped_by c ≡ Some name → IsSnapAimed states slot c
-snap_aimed_at states slot name c within named of = by (state_at states slot) refl named
-  where
-    by : (o : Option VolumeState) → state_at states slot ≡ o → is_named o name ≡ true → IsSnapAimed states slot c
-    by None at named = absurd cc
-    by (Some x) at named = record { within = within; state = x; there = at; snaps = of ∙ ap (λ (n : List ℕ). Some n) (sym (same_name x.name name named)) }
+pub snap_aimed_at : (states : States) (slot : ℕ) (name : List ℕ) (c : Command) → slot < 64 → HasName states slot name → snapped_by c ≡ Some name → IsSnapAimed states slot c
+snap_aimed_at states slot name c within has of =
+    let at = named_there (state_at states slot) name has.named in
+    record { within = within; state = at.0; there = at.1.0; named = subst (HasName states slot) at.1.1 has; snaps = of ∙ ap (λ (n : List ℕ). Some n) at.1.1 }
 
 -- a volume that isn't there is refused
 pub snap_refused : (d : Shown) (s : Session) → length s.volumes ≡ 64 → (name : List ℕ) (c : Command) → NoneHasName s.volumes name → snapped_by c ≡ Some name → (last m : Machine) → StandsFor d s last m → refusal m c ≡ Some NoVolume

@@ -23,13 +23,13 @@ use Rattle.fv_laws.proofs.Changes.{itself}
 use Rattle.fv_laws.proofs.Lists.{In}
 use Rattle.fv_laws.proofs.Orders.{name_total}
 use Rattle.fv_laws.proofs.Room.{entry_there}
-use Rattle.fv_volume.specs.declared.fault.VolumeFault.{VolumeFault}
-use Rattle.fv_volume.specs.declared.fault.VolumeFault.TheVariants as volume
-use Rattle.fv_volume.specs.declared.pool.Pool.{Pool}
+use Rattle.fv_pool.specs.declared.fault.VolumeFault.{VolumeFault}
+use Rattle.fv_pool.specs.declared.fault.VolumeFault.TheVariants as volume
+use Rattle.fv_pool.specs.declared.pool.Pool.{Pool}
 use Rattle.fv_volume.specs.declared.state.VolumeState.{VolumeState}
 use Rattle.fv_volume.specs.Held.{MayFail}
 use Rattle.fv_volume.specs.OneVolume.{volume_for, IsReady}
-use Rattle.fv_volume.specs.Placing.{pending_of}
+use Rattle.fv_pool.specs.Tables.{pending_of}
 use Rattle.fv_volume.specs.Slots.{is_named}
 use Rattle.fv_volume.specs.States.{state_at, with_state}
 use Rattle.fv_volume.specs.Writing.{map_wait}
@@ -43,12 +43,12 @@ use Rattle.fv_snapshot.specs.Restoring.{Restores}
 use Rattle.fv_aggregate.specs.declared.fault.Fault.{Fault}
 use Rattle.fv_aggregate.specs.declared.fault.Fault.TheVariants.{Damaged, Memory}
 use Rattle.fv_aggregate.specs.declared.session.Session.{Session}
-use Rattle.fv_aggregate.specs.Commands.{places_files, room_of, snapped_by}
+use Rattle.fv_aggregate.specs.Commands.{places_files, room_by, snapped_by}
 use Rattle.fv_aggregate.specs.Known.{KeepsNumbersBut, KnowsNumbers, MayLose}
 use Rattle.fv_aggregate.specs.Looking.{done_as, Replied, SnapsState}
 use Rattle.fv_aggregate.specs.Snapping.{snap_blocks, IsAccepted}
 use Rattle.fv_aggregate.specs.Standing.{IsWithoutFiles, Stands, StandsFor}
-use Rattle.fv_aggregate.proofs.Holes.{kept_entries, placed_entries}
+use Rattle.fv_aggregate.proofs.Holes.{kept_entries}
 use Rattle.fv_aggregate.proofs.Asked.{answer_allows}
 use Rattle.fv_aggregate.proofs.Changed.{beside, has_within, mine}
 use Rattle.fv_aggregate.proofs.HeldMachine.{bare, is_there}
@@ -56,7 +56,7 @@ use Rattle.fv_aggregate.proofs.Keeping.{keeps_with}
 use Rattle.fv_aggregate.proofs.PointEnds.{has_full_room}
 use Rattle.fv_aggregate.proofs.SnapCommands.{snap_cases}
 use Rattle.fv_aggregate.proofs.SnapDone.{carried_damaged, carried_done, carried_refused, carried_wanting, IsCarried}
-use Rattle.fv_aggregate.proofs.SnapSessions.{none_with, placed_for, placed_stands, snapped_for, snapped_stands, stepped_for, stepped_stands}
+use Rattle.fv_aggregate.proofs.SnapSessions.{none_with, placed_entries, placed_for, placed_stands, snapped_for, snapped_stands, stepped_for, stepped_stands}
 use Rattle.fv_aggregate.proofs.SnapSteps.{made_waits, removed_waits, restored_step, snapped_step, unsnapped_step}
 use Rattle.fv_aggregate.proofs.Stepped.{IsStepped}
 use Rattle.fv_aggregate.proofs.Sums.{one_pending}
@@ -147,10 +147,10 @@ module _ {D : Type 0} (d : Shown) (disk : D) (laws : IsDisk d) (s : Session) (fr
     its_stands = placed_stands d s q slot x y there slot_is fit placed stands
 
     pub wanting : IsCarried d disk s c room (left_session s slot q y) (Err Memory)
-    wanting = carried_wanting d disk laws s fresh c room (left_session s slot q y) fresh its_stands (omega arith) numbers_left (placed_entries d s.pool q x y placed) places (λ last m is. placed_for d s q slot x y there slot_is fit placed last m is)
+    wanting = carried_wanting d disk laws s fresh c room (left_session s slot q y) fresh its_stands (omega arith) numbers_left (placed_entries d s q slot x y there slot_is fit placed) places (λ last m is. placed_for d s q slot x y there slot_is fit placed last m is)
 
     pub damaged : (at want found : ℕ) → MayFail d s.pool (Some x) (volume.Damaged at want found) → IsCarried d disk s c room (left_session s slot q y) (Err (Damaged at want found))
-    damaged at want found may = carried_damaged d disk laws s fresh c room (left_session s slot q y) fresh its_stands (omega arith) numbers_left (placed_entries d s.pool q x y placed) places at want found
+    damaged at want found may = carried_damaged d disk laws s fresh c room (left_session s slot q y) fresh its_stands (omega arith) numbers_left (placed_entries d s q slot x y there slot_is fit placed) places at want found
         (λ none. true≢false (sym may.0 ∙ ap is_some (its_files none)))
         (λ last m is.
         let full = has_full_room d s last m is in
@@ -164,11 +164,11 @@ module _ {D : Type 0} (d : Shown) (disk : D) (laws : IsDisk d) (s : Session) (fr
 
   -- ---- a snapshot was made
 
-  module _ (name : List ℕ) (q : Pool) (y : VolumeState) (ready : IsReady d q y) (room_is : room ≡ map_blocks x.span) (few : (room ≡ 0) ⊎ (s.pending + room ≤ 256)) (most : room ≤ room_of (SnapCreate x.name name))
+  module _ (name : List ℕ) (q : Pool) (y : VolumeState) (ready : IsReady d q y) (room_is : room ≡ map_blocks x.span) (few : (room ≡ 0) ⊎ (s.pending + room ≤ 256)) (exact : room ≡ room_by s.volumes (SnapCreate x.name name))
       (accepted : creation_refusal x.snapshots x.ledger s.pool.found.blocks (beside s.volumes slot) name ≡ None) where
     pub made : (u : Unit {0}) → Creates d s.pool x (beside s.volumes slot) name q y (Ok u) → TellsCreation s.pool x (beside s.volumes slot) name y (Ok u) → IsCarried d disk s (SnapCreate x.name name) room (carried_session s slot q y room) (Ok Done)
     made u did tells = carried_done d disk laws s fresh (SnapCreate x.name name) room (carried_session s slot q y room) fresh
-        (snapped_stands d s q slot x did.done.mid y there slot_is fit did.done.placed step ready room stands) (omega (arith, most)) (numbers_stay (SnapCreate x.name name) y numbers) (placed_entries d s.pool q x did.done.mid did.done.placed)
+        (snapped_stands d s q slot x did.done.mid y there slot_is fit did.done.placed step ready room stands) (omega (arith, exact)) (numbers_stay (SnapCreate x.name name) y numbers) (placed_entries d s q slot x did.done.mid there slot_is fit did.done.placed)
         (λ last m is. snapped_for d s q slot x did.done.mid y there slot_is fit did.done.placed step ready room (map_blocks x.span) waits pending enough (held_at q y (did.held (held last m is))) last m (SnapCreate x.name name) is (agreed last m is) (becomes last m is))
         (λ last m is. made_allows m x.name name (agreed last m is))
         (files_stay q did.done.mid y did.done.placed (ap (λ (z : VolumeState). z.files) did.done.now ∙ did.done.none) room)
@@ -225,7 +225,7 @@ module _ {D : Type 0} (d : Shown) (disk : D) (laws : IsDisk d) (s : Session) (fr
 
     pub removed : (u : Unit {0}) → Deletes d s.pool x name q y (Ok u) → IsCarried d disk s (SnapDelete x.name name) room (carried_session s slot q y room) (Ok Done)
     removed u did = carried_done d disk laws s fresh (SnapDelete x.name name) room (carried_session s slot q y room) fresh
-        (snapped_stands d s q slot x did.done.mid y there slot_is fit did.done.placed step ready room stands) (omega (arith, nothing)) (numbers_stay (SnapDelete x.name name) y numbers) (placed_entries d s.pool q x did.done.mid did.done.placed)
+        (snapped_stands d s q slot x did.done.mid y there slot_is fit did.done.placed step ready room stands) (omega (arith, nothing)) (numbers_stay (SnapDelete x.name name) y numbers) (placed_entries d s q slot x did.done.mid there slot_is fit did.done.placed)
         (λ last m is. snapped_for d s q slot x did.done.mid y there slot_is fit did.done.placed step ready room 0 waits pending (inl (refl, nothing)) (held_at q y (did.held (held last m is))) last m (SnapDelete x.name name) is (agreed last m is) (becomes last m is))
         (λ last m is. removed_allows m x.name name (agreed last m is))
         (files_stay q did.done.mid y did.done.placed (ap (λ (z : VolumeState). z.files) did.done.now ∙ did.done.none) room)
@@ -324,28 +324,28 @@ module _ {D : Type 0} (d : Shown) (disk : D) (laws : IsDisk d) (s : Session) (fr
 
   -- what is carried out of a command
   abbrev Carries : Command → Type 0
-  Carries c = (q : Pool) (y : VolumeState) (r : Result Unit VolumeFault) → IsReady d q y → SnapsState d s.pool x (beside s.volumes slot) c q y r → room ≡ snap_blocks (Some x) c → (room ≡ 0) ⊎ (s.pending + room ≤ 256) → room ≤ room_of c
+  Carries c = (q : Pool) (y : VolumeState) (r : Result Unit VolumeFault) → IsReady d q y → SnapsState d s.pool x (beside s.volumes slot) c q y r → room ≡ snap_blocks (Some x) c → (room ≡ 0) ⊎ (s.pending + room ≤ 256) → room ≡ room_by s.volumes c
       → IsAccepted (Some x) s.pool.found.blocks (beside s.volumes slot) c → (new : Session) (result : Result Reply Fault) → Replied d (done_as r) (after_call q y r) new result → IsCarried d disk s c room new result
 
   carries_create : (v name : List ℕ) → Carries (SnapCreate v name)
-  carries_create v name q y r ready did room_is few most accepted new result is = subst (λ (n : List ℕ). IsCarried d disk s (SnapCreate n name) room new result) (sym did.0) (by r did.1.0 did.1.1 is)
+  carries_create v name q y r ready did room_is few exact accepted new result is = subst (λ (n : List ℕ). IsCarried d disk s (SnapCreate n name) room new result) (sym did.0) (by r did.1.0 did.1.1 is)
     where
-      within : room ≤ room_of (SnapCreate x.name name)
-      within = subst (λ (n : List ℕ). room ≤ room_of (SnapCreate n name)) did.0 most
+      its_exact : room ≡ room_by s.volumes (SnapCreate x.name name)
+      its_exact = subst (λ (n : List ℕ). room ≡ room_by s.volumes (SnapCreate n name)) did.0 exact
 
       by : (r : Result Unit VolumeFault) → Creates d s.pool x (beside s.volumes slot) name q y r → TellsCreation s.pool x (beside s.volumes slot) name y r → Replied d (done_as r) (after_call q y r) new result → IsCarried d disk s (SnapCreate x.name name) room new result
-      by (Ok u) made_so tells is = carried_as (SnapCreate x.name name) new result (Ok Done) (carried_session s slot q y room) is.1 is.0 (made name q y ready room_is few within accepted u made_so tells)
-      by (Err f) made_so tells is = unmade name q y ready room_is few within accepted f made_so tells new result is
+      by (Ok u) made_so tells is = carried_as (SnapCreate x.name name) new result (Ok Done) (carried_session s slot q y room) is.1 is.0 (made name q y ready room_is few its_exact accepted u made_so tells)
+      by (Err f) made_so tells is = unmade name q y ready room_is few its_exact accepted f made_so tells new result is
 
   carries_delete : (v name : List ℕ) → Carries (SnapDelete v name)
-  carries_delete v name q y r ready did room_is few most accepted new result is = subst (λ (n : List ℕ). IsCarried d disk s (SnapDelete n name) room new result) (sym did.0) (by r did.1 is)
+  carries_delete v name q y r ready did room_is few exact accepted new result is = subst (λ (n : List ℕ). IsCarried d disk s (SnapDelete n name) room new result) (sym did.0) (by r did.1 is)
     where
       by : (r : Result Unit VolumeFault) → Deletes d s.pool x name q y r → Replied d (done_as r) (after_call q y r) new result → IsCarried d disk s (SnapDelete x.name name) room new result
       by (Ok u) gone is = carried_as (SnapDelete x.name name) new result (Ok Done) (carried_session s slot q y room) is.1 is.0 (removed name q y ready room_is u gone)
       by (Err f) gone is = unremoved name q y ready room_is f gone new result is
 
   carries_restore : (v name : List ℕ) → Carries (SnapRestore v name)
-  carries_restore v name q y r ready did room_is few most accepted new result is = subst (λ (n : List ℕ). IsCarried d disk s (SnapRestore n name) room new result) (sym did.0)
+  carries_restore v name q y r ready did room_is few exact accepted new result is = subst (λ (n : List ℕ). IsCarried d disk s (SnapRestore n name) room new result) (sym did.0)
       (by r did.1.1 (subst (λ (p : Pool). Replied d (done_as r) (after_call p y r) new result) did.1.0 is))
     where
       ready_still : IsReady d s.pool y

@@ -6,14 +6,17 @@ use Rattle.std.specs.FinMap as fin
 use Rattle.fv_model.specs.declared.answers.Refusal.TheVariants.{NoSnapshot, NoVolume, SnapshotExists, SnapshotInUse, TooMany}
 use Rattle.fv_model.specs.declared.answers.Reply.{Reply}
 use Rattle.fv_model.specs.declared.commands.Command.{Command}
-use Rattle.fv_model.specs.declared.commands.Command.TheVariants.{VolCreate, VolDestroy, VolResize, VolGuarantee, VolList, VolStat, New, Put, Get, Len, Cut, Remove, Ls, SnapCreate, SnapDelete, SnapRestore, SnapList, CloneCreate, SplitStart, SplitFinish, Mirror, Clean, Probe, Work, Cp}
+use Rattle.fv_model.specs.declared.commands.Command.TheVariants.{SnapCreate, SnapDelete, SnapRestore}
 use Rattle.fv_model.specs.Machines.{Machine}
 use Rattle.fv_model.specs.Refusals.{conditions, first_of, has_all_snapshots, has_snapshot, is_base, lacks_snapshot, next, refusal, space}
 use Rattle.fv_model.specs.Replies.{Allows}
-use Rattle.fv_model.specs.Space.{map_blocks}
+use Rattle.fv_image.specs.Views.{slots}
 use Rattle.fv_volume.specs.declared.state.VolumeState.{VolumeState}
-use Rattle.fv_aggregate.specs.Commands.{changes_volume, is_built, machine_after, managed_by, reads_files, removes_volume, room_of, snapped_by, Replies, RepliesBy}
+use Rattle.fv_volume.specs.States.{state_at, States}
+use Rattle.fv_aggregate.specs.Commands.{changes_volume, is_built, machine_after, managed_by, reads_files, map_among, map_at, most_room, removes_volume, room_by, room_with, snapped_by, Replies, RepliesBy}
+use Rattle.fv_aggregate.specs.Looking.{IsSnapAimed}
 use Rattle.fv_aggregate.specs.Snapping.{snap_blocks}
+use Rattle.fv_aggregate.proofs.Rooms.{map_there}
 
 nothing : {v : List ℕ} → ◌≡◌ {A = Option (List ℕ)} None (Some v) → ⊥
 nothing e = cc
@@ -23,28 +26,7 @@ pub snap_cases : (P : Command → Type 0) → ((v name : List ℕ) → P (SnapCr
 snap_cases P create delete restore v (SnapCreate w name) is = create w name
 snap_cases P create delete restore v (SnapDelete w name) is = delete w name
 snap_cases P create delete restore v (SnapRestore w name) is = restore w name
-snap_cases P create delete restore v (VolCreate w size kind) is = absurd (nothing is)
-snap_cases P create delete restore v (VolDestroy w) is = absurd (nothing is)
-snap_cases P create delete restore v (VolResize w size) is = absurd (nothing is)
-snap_cases P create delete restore v (VolGuarantee w kind) is = absurd (nothing is)
-snap_cases P create delete restore v VolList is = absurd (nothing is)
-snap_cases P create delete restore v (VolStat w) is = absurd (nothing is)
-snap_cases P create delete restore v (New w f reserve) is = absurd (nothing is)
-snap_cases P create delete restore v (Put w f i block) is = absurd (nothing is)
-snap_cases P create delete restore v (Get w q f i) is = absurd (nothing is)
-snap_cases P create delete restore v (Len w q f) is = absurd (nothing is)
-snap_cases P create delete restore v (Cut w f n) is = absurd (nothing is)
-snap_cases P create delete restore v (Remove w f) is = absurd (nothing is)
-snap_cases P create delete restore v (Ls w q) is = absurd (nothing is)
-snap_cases P create delete restore v (SnapList w) is = absurd (nothing is)
-snap_cases P create delete restore v (CloneCreate x w q size kind) is = absurd (nothing is)
-snap_cases P create delete restore v (SplitStart x) is = absurd (nothing is)
-snap_cases P create delete restore v (SplitFinish x) is = absurd (nothing is)
-snap_cases P create delete restore v (Mirror x q w size kind) is = absurd (nothing is)
-snap_cases P create delete restore v (Clean w) is = absurd (nothing is)
-snap_cases P create delete restore v (Probe w f i) is = absurd (nothing is)
-snap_cases P create delete restore v (Work n) is = absurd (nothing is)
-snap_cases P create delete restore v Cp is = absurd (nothing is)
+snap_cases P create delete restore v c is = absurd (nothing is)
 
 module _ (v : List ℕ) (c : Command) (is : snapped_by c ≡ Some v) where
   pub snap_built : is_built c ≡ true
@@ -57,9 +39,6 @@ module _ (v : List ℕ) (c : Command) (is : snapped_by c ≡ Some v) where
 
   pub snap_changes : changes_volume c ≡ true
   snap_changes = snap_cases (λ (k : Command). changes_volume k ≡ true) (λ w name. refl) (λ w name. refl) (λ w name. refl) v c is
-
-  pub snap_stays : removes_volume c ≡ false
-  snap_stays = snap_cases (λ (k : Command). removes_volume k ≡ false) (λ w name. refl) (λ w name. refl) (λ w name. refl) v c is
 
   pub snap_whole : managed_by c ≡ None
   snap_whole = snap_cases (λ (k : Command). managed_by k ≡ None) (λ w name. refl) (λ w name. refl) (λ w name. refl) v c is
@@ -75,14 +54,10 @@ module _ (v : List ℕ) (c : Command) (is : snapped_by c ≡ Some v) where
   pub snap_other : (k : Command) → snapped_by k ≡ None → c ≢ k
   snap_other k none same = nothing (sym (ap snapped_by same ∙ none) ∙ is)
 
-  -- so many blocks are within its room
-  pub snap_within : (x : VolumeState) → map_blocks x.span ≤ 32 → snap_blocks (Some x) c ≤ room_of c
-  unfolding room_of
-  snap_within x few = snap_cases (λ (k : Command). snap_blocks (Some x) k ≤ room_of k) (λ w name. omega (arith, few)) (λ w name. omega arith) (λ w name. omega arith) v c is
-
-  pub snap_low : room_of c ≤ 32
-  unfolding room_of
-  snap_low = snap_cases (λ (k : Command). room_of k ≤ 32) (λ w name. omega arith) (λ w name. omega arith) (λ w name. omega arith) v c is
+  -- it has room for the map of a snapshot at most
+  pub snap_low : most_room c ≤ 32
+  unfolding room_with
+  snap_low = snap_cases (λ (k : Command). most_room k ≤ 32) (λ w name. omega arith) (λ w name. omega arith) (λ w name. omega arith) v c is
 
   -- a volume that isn't there is refused
   pub snap_missing : (m : Machine) → fin.get m.volumes v ≡ None → refusal m c ≡ Some NoVolume
@@ -98,3 +73,17 @@ module _ (v : List ℕ) (c : Command) (is : snapped_by c ≡ Some v) where
 
       absent : (w : List ℕ) → ◌≡◌ {A = Option (List ℕ)} (Some w) (Some v) → fin.get m.volumes w ≡ None
       absent w of = ap (fin.get m.volumes) (same w v of) ∙ none
+
+-- its room by the volumes is that of the volume at which it is aimed
+pub aimed_room : (states : States) (slot : ℕ) (c : Command) → IsSnapAimed states slot c → snap_blocks (state_at states slot) c ≡ room_by states c
+unfolding room_with
+aimed_room states slot c aimed =
+    let x = aimed.state in
+    let there : state_at states slot ≡ Some x = aimed.there in
+    let map = map_there states slot x.name aimed.named aimed.within ∙ ap map_at there in
+    ap (λ (o : Option VolumeState). snap_blocks o c) there
+    ∙ snap_cases (λ (k : Command). snapped_by k ≡ Some x.name → snap_blocks (Some x) k ≡ room_by states k)
+    (λ w name of. sym (subst (λ (n : List ℕ). map_among states slots n ≡ map_at (Some x)) (sym (same w x.name of)) map)) (λ w name of. refl) (λ w name of. refl) x.name c aimed.snaps aimed.snaps
+  where
+    same : (a b : List ℕ) → ◌≡◌ {A = Option (List ℕ)} (Some a) (Some b) → a ≡ b
+    same a b e = cc

@@ -14,7 +14,7 @@ use Rattle.fv_aggregate.specs.declared.fault.Fault.{Fault}
 use Rattle.fv_aggregate.specs.declared.fault.Fault.TheVariants.{Damaged, Memory}
 use Rattle.fv_aggregate.specs.declared.session.Session.{Session}
 use Rattle.fv_aggregate.specs.Calls.{GoesFor, KeepsEntries, WasRead}
-use Rattle.fv_aggregate.specs.Commands.{is_refusal, places_files, room_of}
+use Rattle.fv_aggregate.specs.Commands.{is_refusal, places_files, room_by}
 use Rattle.fv_aggregate.specs.Known.{KeepsNumbersBut, MayLose}
 use Rattle.fv_aggregate.specs.Looking.{HasSnapped}
 use Rattle.fv_aggregate.specs.Standing.{IsWithoutFiles, Stands, StandsFor}
@@ -39,9 +39,9 @@ pub refused_snapped : {D : Type 0} (d : Shown) (disk : D) (laws : IsDisk d) (s :
     → HasSnapped d disk s c d disk s (Ok (Refused r))
 refused_snapped d disk laws s fresh stands c r why = record {
   makes = record {
-    goes = goes_done d d laws s s (room_of c) (reads_itself d) fresh fresh stands (Refused r) refl (omega arith);
+    goes = goes_done d d laws s s (room_by s.volumes c) (reads_itself d) fresh fresh stands (Refused r) refl (omega arith);
     goes_for = λ tells last m is. subst (λ (n : Machine). GoesFor d last m n d s (Ok (Refused r))) (sym (refused_next m c r (why last m is)))
-        (goes_for_done d d laws s s (room_of c) (reads_itself d) fresh fresh stands (Refused r) last m m is is);
+        (goes_for_done d d laws s s (room_by s.volumes c) (reads_itself d) fresh fresh stands (Refused r) last m m is is);
     reply = λ tells last m is. refused_allows m c r (why last m is);
     refused = λ tells last m is refused. itself_read d s;
     calm = λ low. reads_itself d;
@@ -61,14 +61,14 @@ module _ {D : Type 0} (d : Shown) (disk : D) (laws : IsDisk d) (s : Session) (fr
   pub carried_refused : Stands d s → (r : Refusal) → ((last m : Machine) → StandsFor d s last m → refusal m c ≡ Some r) → room ≡ 0 → IsCarried d disk s c room s (Ok (Refused r))
   carried_refused stands r why none = record { snapped = refused_snapped d disk laws s fresh stands c r why; placed = λ nothing. tt; accepted = λ some. absurd (some none) }
 
-  module _ (after : Session) (still : IsNone after.failed) (stands : Stands d after) (few : after.pending ≤ s.pending + room_of c) (numbers : KeepsNumbersBut (MayLose c s.volumes) s.volumes after.volumes) (entries : KeepsEntries s after) where
+  module _ (after : Session) (still : IsNone after.failed) (stands : Stands d after) (few : after.pending ≤ s.pending + room_by s.volumes c) (numbers : KeepsNumbersBut (MayLose c s.volumes) s.volumes after.volumes) (entries : KeepsEntries s after) where
     pub carried_done : ((last m : Machine) → StandsFor d s last m → StandsFor d after last (next m c)) → ((last m : Machine) → StandsFor d s last m → Allows m c Done) → (IsWithoutFiles s → IsWithoutFiles after)
         → ((places_files c ≡ false) ⊎ IsWithoutFiles s → after.pool.map ≡ s.pool.map) → IsCarried d disk s c room after (Ok Done)
     carried_done for allowed files map = record {
       snapped = record {
         makes = record {
-          goes = goes_done d d laws s after (room_of c) (reads_itself d) fresh still stands Done refl few;
-          goes_for = λ tells last m is. goes_for_done d d laws s after (room_of c) (reads_itself d) fresh still stands Done last m (next m c) is (for last m is);
+          goes = goes_done d d laws s after (room_by s.volumes c) (reads_itself d) fresh still stands Done refl few;
+          goes_for = λ tells last m is. goes_for_done d d laws s after (room_by s.volumes c) (reads_itself d) fresh still stands Done last m (next m c) is (for last m is);
           reply = λ tells last m is. allowed last m is;
           refused = λ tells last m is refused. absurd (true≢false (sym refused));
           calm = λ low. reads_itself d;
@@ -95,8 +95,8 @@ module _ {D : Type 0} (d : Shown) (disk : D) (laws : IsDisk d) (s : Session) (fr
       carried_wanting for = record {
         snapped = record {
           makes = record {
-            goes = goes_wanting d d laws s after (room_of c) (reads_itself d) fresh still stands refl few;
-            goes_for = λ tells last m is. goes_for_fault d d laws s after (room_of c) (reads_itself d) fresh still stands Memory last m (next m c) tt is (for last m is);
+            goes = goes_wanting d d laws s after (room_by s.volumes c) (reads_itself d) fresh still stands refl few;
+            goes_for = λ tells last m is. goes_for_fault d d laws s after (room_by s.volumes c) (reads_itself d) fresh still stands Memory last m (next m c) tt is (for last m is);
             reply = λ tells last m is. tt;
             refused = λ tells last m is. tt;
             calm = λ low. reads_itself d;
@@ -119,7 +119,7 @@ module _ {D : Type 0} (d : Shown) (disk : D) (laws : IsDisk d) (s : Session) (fr
       carried_damaged at want found filed whole = record {
         snapped = record {
           makes = record {
-            goes = goes_damaged d d laws s after (room_of c) (reads_itself d) fresh still stands at want found refl (inr (inl (record { fresh = fresh; files = filed }))) few;
+            goes = goes_damaged d d laws s after (room_by s.volumes c) (reads_itself d) fresh still stands at want found refl (inr (inl (record { fresh = fresh; files = filed }))) few;
             goes_for = λ tells last m is. absurd (whole last m is);
             reply = λ tells last m is. tt;
             refused = λ tells last m is. tt;

@@ -1,21 +1,19 @@
 -- A command on snapshots was carried out by the call on the volume of the slot at which it is aimed.
-use Rattle.std.proofs.Common.{◌≡◌, ◌≤◌, ◌+◌, ◌⊎◌, ℕ, cond, Option, Some, Result, Ok, Err, refl, ap, subst, ◌∙◌, arith}
+use Rattle.std.proofs.Common.{◌≡◌, ◌≤◌, ◌+◌, ◌⊎◌, ℕ, cond, Option, Some, Result, Ok, Err, refl, ap, subst, ◌∙◌}
 use Rattle.std.specs.Prelude.{IfSome, IsNone}
 use Rattle.std.specs.Result.{is_ok}
 use Rattle.fv_disk.specs.Shown.{IsDisk, Shown}
 use Rattle.fv_model.specs.declared.answers.Reply.{Reply}
 use Rattle.fv_model.specs.declared.commands.Command.{Command}
-use Rattle.fv_model.specs.Space.{map_blocks}
-use Rattle.fv_volume.specs.declared.fault.VolumeFault.{VolumeFault}
-use Rattle.fv_volume.specs.declared.pool.Pool.{Pool}
+use Rattle.fv_pool.specs.declared.fault.VolumeFault.{VolumeFault}
+use Rattle.fv_pool.specs.declared.pool.Pool.{Pool}
 use Rattle.fv_volume.specs.declared.state.VolumeState.{VolumeState}
 use Rattle.fv_volume.specs.Files.{IsLabelled}
-use Rattle.fv_volume.specs.Held.{IsReadyIn}
 use Rattle.fv_volume.specs.States.{state_at, with_state}
 use Rattle.fv_cp.specs.Lent.{FitTogether}
 use Rattle.fv_aggregate.specs.declared.fault.Fault.{Fault}
 use Rattle.fv_aggregate.specs.declared.session.Session.{Session}
-use Rattle.fv_aggregate.specs.Commands.{room_of, snapped_by}
+use Rattle.fv_aggregate.specs.Commands.{snapped_by}
 use Rattle.fv_aggregate.specs.Looking.{done_as, IsSnapAimed, Replied, SnapsState}
 use Rattle.fv_snapshot.specs.declared.creating.Granted.{Granted}
 use Rattle.fv_volume.specs.OneVolume.{IsReady}
@@ -23,18 +21,8 @@ use Rattle.fv_aggregate.specs.Snapping.{snap_blocks, HasGrant, IsAccepted}
 use Rattle.fv_aggregate.specs.Standing.{Stands}
 use Rattle.fv_aggregate.proofs.Changed.{beside}
 use Rattle.fv_aggregate.proofs.SnapCarried.{carried_by, pending_after}
-use Rattle.fv_aggregate.proofs.SnapCommands.{snap_within}
+use Rattle.fv_aggregate.proofs.SnapCommands.{aimed_room}
 use Rattle.fv_aggregate.proofs.SnapDone.{IsCarried}
-
--- the room is within that of the command
-pub room_most : (d : Shown) (s : Session) → Stands d s → (slot : ℕ) (c : Command) → IsSnapAimed s.volumes slot c → (room : ℕ) → room ≡ snap_blocks (state_at s.volumes slot) c → room ≤ room_of c
-room_most d s stands slot c aimed room is =
-    let ready : IsReadyIn d s.pool slot aimed.state = subst (λ (o : Option VolumeState). IfSome o (IsReadyIn d s.pool slot)) aimed.there (stands.ready slot) in
-    let span = ready.ready.labelled.span in
-    let few : map_blocks aimed.state.span ≤ 32 = omega (arith, span) in
-    let within = snap_within aimed.state.name c aimed.snaps aimed.state few in
-    let same : room ≡ snap_blocks (Some aimed.state) c = is ∙ ap (λ (o : Option VolumeState). snap_blocks o c) aimed.there in
-    omega (arith, within, same)
 
 module _ {D : Type 0} (d : Shown) (disk : D) (laws : IsDisk d) (s : Session) (fresh : IsNone s.failed) (stands : Stands d s) (fit : FitTogether s.pool s.volumes) (slot : ℕ) (c : Command) (aimed : IsSnapAimed s.volumes slot c)
     (x : VolumeState) (there : state_at s.volumes slot ≡ Some x) (of : snapped_by c ≡ Some x.name)
@@ -43,7 +31,7 @@ module _ {D : Type 0} (d : Shown) (disk : D) (laws : IsDisk d) (s : Session) (fr
       → (before : Session) → before ≡ record s { volumes = with_state s.volumes slot (Some y); pool = q; pending = cond (is_ok r) (s.pending + granted.room) s.pending } → (asked : Result Reply VolumeFault) → asked ≡ done_as r → (new : Session) (result : Result Reply Fault) → Replied d asked before new result → IsCarried d disk s c granted.room new result
   carried_now q y ready r did before before_is asked asked_is new result replied =
       carried_by d disk laws s fresh stands fit slot x there slot_is granted.room c of q y r ready (subst (λ (n : ℕ). SnapsState d s.pool x n c q y r) others_are did)
-      (grant.room ∙ ap (λ (o : Option VolumeState). snap_blocks o c) there) few (room_most d s stands slot c aimed granted.room grant.room)
+      (grant.room ∙ ap (λ (o : Option VolumeState). snap_blocks o c) there) few (grant.room ∙ aimed_room s.volumes slot c aimed)
       (subst (λ (n : ℕ). IsAccepted (Some x) s.pool.found.blocks n c) others_are (subst (λ (o : Option VolumeState). IsAccepted o s.pool.found.blocks others c) there grant.accepted))
       new result (subst (λ (n : Session). Replied d (done_as r) n new result) (before_is ∙ as_said) (subst (λ (a : Result Reply VolumeFault). Replied d a before new result) asked_is replied))
     where

@@ -18,7 +18,7 @@ use Rattle.fv_volume.specs.Held.{IsHeldIn}
 use Rattle.fv_volume.specs.Calls.{HasBeside}
 use Rattle.fv_volume.specs.OneVolume.{blocks_in, table_for, volume_for}
 use Rattle.fv_volume.specs.Promising.{CanHave}
-use Rattle.fv_volume.specs.Slots.{committed_by}
+use Rattle.fv_volume.specs.Slots.{committed_by, is_named, HasName}
 use Rattle.fv_volume.specs.States.{snaps_in, state_at, States}
 use Rattle.fv_cp.specs.Held.{machine_held}
 use Rattle.fv_cp.specs.Placing.{core_of, KeepCores}
@@ -31,7 +31,7 @@ use Rattle.fv_aggregate.specs.declared.fault.Fault.TheVariants.{Memory}
 use Rattle.fv_aggregate.specs.declared.session.Session.{Session}
 use Rattle.fv_aggregate.specs.Adding.{IsPointed}
 use Rattle.fv_aggregate.specs.Calls.{Goes, GoesFor, HasDamage, IsForWant, IsWithinLimit}
-use Rattle.fv_aggregate.specs.Commands.{dirty_limit, is_refusal, loses_numbers, places_files, room_of, snapped_by}
+use Rattle.fv_aggregate.specs.Commands.{dirty_limit, is_refusal, loses_numbers, places_files, room_by, snapped_by}
 use Rattle.fv_aggregate.specs.Known.{KeepsNumbers}
 use Rattle.fv_aggregate.specs.Looking.{HasSnapped, IsSnapAimed}
 use Rattle.fv_aggregate.specs.Snapping.{nothing, snap_blocks, HasGrant, HasSlot, IsAccepted, JudgesSnap}
@@ -40,7 +40,7 @@ use Rattle.fv_aggregate.proofs.CallEnds.{fails_early, goes_after, goes_for_after
 use Rattle.fv_aggregate.proofs.Calls.{goes_as}
 use Rattle.fv_aggregate.proofs.Changed.{beside, has_within, mine}
 use Rattle.fv_aggregate.proofs.Keeping.{keeps_but}
-use Rattle.fv_aggregate.proofs.SnapCommands.{snap_cases}
+use Rattle.fv_aggregate.proofs.SnapCommands.{aimed_room, snap_cases}
 use Rattle.fv_aggregate.proofs.SnapDone.{IsCarried}
 
 same_names : (a b : List ℕ) → ◌≡◌ {A = Option (List ℕ)} (Some a) (Some b) → a ≡ b
@@ -113,11 +113,27 @@ module _ (states stay : States) (cores : KeepCores states stay) (slot : ℕ) whe
       by None at is = absurd (none_some (core_of x) is)
       by (Some y) at is = (y, (at, same_some (core_of y) (core_of x) is))
 
+  -- the names are the same
+  still_named : (name : List ℕ) (k : ℕ) → is_named (state_at stay k) name ≡ is_named (state_at states k) name
+  still_named name k = sym (by (state_at stay k)) ∙ ap (λ (o : Option VolumeState). is_named o name) (cores k) ∙ by (state_at states k)
+    where
+      by : (o : Option VolumeState) → is_named (option_map core_of o) name ≡ is_named o name
+      by None = refl
+      by (Some x) = refl
+
   -- the command is aimed at the volume of the slot still
   pub still_snap_aimed : (c : Command) → IsSnapAimed states slot c → IsSnapAimed stay slot c
   still_snap_aimed c aimed =
       let now = still_there aimed.state aimed.there in
-      record { within = aimed.within; state = now.0; there = now.1.0; snaps = aimed.snaps ∙ ap (λ (n : List ℕ). Some n) (sym (ap (λ (z : VolumeState). z.name) now.1.1)) }
+      let name = aimed.state.name in
+      let same : name ≡ now.0.name = sym (ap (λ (z : VolumeState). z.name) now.1.1) in
+      record {
+        within = aimed.within;
+        state = now.0;
+        there = now.1.0;
+        named = subst (HasName stay slot) same (record { named = still_named name slot ∙ aimed.named.named; first = λ k before. still_named name k ∙ aimed.named.first k before });
+        snaps = aimed.snaps ∙ ap (λ (n : List ℕ). Some n) same;
+      }
 
   -- the others commit what they committed
   pub still_beside : beside stay slot ≡ beside states slot
@@ -136,6 +152,9 @@ module _ (states stay : States) (cores : KeepCores states stay) (slot : ℕ) whe
       let now = still_there aimed.state aimed.there in
       let same : snap_blocks (Some now.0) c ≡ snap_blocks (Some aimed.state) c = snap_cases (λ (k : Command). snap_blocks (Some now.0) k ≡ snap_blocks (Some aimed.state) k) (λ w name. ap (λ (z : VolumeState). map_blocks z.span) now.1.1) (λ w name. refl) (λ w name. refl) aimed.state.name c aimed.snaps in
       ap (λ (o : Option VolumeState). snap_blocks o c) now.1.0 ∙ same ∙ sym (ap (λ (o : Option VolumeState). snap_blocks o c) aimed.there)
+
+  pub still_room_by : (c : Command) → IsSnapAimed states slot c → room_by stay c ≡ room_by states c
+  still_room_by c aimed = sym (aimed_room stay slot c (still_snap_aimed c aimed)) ∙ still_room c aimed ∙ aimed_room states slot c aimed
 
   pub still_accepted : (blocks left others : ℕ) → left ≡ blocks → (c : Command) → IsSnapAimed states slot c → IsAccepted (state_at states slot) blocks others c → IsAccepted (state_at stay slot) left others c
   still_accepted blocks left others same c aimed is =
@@ -181,11 +200,11 @@ pub room_places : (x : VolumeState) (v : List ℕ) (c : Command) → snapped_by 
 room_places x v c of = snap_cases (λ (k : Command). snap_blocks (Some x) k ≢ 0 → (places_files k ≡ true) × (loses_numbers k ≡ None)) (λ w name some. (refl, refl)) (λ w name some. absurd (some refl)) (λ w name some. absurd (some refl)) v c of
 
 -- room was made, or not
-module _ {D : Type 0} (d : Shown) (disk : D) (s : Session) (c : Command) (room : ℕ) (past : dirty_limit < s.pending + room) (some : room ≢ 0) (most : room ≤ room_of c) (makes : (places_files c ≡ true) × (loses_numbers c ≡ None))
+module _ {D : Type 0} (d : Shown) (disk : D) (s : Session) (c : Command) (room : ℕ) (past : dirty_limit < s.pending + room) (some : room ≢ 0) (exact : room ≡ room_by s.volumes c) (makes : (places_files c ≡ true) × (loses_numbers c ≡ None))
     (damage : (new : Session) (at want found : ℕ) → HasDamage d s new at want found) (e : Shown) (mid : D) (n : Session) where
   never_calm : {X : Type 0} → IsWithinLimit s c → X
-  never_calm (inl none) = absurd (some (omega (arith, none, most)))
-  never_calm (inr low) = absurd (omega (arith, low, past, most))
+  never_calm (inl none) = absurd (some (omega (arith, none, exact)))
+  never_calm (inr low) = absurd (omega (arith, low, past, exact))
 
   places : {X : Type 0} → places_files c ≡ false → X
   places none = absurd (true≢false (sym makes.0 ∙ none))
@@ -194,11 +213,11 @@ module _ {D : Type 0} (d : Shown) (disk : D) (s : Session) (c : Command) (room :
       → (IsNone n.failed → KeepsNumbers s.volumes n.volumes) → HasSnapped d disk s c e mid n (Err f)
   snap_roomless f goes goes_for wants numbers = record {
     makes = record {
-      goes = goes_as room (room_of c) most d s e n (Err f) (Err f) refl goes;
+      goes = goes_as room (room_by s.volumes c) (omega (arith, exact)) d s e n (Err f) (Err f) refl goes;
       goes_for = λ tells last m is. fails_early d last m (next m c) e n f (goes_for tells last m is);
       reply = λ tells last m is. tt;
       refused = λ tells last m is. tt;
-      calm = λ low. absurd (omega (arith, low, past, most));
+      calm = λ low. absurd (omega (arith, low, past, exact));
       entries = λ low. never_calm low;
     };
     damage = wants;
@@ -211,7 +230,7 @@ module _ {D : Type 0} (d : Shown) (disk : D) (s : Session) (c : Command) (room :
     numbers = λ alive. keeps_but _ s.volumes n.volumes (numbers alive);
   }
 
-  module _ (u : Unit {0}) (goes : Goes room d s e n (Ok u)) (less : n.pending ≤ s.pending) (goes_for : IsTrue d.tells → (last m : Machine) → StandsFor d s last m → GoesFor d last m m e n (Ok u)) (pointed : IsPointed d s n)
+  module _ (u : Unit {0}) (still : room_by n.volumes c ≡ room_by s.volumes c) (goes : Goes room d s e n (Ok u)) (less : n.pending ≤ s.pending) (goes_for : IsTrue d.tells → (last m : Machine) → StandsFor d s last m → GoesFor d last m m e n (Ok u)) (pointed : IsPointed d s n)
       (numbers : IsNone n.failed → KeepsNumbers s.volumes n.volumes) (new : Session) (result : Result Reply Fault) (carried : IsCarried e mid n c room new result) where
     told : IsTrue d.tells → IsTrue e.tells
     told tells = subst IsTrue (sym goes.ends.tells) tells
@@ -225,13 +244,13 @@ module _ {D : Type 0} (d : Shown) (disk : D) (s : Session) (c : Command) (room :
     pub snap_roomy : HasSnapped d disk s c e mid new result
     snap_roomy = record {
       makes = record {
-        goes = goes_after u room (room_of c) d s e n goes less e new result (omega (arith, past, most)) (damage new) carried.snapped.makes.goes;
+        goes = goes_after u room (room_by s.volumes c) d s e n goes less e new result (omega (arith, past, exact)) (damage new) (subst (λ (k : ℕ). Goes k e n e new result) still carried.snapped.makes.goes);
         goes_for = λ tells last m is.
             let first = goes_for tells last m is in
             goes_for_after u d e e n new last m (next m c) first goes.ends.given result (carried.snapped.makes.goes_for (told tells) first.done.point m first.done.stands);
         reply = λ tells last m is. let first = goes_for tells last m is in carried.snapped.makes.reply (told tells) first.done.point m first.done.stands;
         refused = λ tells last m is. never_refused _ result (carried.accepted some);
-        calm = λ low. absurd (omega (arith, low, past, most));
+        calm = λ low. absurd (omega (arith, low, past, exact));
         entries = λ low. never_calm low;
       };
       damage = wants_memory d s e new result (carried.placed pointed.none);

@@ -13,17 +13,17 @@ use Rattle.fv_image.specs.Views.{overheads}
 use Rattle.fv_root.specs.declared.find.Found.{Found}
 use Rattle.fv_root.specs.Commits.{IsFoundOn}
 use Rattle.fv_root.specs.Finding.{root_found}
-use Rattle.fv_volume.specs.declared.pool.Pool.{Pool}
+use Rattle.fv_pool.specs.declared.pool.Pool.{Pool}
 use Rattle.fv_volume.specs.declared.state.VolumeState.{VolumeState}
 use Rattle.fv_volume.specs.OneVolume.{volume_for, IsReady}
-use Rattle.fv_volume.specs.Placing.{pending_of}
+use Rattle.fv_pool.specs.Tables.{pending_of}
 use Rattle.fv_volume.specs.States.{States, state_at, with_state}
 use Rattle.fv_volume.specs.Writing.{map_wait}
 use Rattle.fv_volumes.proofs.PlacedIn as placing
 use Rattle.fv_volumes.proofs.Told.{is_inside}
 use Rattle.fv_cp.specs.Held.{machine_held, IsHeldIn}
 use Rattle.fv_cp.specs.Lent.{FitTogether}
-use Rattle.fv_cp.specs.Placing.{AreReady, HaveNoFiles, HasNoFiles, IsPlacedAs}
+use Rattle.fv_cp.specs.Placing.{AreReady, HaveNoFiles, HasNoFiles, IsPlacedAs, PlacesEntries}
 use Rattle.fv_cp.proofs.Flushing as flushing
 use Rattle.fv_aggregate.specs.declared.session.Session.{Session}
 use Rattle.fv_aggregate.specs.Standing.{overhead_by, unwritten, Stands, StandsFor}
@@ -98,6 +98,10 @@ module _ (d : Shown) (s : Session) (q : Pool) (slot : ℕ) (x mid : VolumeState)
         few = omega (arith, spent.fewer, spent.blocks, clear, free_and_placed s.pool.map, free_and_placed q.map, is.few);
         room = omega (arith, same, clear, is.room);
       }
+
+  -- no entry becomes a hole
+  pub placed_entries : PlacesEntries s.pool.map s.pool.containers q.containers
+  placed_entries = flushing.entries_still d d s.pool q s.volumes between x mid its row fit placed
 
   -- the volume of the slot is the one that was placed
   pub placed_there : state_at between slot ≡ Some mid

@@ -16,8 +16,8 @@ use Rattle.fv_root.specs.declared.find.Found.{Found}
 use Rattle.fv_container.specs.Mapped.{Mapped, entry_under}
 use Rattle.fv_charge.specs.declared.ledger.Ledger.{Ledger}
 use Rattle.fv_volmap.specs.Slots.{Slot, map_or_empty, slot_at, stored_count, with_slot}
-use Rattle.fv_volume.specs.declared.pool.Pool.{Pool}
-use Rattle.fv_volume.specs.declared.state.Rooted.{Rooted}
+use Rattle.fv_pool.specs.declared.pool.Pool.{Pool}
+use Rattle.fv_pool.specs.declared.rooted.Rooted.{Rooted}
 use Rattle.fv_volume.specs.declared.state.VolumeState.{VolumeState}
 use Rattle.fv_volume.specs.Snaps.{turned_to, with_snapshot, without_snapshot}
 use Rattle.fv_volume.specs.Snapshots.{IsLeastFree}

@@ -1,8 +1,7 @@
 -- The snapshots of one volume of a session changed in memory alone: what its volumes are then, and what they stand for. The pool and the disk stay.
-use Rattle.std.proofs.Common.{◌≡◌, ◌≢◌, ◌<◌, ◌≤◌, ◌+◌, ℕ, true, cond, length, Option, Some, None, ⊎_elim, true≢false, refl, sym, ap, subst, ◌∙◌, arith, length-set, get_or-set_other, get_or-set_same}
+use Rattle.std.proofs.Common.{◌≡◌, ◌≢◌, ◌≤◌, ◌+◌, ℕ, true, cond, length, Option, Some, None, true≢false, sym, ap, subst, ◌∙◌, arith}
 use Rattle.std.specs.Prelude.{IfSome}
 use Rattle.std.specs.Option.{is_some}
-use Rattle.std.proofs.lemmas.Bool.{cases_eq}
 use Rattle.std.proofs.lemmas.List.Sums.{sum_by-set}
 use Rattle.fv_disk.specs.Shown.{Image, Shown}
 use Rattle.fv_model.specs.declared.answers.Refusal.{Refusal}
@@ -13,26 +12,20 @@ use Rattle.fv_model.specs.Effects.{Becomes, change_of, changed, effect}
 use Rattle.fv_model.specs.Refusals.{next, refusal}
 use Rattle.fv_laws.proofs.Admission.{admitted}
 use Rattle.fv_laws.proofs.Commits.{commits_put}
-use Rattle.fv_image.specs.Views.{entry_count}
 use Rattle.fv_root.specs.declared.find.Found.{Found}
 use Rattle.fv_charge.specs.Ledgers.{committed}
-use Rattle.fv_container.specs.Chains.{container_at}
 use Rattle.fv_container.specs.Mapped.{Mapped}
-use Rattle.fv_volume.specs.declared.pool.Pool.{Pool}
+use Rattle.fv_pool.specs.declared.pool.Pool.{Pool}
 use Rattle.fv_volume.specs.declared.state.VolumeState.{VolumeState}
-use Rattle.fv_volume.specs.Calls.{Reads}
-use Rattle.fv_volume.specs.Files.{AreNamed, IsLabelled}
-use Rattle.fv_volumes.specs.Housed.{AreHoused}
-use Rattle.fv_volume.specs.Loading.{Houses}
+use Rattle.fv_pool.specs.Calls.{Reads}
 use Rattle.fv_volume.specs.OneVolume.{volume_for, IsReady}
-use Rattle.fv_volume.specs.Placing.{pending_of}
+use Rattle.fv_pool.specs.Tables.{pending_of}
 use Rattle.fv_volume.specs.Slots.{committed_by, sum_of}
 use Rattle.fv_volume.specs.States.{States, parent_in, state_at, with_state}
-use Rattle.fv_volume.specs.Stored.{AreApartIn, AreSpacedIn, has_block, is_of}
-use Rattle.fv_volumes.specs.UnderRoot.{IsLentAt, StandMaps}
+use Rattle.fv_volume.specs.Stored.{is_of}
+use Rattle.fv_volumes.specs.UnderRoot.{StandMaps}
 use Rattle.fv_volume.specs.Writing.{map_wait}
-use Rattle.fv_volumes.proofs.Made.{from_pairs, to_pair}
-use Rattle.fv_volumes.proofs.Told.{is_inside, ledger_commit}
+use Rattle.fv_volumes.proofs.Told.{ledger_commit}
 use Rattle.fv_cp.specs.Held.{machine_held, IsHeld, IsHeldIn}
 use Rattle.fv_cp.specs.Lent.{maps_waiting, waiting_by, FitTogether}
 use Rattle.fv_cp.specs.Placing.{pending_by, pending_files, AreReady, HaveNoFiles, HasNoFiles, IsReadyIn}
@@ -41,6 +34,7 @@ use Rattle.fv_aggregate.proofs.Becoming.{machine_becomes}
 use Rattle.fv_aggregate.proofs.Calls.{reads_itself}
 use Rattle.fv_aggregate.proofs.HeldMachine.{blocks_are, commits_are, is_admitted, is_there, one}
 use Rattle.fv_aggregate.proofs.Looked.{reads_alone}
+use Rattle.fv_aggregate.proofs.Replaced.{each_slot, housed_as, lent_as, named_as, same_sum, spaced_as, sum_within, within}
 
 -- A step on a volume's snapshots: its tables, maps and ledger may be others. It has changed, and each map that a point leaves where it stands is one
 -- that stood there.
@@ -53,144 +47,36 @@ module _ (d : Shown) (p : Pool) (states : States) (long : length states ≡ 64) 
   abbrev stay : States
   stay = with_state states s (Some y)
 
-  inside : s < 64
-  inside = is_inside states s x long there
-
-  within : s < length states
-  within = let low = inside in omega (arith, low, long)
-
-  here : state_at stay s ≡ Some y
-  here = get_or-set_same states s (Some y) None within
-
-  other : (k : ℕ) → k ≢ s → state_at stay k ≡ state_at states k
-  other k differ = get_or-set_other states s k (Some y) None differ
-
   -- ---- whatever the disk tells
 
   -- calls can be made on each
   pub ready_stepped : x.slot ≡ s → ((k : ℕ) → k ≢ s → IfSome (state_at states k) (IsReadyIn d p k)) → AreReady d p stay
-  ready_stepped slot were k = ⊎_elim
-      (λ (at : k ≡ s). subst (λ (n : ℕ). IfSome (state_at stay n) (IsReadyIn d p n)) (sym at) (subst (λ (o : Option VolumeState). IfSome o (IsReadyIn d p s)) (sym here)
-      (record { slot = ap (λ (z : VolumeState). z.slot) step.same ∙ slot; ready = ready })))
-      (λ (differ : k ≢ s). subst (λ (o : Option VolumeState). IfSome o (IsReadyIn d p k)) (sym (other k differ)) (were k differ))
-      (cases_eq k s)
-
-  houses : (c : Option Mapped) → Houses (Some x) c → Houses (Some y) c
-  houses None never = never
-  houses (Some map) count = count ∙ ap (λ (z : VolumeState). entry_count z.span) (sym step.same)
-
-  housed : AreHoused p.containers states → AreHoused p.containers stay
-  housed was = record {
-    long = length-set states s (Some y) ∙ long;
-    volumes = λ k. ⊎_elim
-        (λ (at : k ≡ s). subst (λ (n : ℕ). IfSome (state_at stay n) (IsLabelled n)) (sym at) (subst (λ (o : Option VolumeState). IfSome o (IsLabelled s)) (sym here)
-        (subst (λ (n : ℕ). IsLabelled n y) (ap (λ (z : VolumeState). z.slot) step.same ∙ (subst (λ (o : Option VolumeState). IfSome o (IsLabelled s)) there (was.volumes s)).slot_is) ready.labelled)))
-        (λ (differ : k ≢ s). subst (λ (o : Option VolumeState). IfSome o (IsLabelled k)) (sym (other k differ)) (was.volumes k))
-        (cases_eq k s);
-    each = λ k. ⊎_elim
-        (λ (at : k ≡ s). subst (λ (n : ℕ). Houses (state_at stay n) (container_at p.containers n)) (sym at) (subst (λ (o : Option VolumeState). Houses o (container_at p.containers s)) (sym here)
-        (houses (container_at p.containers s) (subst (λ (o : Option VolumeState). Houses o (container_at p.containers s)) there (was.each s)))))
-        (λ (differ : k ≢ s). subst (λ (o : Option VolumeState). Houses o (container_at p.containers k)) (sym (other k differ)) (was.each k))
-        (cases_eq k s);
-    parents = λ k. was.parents k ∙ ⊎_elim
-        (λ (at : k ≡ s). ap (λ (n : ℕ). parent_in (state_at states n)) at ∙ ap parent_in there ∙ ap (λ (z : VolumeState). parent_in (Some z)) (sym step.same) ∙ sym (ap parent_in here) ∙ sym (ap (λ (n : ℕ). parent_in (state_at stay n)) at))
-        (λ (differ : k ≢ s). ap parent_in (sym (other k differ)))
-        (cases_eq k s);
-  }
+  ready_stepped slot were = each_slot states long s x y there (λ k o. IfSome o (IsReadyIn d p k)) (record { slot = ap (λ (z : VolumeState). z.slot) step.same ∙ slot; ready = ready }) were
 
   -- the session's parts fit together
   pub fit_stepped : FitTogether p states → FitTogether p stay
-  fit_stepped fit = record { range = fit.range; size = fit.size; housed = housed fit.housed; kept = fit.kept }
+  fit_stepped fit = record {
+    range = fit.range;
+    size = fit.size;
+    housed = housed_as states long s x y there p.containers ready.labelled (ap (λ (z : VolumeState). z.slot) step.same) (ap (λ (z : VolumeState). z.span) step.same) (ap (λ (z : VolumeState). parent_in (Some z)) step.same) fit.housed;
+    kept = fit.kept;
+  }
 
   -- the overheads stay
   pub overheads_stepped : overheads_in stay ≡ overheads_in states
-  overheads_stepped =
-      let sum = sum_by-set overhead_by states s (Some y) None within in
-      let own : overhead_by (state_at states s) ≡ overhead_by (Some y) = ap overhead_by there ∙ sym (ap (λ (z : VolumeState). overhead_by (Some z)) step.same) in
-      omega (arith, sum, own)
+  overheads_stepped = same_sum states long s x y there overhead_by (ap (λ (z : VolumeState). overhead_by (Some z)) step.same)
 
   -- so many blocks of maps wait more at most
   pub waiting_stepped : (more : ℕ) → map_wait y ≤ map_wait x + more → maps_waiting stay ≤ maps_waiting states + more
-  waiting_stepped more few =
-      let sum = sum_by-set waiting_by states s (Some y) None within in
-      let own : waiting_by (state_at states s) ≡ map_wait x = ap waiting_by there in
-      omega (arith, sum, own, few)
+  waiting_stepped more few = sum_within states long s x y there waiting_by more few
 
   -- no more blocks of files are pending
   pub pending_stepped : pending_of y.files ≤ pending_of x.files → pending_files stay ≤ pending_files states
-  pending_stepped few =
-      let sum = sum_by-set pending_by states s (Some y) None within in
-      let own : pending_by (state_at states s) ≡ pending_of x.files = ap pending_by there in
-      omega (arith, sum, own, few)
-
-  -- no file comes into memory
-  pub files_stepped : y.files ≡ None → HaveNoFiles states → HaveNoFiles stay
-  files_stepped none were k = ⊎_elim
-      (λ (at : k ≡ s). subst (λ (n : ℕ). HasNoFiles (state_at stay n)) (sym at) (subst HasNoFiles (sym here) none))
-      (λ (differ : k ≢ s). subst HasNoFiles (sym (other k differ)) (were k))
-      (cases_eq k s)
+  pending_stepped few = let sum = sum_within states long s x y there pending_by 0 (omega (arith, few)) in omega (arith, sum)
 
   -- ---- where the volumes are what they are between points
 
   module _ (last : Machine) (held : IsHeld d p states last) (now : IsHeldIn d p s y) where
-    slot_of : (c : Option Mapped) → IsLentAt d.reads p.found s (Some x) c → IsLentAt d.reads p.found s (Some y) c
-    slot_of None never = never
-    slot_of (Some map) l = record {
-      label = λ some. ap (λ (z : VolumeState). z.label) step.same ∙ l.label (λ none. some (ap (λ (z : VolumeState). z.label) step.same ∙ none));
-      nodes = l.nodes;
-      clean = l.clean;
-      apart = subst (λ (z : VolumeState). AreApartIn z map) (sym step.same) (record { some = l.apart.some; entries = l.apart.entries; nodes = l.apart.nodes; label = l.apart.label });
-      maps = step.maps d.reads p.found map l.maps;
-      unchanged = λ un. absurd (true≢false (sym step.marked ∙ un));
-    }
-
-    slots_now : (k : ℕ) → k < 64 → IsLentAt d.reads p.found k (state_at stay k) (container_at p.containers k)
-    slots_now k low = ⊎_elim
-        (λ (at : k ≡ s). subst (λ (n : ℕ). IsLentAt d.reads p.found n (state_at stay n) (container_at p.containers n)) (sym at)
-        (subst (λ (o : Option VolumeState). IsLentAt d.reads p.found s o (container_at p.containers s)) (sym here)
-        (slot_of (container_at p.containers s) (subst (λ (o : Option VolumeState). IsLentAt d.reads p.found s o (container_at p.containers s)) there (held.slots s inside)))))
-        (λ (differ : k ≢ s). subst (λ (o : Option VolumeState). IsLentAt d.reads p.found k o (container_at p.containers k)) (sym (other k differ)) (held.slots k low))
-        (cases_eq k s)
-
-    same_block : (c : Option Mapped) (b : ℕ) → has_block (Some y) c b ≡ has_block (Some x) c b
-    same_block None b = refl
-    same_block (Some map) b = ap (λ (z : VolumeState). is_of z z.label map b) step.same
-
-    has_same : (k b : ℕ) → has_block (state_at stay k) (container_at p.containers k) b ≡ has_block (state_at states k) (container_at p.containers k) b
-    has_same k b = ⊎_elim
-        (λ (at : k ≡ s). ap (λ (n : ℕ). has_block (state_at stay n) (container_at p.containers n) b) at ∙ ap (λ (o : Option VolumeState). has_block o (container_at p.containers s) b) here ∙ same_block (container_at p.containers s) b
-        ∙ sym (ap (λ (o : Option VolumeState). has_block o (container_at p.containers s) b) there) ∙ ap (λ (n : ℕ). has_block (state_at states n) (container_at p.containers n) b) (sym at))
-        (λ (differ : k ≢ s). ap (λ (o : Option VolumeState). has_block o (container_at p.containers k) b) (other k differ))
-        (cases_eq k s)
-
-    spaced_now : AreSpacedIn p.found.blocks p.map.next (state_at stay) (container_at p.containers)
-    spaced_now = record {
-      apart = λ k l b small large differ first second. held.spaced.apart k l b small large differ (sym (has_same k b) ∙ first) (sym (has_same l b) ∙ second);
-      held = λ k b small has. held.spaced.held k b small (sym (has_same k b) ∙ has);
-      set = λ b set. let one = held.spaced.set b set in (one.0, one.1, has_same one.0 b ∙ one.2);
-    }
-
-    was_named : (k : ℕ) (a : VolumeState) → state_at stay k ≡ Some a → (o : VolumeState) × ((state_at states k ≡ Some o) × (a.name ≡ o.name))
-    was_named k a at = ⊎_elim
-        (λ (e : k ≡ s). (x, (ap (state_at states) e ∙ there, ap (λ (z : VolumeState). z.name) (same_some a y (sym at ∙ ap (state_at stay) e ∙ here) ∙ step.same))))
-        (λ (differ : k ≢ s). (a, (sym (other k differ) ∙ at, refl)))
-        (cases_eq k s)
-      where
-        same_some : (a b : VolumeState) → ◌≡◌ {A = Option VolumeState} (Some a) (Some b) → a ≡ b
-        same_some a b e = cc
-
-    names_now : AreNamed stay
-    names_now = from_pairs stay (λ k l a b first second same.
-        let one = was_named k a first in
-        let two = was_named l b second in
-        to_pair states held.names k l one.0 two.0 one.1.0 two.1.0 (sym one.1.1 ∙ same ∙ two.1.1))
-
-    each_now : (k : ℕ) → IfSome (state_at stay k) (IsHeldIn d p k)
-    each_now k = ⊎_elim
-        (λ (at : k ≡ s). subst (λ (n : ℕ). IfSome (state_at stay n) (IsHeldIn d p n)) (sym at) (subst (λ (o : Option VolumeState). IfSome o (IsHeldIn d p s)) (sym here) now))
-        (λ (differ : k ≢ s). subst (λ (o : Option VolumeState). IfSome o (IsHeldIn d p k)) (sym (other k differ)) (held.each k))
-        (cases_eq k s)
-
     -- The volumes are what they are between points,
     held_stepped : sum_of stay ≤ capacity p.found.blocks → IsHeld d p stay last
     held_stepped commits = record {
@@ -198,10 +84,11 @@ module _ (d : Shown) (p : Pool) (states : States) (long : length states ≡ 64) 
       tells = held.tells;
       keeps = held.keeps;
       map = held.map;
-      slots = slots_now;
-      spaced = spaced_now;
-      names = names_now;
-      each = each_now;
+      slots = lent_as states long s x y there d.reads p.found (ap (λ (z : VolumeState). z.label) step.same) (ap (λ (z : VolumeState). z.span) step.same) (step.maps d.reads p.found)
+          (λ map loaded un. absurd (true≢false (sym step.marked ∙ un))) p.containers held.slots;
+      spaced = spaced_as states long s x y there p.containers (λ map b. ap (λ (z : VolumeState). is_of z z.label map b) step.same) p.found.blocks p.map.next held.spaced;
+      names = named_as states long s x y there (ap (λ (z : VolumeState). z.name) step.same) held.names;
+      each = each_slot states long s x y there (λ k o. IfSome o (IsHeldIn d p k)) now (λ k differ. held.each k);
       commits = commits;
     }
 
@@ -219,7 +106,7 @@ module _ (d : Shown) (p : Pool) (states : States) (long : length states ≡ 64) 
 
       total : sum_of stay ≤ capacity p.found.blocks
       total =
-          let sum = sum_by-set committed_by states s (Some y) None within in
+          let sum = sum_by-set committed_by states s (Some y) None (within states long s x y there) in
           let own : committed_by (state_at states s) ≡ committed x.ledger = ap committed_by there in
           let old = ledger_commit (volume_for d p x) x.ledger (one d p states long last held s x there).stands.ledger in
           let new = ledger_commit (volume_for d p y) y.ledger now.stands.ledger in

@@ -12,7 +12,7 @@ use Rattle.fv_image.proofs.Counts.{none_sum, same_sum}
 use Rattle.fv_cp.specs.Lent.{asked_all, asked_by, asked_of, blocks_asked, maps_waiting, waiting_by, HaveNoneWaiting}
 use Rattle.fv_cp.specs.Placing.{core_of, pending_by, pending_files, HaveNoFiles, HasNoFiles, KeepCores}
 use Rattle.fv_volmap.specs.Slots.{stored_count}
-use Rattle.fv_volume.specs.declared.pool.Pool.{Pool}
+use Rattle.fv_pool.specs.declared.pool.Pool.{Pool}
 use Rattle.fv_volume.specs.declared.state.VolumeState.{VolumeState}
 use Rattle.fv_volume.specs.States.{States, head_in, state_at, view_over, with_state}
 use Rattle.fv_volume.specs.Writing.{asked}

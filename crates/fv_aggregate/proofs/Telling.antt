@@ -13,7 +13,7 @@ use Rattle.fv_model.specs.Volumes.{Volume}
 use Rattle.fv_laws.proofs.Orders.{name_total}
 use Rattle.fv_image.specs.Views.{slots}
 use Rattle.fv_image.proofs.Uses.{no_entries}
-use Rattle.fv_volume.specs.declared.pool.Pool.{Pool}
+use Rattle.fv_pool.specs.declared.pool.Pool.{Pool}
 use Rattle.fv_volume.specs.declared.state.VolumeState.{VolumeState}
 use Rattle.fv_volume.specs.OneVolume.{volume_for}
 use Rattle.fv_volume.specs.States.{States, state_at}

@@ -14,7 +14,7 @@ use Rattle.fv_image.specs.Layout.{root_place}
 use Rattle.fv_aggmap.specs.Space.{free_blocks}
 use Rattle.fv_container.specs.Chains.{container_at, own_entry, slot_count}
 use Rattle.fv_volume.specs.Asking.{table_named}
-use Rattle.fv_volume.specs.BlocksOver.{LeavesPool}
+use Rattle.fv_pool.specs.BlocksOver.{LeavesPool}
 use Rattle.fv_volume.specs.declared.state.VolumeState.{VolumeState}
 use Rattle.fv_volume.specs.Slots.{HasName, NoneHasName}
 use Rattle.fv_volume.specs.Snaps.{names_kept}
@@ -27,7 +27,7 @@ use Rattle.fv_aggregate.specs.declared.session.Session.{Session}
 use Rattle.fv_aggregate.specs.Adding.{IsPointed}
 use Rattle.fv_aggregate.specs.Asking.{AsksWithin, IsShort}
 use Rattle.fv_aggregate.specs.Causes.{KeepsEnds}
-use Rattle.fv_aggregate.specs.Commands.{changed_by, dirty_limit, finds_file, has_range, is_built, is_get, is_refusal, managed_by, places_files, removes_volume, room_of, snapped_by, snapshot_asked, volume_asked}
+use Rattle.fv_aggregate.specs.Commands.{changed_by, dirty_limit, finds_file, has_range, is_built, is_get, is_refusal, managed_by, places_files, removes_volume, room_by, snapped_by, snapshot_asked, volume_asked}
 use Rattle.fv_aggregate.specs.Known.{KeepsNumbers, KnowsNamed}
 use Rattle.fv_aggregate.specs.Managing.{IsManaged}
 use Rattle.fv_aggregate.specs.Standing.{taken_since, HoldsAsCommitted, IsWithoutFiles, OneOf, Stands, StandsAfter, StandsFor}
@@ -195,7 +195,7 @@ pub record IsAnswered (old : Session) (command : Command) (name : List ℕ) (new
 
 -- the room of a command, with what is pending, stays within the dirty limit, so that no consistency point comes before it
 abbrev pub IsWithinLimit : Session → Command → Type 0
-IsWithinLimit session command = (room_of command ≡ 0) ⊎ (session.pending + room_of command ≤ dirty_limit)
+IsWithinLimit session command = (room_by session.volumes command ≡ 0) ⊎ (session.pending + room_by session.volumes command ≤ dirty_limit)
 
 -- the names of the snapshots of a volume are told, in byte order, or that no volume has the name
 abbrev pub TellsSnapshots : Session → List ℕ → Reply → Type 0

@@ -1,49 +1,33 @@
 -- Which commands are carried out so far, what a session answers to each, and how many blocks it may add.
-use Rattle.std.specs.Prelude.{◌≡◌, ℕ, ◌==◌, List, Option, Some, None, Bool, true, false, ◌||◌, if◌then◌else◌}
-use Rattle.std.specs.Option.{is_none, is_some}
+use Rattle.std.specs.Prelude.{◌≡◌, ℕ, ◌==◌, List, [], ◌∷◌, Option, Some, None, Bool, true, false, ◌||◌, if◌then◌else◌}
+use Rattle.std.specs.Option.{is_none, is_some, option_map_or}
+use Rattle.std.specs.FinMap as fin
 use Rattle.fv_model.specs.declared.answers.Refusal.TheVariants.{Syntax}
 use Rattle.fv_model.specs.declared.answers.Reply.{Reply}
 use Rattle.fv_model.specs.declared.answers.Reply.TheVariants.{Refused}
 use Rattle.fv_model.specs.declared.commands.Command.{Command}
-use Rattle.fv_model.specs.declared.commands.Command.TheVariants.{VolCreate, VolDestroy, VolResize, VolGuarantee, VolList, VolStat, New, Put, Get, Len, Cut, Remove, Ls, SnapCreate, SnapDelete, SnapRestore, SnapList, Cp}
+use Rattle.fv_model.specs.declared.commands.Command.TheVariants.{VolCreate, VolDestroy, VolResize, VolGuarantee, VolStat, New, Put, Get, Len, Cut, Remove, Ls, SnapCreate, SnapDelete, SnapRestore, CloneCreate, SplitStart, SplitFinish, Mirror, Clean, Probe, Work}
 use Rattle.fv_model.specs.Machines.{Machine}
 use Rattle.fv_model.specs.Numbers.{is_index, is_reserve, is_size}
 use Rattle.fv_model.specs.Refusals.{next}
 use Rattle.fv_model.specs.Replies.{Allows}
-use Rattle.fv_model.specs.Space.{overhead, span_of}
+use Rattle.fv_model.specs.Space.{map_blocks, overhead, span_of}
+use Rattle.fv_image.specs.Views.{slots}
+use Rattle.fv_volume.specs.declared.state.VolumeState.{VolumeState}
+use Rattle.fv_volume.specs.Slots.{is_named}
+use Rattle.fv_volume.specs.States.{States, state_at}
 
 -- the commands that are built; the others are refused as no command, until they are. A file with a reserve is one of those.
 unfoldable pub is_built : Command → Bool
-is_built (VolCreate volume size kind) = true
-is_built (VolDestroy volume) = true
-is_built (VolResize volume size) = true
-is_built (VolGuarantee volume kind) = true
-is_built VolList = true
-is_built (VolStat volume) = true
 is_built (New volume file reserve) = reserve == 0
-is_built (Put volume file index block) = true
-is_built (Get volume snapshot file index) = true
-is_built (Len volume snapshot file) = true
-is_built (Cut volume file length) = true
-is_built (Remove volume file) = true
-is_built (Ls volume snapshot) = true
-is_built (SnapCreate volume snapshot) = true
-is_built (SnapDelete volume snapshot) = true
-is_built (SnapRestore volume snapshot) = true
-is_built (SnapList volume) = true
-is_built Cp = true
-is_built command = false
-
--- the commands that are built and read blocks of files; each other one reaches the disk by a consistency point alone
-unfoldable pub reads_files : Command → Bool
-reads_files (New volume file reserve) = reserve == 0
-reads_files (Put volume file index block) = true
-reads_files (Get volume snapshot file index) = true
-reads_files (Len volume snapshot file) = true
-reads_files (Cut volume file length) = true
-reads_files (Remove volume file) = true
-reads_files (Ls volume snapshot) = true
-reads_files command = false
+is_built (CloneCreate volume from snapshot size kind) = false
+is_built (SplitStart volume) = false
+is_built (SplitFinish volume) = false
+is_built (Mirror volume snapshot from size kind) = false
+is_built (Clean volume) = false
+is_built (Probe volume file index) = false
+is_built (Work steps) = false
+is_built command = true
 
 -- whether a command reads a cell of a file, for which pointers are passed
 unfoldable pub is_get : Command → Bool
@@ -114,6 +98,10 @@ volume_asked (Len volume snapshot file) = Some volume
 volume_asked (Ls volume snapshot) = Some volume
 volume_asked command = None
 
+-- the commands that are built and read blocks of files; each other one reaches the disk by a consistency point alone
+unfoldable pub reads_files : Command → Bool
+reads_files command = is_some (changed_by command) || is_some (volume_asked command)
+
 -- the snapshot of it that is asked
 abbrev pub snapshot_asked : Command → Option (List ℕ)
 snapshot_asked (Get volume snapshot file index) = snapshot
@@ -160,15 +148,42 @@ most_overhead = 4151
 abbrev pub snap_room : ℕ
 snap_room = 32
 
--- the room of a command: so many blocks it may add, which the next consistency point writes
-unfoldable pub room_of : Command → ℕ
-room_of (VolCreate volume size kind) = overhead (span_of size 0 0)
-room_of (New volume file reserve) = if reserve == 0 then file_room else 0
-room_of (Put volume file index block) = file_room
-room_of (Cut volume file length) = file_room
-room_of (Remove volume file) = file_room
-room_of (SnapCreate volume snapshot) = snap_room
-room_of command = 0
+-- The room of a command: so many blocks it may add, which the next consistency point writes. A snapshot that is made adds the blocks of its map, and
+-- `maps` tells of each volume how many those are.
+unfoldable pub room_with : (List ℕ → ℕ) → Command → ℕ
+room_with maps (VolCreate volume size kind) = overhead (span_of size 0 0)
+room_with maps (New volume file reserve) = if reserve == 0 then file_room else 0
+room_with maps (Put volume file index block) = file_room
+room_with maps (Cut volume file length) = file_room
+room_with maps (Remove volume file) = file_room
+room_with maps (SnapCreate volume snapshot) = maps volume
+room_with maps command = 0
+
+-- the blocks of the map of a snapshot of a machine's volume; none where no volume has the name
+abbrev pub map_in : Machine → List ℕ → ℕ
+map_in m volume = option_map_or (λ v. map_blocks v.span) (fin.get m.volumes volume) 0
+
+-- the room of a command in a machine
+abbrev pub room_of : Machine → Command → ℕ
+room_of m command = room_with (map_in m) command
+
+-- the blocks of the map of a snapshot of a slot's volume; none of a free slot
+abbrev pub map_at : Option VolumeState → ℕ
+map_at None = 0
+map_at (Some x) = map_blocks x.span
+
+-- those of the first volume of a name in these slots; none where no volume has it
+unfoldable pub map_among : States → List ℕ → List ℕ → ℕ
+map_among states [] name = 0
+map_among states (slot ∷ rest) name = if is_named (state_at states slot) name then map_at (state_at states slot) else map_among states rest name
+
+-- the room of a command by a session's volumes
+abbrev pub room_by : States → Command → ℕ
+room_by states command = room_with (map_among states slots) command
+
+-- the most room of a command, whatever the volume
+abbrev pub most_room : Command → ℕ
+most_room command = room_with (λ volume. snap_room) command
 
 -- so many blocks may be pending, with the room of the next command, before a consistency point makes room for it
 abbrev pub dirty_limit : ℕ

@@ -12,16 +12,18 @@ use Rattle.fv_model.specs.Machines.{Machine}
 use Rattle.fv_model.specs.Refusals.{next, refusal}
 use Rattle.fv_model.specs.Replies.{Allows}
 use Rattle.fv_volume.specs.declared.state.VolumeState.{VolumeState}
-use Rattle.fv_volume.specs.declared.pool.Pool.{Pool}
+use Rattle.fv_pool.specs.declared.pool.Pool.{Pool}
 use Rattle.fv_volume.specs.Asking.{standing_read}
-use Rattle.fv_volume.specs.Calls.{Agrees, Asks, CallCause, Changes, Has, HasWithin, KeepsHead, Reads}
+use Rattle.fv_pool.specs.Calls.{CallCause, Reads}
+use Rattle.fv_volume.specs.Calls.{Agrees, Asks, Changes, Has, HasWithin, KeepsHead}
 use Rattle.fv_volume.specs.Changing.{keeps_numbers, IsChangeOf, KeepsTable}
-use Rattle.fv_volume.specs.Lending.{lent_for}
+use Rattle.fv_pool.specs.Lending.{lent_for}
 use Rattle.fv_volume.specs.OneVolume.{home_in, standing_for, volume_for, IsReady, IsStanding}
 use Rattle.fv_volume.specs.Placing.{IsStoredWell}
+use Rattle.fv_volume.specs.Slots.{HasName}
 use Rattle.fv_volume.specs.States.{States, state_at}
-use Rattle.fv_volume.specs.declared.fault.VolumeFault.{VolumeFault}
-use Rattle.fv_volume.specs.declared.fault.VolumeFault.TheVariants as volume
+use Rattle.fv_pool.specs.declared.fault.VolumeFault.{VolumeFault}
+use Rattle.fv_pool.specs.declared.fault.VolumeFault.TheVariants as volume
 use Rattle.fv_aggregate.specs.declared.fault.Fault.{Fault}
 use Rattle.fv_aggregate.specs.declared.fault.Fault.TheVariants.{DiskFault, Damaged, Memory}
 use Rattle.fv_aggregate.specs.declared.session.Session.{Session}
@@ -29,7 +31,7 @@ use Rattle.fv_aggregate.specs.Calls.{Goes, GoesFor, IsForWant, IsUntouched, IsWi
 use Rattle.fv_snapshot.specs.Creating.{Creates, TellsCreation}
 use Rattle.fv_snapshot.specs.Deleting.{Deletes}
 use Rattle.fv_snapshot.specs.Restoring.{Restores}
-use Rattle.fv_aggregate.specs.Commands.{dirty_limit, is_refusal, places_files, room_of, snapped_by, snapshot_asked, volume_asked}
+use Rattle.fv_aggregate.specs.Commands.{dirty_limit, is_refusal, places_files, room_by, snapped_by, snapshot_asked, volume_asked}
 use Rattle.fv_aggregate.specs.Known.{KeepsNumbersBut, MayLose}
 use Rattle.fv_aggregate.specs.Standing.{HoldsAsCommitted, IsWithoutFiles, StandsFor}
 
@@ -96,11 +98,12 @@ SnapsState disk pool x others (SnapDelete volume snapshot) left y result = (volu
 SnapsState disk pool x others (SnapRestore volume snapshot) left y result = (volume ≡ x.name) × ((left ≡ pool) × Restores disk pool x others snapshot y result)
 SnapsState disk pool x others command left y result = ⊥
 
--- a command makes, removes or restores a snapshot of the volume of a slot
+-- a command makes, removes or restores a snapshot of the volume of a slot, which is the first of its name
 pub record IsSnapAimed (states : States) (slot : ℕ) (command : Command) : Type 0 where
   pub within : slot < slot_count
   pub state : VolumeState
   pub there : state_at states slot ≡ Some state
+  pub named : HasName states slot state.name
   pub snaps : snapped_by command ≡ Some state.name
 
 -- What a command that makes, removes or restores a snapshot does in a session beside. Refused it leaves all as it was. With room within the dirty
@@ -108,7 +111,7 @@ pub record IsSnapAimed (states : States) (slot : ℕ) (command : Command) : Type
 -- file comes into memory. Beside blocks of files nothing is taken that the next root wouldn't hold, and the numbers of files stay in memory, but for
 -- a table that is no longer the active one.
 pub record HasSnapped {D : Type 0} (before : Shown) (disk : D) (old : Session) (command : Command) (after : Shown) (left : D) (new : Session) (result : Result Reply Fault) : Type 0 where
-  pub makes : Makes (room_of command) before old command after new result
+  pub makes : Makes (room_by old.volumes command) before old command after new result
   pub damage : IfErr result (IsForWant before old after new)
   pub refused : IfOk result (λ reply. IsTrue (is_refusal reply) → IsUntouched disk old left new)
   pub calm : IsWithinLimit old command → left ≡ disk

@@ -1,16 +1,15 @@
 -- What is done before a command on a volume's files: their numbers are read into memory.
-use Rattle.std.specs.Prelude.{◌≡◌, ℕ, true, Some, IsTrue, Result, OnOk}
+use Rattle.std.specs.Prelude.{◌≡◌, true, IsTrue, Result, OnOk}
 use Rattle.std.specs.Option.{is_some}
 use Rattle.fv_disk.specs.Shown.{Shown}
 use Rattle.fv_disk.specs.DiskCalls.{OnlyReads}
 use Rattle.fv_disk.specs.declared.fault.BlockFault.{BlockFault}
 use Rattle.fv_model.specs.Machines.{Machine}
-use Rattle.fv_volume.specs.declared.pool.Pool.{Pool}
+use Rattle.fv_pool.specs.declared.pool.Pool.{Pool}
 use Rattle.fv_volume.specs.declared.state.VolumeState.{VolumeState}
-use Rattle.fv_volume.specs.Calls.{BlockCause, Reads}
-use Rattle.fv_volume.specs.Lending.{lent_for}
+use Rattle.fv_pool.specs.Calls.{BlockCause, Reads}
+use Rattle.fv_pool.specs.Lending.{lent_for}
 use Rattle.fv_volume.specs.OneVolume.{home_in, standing_for, IsReady, IsStanding}
-use Rattle.fv_volume.specs.States.{States, with_state}
 use Rattle.fv_aggregate.specs.declared.fault.Fault.{Fault}
 use Rattle.fv_aggregate.specs.declared.session.Session.{Session}
 use Rattle.fv_aggregate.specs.Calls.{Goes, GoesFor, KeepsAsking, KeepsEntries, WasRead}
@@ -38,9 +37,3 @@ pub record NumbersState (before : Shown) (pool : Pool) (x : VolumeState) (after 
   pub standing : IsStanding before pool x → IsStanding after left y
   pub ready : IsReady after left y
   pub cause : BlockCause (IsStanding before pool x) (standing_for before pool x) (lent_for pool x.map before 0 (home_in x) 0) after.faults result
-
--- so it is of the volume of a slot, and the other volumes are as they were
-pub record IsSlotNumbered (before : Shown) (pool : Pool) (states : States) (slot : ℕ) (x : VolumeState) (after : Shown) (left : Pool) (stay : States) (result : Result Unit BlockFault) : Type 0 where
-  pub now : VolumeState
-  pub row : stay ≡ with_state states slot (Some now)
-  pub numbers : NumbersState before pool x after left now result

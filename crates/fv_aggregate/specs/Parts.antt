@@ -1,8 +1,8 @@
 -- What a session is for those who call it.
 use Rattle.std.specs.Prelude.{ℕ, Bool, List, Option, refl}
 use Rattle.std.specs.Coded.{Coded, code_by, coded×, coded_ℕ, coded_bool, coded_list, coded_option}
-use Rattle.fv_volume.specs.declared.pool.Pool.{Pool}
-use Rattle.fv_volume.specs.contracts.pool.Pool as pool
+use Rattle.fv_pool.specs.declared.pool.Pool.{Pool}
+use Rattle.fv_pool.specs.contracts.pool.Pool as pool
 use Rattle.fv_volume.specs.contracts.state.VolumeState as state
 use Rattle.fv_volume.specs.States.{States}
 

@@ -14,7 +14,7 @@ use Rattle.fv_container.specs.Mapped.{Mapped, entry_under}
 use Rattle.fv_delay.specs.declared.regions.Region.{Region}
 use Rattle.fv_delay.specs.Holding.{has_region}
 use Rattle.fv_delay.specs.Reclaims.{goes_with}
-use Rattle.fv_volume.specs.declared.pool.Pool.{Pool}
+use Rattle.fv_pool.specs.declared.pool.Pool.{Pool}
 use Rattle.fv_volume.specs.declared.state.VolumeState.{VolumeState}
 use Rattle.fv_volume.specs.States.{States, placed_in, state_at}
 use Rattle.fv_volume.specs.Stored.{is_map_written, map_entry}

@@ -8,6 +8,7 @@ use Rattle.fv_volume.specs.declared.state.VolumeState.{VolumeState}
 use Rattle.fv_snapshot.specs.declared.creating.Granted.{Granted}
 use Rattle.fv_snapshot.specs.Creating.{JudgesCreation, IsGranted, creation_refusal}
 use Rattle.fv_snapshot.specs.Granting.{slot_granted}
+use Rattle.fv_aggregate.specs.Commands.{map_at}
 
 -- what is granted to a command that makes no snapshot
 abbrev pub nothing : Granted
@@ -15,9 +16,8 @@ nothing = record { slot = 0; room = 0 }
 
 -- the room of a command on the volume of a slot: the blocks of the map of a snapshot that is made, and none of each other command
 abbrev pub snap_blocks : Option VolumeState → Command → ℕ
-snap_blocks None command = 0
-snap_blocks (Some x) (SnapCreate volume snapshot) = map_blocks x.span
-snap_blocks (Some x) command = 0
+snap_blocks o (SnapCreate volume snapshot) = map_at o
+snap_blocks o command = 0
 
 -- the snapshot that a command makes of the volume of a slot isn't refused; nothing is said of each other command
 abbrev pub IsAccepted : Option VolumeState → ℕ → ℕ → Command → Type 0

@@ -15,7 +15,7 @@ ghost use Rattle.fv_aggregate.specs.Calls.{KeepsHolding, MakesNoHoles, Runs};
 ghost use Rattle.fv_aggregate.specs.Commands.{dirty_limit, is_refusal, most_overhead};
 ghost use Rattle.fv_aggregate.specs.Standing.{Stands, StandsFor};
 
-use crate::fault::Fault;
+use crate::fault::Answer;
 use crate::session::Session;
 use fv_charge::overhead;
 use fv_disk::Disk;
@@ -31,7 +31,7 @@ impl Session {
         name: &Name,
         size: u32,
         kind: Kind,
-    ) -> Result<Reply, Fault>
+    ) -> Answer
         requires fresh { IsNone self.old.failed }
         requires stands { Stands (D.shown disk.old) self.old }
         ensures runs { Runs (overhead (span_of size 0 0)) (λ m. next m (VolCreate name.now size kind))
@@ -59,7 +59,7 @@ impl Session {
         size: u32,
         kind: Kind,
         admitted: Admitted,
-    ) -> Result<Reply, Fault>
+    ) -> Answer
         requires fresh { IsNone self.old.failed }
         requires stands { Stands (D.shown disk.old) self.old }
         requires long { length self.old.volumes ≡ slot_count }

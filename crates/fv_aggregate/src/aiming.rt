@@ -11,7 +11,7 @@ ghost use Rattle.fv_aggregate.specs.Aiming.{Aims, AimsAt, IsAimed, IsServed};
 ghost use Rattle.fv_aggregate.specs.Applying.{HasApplied};
 ghost use Rattle.fv_aggregate.specs.Standing.{Stands};
 
-use crate::fault::Fault;
+use crate::fault::Answer;
 use crate::session::Session;
 use fv_container::Steps;
 use fv_disk::Disk;
@@ -47,7 +47,7 @@ impl Session {
         disk: &mut D,
         command: &Command,
         steps: &mut Steps<L>,
-    ) -> Result<Reply, Fault>
+    ) -> Answer
         requires fresh { IsNone self.old.failed }
         requires stands { Stands (D.shown disk.old) self.old }
         requires served { IsServed command.now }
@@ -105,7 +105,7 @@ impl Session {
         aim: Aim,
         command: &Command,
         steps: &mut Steps<L>,
-    ) -> Result<Reply, Fault>
+    ) -> Answer
         requires fresh { IsNone self.old.failed }
         requires stands { Stands (D.shown disk.old) self.old }
         requires aimed { IsAimed self.old.volumes aim.slot aim.task command.now }

@@ -1,6 +1,12 @@
 //! Why a session isn't opened, and why a call of one isn't done.
 
+ghost use Rattle.std.specs.Prelude.{◌≡◌};
+ghost use Rattle.fv_aggregate.specs.declared.fault.OpenFault.TheVariants.{DiskFault};
+ghost use Rattle.fv_aggregate.specs.declared.fault.Fault.TheVariants.{Memory};
+ghost use Rattle.fv_aggregate.specs.Causes.{of_block, of_root};
+
 use fv_disk::{BlockFault, Failed};
+use fv_model::Reply;
 use fv_root::RootFault;
 use std::alloc::AllocError;
 use thiserror::Error;
@@ -30,9 +36,6 @@ pub enum OpenFault {
 }
 
 impl From<Failed> for OpenFault {
-    ghost use Rattle.std.specs.Prelude.{◌≡◌};
-    ghost use Rattle.fv_aggregate.specs.declared.fault.OpenFault.TheVariants.{DiskFault};
-
     ghost from_gives = { λ _ e. e ≡ DiskFault };
 
     fn from(_: Failed) -> OpenFault {
@@ -41,9 +44,6 @@ impl From<Failed> for OpenFault {
 }
 
 impl From<RootFault> for OpenFault {
-    ghost use Rattle.std.specs.Prelude.{◌≡◌};
-    ghost use Rattle.fv_aggregate.specs.Causes.{of_root};
-
     ghost from_gives = { λ fault e. e ≡ of_root fault };
 
     fn from(fault: RootFault) -> OpenFault {
@@ -56,9 +56,6 @@ impl From<RootFault> for OpenFault {
 }
 
 impl From<BlockFault> for OpenFault {
-    ghost use Rattle.std.specs.Prelude.{◌≡◌};
-    ghost use Rattle.fv_aggregate.specs.Causes.{of_block};
-
     ghost from_gives = { λ fault e. e ≡ of_block fault };
 
     fn from(fault: BlockFault) -> OpenFault {
@@ -100,12 +97,12 @@ pub enum Fault {
 }
 
 impl From<AllocError> for Fault {
-    ghost use Rattle.std.specs.Prelude.{◌≡◌};
-    ghost use Rattle.fv_aggregate.specs.declared.fault.Fault.TheVariants.{Memory};
-
     ghost from_gives = { λ _ e. e ≡ Memory };
 
     fn from(_: AllocError) -> Fault {
         Fault::Memory
     }
 }
+
+/// What a session answers to a command.
+pub(crate) type Answer = Result<Reply, Fault>;

@@ -11,7 +11,7 @@ ghost use Rattle.fv_aggregate.specs.Looking.{HasJudged, IsChangeAt, Makes, done_
 ghost use Rattle.fv_aggregate.specs.Standing.{Stands};
 
 use crate::aiming::volume_at;
-use crate::fault::Fault;
+use crate::fault::Answer;
 use crate::session::Session;
 use fv_disk::Disk;
 use fv_model::{Command, Refusal, Reply};
@@ -22,12 +22,7 @@ const FILE_ROOM: u64 = 16;
 
 impl Session {
     /// Carries out a command that changes a file of the volume of a slot, with the numbers of its files in memory.
-    pub(crate) fn change_at<D: Disk>(
-        &mut self,
-        disk: &mut D,
-        slot: u8,
-        command: &Command,
-    ) -> Result<Reply, Fault>
+    pub(crate) fn change_at<D: Disk>(&mut self, disk: &mut D, slot: u8, command: &Command) -> Answer
         requires fresh { IsNone self.old.failed }
         requires stands { Stands (D.shown disk.old) self.old }
         requires aimed { IsChangeAt self.old.volumes slot command.now }
@@ -41,7 +36,7 @@ impl Session {
 
     /// Carries out a command that changes a file of the volume of a slot. It is decided before the point that its room would ask for, so
     /// that what is refused is refused before it.
-    fn decide<D: Disk>(&mut self, disk: &mut D, slot: u8, command: &Command) -> Result<Reply, Fault>
+    fn decide<D: Disk>(&mut self, disk: &mut D, slot: u8, command: &Command) -> Answer
         requires fresh { IsNone self.old.failed }
         requires stands { Stands (D.shown disk.old) self.old }
         requires aimed { IsChangeAt self.old.volumes slot command.now }
@@ -61,27 +56,8 @@ impl Session {
         }
     }
 
-    /// What a command on the volume of a slot will be answered, without a change.
-    fn judge<D: Disk>(&mut self, disk: &mut D, slot: u8, command: &Command) -> Result<Reply, Fault>
-        requires fresh { IsNone self.old.failed }
-        requires stands { Stands (D.shown disk.old) self.old }
-        requires aimed { IsChangeAt self.old.volumes slot command.now }
-        ensures judged { HasJudged (D.shown disk.old) self.old command.now (D.shown disk.new) self.new result }
-        ensures volumes { self.new.volumes ≡ self.old.volumes }
-    {
-        let others = self.volumes.commits_beside(slot);
-        let state = volume_at(&mut self.volumes, slot);
-        let judged = state.judge(self.alloc, &mut self.pool, disk, others, command);
-        self.replied(disk, done(judged))
-    }
-
     /// Makes the change of a command on the volume of a slot, and counts the blocks that it adds.
-    fn carry_out<D: Disk>(
-        &mut self,
-        disk: &mut D,
-        slot: u8,
-        command: &Command,
-    ) -> Result<Reply, Fault>
+    fn carry_out<D: Disk>(&mut self, disk: &mut D, slot: u8, command: &Command) -> Answer
         requires fresh { IsNone self.old.failed }
         requires stands { Stands (D.shown disk.old) self.old }
         requires few { self.old.pending + file_room ≤ max dirty_limit file_room }
@@ -97,6 +73,20 @@ impl Session {
         let more = added(before, state.pending());
         self.pending += more;
         self.replied(disk, done(made))
+    }
+
+    /// What a command on the volume of a slot will be answered, without a change.
+    fn judge<D: Disk>(&mut self, disk: &mut D, slot: u8, command: &Command) -> Answer
+        requires fresh { IsNone self.old.failed }
+        requires stands { Stands (D.shown disk.old) self.old }
+        requires aimed { IsChangeAt self.old.volumes slot command.now }
+        ensures judged { HasJudged (D.shown disk.old) self.old command.now (D.shown disk.new) self.new result }
+        ensures volumes { self.new.volumes ≡ self.old.volumes }
+    {
+        let others = self.volumes.commits_beside(slot);
+        let state = volume_at(&mut self.volumes, slot);
+        let judged = state.judge(self.alloc, &mut self.pool, disk, others, command);
+        self.replied(disk, done(judged))
     }
 }
 

@@ -14,7 +14,7 @@ ghost use Rattle.fv_aggregate.specs.Known.{KeepsNumbers};
 ghost use Rattle.fv_aggregate.specs.Reclaiming.{HasPointed, Points};
 ghost use Rattle.fv_aggregate.specs.Standing.{IsWithoutFiles, Stands, StandsFor};
 
-use crate::fault::Fault;
+use crate::fault::{Answer, Fault};
 use crate::session::Session;
 use fv_cp::full_point;
 use fv_disk::Disk;
@@ -59,7 +59,7 @@ impl Session {
     }
 
     /// The consistency point that a command asks for.
-    pub(crate) fn reclaim<D: Disk>(&mut self, disk: &mut D) -> Result<Reply, Fault>
+    pub(crate) fn reclaim<D: Disk>(&mut self, disk: &mut D) -> Answer
         requires fresh { IsNone self.old.failed }
         requires stands { Stands (D.shown disk.old) self.old }
         ensures runs { Runs 0 (λ m. m) (D.shown disk.old) self.old (D.shown disk.new) self.new result }

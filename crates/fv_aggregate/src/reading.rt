@@ -5,7 +5,7 @@ ghost use Rattle.fv_model.specs.declared.answers.Refusal.TheVariants.{NoSnapshot
 ghost use Rattle.fv_model.specs.declared.answers.Reply.TheVariants.{Refused};
 ghost use Rattle.fv_model.specs.Machines.{Machine};
 ghost use Rattle.fv_volume.specs.Asking.{table_named, IsRefusedUnread};
-ghost use Rattle.fv_volume.specs.declared.fault.VolumeFault.TheVariants as of_volume;
+ghost use Rattle.fv_pool.specs.declared.fault.VolumeFault.TheVariants as of_volume;
 ghost use Rattle.fv_volume.specs.OneVolume.{IsReady};
 ghost use Rattle.fv_volume.specs.States.{state_at};
 ghost use Rattle.fv_aggregate.specs.Calls.{IsUntouched};
@@ -15,7 +15,7 @@ ghost use Rattle.fv_aggregate.specs.Looking.{AsksState, Breaks, IsAsked, Looks, 
 ghost use Rattle.fv_aggregate.specs.Standing.{Stands, StandsFor};
 
 use crate::aiming::volume_at;
-use crate::fault::Fault;
+use crate::fault::{Answer, Fault};
 use crate::points::failure;
 use crate::session::Session;
 use fv_container::Steps;
@@ -34,7 +34,7 @@ impl Session {
         slot: u8,
         command: &Command,
         steps: &mut Steps<L>,
-    ) -> Result<Reply, Fault>
+    ) -> Answer
         requires fresh { IsNone self.old.failed }
         requires stands { Stands (D.shown disk.old) self.old }
         requires asked { IsAsked self.old.volumes slot command.now }
@@ -60,7 +60,7 @@ impl Session {
         slot: u8,
         command: &Command,
         steps: &mut Steps<L>,
-    ) -> Result<Reply, Fault>
+    ) -> Answer
         requires fresh { IsNone self.old.failed }
         requires stands { Stands (D.shown disk.old) self.old }
         requires asked { IsAsked self.old.volumes slot command.now }
@@ -77,11 +77,7 @@ impl Session {
     }
 
     /// What a session answers for a call on a volume: a refusal is a reply, too.
-    pub(crate) fn replied<D: Disk>(
-        &mut self,
-        disk: &D,
-        asked: Result<Reply, VolumeFault>,
-    ) -> Result<Reply, Fault>
+    pub(crate) fn replied<D: Disk>(&mut self, disk: &D, asked: Result<Reply, VolumeFault>) -> Answer
         requires fresh { IsNone self.old.failed }
         ensures { Replied (D.shown disk.now) asked self.old self.new result }
     {

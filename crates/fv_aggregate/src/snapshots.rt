@@ -18,7 +18,7 @@ ghost use Rattle.fv_aggregate.specs.Snapping.{HasGrant, JudgesSnap};
 ghost use Rattle.fv_aggregate.specs.Standing.{Stands};
 
 use crate::aiming::{volume_at, volume_in};
-use crate::fault::Fault;
+use crate::fault::Answer;
 use crate::files::done;
 use crate::session::Session;
 use fv_disk::Disk;
@@ -33,12 +33,7 @@ const NOTHING: Granted = Granted { slot: 0, room: 0 };
 impl Session {
     /// Carries out a command that makes, removes or restores a snapshot of the volume of a slot. A snapshot that is made is judged before
     /// the point that its map would ask for, so that what is refused is refused before it.
-    pub(crate) fn snap_at<D: Disk>(
-        &mut self,
-        disk: &mut D,
-        slot: u8,
-        command: &Command,
-    ) -> Result<Reply, Fault>
+    pub(crate) fn snap_at<D: Disk>(&mut self, disk: &mut D, slot: u8, command: &Command) -> Answer
         requires fresh { IsNone self.old.failed }
         requires stands { Stands (D.shown disk.old) self.old }
         requires aimed { IsSnapAimed self.old.volumes slot command.now }
@@ -60,7 +55,7 @@ impl Session {
         others: u64,
         granted: Granted,
         command: &Command,
-    ) -> Result<Reply, Fault>
+    ) -> Answer
         requires fresh { IsNone self.old.failed }
         requires stands { Stands (D.shown disk.old) self.old }
         requires aimed { IsSnapAimed self.old.volumes slot command.now }
@@ -84,7 +79,7 @@ impl Session {
         others: u64,
         granted: Granted,
         command: &Command,
-    ) -> Result<Reply, Fault>
+    ) -> Answer
         requires fresh { IsNone self.old.failed }
         requires stands { Stands (D.shown disk.now) self.old }
         requires aimed { IsSnapAimed self.old.volumes slot command.now }
@@ -155,7 +150,7 @@ fn change_snaps<D: Disk>(
 {
     match command {
         Command::SnapCreate { snapshot, .. } => {
-            fv_snapshot::create(state, pool, disk, granted, snapshot)
+            fv_snapshot::make(state, pool, disk, granted, snapshot)
         }
         Command::SnapDelete { snapshot, .. } => fv_snapshot::delete(state, pool, disk, snapshot),
         Command::SnapRestore { snapshot, .. } => {

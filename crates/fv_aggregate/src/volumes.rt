@@ -5,7 +5,7 @@ ghost use Rattle.fv_container.specs.Chains.{slot_count};
 ghost use Rattle.fv_volume.specs.States.{state_at};
 ghost use Rattle.fv_volume.specs.Trees.{Trees};
 ghost use Rattle.fv_volume.specs.Files.{Over};
-ghost use Rattle.fv_volume.specs.declared.pool.Pool.{Pool};
+ghost use Rattle.fv_pool.specs.declared.pool.Pool.{Pool};
 ghost use Rattle.fv_aggregate.specs.Standing.{charged_in};
 ghost use Rattle.fv_aggregate.specs.Telling.{charged_by, charged_from, names_from, with_name};
 

@@ -169,14 +169,17 @@ read_back map old new index block wrote took i place =
     ap (is_member new) (sym at) ∙ took.taken (i % block_bits) (omega arith)
     ∙ wrote.bits (i % block_bits) (omega arith) ∙ ap (is_member map) at
 
+-- zeros are zero everywhere
+pub zero_at : (n k : ℕ) → ◌≡◌ {A = ℕ} (get_or (replicate n 0) k 0) 0
+zero_at n k = elim (cases_lt k n) [
+  | inl inside ↦ get_or-replicate n k 0 0 inside
+  | inr past ↦ get_or_past (replicate n 0) k 0 (omega (arith, length-replicate {A = ℕ} n 0))
+]
+
 -- a block of zeros has no member
 pub zero_block : (n b : ℕ) → bit_of_bytes (replicate n 0) b ≡ false
 zero_block n b =
-    let clear : get_or (replicate n 0) (b / 8) 0 ≡ 0 = elim (cases_lt (b / 8) n) [
-      | inl inside ↦ get_or-replicate n (b / 8) 0 0 inside
-      | inr past ↦ get_or_past (replicate n 0) (b / 8) 0 (omega (arith, length-replicate {A = ℕ} n 0))
-    ] in
-    bit_in_byte (replicate n 0) b (b / 8) (b % 8) refl refl ∙ ap (λ m. bit_of_number m (b % 8)) clear ∙ bit_zero (b % 8)
+    bit_in_byte (replicate n 0) b (b / 8) (b % 8) refl refl ∙ ap (λ m. bit_of_number m (b % 8)) (zero_at n (b / 8)) ∙ bit_zero (b % 8)
 
 pub takes_zeros : (old new : List Bool) (index n : ℕ) → TakesBlock old new index (replicate n 0) → (i : ℕ) → i / block_bits ≡ index → is_member new i ≡ false
 takes_zeros old new index n took i place =

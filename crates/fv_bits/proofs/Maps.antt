@@ -11,7 +11,7 @@ use Rattle.fv_bits.specs.Stored.{bit_of_words, map_of, IsStored, IsFirst, AreSet
 use Rattle.fv_bits.proofs.Numbers.{bit_zero}
 use Rattle.fv_bits.proofs.Rows.{bit_at_place, bit_past}
 use Rattle.fv_bits.proofs.Counts.{passing_same}
-use Rattle.fv_bits.proofs.Laws.{same_maps, is_member-set}
+use Rattle.fv_bits.proofs.Laws.{same_maps, is_member-set, zero_at}
 
 pub length-map_of : (len : ℕ) (ws : List ℕ) → length (map_of len ws) ≡ len
 unfolding map_of
@@ -28,11 +28,7 @@ member_of len ws stored i = elim (cases_lt i len) [
 -- a new map
 zero_words : (n b : ℕ) → bit_of_words (replicate n 0) b ≡ false
 zero_words n b =
-    let zero_word : get_or (replicate n 0) (b / 64) 0 ≡ 0 = elim (cases_lt (b / 64) n) [
-      | inl inside ↦ get_or-replicate n (b / 64) 0 0 inside
-      | inr past ↦ get_or_past (replicate n 0) (b / 64) 0 (omega (arith, length-replicate {A = ℕ} n 0))
-    ] in
-    bit_at_place (replicate n 0) b (b / 64) (b % 64) refl refl ∙ ap (λ m. bit_of_number m (b % 64)) zero_word ∙ bit_zero (b % 64)
+    bit_at_place (replicate n 0) b (b / 64) (b % 64) refl refl ∙ ap (λ m. bit_of_number m (b % 64)) (zero_at n (b / 64)) ∙ bit_zero (b % 64)
 
 pub new_stored : (len n : ℕ) → len ≤ 64 * n → 64 * n < len + 64 → IsStored len (replicate n 0)
 new_stored len n enough few =

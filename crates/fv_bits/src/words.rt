@@ -27,8 +27,7 @@ pub(crate) fn set(words: &mut [u64], b: u32)
     requires { b < 64 * length words.old }
     ensures { PutsBitOf words.old b true words.new }
 {
-    let at = (b / 64) as usize;
-    words[at] = word::with_bit(words[at], b % 64);
+    words[(b / 64) as usize] = word::with_bit(words[(b / 64) as usize], b % 64);
 }
 
 /// Clears bit `b`.
@@ -37,8 +36,7 @@ pub(crate) fn clear(words: &mut [u64], b: u32)
     requires { b < 64 * length words.old }
     ensures { PutsBitOf words.old b false words.new }
 {
-    let at = (b / 64) as usize;
-    words[at] = word::without_bit(words[at], b % 64);
+    words[(b / 64) as usize] = word::without_bit(words[(b / 64) as usize], b % 64);
 }
 
 /// Sets each bit that is set in `others`, word by word.

@@ -235,15 +235,7 @@ module _ (es : List (Option Entry)) (few : length es ≤ most_entries) where
 
         high_tree : TreeAt i (get_or ps (leaves + inner) 0) 2 n ps
         unfolding node_below
-        high_tree = record {
-          few = few;
-          least = omega arith;
-          greatest = omega arith;
-          long = long;
-          leaf = λ k within. sym (ap (λ (p : ℕ). child_in (lying inner_at i p) (k % 256)) (sym (high_inner_at (k / 256) (omega (arith, within)))) ∙ leaf_child k within);
-          inner = high_inner_at;
-          top = refl;
-        }
+        high_tree = record { few = few; least = omega arith; greatest = omega arith; long = long; leaf = λ k within. sym (ap (λ (p : ℕ). child_in (lying inner_at i p) (k % 256)) (sym (high_inner_at (k / 256) (omega (arith, within)))) ∙ leaf_child k within); inner = high_inner_at; top = refl }
 
         high_flushed : IsFlushed i (get_or ps (root_number n) 0) (height_of n) (map_of es ps dirty)
         high_flushed = rw (high_height, high_root) (flushed (get_or ps (leaves + inner) 0) 2 high_tree (λ two. (

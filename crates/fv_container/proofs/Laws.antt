@@ -1,5 +1,5 @@
 -- Laws of containers, for callers.
-use Rattle.std.proofs.Common.{◌≡◌, ℕ, zero, suc, ◌+◌, ◌<◌, ◌≤◌, Bool, true, false, if◌then◌else◌, List, [], ◌∷◌, length, refl, arith, ap, ◌∙◌, ⊎_elim, Option}
+use Rattle.std.proofs.Common.{◌≡◌, ℕ, zero, suc, ◌+◌, ◌<◌, ◌≤◌, Bool, true, false, if◌then◌else◌, List, [], ◌∷◌, length, refl, arith, ap, ⊎_elim, Option}
 use Rattle.std.specs.Prelude.{nat_le, nat_lt}
 use Rattle.std.proofs.lemmas.Bool.{cases_lt}
 use Rattle.std.proofs.lemmas.Bool.Decides.{nat_tests}
@@ -27,25 +27,21 @@ blocks_at_most es = written_at_most es (node_count (length es))
 
 -- ---- the nodes of the tree of so many entries
 
-low_sum : (f : ℕ → ℕ) → sum_by f (range_with_len 0 2) ≡ f 0 + f 1
-low_sum f = omega (arith, sum_by-cons f 0 (1 ∷ []), sum_by-cons f 1 [])
-
-high_sum : (f : ℕ → ℕ) → sum_by f (range_with_len 0 3) ≡ f 0 + (f 1 + f 2)
-high_sum f = omega (arith, sum_by-cons f 0 (1 ∷ 2 ∷ []), sum_by-cons f 1 (2 ∷ []), sum_by-cons f 2 [])
-
 low_tree : (entries : ℕ) → level_width entries 0 ≤ 256 → tree_count entries ≡ level_width entries 0 + level_width entries 1
 unfolding tree_count
 low_tree entries small =
     let test : nat_le (level_width entries 0) 256 ≡ true = grind (arith, nat_tests) in
     let height : height_of entries ≡ 1 = rw test refl in
-    ap (λ (h : ℕ). sum_by (level_width entries) (range_with_len 0 (suc h))) height ∙ low_sum (level_width entries)
+    let sum : tree_count entries ≡ sum_by (level_width entries) (0 ∷ 1 ∷ []) = ap (λ (h : ℕ). sum_by (level_width entries) (range_with_len 0 (suc h))) height in
+    omega (arith, sum, sum_by-cons (level_width entries) 0 (1 ∷ []), sum_by-cons (level_width entries) 1 [])
 
 high_tree : (entries : ℕ) → 256 < level_width entries 0 → tree_count entries ≡ level_width entries 0 + (level_width entries 1 + level_width entries 2)
 unfolding tree_count
 high_tree entries large =
     let test : nat_le (level_width entries 0) 256 ≡ false = grind (arith, nat_tests) in
     let height : height_of entries ≡ 2 = rw test refl in
-    ap (λ (h : ℕ). sum_by (level_width entries) (range_with_len 0 (suc h))) height ∙ high_sum (level_width entries)
+    let sum : tree_count entries ≡ sum_by (level_width entries) (0 ∷ 1 ∷ 2 ∷ []) = ap (λ (h : ℕ). sum_by (level_width entries) (range_with_len 0 (suc h))) height in
+    omega (arith, sum, sum_by-cons (level_width entries) 0 (1 ∷ 2 ∷ []), sum_by-cons (level_width entries) 1 (2 ∷ []), sum_by-cons (level_width entries) 2 [])
 
 -- the root above the second level counts only where that has more than one node
 top_is : (es : List (Option Entry)) → level_width (length es) 1 ≡ 1 → is_written es (level_width (length es) 0 + 1) ≡ false

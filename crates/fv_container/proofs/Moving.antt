@@ -8,7 +8,7 @@ use Rattle.std.proofs.lemmas.List.{get_or-set_same, get_or-set_other, get_or_pas
 use Rattle.std.proofs.Math.Seq.{take-length}
 use Rattle.fv_disk.specs.Shown.{Image}
 use Rattle.fv_codec.specs.Blocks.{last_place}
-use Rattle.fv_image.specs.Containers.{level_width, most_entries}
+use Rattle.fv_image.specs.Containers.{level_width}
 use Rattle.fv_container.specs.declared.entry.Entry.{Entry}
 use Rattle.fv_container.specs.Kept.{map_of}
 use Rattle.fv_container.specs.Mapped.{Mapped, node_count}

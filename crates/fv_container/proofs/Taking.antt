@@ -7,6 +7,7 @@ use Rattle.std.specs.Ordering.{nat_cmp, eq_by_cmp}
 use Rattle.std.proofs.lemmas.Cmp.{nat_cmp_total}
 use Rattle.std.proofs.lemmas.Bool.{cases_Bool, cases_eq, true≢false}
 use Rattle.std.proofs.lemmas.Bool.Decides.{nat_tests}
+use Rattle.std.proofs.Math.Bool.{and-false, and-true, or_assoc, or_comm}
 use Rattle.std.proofs.lemmas.List.{get_or-set_same, get_or-set_other, get_or-take, length-take, take_more_set}
 use Rattle.std.proofs.lemmas.List.Folds.{list_any-append, list_any_more}
 use Rattle.fv_container.specs.declared.entry.Entry.{Entry}
@@ -22,24 +23,17 @@ or_false true = refl
 or_false false = refl
 
 left_more : (o n e : Bool) → (not e && (o && not n)) ≡ (o && not (n || e))
-left_more true true true = refl
-left_more true true false = refl
-left_more true false true = refl
-left_more true false false = refl
-left_more false n true = refl
-left_more false n false = refl
+left_more true true e = and-false (not e)
+left_more true false e = and-true (not e)
+left_more false n e = and-false (not e)
 
 held_more : (e n h : Bool) → (e || (n || h)) ≡ ((n || e) || h)
-held_more true true h = refl
-held_more true false h = refl
-held_more false true h = refl
-held_more false false h = refl
+held_more e n h = sym (or_assoc e n h) ∙ ap (λ t. t || h) (or_comm e n)
 
 released_more_held : (e n h : Bool) → (not e && (not n && h)) ≡ (not (n || e) && h)
 released_more_held true true h = refl
 released_more_held true false h = refl
-released_more_held false true h = refl
-released_more_held false false h = refl
+released_more_held false n h = ap (λ t. not t && h) (sym (or_false n))
 
 same_test : (a b : ℕ) → eq_by_cmp nat_cmp a b ≡ nat_eq a b
 same_test a b = grind (arith, nat_tests)

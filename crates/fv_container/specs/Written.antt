@@ -1,5 +1,5 @@
 -- The blocks that a flush writes.
-use Rattle.std.specs.Prelude.{◌≡◌, ◌≢◌, ◌<◌, ◌≤◌, ◌+◌, ◌-◌, ◌*◌, ℕ, zero, suc, Bool, true, false, not, ◌&&◌, ◌||◌, ◌⊎◌, nat_eq, nat_lt, if◌then◌else◌, List, length, get_or, take, drop, Option, None, Ok}
+use Rattle.std.specs.Prelude.{◌≡◌, ◌≢◌, ◌<◌, ◌≤◌, ◌+◌, ◌-◌, ◌*◌, ℕ, zero, suc, Bool, true, false, not, ◌&&◌, ◌||◌, ◌⊎◌, nat_eq, nat_lt, if◌then◌else◌, List, length, get_or, take, drop, IfSome, Option, None, Ok}
 use Rattle.std.specs.List.{list_any}
 use Rattle.std.specs.Option.{is_some}
 use Rattle.std.specs.FinSet as set
@@ -7,9 +7,9 @@ use Rattle.fv_disk.specs.Shown.{Image}
 use Rattle.fv_codec.specs.declared.container.ContainerLeaf.{ContainerLeaf}
 use Rattle.fv_codec.specs.declared.container.ContainerInner.{ContainerInner}
 use Rattle.fv_codec.specs.Blocks.{inner_at, last_place, leaf_at}
-use Rattle.fv_image.specs.Containers.{level_width}
+use Rattle.fv_image.specs.Containers.{level_width, most_entries}
 use Rattle.fv_container.specs.declared.entry.Entry.{Entry}
-use Rattle.fv_container.specs.Mapped.{node_count}
+use Rattle.fv_container.specs.Mapped.{node_count, IsHeld}
 use Rattle.fv_container.specs.Spelled.{names, pair_of}
 use Rattle.fv_container.specs.Freeing.{Room}
 
@@ -36,6 +36,13 @@ blocks_needed es = written_before es (node_count (length es))
 -- the number of the node that is the root
 abbrev pub root_number : ℕ → ℕ
 root_number entries = if nat_lt 1 (level_width entries 1) then level_width entries 0 + level_width entries 1 else level_width entries 0
+
+-- entries that a container can have, and a place for each node of their tree, so that each of its blocks can be written
+pub record AreWritable (es : List (Option Entry)) (places : List ℕ) : Type 0 where
+  pub few : length es ≤ most_entries
+  pub held : (v : ℕ) → IfSome (get_or es v None) IsHeld
+  pub nodes : length places ≡ node_count (length es)
+  pub bounded : (m : ℕ) → get_or places m 0 ≤ last_place
 
 -- some of the first nodes that are written have new places, each of its own, which were free
 pub record HasTaken (old : Room) (es : List (Option Entry)) (fresh : List ℕ) (n : ℕ) (new : Room) : Type 0 where

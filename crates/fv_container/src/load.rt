@@ -48,9 +48,7 @@ fn read_block<D: Disk>(store: &mut Store, disk: &mut D, at: u32) -> Result<Block
     requires stands { StandsOn (D.shown disk.old) store.old.pairs }
     ensures value { IsTrue (D.shown disk.old).tells → IfOk result (λ block. block ≡ (D.shown disk.old).reads at) }
     ensures only_fault { IfErr result (λ fault. fault ≡ BlockFault.DiskFault) }
-    ensures only_reads { OnlyReads (D.shown disk.old) (D.shown disk.new) }
-    ensures stands { StandsOn (D.shown disk.new) store.new.pairs }
-    ensures cause { HasBlockCause (D.shown disk.old).faults (D.shown disk.new).faults result }
+    ensures read { HasRead (D.shown disk.old) (D.shown disk.new) store.new.pairs result }
 {
     let mut block = ZERO;
     store.get(disk, at, &mut block)?;
@@ -92,6 +90,7 @@ fn leaf_in(block: &Block, at: u32) -> Result<ContainerLeaf, BlockFault>
 }
 
 /// Reads an inner node. Where `at` is 0 the node is absent, and has no children.
+#[tactic(auto, using(crate::proofs::Reading::reads_none))]
 fn read_inner<D: Disk>(
     store: &mut Store,
     disk: &mut D,
@@ -101,12 +100,9 @@ fn read_inner<D: Disk>(
     ensures children { IsTrue (D.shown disk.old).tells
         → IfOk result (λ node. (c : ℕ) → get_or node.children c 0 ≡ child_in (lying inner_at (D.shown disk.old).reads at) c) }
     ensures said { IsTrue (D.shown disk.old).tells → IfOk result (λ node. at ≢ 0 → inner_at ((D.shown disk.old).reads at) ≡ Ok node) }
-    ensures shaped { IsTrue (D.shown disk.old).tells
-        → OnOk result (at ≢ 0 → node_shape 1 ((D.shown disk.old).reads at) ≡ Ok tt) }
+    ensures shaped { IsTrue (D.shown disk.old).tells → OnOk result (at ≢ 0 → node_shape 1 ((D.shown disk.old).reads at) ≡ Ok tt) }
     ensures fault { IsTrue (D.shown disk.old).tells → IfErr result (IsBadNode (D.shown disk.old).reads at 1) }
-    ensures only_reads { OnlyReads (D.shown disk.old) (D.shown disk.new) }
-    ensures stands { StandsOn (D.shown disk.new) store.new.pairs }
-    ensures cause { HasBlockCause (D.shown disk.old).faults (D.shown disk.new).faults result }
+    ensures read { HasRead (D.shown disk.old) (D.shown disk.new) store.new.pairs result }
 {
     if at == 0 {
         return Ok(no_children());
@@ -117,18 +113,16 @@ fn read_inner<D: Disk>(
 }
 
 /// Reads a leaf. Where `at` is 0 the leaf is absent, and all of its entries are holes.
+#[tactic(auto, using(crate::proofs::Reading::reads_none))]
 fn read_leaf<D: Disk>(store: &mut Store, disk: &mut D, at: u32) -> Result<ContainerLeaf, BlockFault>
     requires stands { StandsOn (D.shown disk.old) store.old.pairs }
     ensures entries { IsTrue (D.shown disk.old).tells
         → IfOk result (λ leaf. (c : ℕ) → (get_or leaf.pvbns c 0, get_or leaf.kinds c 0) ≡ entry_in (lying leaf_at (D.shown disk.old).reads at) c) }
     ensures said { IsTrue (D.shown disk.old).tells → IfOk result (λ leaf. at ≢ 0 → leaf_at ((D.shown disk.old).reads at) ≡ Ok leaf) }
-    ensures range { IfOk result (λ leaf. (c : ℕ) → c < 256 → IsLeafEntry (get_or leaf.pvbns c 0, get_or leaf.kinds c 0)) }
-    ensures shaped { IsTrue (D.shown disk.old).tells
-        → OnOk result (at ≢ 0 → node_shape 0 ((D.shown disk.old).reads at) ≡ Ok tt) }
+    ensures shaped { IsTrue (D.shown disk.old).tells → OnOk result (at ≢ 0 → node_shape 0 ((D.shown disk.old).reads at) ≡ Ok tt) }
     ensures fault { IsTrue (D.shown disk.old).tells → IfErr result (IsBadNode (D.shown disk.old).reads at 0) }
-    ensures only_reads { OnlyReads (D.shown disk.old) (D.shown disk.new) }
-    ensures stands { StandsOn (D.shown disk.new) store.new.pairs }
-    ensures cause { HasBlockCause (D.shown disk.old).faults (D.shown disk.new).faults result }
+    ensures read { HasRead (D.shown disk.old) (D.shown disk.new) store.new.pairs result }
+    ensures range { IfOk result (λ leaf. (c : ℕ) → c < 256 → IsLeafEntry (get_or leaf.pvbns c 0, get_or leaf.kinds c 0)) }
 {
     if at == 0 {
         return Ok(no_entries());

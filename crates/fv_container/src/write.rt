@@ -8,7 +8,7 @@ ghost use Rattle.fv_store.specs.Held.{StandsOn};
 ghost use Rattle.fv_disk.specs.Sparing.{Spares};
 ghost use Rattle.fv_container.specs.Mapped.{IsHeld, node_count};
 ghost use Rattle.fv_container.specs.Spelled.{pair_of};
-ghost use Rattle.fv_container.specs.Written.{AreAnew, IsElsewhere, IsInnerOf, IsLeafOf, IsNodeOf, child_from};
+ghost use Rattle.fv_container.specs.Written.{AreAnew, AreWritable, IsElsewhere, IsInnerOf, IsLeafOf, IsNodeOf, child_from};
 
 use crate::entry::Entry;
 use crate::layout::{FAN, inner_count, leaf_count};
@@ -114,10 +114,7 @@ fn inner_block(places: &[u32], level: u8, number: u64, from: usize, end: usize, 
 
 /// The block of a node, by its number.
 fn node_block(entries: &[Option<Entry>], places: &[u32], node: usize, into: &mut Block)
-    requires few { length entries.now ≤ most_entries }
-    requires held { (v : ℕ) → IfSome (get_or entries.now v None) IsHeld }
-    requires nodes { length places.now ≡ node_count (length entries.now) }
-    requires bounded { (m : ℕ) → get_or places.now m 0 ≤ last_place }
+    requires rows { AreWritable entries.now places.now }
     requires within { node < length places.now }
     ensures { IsNodeOf entries.now places.now node into.new }
 {
@@ -144,11 +141,8 @@ fn write_node<D: Disk>(
     node: usize,
 ) -> Result<(), Failed>
     requires stands { StandsOn (D.shown disk.old) store.old.pairs }
-    requires few { length entries.now ≤ most_entries }
-    requires held { (v : ℕ) → IfSome (get_or entries.now v None) IsHeld }
-    requires nodes { length places.now ≡ node_count (length entries.now) }
+    requires rows { AreWritable entries.now places.now }
     requires fresh { length fresh.now ≡ length places.now }
-    requires bounded { (m : ℕ) → get_or places.now m 0 ≤ last_place }
     requires within { node < length fresh.now }
     ensures written { IsTrue (D.shown disk.old).tells
         → OnOk result (get_or fresh.now node 0 ≢ 0 → IsNodeOf entries.now places.now node ((D.shown disk.new).reads (get_or fresh.now node 0))) }
@@ -175,11 +169,8 @@ pub(crate) fn write_tree<D: Disk>(
     fresh: &[u32],
 ) -> Result<(), Failed>
     requires stands { StandsOn (D.shown disk.old) store.old.pairs }
-    requires few { length entries.now ≤ most_entries }
-    requires held { (v : ℕ) → IfSome (get_or entries.now v None) IsHeld }
-    requires nodes { length places.now ≡ node_count (length entries.now) }
+    requires rows { AreWritable entries.now places.now }
     requires fresh { length fresh.now ≡ length places.now }
-    requires bounded { (m : ℕ) → get_or places.now m 0 ≤ last_place }
     requires once { (m k : ℕ) → m < k → k < length fresh.now → get_or fresh.now k 0 ≢ 0 → get_or fresh.now m 0 ≢ get_or fresh.now k 0 }
     ensures written { IsTrue (D.shown disk.old).tells
         → OnOk result (AreAnew entries.now places.now fresh.now (length fresh.now) (D.shown disk.new).reads) }

@@ -7,7 +7,7 @@ ghost use Rattle.fv_container.specs.Chains.{container_at};
 ghost use Rattle.fv_image.specs.Containers.{most_entries};
 ghost use Rattle.fv_root.specs.Finding.{IsInRange};
 ghost use Rattle.fv_store.specs.Held.{StandsOn};
-ghost use Rattle.fv_volume.specs.BlocksOver.{entries_in};
+ghost use Rattle.fv_pool.specs.BlocksOver.{entries_in};
 
 use fv_codec::Pointer;
 use fv_container::{Container, Containers, Entry, Steps};

@@ -9,7 +9,7 @@ use Rattle.fv_aggmap.specs.Space.{free_blocks}
 use Rattle.fv_delay.specs.ByThreshold.{threshold_for}
 use Rattle.fv_delay.specs.Holding.{counts_of}
 use Rattle.fv_root.specs.Commits.{IsCommitted, OldOrNew}
-use Rattle.fv_volume.specs.declared.pool.Pool.{Pool}
+use Rattle.fv_pool.specs.declared.pool.Pool.{Pool}
 use Rattle.fv_volumes.specs.Housed.{settled_at}
 use Rattle.fv_volume.specs.States.{States, state_at}
 use Rattle.fv_cp.specs.declared.planning.Plan.{Plan}

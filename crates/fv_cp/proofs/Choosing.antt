@@ -6,7 +6,7 @@ use Rattle.fv_model.specs.Machines.{first_block}
 use Rattle.fv_delay.specs.ByThreshold.{most_blocks}
 use Rattle.fv_delay.specs.Choice.{total}
 use Rattle.fv_delay.specs.Holding.{counts_of}
-use Rattle.fv_volume.specs.declared.pool.Pool.{Pool}
+use Rattle.fv_pool.specs.declared.pool.Pool.{Pool}
 use Rattle.fv_volume.specs.States.{States}
 use Rattle.fv_cp.specs.Choosing.{greatest_number, holdings, missing_for, needs}
 

@@ -14,7 +14,7 @@ use Rattle.fv_root.specs.declared.find.Found.{Found}
 use Rattle.fv_root.specs.Finding.{root_found}
 use Rattle.fv_root.specs.Commits.{IsFoundOn, NewSide, OldOrNew, OldSide, next_found}
 use Rattle.fv_root.proofs.Crashes.{IsReadyFor, new_machine, old_machine}
-use Rattle.fv_volume.specs.declared.pool.Pool.{Pool}
+use Rattle.fv_pool.specs.declared.pool.Pool.{Pool}
 use Rattle.fv_volume.specs.States.{States}
 use Rattle.fv_volume.specs.Writing.{on_disk, IsTaken}
 use Rattle.fv_volumes.proofs.LentSlots.{area_taken, held_taken}

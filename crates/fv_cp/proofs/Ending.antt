@@ -31,10 +31,10 @@ use Rattle.fv_root.specs.Commits.{IsCommitted, IsFoundOn, OldOrNew, next_found}
 use Rattle.fv_root.proofs.Crashes.{IsReadyFor, new_machine}
 use Rattle.fv_store.specs.Held.{StandsOn}
 use Rattle.fv_aggmap.specs.Space.{Space}
-use Rattle.fv_volume.specs.declared.pool.Pool.{Pool}
+use Rattle.fv_pool.specs.declared.pool.Pool.{Pool}
 use Rattle.fv_volume.specs.declared.state.VolumeState.{VolumeState}
 use Rattle.fv_volumes.specs.Housed.{AreHoused, as_written, settled_as, settled_at}
-use Rattle.fv_volume.specs.Keeping.{Blocks, seen as block_seen, seen}
+use Rattle.fv_pool.specs.Keeping.{Blocks, seen as block_seen, seen}
 use Rattle.fv_volume.specs.Loading.{IsLoaded, label_of}
 use Rattle.fv_volume.specs.States.{States, label_in_state, placed_in, state_at, view_over}
 use Rattle.fv_volume.specs.Trees.{active_in, no_trees}

@@ -1,6 +1,6 @@
 -- The files of volumes are placed slot by slot.
 use Rattle.std.proofs.Common.{◌≡◌, ◌≢◌, ℕ, ◌<◌, ◌≤◌, ◌+◌, Bool, List, length, Some, None, is_some, true≢false, false, ⊎_elim, inl, inr, ◌⊎◌, sym, ap, subst, ◌∙◌, arith, Option, refl, get_or-set_other}
-use Rattle.std.specs.Prelude.{cond, IfSome}
+use Rattle.std.specs.Prelude.{cond, sum_by, IfSome}
 use Rattle.std.specs.Option.{option_map}
 use Rattle.std.specs.FinMap as fin
 use Rattle.std.proofs.lemmas.Bool.{cases_eq}
@@ -21,11 +21,12 @@ use Rattle.fv_root.specs.Commits.{IsFoundOn}
 use Rattle.fv_container.specs.Chains.{Slots, container_at, own_entry}
 use Rattle.fv_container.specs.Mapped.{Mapped}
 use Rattle.fv_volmap.specs.Slots.{active_of}
-use Rattle.fv_volume.specs.declared.pool.Pool.{Pool}
+use Rattle.fv_pool.specs.declared.pool.Pool.{Pool}
 use Rattle.fv_volume.specs.declared.state.VolumeState.{VolumeState}
-use Rattle.fv_volume.specs.Lending.{IsNewEntry}
+use Rattle.fv_pool.specs.Lending.{IsNewEntry}
 use Rattle.fv_volume.specs.OneVolume.{IsReady}
-use Rattle.fv_volume.specs.Placing.{pending_of, KeepsUnused}
+use Rattle.fv_pool.specs.Placing.{KeepsUnused}
+use Rattle.fv_pool.specs.Tables.{pending_of}
 use Rattle.fv_volume.specs.Slots.{sum_of}
 use Rattle.fv_volume.specs.States.{States, state_at, with_state}
 use Rattle.fv_volume.specs.Stored.{AreSpacedIn}
@@ -39,8 +40,8 @@ use Rattle.fv_cp.specs.Lent.{asked_all, asked_by, asked_of, blocks_asked, maps_w
 use Rattle.fv_cp.specs.Placing.{pending_by, pending_files, HasNumbers, HaveNoFiles, HaveRoom, HaveSpent, IsPlacedAs, AreButPlaced, ArePlaced, AreReady, but_placed, HasNoFiles, HasWholeMap, IsReadyIn, IsSlotPlaced, IsSpareEntry, MayFail, LeavesUnused, PlacesEntries, PlacesSlot, RestsPlaced}
 use Rattle.fv_disk.proofs.Resting.{reads_then}
 use Rattle.fv_store.specs.Held.{StandsOn}
-use Rattle.fv_volume.specs.declared.fault.VolumeFault.{VolumeFault}
-use Rattle.fv_volume.specs.declared.fault.VolumeFault.TheVariants.{Memory}
+use Rattle.fv_pool.specs.declared.fault.VolumeFault.{VolumeFault}
+use Rattle.fv_pool.specs.declared.fault.VolumeFault.TheVariants.{Memory}
 
 -- ---- one volume: the session is what it was between points
 
@@ -90,27 +91,23 @@ module _ (disk after : Shown) (pool left : Pool) (states stay : States) (x y : V
       (λ (differ : s ≢ x.slot). (one.other disk after pool left states stay x y there now fit.housed placed s differ, placed.goes.goes.goes.others s differ))
       (cases_eq s x.slot)
 
+  -- a sum over the volumes stays where this one has the part that it had
+  sum_still : (part : Option VolumeState → ℕ) → part (Some y) ≡ part (state_at states x.slot) → sum_by part stay ≡ sum_by part states
+  sum_still part same =
+      let sum = sum_by-set part states x.slot (Some y) None in_list in
+      let all : sum_by part stay ≡ sum_by part (with_state states x.slot (Some y)) = ap (λ (xs : States). sum_by part xs) now in
+      omega (arith, sum, same, all)
+
   pub asked_still : IsReady disk pool x → blocks_asked stay ≡ blocks_asked states
   asked_still ready =
-      let sum = sum_by-set asked_by states x.slot (Some y) None in_list in
       let changed = one.changed_still disk after pool left states stay x y there now fit.housed placed ready in
-      let same : asked_by (Some y) ≡ asked_by (state_at states x.slot) = ap (λ (z : VolumeState). cond y.changed (asked z) 0) placed.keeps ∙ ap (λ (t : Bool). cond t (asked x) 0) changed ∙ sym (ap asked_by there) in
-      let all : blocks_asked stay ≡ blocks_asked (with_state states x.slot (Some y)) = ap blocks_asked now in
-      omega (arith, sum, same, all)
+      sum_still asked_by (ap (λ (z : VolumeState). cond y.changed (asked z) 0) placed.keeps ∙ ap (λ (t : Bool). cond t (asked x) 0) changed ∙ sym (ap asked_by there))
 
   pub all_still : asked_all stay ≡ asked_all states
-  all_still =
-      let sum = sum_by-set asked_of states x.slot (Some y) None in_list in
-      let same : asked_of (Some y) ≡ asked_of (state_at states x.slot) = ap (λ (z : VolumeState). asked z) placed.keeps ∙ sym (ap asked_of there) in
-      let all : asked_all stay ≡ asked_all (with_state states x.slot (Some y)) = ap asked_all now in
-      omega (arith, sum, same, all)
+  all_still = sum_still asked_of (ap (λ (z : VolumeState). asked z) placed.keeps ∙ sym (ap asked_of there))
 
   pub waiting_still : maps_waiting stay ≡ maps_waiting states
-  waiting_still =
-      let sum = sum_by-set waiting_by states x.slot (Some y) None in_list in
-      let same : waiting_by (Some y) ≡ waiting_by (state_at states x.slot) = ap (λ (z : VolumeState). map_wait z) placed.keeps ∙ sym (ap waiting_by there) in
-      let all : maps_waiting stay ≡ maps_waiting (with_state states x.slot (Some y)) = ap maps_waiting now in
-      omega (arith, sum, same, all)
+  waiting_still = sum_still waiting_by (ap (λ (z : VolumeState). map_wait z) placed.keeps ∙ sym (ap waiting_by there))
 
   module _ (before : Machine) (held : IsHeld disk pool states before) where
     -- what was placed took no more than there is fewer pending

@@ -14,7 +14,7 @@ use Rattle.fv_root.specs.declared.find.Found.{Found}
 use Rattle.fv_root.specs.Finding.{root_found}
 use Rattle.fv_delay.specs.Delay.{is_delayed, region_of}
 use Rattle.fv_delay.specs.Holding.{AreHoldingsOf, AreLeft, Holding, IsHoldingOf, counts_in, held_by}
-use Rattle.fv_volume.specs.declared.pool.Pool.{Pool}
+use Rattle.fv_pool.specs.declared.pool.Pool.{Pool}
 use Rattle.fv_volume.specs.declared.state.VolumeState.{VolumeState}
 use Rattle.fv_volume.specs.Files.{IsLabelled}
 use Rattle.fv_volumes.specs.Housed.{AreHoused}

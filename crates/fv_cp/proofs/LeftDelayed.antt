@@ -21,7 +21,7 @@ use Rattle.fv_delay.specs.Holding.{AreHoldingsOf, AreLeft, AreMapsOf, Holding, I
 use Rattle.fv_delay.proofs.Held.{holding_of}
 use Rattle.fv_delay.proofs.Left.{left_still}
 use Rattle.fv_delay.proofs.Reclaimed.{delayed_now}
-use Rattle.fv_volume.specs.declared.pool.Pool.{Pool}
+use Rattle.fv_pool.specs.declared.pool.Pool.{Pool}
 use Rattle.fv_volume.specs.declared.state.VolumeState.{VolumeState}
 use Rattle.fv_volume.specs.Files.{HasOwnSlots, HasSlotsOf, IsLabelled}
 use Rattle.fv_volumes.specs.Housed.{AreHoused}

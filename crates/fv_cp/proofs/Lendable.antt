@@ -23,10 +23,10 @@ use Rattle.fv_image.specs.Volumes.{active_at, named_with, told_with, volumes_wit
 use Rattle.fv_image.specs.WholeMachine.{has_no_reserves, is_built}
 use Rattle.fv_image.proofs.LoneTables.{form_base}
 use Rattle.fv_volmap.specs.Slots.{IsVolume}
-use Rattle.fv_volume.specs.declared.pool.Pool.{Pool}
+use Rattle.fv_pool.specs.declared.pool.Pool.{Pool}
 use Rattle.fv_volume.specs.declared.state.VolumeState.{VolumeState}
 use Rattle.fv_volume.specs.Files.{AreStates, IsState, has_form}
-use Rattle.fv_volumes.specs.Housed.{ReachesAll}
+use Rattle.fv_volumes.specs.Housed.{HaveReaches, ReachesAll}
 use Rattle.fv_volume.specs.States.{States, head_in, state_at, view_over}
 use Rattle.fv_volume.specs.Trees.{no_trees}
 use Rattle.fv_cp.specs.Held.{machine_held, named_held, IsHeld, IsHeldIn}
@@ -131,21 +131,12 @@ module _ (disk : Shown) (pool : Pool) (states : States) (before : Machine) (held
   pub numbers_held : (s : ℕ) → AreNumbersSeen w s (state_at states s)
   numbers_held = of_each states fit.housed.volumes (AreNumbersSeen w) (λ s. tt) (λ x e. alone.numbers_seen disk pool states fit.housed held.slots held.spaced x e (one x e) (no_files x e) (whole x e))
 
+  reached : HaveReaches w states
+  reached s low = of_each states fit.housed.volumes (λ s o. IfSome o (ReachesAll w s)) (λ s. tt) (λ x e. alone.reach_is disk pool states fit.housed held.slots held.spaced x e (one x e) (no_files x e) (whole x e)) s
+
   -- They can be lent to a point.
   pub held_lent : IsLent disk pool states before
-  held_lent = record {
-    found = held.found;
-    tells = held.tells;
-    keeps = held.keeps;
-    map = held.map;
-    slots = held.slots;
-    spaced = held.spaced;
-    states = each_state;
-    built = built;
-    tables = tables;
-    reach = λ s low. of_each states fit.housed.volumes (λ s o. IfSome o (ReachesAll w s)) (λ s. tt)
-        (λ x e. alone.reach_is disk pool states fit.housed held.slots held.spaced x e (one x e) (no_files x e) (whole x e)) s;
-  }
+  held_lent = record { found = held.found; tells = held.tells; keeps = held.keeps; map = held.map; slots = held.slots; spaced = held.spaced; states = each_state; built = built; tables = tables; reach = reached }
 
   -- The machine that they are lent for is the one that they stand for.
   pub held_machine : machine_held disk pool states ≡ machine_lent disk pool states
@@ -162,17 +153,10 @@ module _ (disk : Shown) (pool : Pool) (states : States) (before : Machine) (held
 module _ (disk : Shown) (pool : Pool) (states : States) (before : Machine) (lent : IsLent disk pool states before) (long : length states ≡ 64) where
   -- Where calls can be made on each, and each stands for one of the machine, they are what they are between points.
   pub lent_held : ((s : ℕ) → IfSome (state_at states s) (IsReady disk pool)) → ((s : ℕ) → IfSome (state_at states s) (IsStanding disk pool)) → ((s : ℕ) → IfSome (state_at states s) (IsLedTo disk pool)) → ((s : ℕ) → IfSome (state_at states s) (IsStoredWell disk pool)) → IsHeld disk pool states before
-  lent_held ready stands led well = record {
-    found = lent.found;
-    tells = lent.tells;
-    keeps = lent.keeps;
-    map = lent.map;
-    slots = lent.slots;
-    spaced = lent.spaced;
-    names = lent.states.names;
-    each = λ s. each_held pool states disk.reads long lent.tables lent.states disk s (ready s) (stands s) (led s) (well s);
-    commits = commits_fit pool states disk.reads long lent.tables lent.states;
-  }
+  lent_held ready stands led well =
+      let each = λ (s : ℕ). each_held pool states disk.reads long lent.tables lent.states disk s (ready s) (stands s) (led s) (well s) in
+      let commits = commits_fit pool states disk.reads long lent.tables lent.states in
+      record { found = lent.found; tells = lent.tells; keeps = lent.keeps; map = lent.map; slots = lent.slots; spaced = lent.spaced; names = lent.states.names; each = each; commits = commits }
 
 -- ---- nothing is in memory that isn't on the disk
 

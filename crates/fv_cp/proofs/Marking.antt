@@ -1,10 +1,9 @@
 -- Volumes that are said to have changed: they are lent as they were, and stand for the same machine.
-use Rattle.std.proofs.Common.{◌≡◌, ◌≢◌, ℕ, ◌+◌, ◌-◌, ◌<◌, ◌≤◌, max, min, cond, Bool, true, false, ◌||◌, ◌&&◌, ◌==◌, List, [], ◌∷◌, length, refl, sym, ap, subst, ◌∙◌, ⊎_elim, length-set, arith}
+use Rattle.std.proofs.Common.{◌≡◌, ℕ, ◌+◌, ◌-◌, ◌<◌, ◌≤◌, max, min, cond, Bool, true, false, ◌||◌, ◌&&◌, ◌==◌, List, [], ◌∷◌, length, refl, sym, ap, subst, ◌∙◌, arith}
 use Rattle.std.specs.Prelude.{Option, Some, None, IfSome}
 use Rattle.std.specs.List.{list_any}
 use Rattle.std.specs.Option.{option_map}
-use Rattle.std.proofs.lemmas.Bool.{cases_eq, cases_lt, true≢false}
-use Rattle.std.proofs.lemmas.List.{get_or_past, get_or-set_same, get_or-set_other}
+use Rattle.std.proofs.lemmas.Bool.{true≢false}
 use Rattle.std.proofs.lemmas.List.FromFn.{get_or-map-range_with_len, length-map-range_with_len}
 use Rattle.fv_disk.specs.Shown.{Image, Shown}
 use Rattle.fv_model.specs.Machines.{Machine, first_block}
@@ -22,19 +21,20 @@ use Rattle.fv_delay.specs.declared.regions.Region.{Region}
 use Rattle.fv_delay.specs.Choice.{chosen, regions_counted, total}
 use Rattle.fv_delay.specs.Holding.{counts_of, has_region}
 use Rattle.fv_volmap.specs.Slots.{IsVolume}
-use Rattle.fv_volume.specs.declared.pool.Pool.{Pool}
+use Rattle.fv_pool.specs.declared.pool.Pool.{Pool}
 use Rattle.fv_volume.specs.declared.state.VolumeState.{VolumeState}
 use Rattle.fv_volume.specs.Files.{AreNamed, AreStates, IsLabelled, IsState}
 use Rattle.fv_volume.specs.Held.{core_of, HasNoFiles, HasWholeMap, IsReadyIn}
 use Rattle.fv_volume.specs.Numbering.{AreNumbersSeen}
 use Rattle.fv_volumes.specs.Housed.{AreHoused, HaveReaches, ReachesAll}
-use Rattle.fv_volume.specs.Labels.{label_said}
 use Rattle.fv_volume.specs.Loading.{Houses}
 use Rattle.fv_volume.specs.States.{States, head_in, parent_in, state_at, view_over, with_state}
 use Rattle.fv_volume.specs.Stored.{AreSpacedIn, has_block}
 use Rattle.fv_volume.specs.Trees.{no_trees}
 use Rattle.fv_volumes.specs.UnderRoot.{IsLentAt, IsLentSlot}
 use Rattle.fv_volume.specs.Writing.{asked}
+use Rattle.fv_volumes.proofs.Settled.{relabelled}
+use Rattle.fv_volumes.proofs.Settling.{turned_all, turned_more}
 use Rattle.fv_cp.specs.Choosing.{AreMarkedTo, ReclaimsChanged, asked_marked, asked_with, greatest_number, has_slot, holding_with, holdings, marked, marked_as, marked_at, missing_for, needs, needs_by, regions_chosen}
 use Rattle.fv_cp.specs.Lent.{FitTogether, IsLent, asked_all, asked_by, asked_of, blocks_asked}
 use Rattle.fv_cp.specs.Points.{machine_lent}
@@ -60,20 +60,7 @@ marked_same f same true (Some x) = same x
 marked_same f same false (Some x) = refl
 
 marked_labelled : (s : ℕ) (x : VolumeState) → IsLabelled s x → IsLabelled s (record x { changed = true })
-unfolding label_said
-marked_labelled s x is = record {
-  slot_is = is.slot_is;
-  form = is.form;
-  span = is.span;
-  map = is.map;
-  snapshots = is.snapshots;
-  slots = is.slots;
-  waits = is.waits;
-  counts = is.counts;
-  levels = is.levels;
-  named = is.named;
-  label = is.label;
-}
+marked_labelled s x is = relabelled s x x.label true x.fresh is.waits is
 
 marked_slot : (i : Image) (found : Found) (s : ℕ) (x : VolumeState) (map : Mapped) → IsLentSlot i found s x map → IsLentSlot i found s (record x { changed = true }) map
 marked_slot i found s x map is = record {
@@ -139,28 +126,12 @@ pub marked_none : (marks : ℕ → Bool) (states : States) → length states ≡
 marked_none marks states long = record { long = long; done = λ s low. absurd (omega (arith, low)); others = λ s low. refl }
 
 pub marked_more : (marks : ℕ → Bool) (states old new : States) (s : ℕ) → s < 64 → AreMarkedTo marks states old s → new ≡ with_state old s (marked_at marks old s) → AreMarkedTo marks states new (s + 1)
-marked_more marks states old new s inside are is = record {
-  long = ap (λ (xs : States). length xs) is ∙ length-set old s (marked_at marks old s) ∙ are.long;
-  done = λ k low. ⊎_elim
-      (λ (e : k ≡ s). subst (λ (n : ℕ). state_at new n ≡ marked_at marks states n) (sym e) there)
-      (λ (other : k ≢ s). elsewhere k other ∙ are.done k (omega (arith, low, other)))
-      (cases_eq k s);
-  others = λ k high. elsewhere k (λ e. omega (arith, high, e)) ∙ are.others k (omega (arith, high));
-}
-  where
-    there : state_at new s ≡ marked_at marks states s
-    there = ap (λ (xs : States). state_at xs s) is ∙ get_or-set_same old s (marked_at marks old s) None (omega (arith, inside, are.long))
-        ∙ ap (λ (o : Option VolumeState). option_map (marked_as (marks s)) o) (are.others s (omega arith))
-
-    elsewhere : (k : ℕ) → k ≢ s → state_at new k ≡ state_at old k
-    elsewhere k other = ap (λ (xs : States). state_at xs k) is ∙ get_or-set_other old s k (marked_at marks old s) None other
+marked_more marks states old new s inside are is =
+    let step = turned_more (λ k o. option_map (marked_as (marks k)) o) states old new s (omega (arith, inside, are.long)) is are.done are.others in
+    record { long = step.long ∙ are.long; done = step.done; others = step.others }
 
 pub marked_all : (marks : ℕ → Bool) (states now : States) (count : ℕ) → 64 ≤ count → length states ≡ 64 → AreMarkedTo marks states now count → (k : ℕ) → state_at now k ≡ marked_at marks states k
-marked_all marks states now count all long are k = ⊎_elim
-    (λ (inside : k < 64). are.done k (omega (arith, inside, all)))
-    (λ (past : 64 ≤ k). get_or_past now k None (omega (arith, past, are.long))
-    ∙ ap (λ (o : Option VolumeState). option_map (marked_as (marks k)) o) (sym (get_or_past states k None (omega (arith, past, long)))))
-    (cases_lt k 64)
+marked_all marks states now count all long are = turned_all (λ k o. option_map (marked_as (marks k)) o) states now count all long are.long (λ k. refl) are.done
 
 -- what is asked for then
 pub asked_now : (marks : ℕ → Bool) (states now : States) → length now ≡ 64 → ((s : ℕ) → state_at now s ≡ marked_at marks states s) → blocks_asked now ≡ asked_marked marks states

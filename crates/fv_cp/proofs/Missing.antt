@@ -22,7 +22,7 @@ use Rattle.fv_image.proofs.SameSeen.{of_volume, seen_at}
 use Rattle.fv_delay.specs.Delay.{delayed_of, is_delayed}
 use Rattle.fv_delay.specs.Holding.{Holding, all_delayed}
 use Rattle.fv_delay.proofs.AllVolumes.{counts_total}
-use Rattle.fv_volume.specs.declared.pool.Pool.{Pool}
+use Rattle.fv_pool.specs.declared.pool.Pool.{Pool}
 use Rattle.fv_volume.specs.declared.state.VolumeState.{VolumeState}
 use Rattle.fv_volume.specs.Files.{AreStates, IsState}
 use Rattle.fv_volume.specs.States.{States, head_in, state_at, view_over}
@@ -36,14 +36,10 @@ use Rattle.fv_cp.proofs.Sums.{over_slots}
 -- they are the third where the parts are
 both_are : (a b c : ℕ → ℕ) (from count : ℕ) → ((k : ℕ) → from ≤ k → k < from + count → 2 * a k + b k ≡ c k) → 2 * sum_by a (range_with_len from count) + sum_by b (range_with_len from count) ≡ sum_by c (range_with_len from count)
 both_are a b c from zero each = refl
-both_are a b c from (suc count) each = omega (
-  arith,
-  sum_by-cons a from (range_with_len (from + 1) count),
-  sum_by-cons b from (range_with_len (from + 1) count),
-  sum_by-cons c from (range_with_len (from + 1) count),
-  each from (omega arith) (omega arith),
-  both_are a b c (from + 1) count (λ k low high. each k (omega (arith, low)) (omega (arith, high))),
-)
+both_are a b c from (suc count) each =
+    let first = sum_by-cons a from (range_with_len (from + 1) count) in
+    let third = sum_by-cons c from (range_with_len (from + 1) count) in
+    omega (arith, first, sum_by-cons b from (range_with_len (from + 1) count), third, each from (omega arith) (omega arith), both_are a b c (from + 1) count (λ k low high. each k (omega (arith, low)) (omega (arith, high))))
 
 -- a sum of numbers that are at most those of a container's entries
 sum_few : (f : ℕ → ℕ) (from count : ℕ) → ((k : ℕ) → f k ≤ most_entries) → sum_by f (range_with_len from count) ≤ most_entries * count

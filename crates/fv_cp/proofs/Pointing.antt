@@ -11,10 +11,10 @@ use Rattle.fv_delay.specs.ByThreshold.{threshold_for}
 use Rattle.fv_delay.specs.Delay.{is_delayed, region_of}
 use Rattle.fv_delay.specs.Holding.{Holding, counts_of, has_region, held_by}
 use Rattle.fv_delay.specs.Reclaims.{goes_with}
-use Rattle.fv_volume.specs.declared.pool.Pool.{Pool}
+use Rattle.fv_pool.specs.declared.pool.Pool.{Pool}
 use Rattle.fv_volume.specs.declared.state.VolumeState.{VolumeState}
 use Rattle.fv_volumes.specs.Housed.{AreHoused}
-use Rattle.fv_volume.specs.Keeping.{seen}
+use Rattle.fv_pool.specs.Keeping.{seen}
 use Rattle.fv_volume.specs.Loading.{Houses}
 use Rattle.fv_volume.specs.States.{States, state_at}
 use Rattle.fv_volumes.proofs.Told.{is_inside}

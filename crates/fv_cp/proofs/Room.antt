@@ -29,7 +29,7 @@ use Rattle.fv_delay.specs.Choice.{chosen}
 use Rattle.fv_delay.specs.Holding.{AreHoldingsOf, AreLeft, Holding, all_delayed, counts_of, has_region, held_by}
 use Rattle.fv_delay.proofs.AllVolumes.{each_named}
 use Rattle.fv_delay.proofs.RoomLeft.{room_left, rule_left}
-use Rattle.fv_volume.specs.declared.pool.Pool.{Pool}
+use Rattle.fv_pool.specs.declared.pool.Pool.{Pool}
 use Rattle.fv_volume.specs.declared.state.VolumeState.{VolumeState}
 use Rattle.fv_volume.specs.Files.{AreStates, IsLabelled, IsState}
 use Rattle.fv_volumes.specs.Housed.{AreHoused}
@@ -74,10 +74,7 @@ module _ (pool : Pool) (states : States) (i : Image) (housed : AreHoused pool.co
 
   committed : commits_seen (seen v) ≤ capacity v.blocks
   unfolding has_commits_in_capacity seen
-  committed = fits (commits_seen (seen v)) (capacity v.blocks) tables.commits
-    where
-      fits : (a b : ℕ) → nat_le a b ≡ true → a ≤ b
-      fits a b e = grind (arith, nat_tests, e)
+  committed = let fits : nat_le (commits_seen (seen v)) (capacity v.blocks) ≡ true = tables.commits in grind (arith, nat_tests, fits)
 
   small : (room : ℕ) → room < 2 ^ 63 → (2 * overheads v + uses_seen (seen v)) + all_delayed old + max 256 room ≤ greatest_number
   small room fits = omega (arith, fits, committed, uses_promised v tables, few_delayed old (few_entries pool states housed), blocks, size.greatest)

@@ -19,7 +19,7 @@ use Rattle.fv_delay.specs.Delay.{is_delayed, is_held}
 use Rattle.fv_delay.specs.Holding.{IsLeft, counted, counts_in, counts_of, has_some, held_by, regions_of}
 use Rattle.fv_delay.proofs.Held.{active_long, held_below}
 use Rattle.fv_delay.proofs.Left.{left_still, others_left}
-use Rattle.fv_volume.specs.declared.pool.Pool.{Pool}
+use Rattle.fv_pool.specs.declared.pool.Pool.{Pool}
 use Rattle.fv_volume.specs.declared.state.VolumeState.{VolumeState}
 use Rattle.fv_volumes.specs.Housed.{as_written, settled_as}
 use Rattle.fv_volume.specs.Loading.{Houses}

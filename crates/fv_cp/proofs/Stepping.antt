@@ -17,10 +17,10 @@ use Rattle.fv_container.specs.Mapped.{Mapped, entry_under}
 use Rattle.fv_container.specs.Spelled.{is_at, names}
 use Rattle.fv_container.specs.Chains.{Slots, container_at}
 use Rattle.fv_aggmap.specs.Space.{blocks_of, Space, free_blocks}
-use Rattle.fv_volume.specs.declared.pool.Pool.{Pool}
+use Rattle.fv_pool.specs.declared.pool.Pool.{Pool}
 use Rattle.fv_volume.specs.declared.state.VolumeState.{VolumeState}
 use Rattle.fv_volumes.specs.Housed.{as_written, AreHoused}
-use Rattle.fv_volume.specs.Keeping.{seen}
+use Rattle.fv_pool.specs.Keeping.{seen}
 use Rattle.fv_volume.specs.States.{States, state_at}
 use Rattle.fv_delay.specs.Reclaims.{goes_with}
 use Rattle.fv_volume.specs.Files.{IsLabelled}
@@ -372,17 +372,5 @@ module _ (regions : ℕ → ℕ → Bool) (disk : Shown) (pool : Pool) (states :
   pub come_more : GoesPast regions (state_at states s) s labels left mid now after new → free_blocks left.map ≤ free_blocks after.map + asked_by (state_at states s) → Spares (IsTaken (on_disk left.map)) mid new (Ok tt)
       → after.map.committed ≡ left.map.committed → after.found ≡ left.found → after.kept ≡ left.kept → StandsOn new after.store.pairs → HasCome regions disk pool states (suc s) now after new
   come_more past count spares committed found kept stands =
-      let l = step_leaves (state_at states s) refl past in record {
-        long = l.long;
-        places = l.places;
-        free = l.free;
-        stands = stands;
-        housed = l.housed;
-        rest = l.rest;
-        room = more_room count;
-        committed = committed ∙ come.committed;
-        found = found ∙ come.found;
-        kept = kept ∙ come.kept;
-        spares = spares_on (Ok tt) spares;
-        written = l.written;
-      }
+      let l = step_leaves (state_at states s) refl past in
+      record { long = l.long; places = l.places; free = l.free; stands = stands; housed = l.housed; rest = l.rest; room = more_room count; committed = committed ∙ come.committed; found = found ∙ come.found; kept = kept ∙ come.kept; spares = spares_on (Ok tt) spares; written = l.written }

@@ -15,7 +15,7 @@ use Rattle.fv_delay.specs.declared.counts.Count.{Count}
 use Rattle.fv_delay.specs.declared.regions.Region.{Region}
 use Rattle.fv_delay.specs.Choice.{chosen, regions_counted, total}
 use Rattle.fv_delay.specs.Holding.{Holding, all_delayed, counts_in, counts_of, held_by}
-use Rattle.fv_volume.specs.declared.pool.Pool.{Pool}
+use Rattle.fv_pool.specs.declared.pool.Pool.{Pool}
 use Rattle.fv_volume.specs.declared.state.VolumeState.{VolumeState}
 use Rattle.fv_volume.specs.States.{States, state_at}
 use Rattle.fv_cp.specs.Known.{AreKnown}

@@ -18,9 +18,9 @@ use Rattle.fv_container.specs.Chains.{Slots, container_at, slot_count, with_cont
 use Rattle.fv_container.specs.Leading.{HasEmptied}
 use Rattle.fv_aggmap.specs.Space.{Space, blocks_of, free_blocks}
 use Rattle.fv_delay.specs.Reclaims.{HasReclaimed, goes_with}
-use Rattle.fv_volume.specs.declared.pool.Pool.{Pool}
+use Rattle.fv_pool.specs.declared.pool.Pool.{Pool}
 use Rattle.fv_volume.specs.declared.state.VolumeState.{VolumeState}
-use Rattle.fv_volume.specs.Keeping.{seen}
+use Rattle.fv_pool.specs.Keeping.{seen}
 use Rattle.fv_volume.specs.States.{States, state_at}
 use Rattle.fv_volume.specs.Stored.{AreSpacedIn, IsStored, is_map_written, place_at, stays}
 use Rattle.fv_volumes.specs.Housed.{AreHoused, as_written}

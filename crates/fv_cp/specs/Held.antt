@@ -10,7 +10,7 @@ use Rattle.fv_image.specs.WholeMachine.{Tells}
 use Rattle.fv_root.specs.Finding.{root_found}
 use Rattle.fv_root.specs.Commits.{IsFoundOn}
 use Rattle.fv_container.specs.Chains.{slot_count, container_at}
-use Rattle.fv_volume.specs.declared.pool.Pool.{Pool}
+use Rattle.fv_pool.specs.declared.pool.Pool.{Pool}
 use Rattle.fv_volume.specs.Files.{AreNamed}
 pub use Rattle.fv_volume.specs.Held.{named_held, IsHeldIn}
 use Rattle.fv_volume.specs.Slots.{sum_of}

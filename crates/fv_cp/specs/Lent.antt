@@ -12,9 +12,9 @@ use Rattle.fv_root.specs.Commits.{IsFoundOn}
 use Rattle.fv_container.specs.Chains.{slot_count, container_at}
 use Rattle.fv_aggmap.specs.Space.{blocks_of}
 use Rattle.fv_volmap.specs.Slots.{stored_count}
-use Rattle.fv_volume.specs.declared.pool.Pool.{Pool}
+use Rattle.fv_pool.specs.declared.pool.Pool.{Pool}
 use Rattle.fv_volume.specs.declared.state.VolumeState.{VolumeState}
-use Rattle.fv_volume.specs.Keeping.{IsUnkept}
+use Rattle.fv_pool.specs.Keeping.{IsUnkept}
 use Rattle.fv_volume.specs.States.{States, state_at, view_over}
 use Rattle.fv_volume.specs.Trees.{no_trees}
 use Rattle.fv_volume.specs.Files.{AreStates}

@@ -9,12 +9,12 @@ use Rattle.fv_model.specs.Machines.{Machine}
 use Rattle.fv_image.specs.Reclaimed.{IsAllocatable}
 use Rattle.fv_container.specs.declared.entry.Entry.{Entry}
 use Rattle.fv_container.specs.Chains.{Slots, container_at, own_entry}
-use Rattle.fv_volume.specs.declared.pool.Pool.{Pool}
+use Rattle.fv_pool.specs.declared.pool.Pool.{Pool}
 use Rattle.fv_volume.specs.declared.state.VolumeState.{VolumeState}
 use Rattle.fv_aggmap.specs.Space.{Space, blocks_of, free_blocks}
 use Rattle.fv_volmap.specs.Slots.{empty_volume}
 pub use Rattle.fv_volume.specs.Held.{core_of, pending_by, HasNoFiles, HasNumbers, HasSpent, HasWholeMap, IsPlaceFault, IsPlacedAs, IsReadyIn, MayFail}
-use Rattle.fv_volume.specs.Placing.{KeepsUnused}
+use Rattle.fv_pool.specs.Placing.{KeepsUnused}
 use Rattle.fv_volume.specs.SnapRecords.{hole}
 use Rattle.fv_volume.specs.States.{States, state_at, with_state}
 use Rattle.fv_cp.specs.Held.{machine_held, IsHeld}

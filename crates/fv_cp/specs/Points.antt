@@ -25,7 +25,7 @@ use Rattle.fv_delay.specs.Holding.{has_region}
 use Rattle.fv_delay.specs.Reclaims.{goes_with}
 use Rattle.fv_aggmap.specs.Loading.{IsLoaded as IsMapLoaded}
 use Rattle.fv_aggmap.specs.Space.{blocks_of, free_blocks}
-use Rattle.fv_volume.specs.declared.pool.Pool.{Pool}
+use Rattle.fv_pool.specs.declared.pool.Pool.{Pool}
 use Rattle.fv_volume.specs.declared.state.VolumeState.{VolumeState}
 use Rattle.fv_volume.specs.Stored.{is_map_written, map_entry}
 use Rattle.fv_volume.specs.States.{States, state_at, head_in, view_over}

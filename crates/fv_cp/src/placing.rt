@@ -6,7 +6,7 @@ ghost use Rattle.fv_store.specs.Held.{StandsOn};
 ghost use Rattle.fv_volume.specs.States.{state_at};
 ghost use Rattle.fv_cp.specs.Lent.{FitTogether};
 ghost use Rattle.fv_model.specs.Machines.{Machine};
-ghost use Rattle.fv_volume.specs.declared.fault.VolumeFault.TheVariants.{Memory};
+ghost use Rattle.fv_pool.specs.declared.fault.VolumeFault.TheVariants.{Memory};
 ghost use Rattle.fv_cp.specs.Held.{IsHeld};
 ghost use Rattle.fv_cp.specs.Placing.{ArePlaced, AreReady, HasNoFiles, HasWholeMap, HaveNoFiles, HaveRoom, IsPlaceFault, IsPlacedAs, IsReadyIn, MayFail, PlacesSlot};
 

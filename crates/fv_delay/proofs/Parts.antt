@@ -120,6 +120,14 @@ the_end entries first end v stop most least = let le : v ≤ end = most (omega (
 pub end_within : (entries start first end v : ℕ) → first ≡ min start entries → end ≡ first + min (entries - first) fan → v < end → v < entries
 end_within entries start first end v from to lt = omega arith
 
+-- Once a walk over a region is at its end, what it counted is what the region has.
+pub region_walked : (p : ℕ → Bool) (region known entries first end v count : ℕ) → known ≡ entries → ((n : ℕ) → entries ≤ n → p n ≡ false) → first ≡ min (fan * region) known → end ≡ first + min (known - first) fan
+    → (first ≤ end → v ≤ end) → end ≤ v → count ≡ passing p first (v - first) → count ≡ passing p (fan * region) fan
+region_walked p region known entries first end v count long none start stop most least counted =
+    let stops : end ≡ first + min (entries - first) fan = stop ∙ ap (λ (n : ℕ). first + min (n - first) fan) long in
+    counted ∙ ap (λ (n : ℕ). passing p first (n - first)) (the_end entries first end v stops most least)
+    ∙ region_passing p region entries first end none (start ∙ ap (λ (n : ℕ). min (fan * region) n) long) stops
+
 -- ---- all regions
 
 regions_passing : (p : ℕ → Bool) (from count : ℕ) → sum_by (λ r. passing p (fan * r) fan) (range_with_len from count) ≡ passing p (fan * from) (fan * count)

@@ -33,20 +33,6 @@ and_true : (t : Bool) → (t && true) ≡ t
 and_true true = refl
 and_true false = refl
 
--- none is between a VVBN and itself
-none_between_same : (p : ℕ → Bool) (first v : ℕ) → between p first first v ≡ false
-none_between_same p first v =
-    let none : (nat_le first v && nat_lt v first) ≡ false = grind (arith, nat_tests) in
-    ap (λ t. p v && t) none ∙ and_false (p v)
-
-pub emptied_none : (p : ℕ → Bool) (container : Mapped) (first : ℕ) → HasEmptied container (between p first first) container
-emptied_none p container first = record {
-  entries = λ v. sym (ap (λ (t : Bool). if t then None else entry_under container v) (none_between_same p first v));
-  long = refl;
-  tree = refl;
-  clean = clean_same container;
-}
-
 -- an entry behind those that went is as it was
 pub still_there : (p : ℕ → Bool) (old mid : Mapped) (first v : ℕ) → HasEmptied old (between p first v) mid → entry_under mid v ≡ entry_under old v
 still_there p old mid first v is =

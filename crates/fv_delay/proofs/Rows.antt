@@ -19,29 +19,14 @@ four = count_of 0 0 64 ∷ (count_of 0 1 63 ∷ (count_of 1 0 10 ∷ (count_of 1
 abbrev taken : ℕ → List Region
 taken missing = regions_counted (chosen four missing)
 
-missing_0 : taken 0 ≡ at 0 0 ∷ []
+by_missing : (taken 0 ≡ at 0 0 ∷ [])
+    × ((taken 64 ≡ at 0 0 ∷ [])
+    × ((taken 100 ≡ at 0 0 ∷ (at 0 1 ∷ []))
+    × ((taken 127 ≡ at 0 0 ∷ (at 0 1 ∷ []))
+    × ((taken 128 ≡ at 0 0 ∷ (at 0 1 ∷ (at 1 2 ∷ [])))
+    × (taken 300 ≡ at 0 0 ∷ (at 0 1 ∷ (at 1 2 ∷ (at 1 0 ∷ []))))))))
 unfolding chosen while_short
-missing_0 = refl
-
-missing_64 : taken 64 ≡ at 0 0 ∷ []
-unfolding chosen while_short
-missing_64 = refl
-
-missing_100 : taken 100 ≡ at 0 0 ∷ (at 0 1 ∷ [])
-unfolding chosen while_short
-missing_100 = refl
-
-missing_127 : taken 127 ≡ at 0 0 ∷ (at 0 1 ∷ [])
-unfolding chosen while_short
-missing_127 = refl
-
-missing_128 : taken 128 ≡ at 0 0 ∷ (at 0 1 ∷ (at 1 2 ∷ []))
-unfolding chosen while_short
-missing_128 = refl
-
-missing_300 : taken 300 ≡ at 0 0 ∷ (at 0 1 ∷ (at 1 2 ∷ (at 1 0 ∷ [])))
-unfolding chosen while_short
-missing_300 = refl
+by_missing = (refl, (refl, (refl, (refl, (refl, refl)))))
 
 -- the same by their threshold
 abbrev threshold : ℕ → ℕ → Threshold
@@ -50,34 +35,17 @@ threshold count left = record { count = count; left = left }
 abbrev by_threshold : ℕ → List Region
 by_threshold missing = regions_counted (taken_by (threshold_for four missing) four)
 
-bound_0 : threshold_for four 0 ≡ threshold 63 0
+bounds : (threshold_for four 0 ≡ threshold 63 0) × ((threshold_for four 127 ≡ threshold 63 63) × (threshold_for four 300 ≡ threshold 0 0))
 unfolding threshold_below
-bound_0 = refl
+bounds = (refl, (refl, refl))
 
-bound_127 : threshold_for four 127 ≡ threshold 63 63
-unfolding threshold_below
-bound_127 = refl
-
-bound_300 : threshold_for four 300 ≡ threshold 0 0
-unfolding threshold_below
-bound_300 = refl
-
-taken_0 : by_threshold 0 ≡ at 0 0 ∷ []
+-- those of 300 in the order of the row
+by_bound : (by_threshold 0 ≡ at 0 0 ∷ [])
+    × ((by_threshold 127 ≡ at 0 0 ∷ (at 0 1 ∷ []))
+    × ((by_threshold 128 ≡ at 0 0 ∷ (at 0 1 ∷ (at 1 2 ∷ [])))
+    × (by_threshold 300 ≡ at 0 0 ∷ (at 0 1 ∷ (at 1 0 ∷ (at 1 2 ∷ []))))))
 unfolding taken_by threshold_below
-taken_0 = refl
-
-taken_127 : by_threshold 127 ≡ at 0 0 ∷ (at 0 1 ∷ [])
-unfolding taken_by threshold_below
-taken_127 = refl
-
-taken_128 : by_threshold 128 ≡ at 0 0 ∷ (at 0 1 ∷ (at 1 2 ∷ []))
-unfolding taken_by threshold_below
-taken_128 = refl
-
--- in the order of the row
-taken_300 : by_threshold 300 ≡ at 0 0 ∷ (at 0 1 ∷ (at 1 0 ∷ (at 1 2 ∷ [])))
-unfolding taken_by threshold_below
-taken_300 = refl
+by_bound = (refl, (refl, (refl, refl)))
 
 -- volume after volume: 127 are found in volume 0, so none of volume 1 is taken, and of 128 its second region is
 abbrev first : List Count
@@ -86,18 +54,12 @@ first = count_of 0 0 64 ∷ (count_of 0 1 63 ∷ [])
 abbrev second : List Count
 second = count_of 1 0 10 ∷ (count_of 1 2 63 ∷ [])
 
-behind_127 : behind (threshold_for four 127) first ≡ threshold 63 0
+behind_first : behind (threshold_for four 127) first ≡ threshold 63 0
 unfolding behind threshold_below
-behind_127 = refl
+behind_first = refl
 
-some_127 : takes_some (behind (threshold_for four 127) first) second ≡ false
+of_second : (takes_some (behind (threshold_for four 127) first) second ≡ false)
+    × ((takes_some (behind (threshold_for four 128) first) second ≡ true)
+    × (regions_counted (taken_by (behind (threshold_for four 128) first) second) ≡ at 1 2 ∷ []))
 unfolding behind taken_by threshold_below
-some_127 = refl
-
-some_128 : takes_some (behind (threshold_for four 128) first) second ≡ true
-unfolding behind taken_by threshold_below
-some_128 = refl
-
-second_128 : regions_counted (taken_by (behind (threshold_for four 128) first) second) ≡ at 1 2 ∷ []
-unfolding behind taken_by threshold_below
-second_128 = refl
+of_second = (refl, (refl, refl))

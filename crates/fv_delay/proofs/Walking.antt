@@ -184,11 +184,6 @@ module _ (volumes : ℕ → Option Holding) (t : Threshold) (s : ℕ) where
       ∙ behind_front (behind t before) s x r
       ∙ ap (λ (k : Threshold). passed k (delayed_in x.map x.container r)) (sym (behind_append t before (counts_front s x r)))
 
-  -- In front of a volume's first region it is what it was behind the slots before.
-  pub behind_start : (x : Holding) → behind t (counts_to volumes s x 0) ≡ behind t (counts_before volumes s)
-  unfolding counts_to
-  behind_start x = ap (behind t) (append-nil (counts_before volumes s))
-
   -- one slot more
   slot_more : counts_before volumes (s + 1) ≡ counts_before volumes s ++ option_map_or (counts_in s) (volumes s) []
   unfolding counts_before

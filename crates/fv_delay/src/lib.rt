@@ -8,6 +8,7 @@
 mod choosing;
 mod counts;
 mod delayed;
+mod listed;
 mod reclaiming;
 mod regions;
 mod taken;
@@ -16,6 +17,7 @@ mod threshold;
 pub use choosing::choose_regions;
 pub use counts::{Count, Counts};
 pub use delayed::{delayed_by_region, has_delayed, region_count};
+pub use listed::Listed;
 pub use reclaiming::reclaim;
 pub use regions::{Region, Regions};
 pub use taken::{reclaim_taken, table_of};

@@ -78,10 +78,3 @@ failed old now new bytes rest e some so_far gives =
       source_faults = gives.source_faults ∙ so_far.source_faults;
       cause = record { later = omega (arith, so_far.sink_faults, gives.cause.later); calm = tt; rose = rw (← so_far.sink_faults) gives.cause.rose };
     }
-
-pub failed_since : (old now new : Shown) (bytes rest : List ℕ) (e : Failed) → HasGiven old bytes now rest → Gives now rest new (Err e) → Leaves old new (PartlyGiven old bytes)
-failed_since old now new bytes rest e so_far gives =
-    let k : ℕ = so_far.left_over.0 in
-    let rests : Rests old new = rests_on old now new so_far.rests gives.rests in
-    goes_on old now new (PartlyGiven old bytes) so_far.any_moment gives.time
-    (λ c left. (rests.stays.no_more c left, λ tells. (k, gives.none (rw so_far.rests.stays.tells tells) ∙ so_far.left_over.2 tells)))

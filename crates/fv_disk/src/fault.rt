@@ -1,5 +1,8 @@
 //! Why blocks were not read, written or taken.
 
+ghost use Rattle.std.specs.Prelude.{◌≡◌};
+ghost use Rattle.fv_disk.specs.declared.fault.BlockFault.TheVariants.{DiskFault, Memory};
+
 use crate::Failed;
 use std::alloc::AllocError;
 use thiserror::Error;
@@ -29,9 +32,6 @@ pub enum BlockFault {
 }
 
 impl From<Failed> for BlockFault {
-    ghost use Rattle.std.specs.Prelude.{◌≡◌};
-    ghost use Rattle.fv_disk.specs.declared.fault.BlockFault.TheVariants.{DiskFault};
-
     ghost from_gives = { λ _ e. e ≡ DiskFault };
 
     fn from(_: Failed) -> BlockFault {
@@ -40,9 +40,6 @@ impl From<Failed> for BlockFault {
 }
 
 impl From<AllocError> for BlockFault {
-    ghost use Rattle.std.specs.Prelude.{◌≡◌};
-    ghost use Rattle.fv_disk.specs.declared.fault.BlockFault.TheVariants.{Memory};
-
     ghost from_gives = { λ _ e. e ≡ Memory };
 
     fn from(_: AllocError) -> BlockFault {

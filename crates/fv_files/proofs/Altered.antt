@@ -1,5 +1,5 @@
 -- What calls do to the places of a table's trees, tree by tree.
-use Rattle.std.proofs.Common.{◌≡◌, ◌≢◌, ◌⊎◌, inl, inr, ℕ, ◌/◌, ◌^◌, true, sym, ap, subst, ◌∙◌}
+use Rattle.std.proofs.Common.{◌≡◌, ◌≢◌, ◌⊎◌, inl, inr, ℕ, ◌/◌, ◌^◌, true, false, sym, ap, subst, ◌∙◌}
 use Rattle.std.specs.Prelude.{Option, Some, None, is_some}
 use Rattle.std.proofs.lemmas.Bool.{both_ways}
 use Rattle.fv_codec.specs.declared.inode.InodeRecord.{InodeRecord}
@@ -125,16 +125,19 @@ leaves_places_trees free x y is a = leaves_places free (x a) (y a) (is a)
 
 -- ---- trees that are as their records say
 
+-- a place that leads nowhere or has its block's content stays so where nothing of it changes
+still_after : (a b : Loaded) (level place : ℕ) → pointer_at b.tree level place ≡ pointer_at a.tree level place → b.changed level place ≡ a.changed level place
+    → ((pointer_at a.tree level place).stamp ≡ 0) ⊎ (a.changed level place ≡ false) → ((pointer_at b.tree level place).stamp ≡ 0) ⊎ (b.changed level place ≡ false)
+still_after a b level place pointer changed (inl none) = inl (ap (λ (p : Pointer). p.stamp) pointer ∙ none)
+still_after a b level place pointer changed (inr same) = inr (changed ∙ same)
+
 pub leaves_match : (a b : Loaded) (r : InodeRecord) → Leaves a b → MatchesRecord a r → MatchesRecord b r
 leaves_match a b r leaves is = record {
   levels = leaves.levels ∙ is.levels;
   root = leaves.root ∙ is.root;
   still = λ level place. elim (leaves.places level place) [
     | inl none ↦ inl none
-    | inr before ↦ elim (is.still level place) [
-      | inl none ↦ inl (ap (λ (p : Pointer). p.stamp) before.pointer ∙ none)
-      | inr same ↦ inr (before.changed ∙ same)
-    ]
+    | inr before ↦ still_after a b level place before.pointer before.changed (is.still level place)
   ];
 }
 
@@ -150,10 +153,7 @@ places_match a b free r levels stamps root places is = record {
       | inl none ↦ inl (anew.stamp ∙ none)
       | inr same ↦ false_is_true (a.changed level place) same anew.was
     ]
-    | inr (inr before) ↦ elim (is.still level place) [
-      | inl none ↦ inl (ap (λ (p : Pointer). p.stamp) before.pointer ∙ none)
-      | inr same ↦ inr (before.changed ∙ same)
-    ]
+    | inr (inr before) ↦ still_after a b level place before.pointer before.changed (is.still level place)
   ];
 }
   where

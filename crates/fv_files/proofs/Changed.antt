@@ -34,7 +34,8 @@ use Rattle.fv_tree.specs.Stored.{IsStoredWell}
 use Rattle.fv_files.specs.Tables.{table_in, tree_in, file_loaded, loaded_trees, AreStanding, IsLed, IsStored, IsTold}
 use Rattle.fv_files.specs.Calls.{Becomes, SparesOthers}
 use Rattle.fv_files.proofs.Looked.{Held}
-use Rattle.fv_files.proofs.Tables.{alike, some_same, placed_alike}
+use Rattle.fv_tree.proofs.Brought.{some_same}
+use Rattle.fv_files.proofs.Tables.{alike, placed_alike}
 use Rattle.fv_files.specs.Altering.{AltersTrees, AreLaid, IsPlacedIn, LeavesIn, LeavesTrees, MatchesRecord, PlacesIn, PlacesTrees}
 use Rattle.fv_files.proofs.Altered.{AltersBoth, IsLeftLaid, both_as, both_in, both_then, laid_by, leaves_as, leaves_both, leaves_match, leaves_of, leaves_places, places_as, still_changed}
 use Rattle.fv_files.proofs.Beside.{some_differ, same_or, IsOther, LetsGo, UsesNoMore, loading_lets_go, loading_uses, spares_as}

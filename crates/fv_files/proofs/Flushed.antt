@@ -140,10 +140,6 @@ places_self told free old f = record {
 pub places_astray : (told : Type 0) (free : ℕ → Type 0) (old new : Shown) (f g : Files) → (told → AreStanding old f → ⊥) → FlushesPlaces told free old new f g
 places_astray told free old new f g never = record { anew = λ tells sound. absurd (never tells sound); laid = λ tells sound. absurd (never tells sound) }
 
--- under another answer
-pub lays_done : {S T : Type 0} (told : Type 0) (old new : Shown) (f g : Files) (x : S) (y : T) → LaysTrees told old new f g (Ok x) → LaysTrees told old new f g (Ok y)
-lays_done told old new f g x y is = record { placed = is.placed; stands = is.stands; led = is.led; spares = is.spares; strays = is.strays; fits = is.fits; enough = λ tells sound room. tt; source = λ tells sound. tt; counts = counts_done old new x y is.counts; cause = tt }
-
 pub lays_failed : {S T : Type 0} (told : Type 0) (old new : Shown) (f g : Files) (e : BlockFault) → LaysTrees {T = S} told old new f g (Err e) → LaysTrees {T = T} told old new f g (Err e)
 lays_failed {S} told old new f g e is = record { placed = is.placed; stands = is.stands; led = is.led; spares = is.spares; strays = is.strays; fits = is.fits; enough = is.enough; source = is.source; counts = counts_failed {S = S} old new (Err e) e is.counts; cause = is.cause }
 

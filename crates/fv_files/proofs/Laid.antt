@@ -41,7 +41,8 @@ use Rattle.fv_files.specs.Failing.{FilesFail}
 use Rattle.fv_files.specs.Flushing.{FlushFails, HasRoot, LayFails, LaysTrees, holding}
 use Rattle.fv_files.specs.Pending.{FitsTable}
 use Rattle.fv_files.proofs.Looked.{Held, fails_after}
-use Rattle.fv_files.proofs.Tables.{placed_alike, placed_then, some_same}
+use Rattle.fv_tree.proofs.Brought.{some_same}
+use Rattle.fv_files.proofs.Tables.{placed_alike, placed_then}
 use Rattle.fv_files.proofs.Beside.{LetsGo, UsesNoMore, loading_lets_go, loading_uses, reread_leads, spares_on, spares_then, unread_leads}
 use Rattle.fv_files.proofs.Stored.{reread_stored}
 use Rattle.fv_files.proofs.Kept.{own_tree_is, file_led, file_spares, file_stands, file_stored, led_on_blocks, sound_on, stored_on_blocks, rest_leave}

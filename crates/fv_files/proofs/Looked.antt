@@ -1,6 +1,6 @@
 -- Why calls of a table fail, over several calls.
 use Rattle.std.proofs.Common.{◌≡◌, ℕ, inl, inr, subst, sym, List, Result, Ok, Err}
-use Rattle.std.specs.Prelude.{IfErr}
+use Rattle.std.specs.Prelude.{IfErr, IsErrAnd}
 use Rattle.std.specs.Ordering.{nat_cmp}
 use Rattle.std.specs.FinMap as fin
 use Rattle.std.proofs.lemmas.Result.{IfErr-weaker}
@@ -66,6 +66,11 @@ looks_then told f old mid new x r first second = record {
   counts = counts_then old mid new r first.counts.calm second.counts;
   cause = IfErr-weaker r _ _ (λ e h. fails_after told (table_in old f) old mid new e first.counts.calm first.untouched.held (earlier (λ y. FilesFail told y mid new e) f old mid first.untouched.held h)) second.cause;
 }
+
+-- what holds of a fault holds of the call that hands it on
+pub handed_on : {T : Type 0} (C : Result T BlockFault → Type 0) (e : BlockFault) (r : Result T BlockFault) → IsErrAnd r (λ fault. fault ≡ e) → C (Err e) → C r
+handed_on C e (Ok x) is holds = absurd is
+handed_on C e (Err fault) is holds = subst (λ y. C (Err y)) (sym is) holds
 
 -- the tree of a file was read, and then a call of the table fails
 pub looks_past : {S R T : Type 0} (told : Type 0) (f : Files) (info : Info) (old mid new : Shown) (x : S) (e : BlockFault) → (told → IsInfoOf (table_in old f).inode info) → IsUntouched old mid → Counts {E = BlockFault} old mid (Ok x)

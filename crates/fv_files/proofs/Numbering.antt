@@ -29,7 +29,8 @@ use Rattle.fv_inode.specs.Listing.{names_from, names_told, numbers_in}
 use Rattle.fv_inode.proofs.Views.{entries_of, name_total}
 use Rattle.fv_files.specs.declared.numbers.FileNumbers.{FileNumbers}
 use Rattle.fv_files.specs.Numbering.{has_value, is_taken, number_of, AreNumbersOf, HasName, IsNamed, IsUnnamed}
-use Rattle.fv_files.proofs.Tables.{file_there, some_same}
+use Rattle.fv_tree.proofs.Brought.{some_same}
+use Rattle.fv_files.proofs.Tables.{file_there}
 
 same_number : (n : ℕ) → nat_eq n n ≡ true
 same_number n = grind (arith, nat_tests)

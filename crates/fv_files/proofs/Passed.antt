@@ -30,7 +30,8 @@ use Rattle.fv_files.specs.Tables.{table_in, AreStanding, IsLed, IsStored, loaded
 use Rattle.fv_files.specs.Calls.{KeepsStored, SparesOthers}
 use Rattle.fv_files.specs.Flushing.{FlushesKept, HasRoot, LaysTrees, KeptAnew, KeptKeeps}
 use Rattle.fv_files.specs.Pending.{pending_trees, tree_cost, FitsTable}
-use Rattle.fv_files.proofs.Tables.{placed_then, some_same, alike}
+use Rattle.fv_tree.proofs.Brought.{some_same}
+use Rattle.fv_files.proofs.Tables.{placed_then, alike}
 use Rattle.fv_files.proofs.Looked.{counts_done}
 use Rattle.fv_files.proofs.Changed.{with_trees, owned_stands, kept_inode, own_ready, with_inode}
 use Rattle.fv_files.proofs.Flushed.{kept_keeps, kept_lays, kept_stores, kept_places, ready_lays, ready_places, ready_stores, look_lays, look_places}

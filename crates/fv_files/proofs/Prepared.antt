@@ -1,6 +1,6 @@
 -- A file that is held ready for a change, and the change after it.
-use Rattle.std.proofs.Common.{◌≡◌, ◌≢◌, ℕ, ◌/◌, Bool, true, false, cond, nat_eq, arith, inl, inr, List, Result, Ok, Err, refl, sym, ap, subst, ◌∙◌, ⊎_elim}
-use Rattle.std.specs.Prelude.{Option, Some, None, is_some, IfOk}
+use Rattle.std.proofs.Common.{◌≡◌, ◌≢◌, ◌≤◌, ◌+◌, ℕ, ◌/◌, Bool, true, false, cond, nat_eq, arith, inl, inr, List, Result, Ok, Err, refl, sym, ap, subst, ◌∙◌, ⊎_elim}
+use Rattle.std.specs.Prelude.{Option, Some, None, is_some, IfOk, IsErrAnd}
 use Rattle.std.specs.Option.{option_map}
 use Rattle.std.specs.Ordering.{nat_cmp}
 use Rattle.std.specs.BTreeMap as maps
@@ -43,8 +43,9 @@ use Rattle.fv_files.specs.Failing.{FilesFail, Looks}
 use Rattle.fv_laws.specs.Positions.{taken_by_rm}
 use Rattle.fv_files.specs.Calls.{WritesCell, CutsFile, RemovesFile, TakesByCut, TakesByRemoval, Changes, Holds, IsUnread, KeepsLed, KeptFails, Prepares, SparesOthers}
 use Rattle.fv_files.proofs.Beside.{loading_lets_go, loading_uses, reread_leads, unread_leads}
-use Rattle.fv_files.proofs.Looked.{Held, counts_failed, counts_done, looks_inode}
-use Rattle.fv_files.proofs.Tables.{file_tree, kept_known, placed_alike, same_placed, some_same, stored_known}
+use Rattle.fv_files.proofs.Looked.{Held, counts_failed, counts_done, handed_on, looks_inode}
+use Rattle.fv_tree.proofs.Brought.{some_same}
+use Rattle.fv_files.proofs.Tables.{file_tree, kept_known, placed_alike, same_placed, stored_known}
 use Rattle.fv_files.proofs.Kept.{own_tree_is, moved_tree, same_trees, file_led, file_stands, file_stored, inode_led, inode_spares, inode_stands, inode_stored, rest_leave}
 use Rattle.fv_files.proofs.Stored.{unread_stored}
 use Rattle.fv_files.proofs.Changed.{with_trees, with_inode, kept_tree_is}
@@ -105,24 +106,20 @@ module _ (told well : Type 0) (old mid : Shown) (f g : Files) (info : Info) wher
     cause = tt;
   }
 
-  record HasTree (o : Option Tree) : Type 0 where
-    tree : Tree
-    is : o ≡ Some tree
-
-  has_tree : (o : Option Tree) → is_some o ≡ true → HasTree o
+  has_tree : (o : Option Tree) → is_some o ≡ true → (tree : Tree) × (o ≡ Some tree)
   has_tree None e = absurd cc
-  has_tree (Some t) e = record { tree = t; is = refl }
+  has_tree (Some t) e = (t, refl)
 
   module _ (new : Shown) (h : Files) (there : Bool) (first : Prepares told old mid f g info (Ok there)) (yes_ : there ≡ true) (is : told → IsInfoOf (rooted old f.inode) info) where
     tree_failed : (e : BlockFault) → KeptFails told mid new g info.number e → FilesFail told (table_in old f) old new e
     tree_failed e fails =
         let kept = has_tree (tree_in g info.number) (first.kept yes_) in
-        let known = first.tree kept.tree kept.is in
-        let here : Fails told (standing (under old) kept.tree) mid new e = subst (λ (m : Held). Fails told (standing (λ v. fin.get m v) kept.tree) mid new e) first.looks.untouched.held (fails kept.tree kept.is) in
+        let known = first.tree kept.0 kept.1 in
+        let here : Fails told (standing (under old) kept.0) mid new e = subst (λ (m : Held). Fails told (standing (λ v. fin.get m v) kept.0) mid new e) first.looks.untouched.held (fails kept.0 kept.1) in
         inr (record {
           tree = tree_known (table_in old f) info;
           of_file = λ tells. file_tree (table_in old f) info (is tells);
-          fails = subst (λ t. Fails told t old new e) known (fails_later told (standing (under old) kept.tree) old mid new e first.looks.counts.calm first.looks.untouched.held here);
+          fails = subst (λ t. Fails told t old new e) known (fails_later told (standing (under old) kept.0) old mid new e first.looks.counts.calm first.looks.untouched.held here);
         })
 
     pub prepared_then : {T : Type 0} (after : Type 0) → (told → well → after) → (r : Result T BlockFault) → Changes told after mid new g h (KeptFails told mid new g info.number) r → Changes told well old new f h (FilesFail told (table_in old f) old new) r
@@ -159,6 +156,25 @@ module _ (told well : Type 0) (old mid : Shown) (f g : Files) (info : Info) (s :
     leaves = λ tells. on_err_weaker r (λ is sound. leaves_trees_then (loaded_trees (under old) f) (loaded_trees (under mid) g) (loaded_trees (under new) h) (first.leaves tells sound) (is (first.stands tells sound))) (second.leaves tells);
     laid = λ tells asked sound laid. second.laid tells (so tells asked) (first.stands tells sound) (first.laid tells sound laid);
   }
+
+-- ---- the same of the call that hands a fault on
+
+module _ {T : Type 0} (told well : Type 0) (old mid : Shown) (f g : Files) (info : Info) (r : Result T BlockFault) (e : BlockFault) (is : IsErrAnd r (λ fault. fault ≡ e)) (first : Prepares told old mid f g info (Err e)) where
+  pub changes_handed : Changes told well old mid f g (FilesFail told (table_in old f) old mid) r
+  changes_handed = handed_on (Changes told well old mid f g (FilesFail told (table_in old f) old mid)) e r is (prepared_failed told well old mid f g info e first)
+
+  pub table_handed : (s : ℕ) → AltersPlaces told well old mid f g s r
+  table_handed s = handed_on (AltersPlaces told well old mid f g s) e r is (table_failed told well old mid f g info s e first)
+
+pub prepared_led : (told : Type 0) (old mid : Shown) (f g : Files) (info : Info) (r : Result Bool BlockFault) → Prepares told old mid f g info r → told → KeepsLed old mid f g
+prepared_led told old mid f g info r first tells = first.led tells
+
+pub led_after : (told : Type 0) (old mid new : Shown) (f g h : Files) (info : Info) (r : Result Bool BlockFault) → Prepares told old mid f g info r → (told → KeepsLed mid new g h) → told → KeepsLed old new f h
+led_after told old mid new f g h info r first second tells sound led = second tells (first.stands tells sound) (first.led tells sound led)
+
+-- what the preparation adds to the pending blocks is within what a change may add
+pub few_pending : (a b : ℕ) → a ≤ b + 4 → a ≤ b + 14
+few_pending a b le = omega (arith, le)
 
 -- ---- the inode file holds more in memory
 

@@ -24,7 +24,7 @@ use Rattle.fv_files.specs.Calls.{Changes, KeepsLed, KeptFails, PutsKept, CutsKep
 use Rattle.fv_files.specs.Pending.{pending_trees}
 use Rattle.fv_files.proofs.Beside.{LetsGo, UsesNoMore, loading_lets_go, loading_uses}
 use Rattle.fv_files.proofs.Looked.{counts_failed}
-use Rattle.fv_files.proofs.Tables.{some_same}
+use Rattle.fv_tree.proofs.Brought.{some_same}
 use Rattle.fv_files.proofs.Changed.{with_trees, failed_told, kept_led, kept_stands, both_led, both_stand, owned_stands, owned_stored, kept_stored, both_stored, both_alter, both_laid, kept_laid, kept_leave}
 use Rattle.fv_tree.specs.Altering.{AltersHeld}
 use Rattle.fv_files.specs.Altering.{AltersPlaces}

@@ -28,9 +28,6 @@ pub no_cost : (m : maps.BTreeMap ℕ Tree) → maps.btree_map_len m ≡ 0 → pe
 no_cost m none = no_entries m.entries none
 
 module _ (m n : maps.BTreeMap ℕ Tree) (k : ℕ) where
-  pub same_cost : n.entries ≡ m.entries → pending_trees n ≡ pending_trees m
-  same_cost is = ap cost_of is
-
   pub put_cost : (t : Tree) → maps.IsOrdered nat_cmp m → n.entries ≡ maps.insert_entry nat_cmp m.entries k t → pending_trees n ≤ pending_trees m + tree_cost t
   put_cost t ordered is =
       let same : pending_trees n ≡ cost_of (maps.insert_entry nat_cmp m.entries k t) = ap cost_of is in

@@ -1,7 +1,8 @@
 -- Tables of which trees are in memory: what is known of a file, and tables that are told alike or of which a file was written.
 use Rattle.std.proofs.Common.{◌≡◌, ◌≢◌, ℕ, ◌+◌, max, Bool, true, false, cond, List, refl, sym, ap, subst, ◌∙◌, arith, ⊎_elim, Result}
 use Rattle.fv_disk.specs.declared.fault.BlockFault.{BlockFault}
-use Rattle.fv_tree.specs.Sources.{Shown}
+use Rattle.fv_tree.specs.Sources.{Counts, IsUntouched, Shown}
+use Rattle.fv_tree.specs.Calls.{LoadsFrom}
 use Rattle.std.specs.Prelude.{Option, Some, None, IfErr}
 use Rattle.std.specs.Option.{option_map}
 use Rattle.std.specs.FinMap as fin
@@ -22,19 +23,12 @@ use Rattle.fv_inode.proofs.Slots.{alike_files}
 use Rattle.fv_inode.proofs.Machines.{shown}
 use Rattle.fv_inode.proofs.Placed.{KeepsOthers, keeps_others}
 use Rattle.fv_inode.proofs.Told.{put_told}
+use Rattle.fv_tree.proofs.Brought.{some_same}
 use Rattle.fv_files.specs.declared.files.Files.{Files}
 use Rattle.fv_files.specs.Trees.{standing_in}
 use Rattle.fv_files.specs.Tables.{changed, tree_in, IsInfoOf, tree_known}
 use Rattle.fv_files.specs.Failing.{IsFileTree}
 use Rattle.fv_files.specs.Calls.{longer, or_zeros, GivesCell, WritesCell}
-
-or_else : {X : Type 0} → X → Option X → X
-or_else d None = d
-or_else d (Some x) = x
-
-pub some_same : {X : Type 0} (x y : X) → Some x ≡ Some y → x ≡ y
-unfolding or_else
-some_same x y e = ap (or_else x) e
 
 -- ---- what is known of a file
 
@@ -65,6 +59,10 @@ stored_is u f info t is none = is ∙ sym (stored_known u f info none)
 pub stored_cause : {T : Type 0} (told : Type 0) (old new : Shown) (f : Files) (info : Info) (t : Rooted) (r : Result T BlockFault) → t ≡ stored (under old) info.number info.levels info.root → tree_in f info.number ≡ None
     → IfErr r (Fails told t old new) → IfErr r (Fails told (tree_known (standing_in (under old) (changed f)) info) old new)
 stored_cause told old new f info t r is none cause = subst (λ t. IfErr r (Fails told t old new)) (stored_is (under old) f info t is none) cause
+
+pub stored_loads : {T : Type 0} {reading : Type 0} (told : Type 0) (old new : Shown) (f : Files) (info : Info) (t : Rooted) (r : Result T BlockFault) → t ≡ stored (under old) info.number info.levels info.root → tree_in f info.number ≡ None
+    → IsUntouched old new → reading → Counts old new r → IfErr r (Fails told t old new) → LoadsFrom reading (Fails told (tree_known (standing_in (under old) (changed f)) info) old new) old new r
+stored_loads told old new f info t r is none untouched reads counts cause = record { untouched = untouched; reads = reads; counts = counts; cause = stored_cause told old new f info t r is none cause }
 
 -- of a file that a look-up found
 pub first_info : (t : Rooted) (name : List ℕ) (info : Info) → IsFirst t name info → IsInfoOf t info

@@ -23,7 +23,7 @@ use Rattle.fv_files.specs.Apart.{Trees, StandsIn}
 use Rattle.fv_files.specs.Tables.{table_in, tree_in, file_loaded, loaded_trees, AreStanding}
 use Rattle.fv_files.specs.Altering.{AreLaid, FlushesKeep, FlushesPlaces, IsPlacedIn, KeepsUnplaced, PlacesIn, PlacesTrees}
 use Rattle.fv_files.specs.Flushing.{LaysTrees}
-use Rattle.fv_files.proofs.Tables.{some_same}
+use Rattle.fv_tree.proofs.Brought.{some_same}
 use Rattle.fv_files.proofs.Beside.{IsLaidIn, trees_laid}
 use Rattle.fv_files.proofs.Changed.{with_inode}
 

@@ -1,5 +1,5 @@
 -- A table of which a file was written or cut, and its record changed.
-use Rattle.std.proofs.Common.{◌≡◌, ℕ, nat_le, List, refl, sym, ap, subst, ◌∙◌, ◌+◌, true, cond, nat_eq, arith}
+use Rattle.std.proofs.Common.{◌≡◌, ℕ, nat_le, List, refl, sym, ap, subst, ◌∙◌, ◌+◌, ◌/◌, true, cond, nat_eq, arith}
 use Rattle.std.specs.Prelude.{Some}
 use Rattle.std.specs.Option.{option_map}
 use Rattle.std.specs.BTreeMap as maps
@@ -10,7 +10,7 @@ use Rattle.fv_model.specs.Trees.{least_levels}
 use Rattle.fv_model.specs.Tables.{File, cut}
 use Rattle.fv_laws.specs.WellFormed.{IsTree, IsWellTable}
 use Rattle.fv_tables.specs.Spelled.{Under, stored}
-use Rattle.fv_tables.specs.Told.{tree_told, cells_told, file_at, tree_or, tree_of, file_told, file_in, table_told}
+use Rattle.fv_tables.specs.Told.{records_each, tree_told, cells_told, file_at, tree_or, tree_of, file_told, file_in, table_told}
 use Rattle.fv_tables.proofs.Tables.{files_told}
 use Rattle.fv_tree.specs.declared.kept.Tree.{Tree}
 use Rattle.fv_tree.specs.Sources.{Shown}
@@ -18,7 +18,8 @@ use Rattle.fv_tree.specs.Standing.{standing, under}
 use Rattle.fv_tree.specs.Writing.{IsAlike, Writes}
 use Rattle.fv_tree.specs.Counting.{positions_of}
 use Rattle.fv_tree.specs.Erasing.{Erases}
-use Rattle.fv_tree.specs.Flushing.{loaded}
+use Rattle.fv_tree.specs.Altering.{AltersHeld}
+use Rattle.fv_tree.specs.Flushing.{changed_of, loaded}
 use Rattle.fv_tree.specs.Beside.{LeadsTo, Spares}
 use Rattle.fv_inode.specs.declared.info.Info.{Info}
 use Rattle.fv_inode.specs.declared.file.InodeFile.{InodeFile}
@@ -32,6 +33,7 @@ use Rattle.fv_files.specs.Tables.{table_in, AreStanding, IsInfoOf}
 use Rattle.fv_files.specs.Calls.{longer, shortened, Becomes, WritesCell, CutsFile, TakesByCut}
 use Rattle.fv_files.proofs.Counted.{cut_counted}
 use Rattle.fv_files.proofs.Looked.{Held}
+use Rattle.fv_files.proofs.Steps.{Restates}
 use Rattle.fv_files.proofs.Tables.{file_is, kept_known, wrote}
 use Rattle.fv_files.proofs.Changed.{kept_inode, kept_others}
 
@@ -39,6 +41,12 @@ use Rattle.fv_files.proofs.Changed.{kept_inode, kept_others}
 pub rewrites_as : (i j : InodeFile) (s : ℕ) (v w : Info) → v ≡ w → ((blocks : Under) → Rewrites (standing blocks i.tree) (standing blocks j.tree) v.number s (option_map (with_info v) (file_at (standing blocks i.tree) v.number)))
     → (blocks : Under) → Rewrites (standing blocks i.tree) (standing blocks j.tree) w.number s (option_map (with_info w) (file_at (standing blocks i.tree) w.number))
 rewrites_as i j s v w same is blocks = subst (λ (x : Info). Rewrites (standing blocks i.tree) (standing blocks j.tree) x.number s (option_map (with_info x) (file_at (standing blocks i.tree) x.number))) same (is blocks)
+
+-- a record got the numbers of an info
+pub restates_as : (f : Files) (i : InodeFile) (s : ℕ) (v w : Info) → v ≡ w → ((blocks : Under) → Rewrites (standing blocks f.inode.tree) (standing blocks i.tree) v.number s (option_map (with_info v) (file_at (standing blocks f.inode.tree) v.number)))
+    → AltersHeld f.inode.tree i.tree s → changed_of i.tree 0 (v.number / records_each) ≡ true → Restates f i w.number s (with_info w)
+restates_as f i s v w same is alters marked =
+    record { rewrites = rewrites_as f.inode i s v w same is; alters = alters; marked = ap (λ (x : Info). changed_of i.tree 0 (x.number / records_each)) (sym same) ∙ marked }
 
 module _ (old new : Shown) (f : Files) (m : maps.BTreeMap ℕ Tree) (i : InodeFile) (info : Info) (s : ℕ) (t u : Tree) (becomes : Becomes f.trees m info.number t u) (is : IsInfoOf (rooted old f.inode) info) where
   abbrev h : Files

@@ -15,7 +15,7 @@ use Rattle.fv_tree.specs.Flushing.{Loaded, loaded_over, ReachesOnce}
 use Rattle.fv_tree.specs.Beside.{unread}
 use Rattle.fv_tree.specs.Readying.{IsReady}
 use Rattle.fv_inode.specs.declared.info.Info.{Info}
-use Rattle.fv_inode.specs.Files.{info_of, NamesIndexes}
+use Rattle.fv_inode.specs.Files.{info_of, IsInfo, NamesIndexes}
 use Rattle.fv_files.specs.declared.files.Files.{Files}
 use Rattle.fv_files.specs.Trees.{Changed, standing_in}
 use Rattle.fv_files.specs.Apart.{Trees, StandsIn, AreApart, AreLed, AreStoredWell, stored_trees}
@@ -85,6 +85,11 @@ pub record IsInfoOf (t : Rooted) (info : Info) : Type 0 where
   pub file : InodeRecord
   pub there : file_at t info.number ≡ Some file
   pub told : info ≡ info_of info.number file
+
+-- a file of a table is known by an info in the ranges of a record
+pub record IsKnown (told : Type 0) (source : Shown) (f : Files) (info : Info) : Type 0 where
+  pub range : IsInfo info
+  pub there : told → IsInfoOf (standing (under source) f.inode.tree) info
 
 -- the tree of a file of which this is known: that in memory, or else that to which it leads
 abbrev pub tree_known : Standing → Info → Rooted

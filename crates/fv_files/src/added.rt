@@ -1,9 +1,9 @@
 //! How many blocks a change of a table adds, before it is made.
 
-ghost use Rattle.std.specs.Prelude.{◌≡◌, ◌≤◌, ◌<◌, IfOk, IfErr};
+ghost use Rattle.std.specs.Prelude.{◌≡◌, ◌≤◌, ◌<◌, IfOk};
 ghost use Rattle.fv_model.specs.Numbers.{most_files};
 ghost use Rattle.fv_tree.specs.Counting.{added_at};
-ghost use Rattle.fv_tree.specs.Sources.{Counts, IsUntouched};
+ghost use Rattle.fv_tree.specs.Calls.{LoadsFrom};
 ghost use Rattle.fv_tree.specs.Standing.{Fails};
 ghost use Rattle.fv_inode.specs.Files.{rooted, IsInfo};
 ghost use Rattle.fv_inode.specs.Failing as inodes;
@@ -12,7 +12,7 @@ ghost use Rattle.fv_files.specs.Failing.{Looks};
 ghost use Rattle.fv_files.specs.Calls.{AddsCell, AddsFile};
 
 use crate::files::{Files, FilesFault};
-use crate::hold::stored_tree;
+use crate::hold::{of_known, stored_tree};
 use fv_inode::Info;
 use fv_tree::Blocks;
 
@@ -68,16 +68,7 @@ fn added_cell<B: Blocks>(
     requires range { IsInfo info.now }
     ensures added { B.told → IfOk result (λ count. count ≡ added_at (tree_known (table_in (B.shown blocks.old) files.now) info.now) index) }
     ensures few { IfOk result (λ count. count ≤ 6) }
-    ensures untouched { IsUntouched (B.shown blocks.old) (B.shown blocks.new) }
-    ensures counts { Counts (B.shown blocks.old) (B.shown blocks.new) result }
-    ensures cause { IfErr result (Fails B.told (tree_known (table_in (B.shown blocks.old) files.now) info.now) (B.shown blocks.old) (B.shown blocks.new)) }
-    ensures reads { B.reads blocks.old blocks.new }
+    ensures loads { LoadsFrom (B.reads blocks.old blocks.new) (Fails B.told (tree_known (table_in (B.shown blocks.old) files.now) info.now) (B.shown blocks.old) (B.shown blocks.new)) (B.shown blocks.old) (B.shown blocks.new) result }
 {
-    match files.trees.get(&info.number) {
-        Some(tree) => tree.added(blocks, index),
-        None => {
-            let tree = stored_tree(files.alloc, info);
-            tree.added(blocks, index)
-        }
-    }
+    of_known!(files, info, |tree| tree.added(blocks, index))
 }

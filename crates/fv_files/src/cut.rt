@@ -29,6 +29,7 @@ impl Files {
     /// # Errors
     ///
     /// As `InodeFile::ready` and `Tree::cut`, and `Memory` where there is no memory for the tree.
+    #[tactic(auto, using(crate::proofs::Prepared::changes_handed, crate::proofs::Prepared::table_handed, crate::proofs::Prepared::prepared_alone, crate::proofs::Prepared::table_alone, crate::proofs::Prepared::prepared_led))]
     pub fn cut<B: Blocks>(
         &mut self,
         blocks: &mut B,

@@ -64,6 +64,21 @@ pub fn stored_tree(alloc: Global, info: &Info) -> Tree
     Tree::at(alloc, u64::from(info.number), info.levels, info.root)
 }
 
+/// What a call of the tree of a file answers, of which this is known: of the one in memory, or else of the one that it says.
+macro_rules! of_known {
+    ($files:ident, $info:ident, |$tree:ident| $call:expr) => {
+        match $files.trees.get(&$info.number) {
+            Some($tree) => $call,
+            None => {
+                let $tree = stored_tree($files.alloc, $info);
+                $call
+            }
+        }
+    };
+}
+
+pub(crate) use of_known;
+
 /// Takes a tree into memory.
 fn insert(trees: &mut BTreeMap<u32, Tree>, number: u32, tree: Tree) -> Result<(), FilesFault>
     ensures inserted { OnOk result ((k : ℕ) → maps.get nat_cmp trees.new k ≡ cond (nat_eq k number) (Some tree) (maps.get nat_cmp trees.old k)) }

@@ -31,6 +31,7 @@ impl Files {
     /// # Errors
     ///
     /// As `InodeFile::ready` and `Tree::cut`, and `Memory` where there is no memory for the tree.
+    #[tactic(auto, using(crate::proofs::Prepared::changes_handed, crate::proofs::Prepared::table_handed, crate::proofs::Prepared::prepared_alone, crate::proofs::Prepared::table_alone, crate::proofs::Prepared::prepared_led, crate::proofs::Prepared::few_pending))]
     pub fn remove<B: Blocks>(
         &mut self,
         blocks: &mut B,

@@ -1,16 +1,16 @@
 //! How many blocks that a change of a table replaces stay charged, before it is made.
 
-ghost use Rattle.std.specs.Prelude.{◌≡◌, ◌≤◌, ◌<◌, Some, IfOk, IfErr};
-ghost use Rattle.fv_tree.specs.Sources.{Counts, IsUntouched};
+ghost use Rattle.std.specs.Prelude.{◌≡◌, ◌≤◌, ◌<◌, Some, IfOk};
+ghost use Rattle.fv_tree.specs.Calls.{LoadsFrom};
 ghost use Rattle.fv_tree.specs.Standing.{under, Fails};
 ghost use Rattle.fv_inode.specs.Files.{rooted, IsInfo};
 ghost use Rattle.fv_inode.specs.Failing as inodes;
-ghost use Rattle.fv_files.specs.Tables.{loaded_trees, table_in, tree_known, IsInfoOf};
+ghost use Rattle.fv_files.specs.Tables.{loaded_trees, table_in, tree_known, IsInfoOf, IsKnown};
 ghost use Rattle.fv_files.specs.Failing.{Looks};
 ghost use Rattle.fv_files.specs.Sharing.{staying_in, staying_of, staying_by_put, staying_by_removal, staying_by_new};
 
 use crate::files::{Files, FilesFault};
-use crate::hold::stored_tree;
+use crate::hold::{of_known, stored_tree};
 use fv_inode::Info;
 use fv_tree::Sharing;
 
@@ -87,40 +87,20 @@ fn staying_cell<B: Sharing>(
     info: &Info,
     index: u32,
 ) -> Result<u32, FilesFault>
-    requires range { IsInfo info.now }
-    requires there { B.told → IsInfoOf (rooted (B.shown blocks.old) files.now.inode) info.now }
+    requires { IsKnown B.told (B.shown blocks.old) files.now info.now }
     ensures staying { B.told → IfOk result (λ count. count ≡ staying_in (loaded_trees (under (B.shown blocks.old)) files.now (Some info.now.number)) (B.shared blocks.old) index) }
     ensures few { IfOk result (λ count. count ≤ 4) }
-    ensures untouched { IsUntouched (B.shown blocks.old) (B.shown blocks.new) }
-    ensures counts { Counts (B.shown blocks.old) (B.shown blocks.new) result }
-    ensures cause { IfErr result (Fails B.told (tree_known (table_in (B.shown blocks.old) files.now) info.now) (B.shown blocks.old) (B.shown blocks.new)) }
-    ensures reads { B.reads blocks.old blocks.new }
+    ensures loads { LoadsFrom (B.reads blocks.old blocks.new) (Fails B.told (tree_known (table_in (B.shown blocks.old) files.now) info.now) (B.shown blocks.old) (B.shown blocks.new)) (B.shown blocks.old) (B.shown blocks.new) result }
 {
-    match files.trees.get(&info.number) {
-        Some(tree) => tree.staying(blocks, index),
-        None => {
-            let tree = stored_tree(files.alloc, info);
-            tree.staying(blocks, index)
-        }
-    }
+    of_known!(files, info, |tree| tree.staying(blocks, index))
 }
 
 /// How many blocks of a file's tree are shared, by its pointers.
 fn staying_tree<B: Sharing>(files: &Files, blocks: &mut B, info: &Info) -> Result<u32, FilesFault>
-    requires range { IsInfo info.now }
-    requires there { B.told → IsInfoOf (rooted (B.shown blocks.old) files.now.inode) info.now }
+    requires { IsKnown B.told (B.shown blocks.old) files.now info.now }
     ensures staying { B.told → IfOk result (λ count. count ≡ staying_of (loaded_trees (under (B.shown blocks.old)) files.now (Some info.now.number)) (B.shared blocks.old)) }
     ensures few { IfOk result (λ count. count < 4194304) }
-    ensures untouched { IsUntouched (B.shown blocks.old) (B.shown blocks.new) }
-    ensures counts { Counts (B.shown blocks.old) (B.shown blocks.new) result }
-    ensures cause { IfErr result (Fails B.told (tree_known (table_in (B.shown blocks.old) files.now) info.now) (B.shown blocks.old) (B.shown blocks.new)) }
-    ensures reads { B.reads blocks.old blocks.new }
+    ensures loads { LoadsFrom (B.reads blocks.old blocks.new) (Fails B.told (tree_known (table_in (B.shown blocks.old) files.now) info.now) (B.shown blocks.old) (B.shown blocks.new)) (B.shown blocks.old) (B.shown blocks.new) result }
 {
-    match files.trees.get(&info.number) {
-        Some(tree) => tree.staying_all(blocks),
-        None => {
-            let tree = stored_tree(files.alloc, info);
-            tree.staying_all(blocks)
-        }
-    }
+    of_known!(files, info, |tree| tree.staying_all(blocks))
 }

@@ -1,17 +1,17 @@
 //! What a cut and a removal take of a table, before they are made.
 
-ghost use Rattle.std.specs.Prelude.{◌≡◌, ◌<◌, ◌≤◌, Some, IfOk, IfErr, nat_le};
-ghost use Rattle.fv_tree.specs.Sources.{Counts, IsUntouched};
+ghost use Rattle.std.specs.Prelude.{◌≡◌, ◌<◌, ◌≤◌, Some, IfOk, nat_le};
+ghost use Rattle.fv_tree.specs.Calls.{LoadsFrom};
 ghost use Rattle.fv_tree.specs.Standing.{under, Fails};
 ghost use Rattle.fv_tree.specs.Erasing.{HoldsCells};
 ghost use Rattle.fv_tree.specs.Taking.{gone_with, AreBelow};
 ghost use Rattle.fv_inode.specs.Files.{rooted, IsInfo};
-ghost use Rattle.fv_files.specs.Tables.{loaded_trees, table_in, tree_known, IsInfoOf};
+ghost use Rattle.fv_files.specs.Tables.{loaded_trees, table_in, tree_known, IsInfoOf, IsKnown};
 ghost use Rattle.fv_files.specs.Failing.{Looks};
 ghost use Rattle.fv_files.specs.Taking.{staying_where, CutTakes, RemovalTakes};
 
 use crate::files::{Files, FilesFault};
-use crate::hold::stored_tree;
+use crate::hold::{of_known, stored_tree};
 use fv_inode::Info;
 use fv_tree::{Sharing, Taken};
 
@@ -81,22 +81,12 @@ fn taken_tree<B: Sharing>(
     info: &Info,
     length: u32,
 ) -> Result<Taken, FilesFault>
-    requires range { IsInfo info.now }
-    requires there { B.told → IsInfoOf (rooted (B.shown blocks.old) files.now.inode) info.now }
+    requires { IsKnown B.told (B.shown blocks.old) files.now info.now }
     ensures gone { B.told → HoldsCells (tree_known (table_in (B.shown blocks.old) files.now) info.now) → IfOk result (λ taken. taken.gone ≡ gone_with (tree_known (table_in (B.shown blocks.old) files.now) info.now) (nat_le length)) }
     ensures staying { B.told → HoldsCells (tree_known (table_in (B.shown blocks.old) files.now) info.now)
         → IfOk result (λ taken. taken.staying ≡ staying_where (loaded_trees (under (B.shown blocks.old)) files.now (Some info.now.number)) (B.shared blocks.old) (nat_le length)) }
     ensures few { IfOk result (AreBelow 4194304) }
-    ensures untouched { IsUntouched (B.shown blocks.old) (B.shown blocks.new) }
-    ensures counts { Counts (B.shown blocks.old) (B.shown blocks.new) result }
-    ensures cause { IfErr result (Fails B.told (tree_known (table_in (B.shown blocks.old) files.now) info.now) (B.shown blocks.old) (B.shown blocks.new)) }
-    ensures reads { B.reads blocks.old blocks.new }
+    ensures loads { LoadsFrom (B.reads blocks.old blocks.new) (Fails B.told (tree_known (table_in (B.shown blocks.old) files.now) info.now) (B.shown blocks.old) (B.shown blocks.new)) (B.shown blocks.old) (B.shown blocks.new) result }
 {
-    match files.trees.get(&info.number) {
-        Some(tree) => tree.taken(blocks, length),
-        None => {
-            let tree = stored_tree(files.alloc, info);
-            tree.taken(blocks, length)
-        }
-    }
+    of_known!(files, info, |tree| tree.taken(blocks, length))
 }

@@ -3,12 +3,4 @@
 #![tactic(auto)]
 
 #[cfg(test)]
-mod bits;
-#[cfg(test)]
-mod blocks;
-#[cfg(test)]
-mod lines;
-#[cfg(test)]
-mod scripts;
-#[cfg(test)]
-mod vectors;
+mod tests;

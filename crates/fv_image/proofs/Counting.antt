@@ -9,7 +9,7 @@ use Rattle.std.proofs.lemmas.Bool.{cases_lt, and_left, and_right, and_from}
 use Rattle.std.proofs.lemmas.Bool.Decides.{nat_tests}
 use Rattle.std.proofs.lemmas.Nat.{le-div, div_below, div-mul-add}
 use Rattle.fv_bits.proofs.Counts.{passing, passing-suc, passing_same}
-use Rattle.fv_image.proofs.Counts.{within_two, none_between, one_or_none}
+use Rattle.fv_image.proofs.Counts.{within_two, none_between, one_or_none, at_most_both}
 
 -- ---- numbers by their slots
 
@@ -71,16 +71,10 @@ in_slot from m slot n some =
 pub in_slots : (from m : ℕ) (slots : List ℕ) (n : ℕ) → 0 < m → passing (λ v. list_any (λ slot. slot == (v - from) / m) slots) from n ≤ m * length slots
 in_slots from m [] n some = omega (arith, none_between (λ v. false) from n (λ k low high. refl))
 in_slots from m (x ∷ xs) n some =
-    let two = within_two (λ v. list_any (λ slot. slot == (v - from) / m) (x ∷ xs)) (λ v. x == (v - from) / m) (λ v. list_any (λ slot. slot == (v - from) / m) xs) from n (λ k. either (x == (k - from) / m) (list_any (λ slot. slot == (k - from) / m) xs)) in
+    let two = within_two (λ v. list_any (λ slot. slot == (v - from) / m) (x ∷ xs)) (λ v. x == (v - from) / m) (λ v. list_any (λ slot. slot == (v - from) / m) xs) from n (λ k. at_most_both (x == (k - from) / m) (list_any (λ slot. slot == (k - from) / m) xs)) in
     let more : m * length (x ∷ xs) ≡ m + m * length xs = mul_suc m (length xs) in
     omega (arith, two, in_slot from m x n some, in_slots from m xs n some, more)
   where
-    either : (t u : Bool) → cond {A = ℕ} (t || u) 1 0 ≤ cond t 1 0 + cond u 1 0
-    either true true = omega arith
-    either true false = omega arith
-    either false true = omega arith
-    either false false = omega arith
-
     mul_suc : (a b : ℕ) → a * suc b ≡ a + a * b
     mul_suc a b = grind (arith)
 

@@ -1,6 +1,6 @@
 -- How many numbers are in a list or pass a test, over ranges.
 use Rattle.std.proofs.Common.{◌≡◌, ℕ, zero, suc, ◌+◌, ◌<◌, ◌≤◌, Bool, true, false, cond, List, [], ◌∷◌, length, length-append, refl, ap, arith, ⊎_elim}
-use Rattle.std.specs.Prelude.{◌==◌, ◌||◌, not, flat_map, sum_by}
+use Rattle.std.specs.Prelude.{◌==◌, ◌||◌, not, nat_le, flat_map, sum_by}
 use Rattle.std.specs.List.{list_any, range_with_len}
 use Rattle.std.proofs.lemmas.List.Sums.{sum_by-cons}
 use Rattle.std.proofs.lemmas.Bool.{cases_lt}
@@ -12,6 +12,10 @@ use Rattle.fv_bits.proofs.Counts.{passing, passing-suc, none_pass}
 pub one_or_none : (t : Bool) → cond {A = ℕ} t 1 0 ≤ 1
 one_or_none true = omega arith
 one_or_none false = omega arith
+
+-- what a test of order says
+pub le_of_test : (a b : ℕ) → nat_le a b ≡ true → a ≤ b
+le_of_test a b e = grind (arith, nat_tests, e)
 
 -- those that pass a test, and those that don't
 pub others : (p : ℕ → Bool) (a n : ℕ) → passing (λ b. not (p b)) a n + passing p a n ≡ n
@@ -48,16 +52,17 @@ only_one x a (suc n) = ⊎_elim
     omega (arith, passing-suc (λ b. x == b) a n, nothing, only_one x (a + 1) n))
     (cases_lt x (suc a))
 
+-- of two tests at most both pass
+pub at_most_both : (t u : Bool) → cond {A = ℕ} (t || u) 1 0 ≤ cond t 1 0 + cond u 1 0
+at_most_both true true = omega arith
+at_most_both true false = omega arith
+at_most_both false true = omega arith
+at_most_both false false = omega arith
+
 -- a list has as many different numbers at most as it is long
 pub listed_within : (xs : List ℕ) (a n : ℕ) → passing (λ b. list_any (λ x. x == b) xs) a n ≤ length xs
 listed_within [] a n = omega (arith, none_pass (λ b. false) a n (λ k from. refl))
-listed_within (x ∷ xs) a n = omega (arith, within_two (λ b. list_any (λ x. x == b) (x ∷ xs)) (λ b. x == b) (λ b. list_any (λ x. x == b) xs) a n (λ k. either (x == k) (list_any (λ x. x == k) xs)), only_one x a n, listed_within xs a n)
-  where
-    either : (t u : Bool) → cond {A = ℕ} (t || u) 1 0 ≤ cond t 1 0 + cond u 1 0
-    either true true = omega arith
-    either true false = omega arith
-    either false true = omega arith
-    either false false = omega arith
+listed_within (x ∷ xs) a n = omega (arith, within_two (λ b. list_any (λ x. x == b) (x ∷ xs)) (λ b. x == b) (λ b. list_any (λ x. x == b) xs) a n (λ k. at_most_both (x == k) (list_any (λ x. x == k) xs)), only_one x a n, listed_within xs a n)
 
 -- parts of at most one element
 pub parts_of_one : {X : Type 0} (part : ℕ → List X) → ((k : ℕ) → length (part k) ≤ 1) → (xs : List ℕ) → length (flat_map part xs) ≤ length xs

@@ -64,41 +64,11 @@ all_of_range test always from (suc count) = rw (always from, all_of_range test a
 module _ (blocks version : ℕ) (size : 512 ≤ blocks) where
   blocks_empty : AreBlocks (empty_layout blocks version)
   unfolding has_shapes are_in_range has_entries_within is_in_position is_held_once has_true_map slots held held_by held_by_container label_in
-  blocks_empty = record {
-    shapes = refl;
-    ranges = refl;
-    entries = refl;
-    positions = refl;
-    once = refl;
-    map = all_of_range (λ b. true) (λ k. refl) 0 (area_bits blocks);
-  }
+  blocks_empty = record { shapes = refl; ranges = refl; entries = refl; positions = refl; once = refl; map = all_of_range (λ b. true) (λ k. refl) 0 (area_bits blocks) }
 
   tables_empty : AreTables (seen (empty_view blocks version))
   unfolding seen has_reached_shapes has_pointers_in_range has_wide_spans has_bases has_distinct_snapshots has_distinct_files has_reached_positions reaches_once has_reached_kinds has_one_to_one has_stamps_past has_marks_over has_cells_within has_levels has_true_hints leads_unknown has_known_places has_split_places leaves_base rests_on_base has_use_in_size has_commits_in_capacity commits_seen slots
-  tables_empty = record {
-    shapes = refl;
-    ranges = refl;
-    spans = refl;
-    bases = refl;
-    snapshots = refl;
-    files = refl;
-    positions = refl;
-    once = refl;
-    kinds = refl;
-    ids = refl;
-    stamps = refl;
-    marks = refl;
-    cells = refl;
-    levels = refl;
-    hints = refl;
-    unknown = refl;
-    known = refl;
-    split = refl;
-    leaves = refl;
-    rests = refl;
-    sizes = refl;
-    commits = enough (capacity blocks);
-  }
+  tables_empty = record { shapes = refl; ranges = refl; spans = refl; bases = refl; snapshots = refl; files = refl; positions = refl; once = refl; kinds = refl; ids = refl; stamps = refl; marks = refl; cells = refl; levels = refl; hints = refl; unknown = refl; known = refl; split = refl; leaves = refl; rests = refl; sizes = refl; commits = enough (capacity blocks) }
     where
       enough : (n : ℕ) → nat_le 0 n ≡ true
       enough n = grind (arith, nat_tests)
@@ -109,13 +79,7 @@ module _ (blocks version : ℕ) (size : 512 ≤ blocks) where
 
   empty_is_sound : IsSound (empty_layout blocks version)
   unfolding has_distinct_names overheads own delayed slots
-  empty_is_sound = record {
-    blocks = blocks_empty;
-    tables = tables_empty;
-    maps = maps_empty;
-    names = refl;
-    room = room;
-  }
+  empty_is_sound = record { blocks = blocks_empty; tables = tables_empty; maps = maps_empty; names = refl; room = room }
     where
       room : nat_le 256 (blocks - first_block blocks - 0 - 0) ≡ true
       room = let e : 256 ≤ blocks - first_block blocks - 0 - 0 = omega arith in grind (arith, nat_tests)

@@ -38,6 +38,7 @@ sum_two f = omega (arith, sum_by-cons f 0 (1 ∷ []), sum_by-cons f 1 [])
 sum_three : (f : ℕ → ℕ) → sum_by f (range_with_len 0 3) ≡ f 0 + (f 1 + f 2)
 sum_three f = omega (arith, sum_by-cons f 0 (1 ∷ 2 ∷ []), sum_by-cons f 1 (2 ∷ []), sum_by-cons f 2 [])
 
+-- the nodes of a container with one inner level, and with two
 low_count : (entries : ℕ) → level_width entries 0 ≤ 256 → node_count entries ≡ level_width entries 0 + level_width entries 1
 unfolding node_count
 low_count entries small = ap (λ (h : ℕ). sum_by (level_width entries) (range_with_len 0 (suc h))) (height_low entries small) ∙ sum_two (level_width entries)

@@ -26,7 +26,7 @@ use Rattle.fv_image.specs.Soundness.{AreBlocks, AreTables, IsSound}
 use Rattle.fv_image.specs.WholeMachine.{has_form, has_no_reserves, is_built, machine_from}
 use Rattle.fv_image.proofs.SameSeen.{left_listed, right_listed, same_reach, same_told, same_seen, seen_at, of_volume}
 use Rattle.fv_image.proofs.SoundTests.{machine_told}
-use Rattle.fv_image.proofs.Counts.{sums_within}
+use Rattle.fv_image.proofs.Counts.{sums_within, le_of_test}
 use Rattle.fv_image.proofs.Promises.{room_from}
 
 -- ---- volume maps
@@ -118,14 +118,7 @@ room_with_delayed w uses room enough = room_from w room (omega (arith, own_used 
 -- twice a sum and another are within a third where the parts are
 pub within_third : (a b c : ℕ → ℕ) (from count : ℕ) → ((k : ℕ) → from ≤ k → k < from + count → 2 * a k + b k ≤ c k) → 2 * sum_by a (range_with_len from count) + sum_by b (range_with_len from count) ≤ sum_by c (range_with_len from count)
 within_third a b c from zero each = omega arith
-within_third a b c from (suc count) each = omega (
-  arith,
-  sum_by-cons a from (range_with_len (from + 1) count),
-  sum_by-cons b from (range_with_len (from + 1) count),
-  sum_by-cons c from (range_with_len (from + 1) count),
-  each from (omega arith) (omega arith),
-  within_third a b c (from + 1) count (λ k low high. each k (omega (arith, low)) (omega (arith, high))),
-)
+within_third a b c from (suc count) each = omega (arith, sum_by-cons a from (range_with_len (from + 1) count), sum_by-cons b from (range_with_len (from + 1) count), sum_by-cons c from (range_with_len (from + 1) count), each from (omega arith) (omega arith), within_third a b c (from + 1) count (λ k low high. each k (omega (arith, low)) (omega (arith, high))))
 
 of_seen : (w : View) (s : ℕ) (h : Head) → commit (volume_seen w s h).volume ≡ commit (volume_told w s h)
 unfolding volume_seen
@@ -165,19 +158,12 @@ module _ (w : View) (tables : AreTables (seen w)) (uses : UsesOwn w) where
 
   capacity_fits : commits_seen (seen w) ≤ capacity w.blocks
   unfolding has_commits_in_capacity seen
-  capacity_fits = fits_in (commits_seen (seen w)) (capacity w.blocks) tables.commits
-    where
-      fits_in : (a b : ℕ) → nat_le a b ≡ true → a ≤ b
-      fits_in a b e = grind (arith, nat_tests, e)
+  capacity_fits = le_of_test (commits_seen (seen w)) (capacity w.blocks) tables.commits
 
   -- Where no entry is delayed, the space rule holds by what is committed: all commits count the overheads twice and what the volumes use,
   -- and they fit the capacity, which leaves 256 blocks.
   pub room_from_commits : delayed w ≡ 0 → 256 ≤ w.blocks - first_block w.blocks → leaves_room w 0 ≡ true
   room_from_commits none large = room_from w 0 (omega (arith, none, large, commits_hold, capacity_fits))
-
-  -- So it does with more room where the commits leave it in the capacity.
-  pub room_beside_commits : (room : ℕ) → delayed w ≡ 0 → 256 ≤ w.blocks - first_block w.blocks → commits_seen (seen w) + room ≤ capacity w.blocks → leaves_room w (256 + room) ≡ true
-  room_beside_commits room none large enough = room_from w (256 + room) (omega (arith, none, large, commits_hold, enough))
 
   -- Say that so many blocks were missing for the space rule with what was delayed before, and that so many were given back. Either these are
   -- enough, and the rule holds by what the volumes use. Or no entry is delayed any more, and it holds by what they commit.

@@ -156,6 +156,7 @@ module _ (w : View) (s : ℕ) (h : Head) (small : s < 64) (there : w.head s ≡ 
         pub owner : Owner
         pub level : ℕ
         pub index : ℕ
+        -- a pointer that leads there
         pub some : (pointer_of owner level index).stamp ≢ 0
         pub vvbn : (pointer_of owner level index).vvbn ≡ v
 

@@ -75,14 +75,7 @@ module _ (t : Taken) (i j : Image) (agree : AgreeOnHeld t i j) where
       let back : l.height - (l.height - level) ≡ level = omega (arith, low) in
       let number_within : number < level_width (entry_count l.span) (l.height - (l.height - level)) = subst (λ (k : ℕ). number < level_width (entry_count l.span) k) (sym back) within in
       let same : node_of j l.container l.height level number ≡ node_of i l.container l.height level number = same_node i j l.container l.height (entry_count l.span) (l.height - level) number (agree_on_tree s l inside is) (omega arith) number_within in
-      rw same (same_lying i j (node_of i l.container l.height level number) (λ some. agree _ (node_held t i s _ l inside is (record {
-        level = level;
-        number = number;
-        below = low;
-        within = within;
-        place = refl;
-        some = some;
-      }))))
+      rw same (same_lying i j (node_of i l.container l.height level number) (λ some. agree _ (node_held t i s _ l inside is (record { level = level; number = number; below = low; within = within; place = refl; some = some }))))
 
   same_node_from : (s : ℕ) (o : Option Label) → label_in (label_lying t i s) ≡ o → (level number : ℕ) → node_from o j level number ≡ node_from o i level number
   unfolding node_from

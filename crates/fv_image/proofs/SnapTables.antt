@@ -14,6 +14,13 @@ use Rattle.fv_image.specs.Views.{Snap}
 use Rattle.fv_image.specs.ReachRules.{are_distinct}
 use Rattle.fv_image.specs.Turned.{added, without}
 
+-- two tests that don't pass together come in either order
+pub either : {X : Type 0} (p q : Bool) (b c d : X) → (p ≡ true → q ≡ true → ⊥) → cond p b (cond q c d) ≡ cond q c (cond p b d)
+either true true b c d apart = absurd (apart refl refl)
+either true false b c d apart = refl
+either false true b c d apart = refl
+either false false b c d apart = refl
+
 module _ (table : Snap → Table) where
   abbrev told : Snap → List ℕ × Table
   told p = (p.name, table p)
@@ -37,13 +44,6 @@ module _ (table : Snap → Table) where
       let m = fin.from_entries {R = name_cmp} (map told ps) in
       let none : fin.get m p.name ≡ None = fin.get-from_entries name_total (map told ps) p.name ∙ no_other p.name ps (not-true _ parts.0) in
       fin.len-insert name_total m p.name (table p) ∙ ap (λ (o : Option Table). cond (is_some o) (fin.len m) (fin.len m + 1)) none ∙ omega (arith, rest)
-
-  -- two tests that don't pass together come in either order
-  either : (p q : Bool) (b c d : Option Table) → (p ≡ true → q ≡ true → ⊥) → cond p b (cond q c d) ≡ cond q c (cond p b d)
-  either true true b c d apart = absurd (apart refl refl)
-  either true false b c d apart = refl
-  either false true b c d apart = refl
-  either false false b c d apart = refl
 
   -- two names that differ aren't one name
   apart : (p q n : List ℕ) → is_same_name p q ≡ false → eq_by_cmp name_cmp n q ≡ true → eq_by_cmp name_cmp n p ≡ true → ⊥

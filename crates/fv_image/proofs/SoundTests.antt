@@ -24,19 +24,10 @@ use Rattle.fv_image.proofs.SameLayout.{same_layout}
 pub blocks_from_test : (y : Layout) → are_blocks y ≡ true → AreBlocks y
 unfolding are_blocks
 blocks_from_test y all =
-    let p0 = and_parts (has_shapes y) _ all in
-    let p1 = and_parts (are_in_range y) _ p0.1 in
-    let p2 = and_parts (has_entries_within y) _ p1.1 in
-    let p3 = and_parts (is_in_position y) _ p2.1 in
+    let p0 = and_parts (has_shapes y) _ all in let p1 = and_parts (are_in_range y) _ p0.1 in
+    let p2 = and_parts (has_entries_within y) _ p1.1 in let p3 = and_parts (is_in_position y) _ p2.1 in
     let p4 = and_parts (is_held_once y) (has_true_map y) p3.1 in
-    record {
-      shapes = p0.0;
-      ranges = p1.0;
-      entries = p2.0;
-      positions = p3.0;
-      once = p4.0;
-      map = p4.1;
-    }
+    record { shapes = p0.0; ranges = p1.0; entries = p2.0; positions = p3.0; once = p4.0; map = p4.1 }
 
 pub blocks_to_test : (y : Layout) → AreBlocks y → are_blocks y ≡ true
 unfolding are_blocks
@@ -163,11 +154,3 @@ stands_for i m is = so (root_of i) refl is
     so (Some t) e is = (t, (e, tells_from (layout_at t i) m is))
 
 -- ---- images that agree on what is held
-
--- Images that agree on all that a root names stand for the same machine under it.
-pub same_machine : (t : Taken) (i j : Image) → AgreeOnNamed t i j → machine_at t j ≡ machine_at t i
-same_machine t i j agree = ap machine_from (same_layout t i j agree)
-
--- and one is sound where the other is
-pub same_sound : (t : Taken) (i j : Image) → AgreeOnNamed t i j → IsSound (layout_at t i) → IsSound (layout_at t j)
-same_sound t i j agree is = subst IsSound (sym (same_layout t i j agree)) is

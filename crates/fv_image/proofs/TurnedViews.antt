@@ -18,6 +18,7 @@ use Rattle.fv_image.specs.Views.{Placed, Rooted, Snap, Footing, Head, View, slot
 use Rattle.fv_image.specs.Chains.{parent_in, along, place, under}
 use Rattle.fv_image.specs.Volumes.{standing_of, table_at, snap_at, base_on, base_told, base_from, volume_with, named_with, volumes_with, told_with}
 use Rattle.fv_image.specs.Turned.{turned, Turns, KeepsBases}
+use Rattle.fv_image.proofs.SnapTables.{either}
 
 module _ (w u : View) (s : ℕ) (h : Head) (a : Rooted) (ps : List Snap) (turns : Turns w u s h a ps) where
   -- what is asked of a head is the same where it asks neither for its table nor for its snapshots
@@ -80,17 +81,7 @@ module _ (w u : View) (s : ℕ) (h : Head) (a : Rooted) (ps : List Snap) (turns 
     -- a volume with this head and this base is told as before
     pub volume_same : (k : ℕ) (g f : Head) → w.head k ≡ Some f → f.base ≡ g.base → (x : Table) → volume_with u k g x ≡ volume_with w k g x
     unfolding volume_with
-    volume_same k g f there base x = λ i. record {
-      kind = g.kind;
-      size = g.size;
-      most = g.most;
-      span = g.span;
-      now = g.now;
-      active = x;
-      snapshots = fin.from_entries {R = name_cmp} (map (λ (p : Snap). (p.name, turned_table k p.table i)) g.snapshots);
-      base = (ap (base_from u) (sym base) ∙ base_same k f there ∙ ap (base_from w) base) i;
-      known = g.known;
-    }
+    volume_same k g f there base x = λ i. record { kind = g.kind; size = g.size; most = g.most; span = g.span; now = g.now; active = x; snapshots = fin.from_entries {R = name_cmp} (map (λ (p : Snap). (p.name, turned_table k p.table i)) g.snapshots); base = (ap (base_from u) (sym base) ∙ base_same k f there ∙ ap (base_from w) base) i; known = g.known }
 
     -- ---- the machine
 
@@ -111,13 +102,6 @@ module _ (w u : View) (s : ℕ) (h : Head) (a : Rooted) (ps : List Snap) (turns 
       past : (from count : ℕ) → s < from → listed u y from count ≡ listed w x from count
       past from zero low = refl
       past from (suc count) low = λ i. one_same from (λ e. absurd (omega (arith, e, low))) i ++ past (from + 1) count (omega (arith, low)) i
-
-      -- two tests that don't pass together come in either order
-      either : (p q : Bool) (b c d : Option Volume) → (p ≡ true → q ≡ true → ⊥) → cond p b (cond q c d) ≡ cond q c (cond p b d)
-      either true true b c d apart = absurd (apart refl refl)
-      either true false b c d apart = refl
-      either false true b c d apart = refl
-      either false false b c d apart = refl
 
       twice : (p : Bool) (b c d : Option Volume) → cond p b d ≡ cond p b (cond p c d)
       twice true b c d = refl

@@ -23,6 +23,7 @@ use Rattle.fv_image.specs.ReachRules.{are_distinct}
 use Rattle.fv_image.specs.HintRules.{is_splitting}
 use Rattle.fv_image.specs.VolumeRules.{footing_in, comes_to_end, can_bear, has_footing, has_bases, has_distinct_snapshots, share_name}
 use Rattle.fv_image.specs.Soundness.{AreTables}
+use Rattle.fv_image.proofs.Counts.{le_of_test}
 use Rattle.fv_image.proofs.Counting.{len_within}
 use Rattle.fv_image.proofs.SameSeen.{seen_at, of_volume, Stands, stands}
 use Rattle.fv_image.proofs.WellRoots.{HasWholeBlocks}
@@ -266,11 +267,8 @@ module _ (w : View) (tables : AreTables (seen w)) (whole : HasWholeBlocks w) (nu
             ∙ ap (λ (base : Base). Some base.table) is.is;
         known = states.0;
         whole = told_whole st.parent.base (not-true _ states.1);
-        span = let test = wide.0 in below st.parent.span h.span test;
+        span = let test = wide.0 in le_of_test st.parent.span h.span test;
       }
-    where
-      below : (a b : ℕ) → nat_le a b ≡ true → a ≤ b
-      below a b e = grind (arith, nat_tests, e)
 
   -- how far the volume of a name is from the end of its chain
   rank : List ℕ → ℕ

@@ -3,6 +3,7 @@ use Rattle.std.proofs.Common.{◌≡◌, ◌≢◌, ℕ, zero, suc, ◌+◌, ◌
 use Rattle.std.specs.Prelude.{Option, Some, None, ◌&&◌, ◌==◌, nat_le, drop, if◌then◌else◌}
 use Rattle.std.specs.Option.{is_some}
 use Rattle.std.specs.FinMap as fin
+use Rattle.std.proofs.lemmas.Bool.{both_ways}
 use Rattle.std.proofs.lemmas.Bool.Decides.{nat_tests}
 use Rattle.fv_codec.specs.declared.shape.Shape.{Shape}
 use Rattle.fv_codec.specs.declared.pointer.Pointer.{Pointer}
@@ -50,13 +51,18 @@ files_of block b e = so (verdicts inodes_fields block) e
     so (Ok fine) e = let same : items 16 240 file_of (drop 256 block) ≡ b.files = cc in ap (λ (rs : List InodeRecord). length rs) (sym same) ∙ length_items 16 240 file_of (drop 256 block)
     so (Err fault) e = absurd cc
 
-some_pointer : (ps : List Pointer) → all_holes ps ≡ false → (c : ℕ) × ((c < length ps) × ((get_or ps c hole).stamp ≢ 0))
-some_pointer [] e = absurd cc
-some_pointer (p ∷ ps) e = so (p.stamp == 0) refl (some_pointer ps) e
+-- where not all of a list are empty, one isn't
+pub some_used : {A : Type 0} (number : A → ℕ) (absent : A) (none : List A → Bool) → none [] ≡ true → ((x : A) (xs : List A) → none (x ∷ xs) ≡ ((number x == 0) && none xs))
+    → (xs : List A) → none xs ≡ false → (c : ℕ) × ((c < length xs) × (number (get_or xs c absent) ≢ 0))
+some_used number absent none empty step [] e = absurd (both_ways (none []) e empty)
+some_used number absent none empty step (x ∷ xs) e = so (number x == 0) refl (some_used number absent none empty step xs) (sym (step x xs) ∙ e)
   where
-    so : (b : Bool) → (p.stamp == 0) ≡ b → (all_holes ps ≡ false → (c : ℕ) × ((c < length ps) × ((get_or ps c hole).stamp ≢ 0))) → (b && all_holes ps) ≡ false → (c : ℕ) × ((c < length (p ∷ ps)) × ((get_or (p ∷ ps) c hole).stamp ≢ 0))
-    so true test rest e = let one = rest e in let low : one.0 < length ps = one.1.0 in (suc one.0, (omega (arith, low), one.1.1))
-    so false test rest e = (0, (omega arith, let some : p.stamp ≢ 0 = grind (arith, nat_tests, test) in some))
+    so : (b : Bool) → (number x == 0) ≡ b → (none xs ≡ false → (c : ℕ) × ((c < length xs) × (number (get_or xs c absent) ≢ 0))) → (b && none xs) ≡ false → (c : ℕ) × ((c < length (x ∷ xs)) × (number (get_or (x ∷ xs) c absent) ≢ 0))
+    so true test rest e = let one = rest e in let low : one.0 < length xs = one.1.0 in (suc one.0, (omega (arith, low), one.1.1))
+    so false test rest e = (0, (omega arith, let some : number x ≢ 0 = grind (arith, nat_tests, test) in some))
+
+some_pointer : (ps : List Pointer) → all_holes ps ≡ false → (c : ℕ) × ((c < length ps) × ((get_or ps c hole).stamp ≢ 0))
+some_pointer ps e = some_used (λ (p : Pointer). p.stamp) hole all_holes refl (λ p qs. refl) ps e
 
 -- a node of its shape has a pointer
 node_has : (block : List ℕ) → length block ≡ 4096 → is_fine (verdict_of (node_at block)) ≡ true

@@ -25,6 +25,7 @@ use Rattle.fv_image.specs.BlockRules.{is_fine}
 use Rattle.fv_image.specs.ReachRules.{all_roots, shape_for, block_is, has_reached_shapes, are_distinct, has_distinct_files, reaches_once, is_same_position}
 use Rattle.fv_image.specs.TableRules.{is_below_mark, has_marks_over, is_cell_of, has_cells_within, are_levels, has_levels}
 use Rattle.fv_image.specs.Soundness.{AreTables}
+use Rattle.fv_image.proofs.Counts.{le_of_test}
 use Rattle.fv_image.proofs.SameSeen.{of_volume}
 use Rattle.fv_image.proofs.WellTrees.{StandsAt}
 use Rattle.fv_image.proofs.WellNodes.{HasBlock, IsSoundTree}
@@ -108,18 +109,15 @@ module _ (w : View) (whole : HasWholeBlocks w) (s now : ℕ) (r : Rooted) where
     pub sound_tree : IsSoundTree now reserve top (stored (under w s) owner levels root)
     sound_tree = record {
       blocks = block_at_position;
-      stamps = λ level q some. fits (pointer_at (stored (under w s) owner levels root) level q).stamp now (each (λ e. nat_le e.pointer.stamp now) are.stamps level q some);
+      stamps = λ level q some. le_of_test (pointer_at (stored (under w s) owner levels root) level q).stamp now (each (λ e. nat_le e.pointer.stamp now) are.stamps level q some);
       marks = λ level q low some.
           let test : nat_lt level levels ≡ true = grind (arith, nat_tests, low) in
           let t = stored (under w s) owner levels root in
           let at = each (λ e. not (is_below_mark e) || nat_le e.pointer.stamp e.holder.stamp) are.marks level q some in
-          fits (pointer_at t level q).stamp (pointer_at t (level + 1) (q / fan)).stamp
+          le_of_test (pointer_at t level q).stamp (pointer_at t (level + 1) (q / fan)).stamp
           (subst (λ (b : Bool). (not b || nat_le (pointer_at t level q).stamp (if b then pointer_at t (level + 1) (q / fan) else top).stamp) ≡ true) test at);
       levels = starts;
     }
-      where
-        fits : (a b : ℕ) → nat_le a b ≡ true → a ≤ b
-        fits a b e = grind (arith, nat_tests, e)
 
 -- ---- a root
 

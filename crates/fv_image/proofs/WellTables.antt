@@ -36,7 +36,7 @@ use Rattle.fv_image.specs.BlockRules.{is_fine}
 use Rattle.fv_image.specs.ReachRules.{are_distinct}
 use Rattle.fv_image.proofs.Counting.{len_within}
 use Rattle.fv_image.proofs.WellTrees.{StandsAt, well_tree}
-use Rattle.fv_image.proofs.WellNodes.{IsSoundTree, files_of, noded, cell_block, from_cells, well_cells}
+use Rattle.fv_image.proofs.WellNodes.{IsSoundTree, some_used, files_of, noded, cell_block, from_cells, well_cells}
 
 -- ---- records
 
@@ -45,12 +45,7 @@ within true n = omega arith
 within false n = omega arith
 
 some_record : (rs : List InodeRecord) → all_free rs ≡ false → (j : ℕ) × ((j < length rs) × ((get_or rs j free_record).name_length ≢ 0))
-some_record [] e = absurd cc
-some_record (r ∷ rs) e = so (r.name_length == 0) refl (some_record rs) e
-  where
-    so : (b : Bool) → (r.name_length == 0) ≡ b → (all_free rs ≡ false → (j : ℕ) × ((j < length rs) × ((get_or rs j free_record).name_length ≢ 0))) → (b && all_free rs) ≡ false → (j : ℕ) × ((j < length (r ∷ rs)) × ((get_or (r ∷ rs) j free_record).name_length ≢ 0))
-    so true test rest e = let one = rest e in let low : one.0 < length rs = one.1.0 in (suc one.0, (omega (arith, low), one.1.1))
-    so false test rest e = (0, (omega arith, let some : r.name_length ≢ 0 = grind (arith, nat_tests, test) in some))
+some_record rs e = some_used (λ (r : InodeRecord). r.name_length) free_record all_free refl (λ r qs. refl) rs e
 
 record_in_range : (rs : List InodeRecord) (j : ℕ) → All IsInodeRecord rs → (get_or rs j free_record).name_length ≢ 0 → IsInodeRecord (get_or rs j free_record)
 record_in_range [] j all some = absurd (some refl)

@@ -12,7 +12,7 @@ use Rattle.fv_tree.specs.Sources.{Shown}
 use Rattle.fv_tree.specs.Standing.{standing, under}
 use Rattle.fv_tree.specs.Writing.{IsAlike, IsWritten}
 use Rattle.fv_tree.specs.Erasing.{HoldsCells, Erases}
-use Rattle.fv_tree.specs.Releasing.{IsDropped, Releases}
+use Rattle.fv_tree.specs.Releasing.{IsDropped}
 use Rattle.fv_tree.specs.Flushing.{loaded}
 use Rattle.fv_tree.specs.Altering.{Leaves}
 use Rattle.fv_tree.specs.Leading.{LeadsNoMore}
@@ -22,6 +22,7 @@ use Rattle.fv_tree.proofs.Counts.{alike_count}
 use Rattle.fv_tree.proofs.Erased.{hole_of}
 use Rattle.fv_tree.proofs.Held.{at_root}
 use Rattle.fv_tree.proofs.Levels.{fan_pos}
+use Rattle.fv_tree.proofs.Released.{released_as}
 use Rattle.fv_tree.proofs.Seen.{remains}
 use Rattle.fv_inode.specs.Failing.{OnlyLoads}
 use Rattle.fv_inode.specs.Changing.{Rewrites, HasNeighbor, Takes, TakesFile}
@@ -98,16 +99,6 @@ module _ (t u : Rooted) (alike : IsAlike t u) where
 
 -- ---- what a removal drops
 
-releases_as : (old new : Shown) (d e : ℕ → Type 0) → ((v : ℕ) → d v → e v) → ((v : ℕ) → e v → d v) → Releases old new d → Releases old new e
-releases_as old new d e there back was = record {
-  gone = λ v is. was.gone v (back v is);
-  used = λ v stays. was.used v (λ is. stays (there v is));
-  held = λ v stays. was.held v (λ is. stays (there v is));
-  unused = was.unused;
-  may_go = was.may_go;
-  calm = was.calm;
-}
-
 drops_as : (old : Shown) (t u w : Tree) (v : ℕ) → LeadsNoMore (loaded old t) (loaded old u) → IsDropped (under old) u w v → IsDropped (under old) t w v
 drops_as old t u w v leads drops = record { level = drops.level; place = drops.place; led = leads drops.level drops.place v drops.led; goes = drops.goes }
 
@@ -123,8 +114,8 @@ takes_then told before calls old mid new t u w n s count x first alike leaves ca
   released = λ is.
       let less : LeadsNoMore (loaded old t) (loaded old u) = earlier (λ v. LeadsNoMore (loaded old t) (loaded_as u v)) u old mid first.looks.untouched.held (first.leads is) in
       let more : LeadsNoMore (loaded old u) (loaded old t) = earlier (λ v. LeadsNoMore (loaded_as u v) (loaded old t)) u old mid first.looks.untouched.held (first.keeps is) in
-      releases_as old new (IsDropped (under old) u w) (IsDropped (under old) t w) (λ v. drops_as old t u w v less) (λ v. drops_as old u t w v more)
-      (released_on u w old mid new first.looks.untouched.held first.looks.untouched.used first.looks.counts.calm (second.released is));
+      released_as old new (IsDropped (under old) u w) (IsDropped (under old) t w) (released_on u w old mid new first.looks.untouched.held first.looks.untouched.used first.looks.counts.calm (second.released is))
+      (λ v. drops_as old t u w v less) (λ v. drops_as old u t w v more);
   leads = λ is sound level place v led. first.leads is level place v (second.leads is (first.stands is sound) level place v led);
   stored_well = λ is sound was. second.stored_well is (first.stands is sound) (first.stored_well is was);
   lets_go = λ is sound level place v led. second.lets_go is (first.stands is sound) level place v (first.keeps is level place v led);

@@ -21,7 +21,8 @@ use Rattle.fv_tree.specs.Erasing.{StandsAt, IsGrownFrom, Erases}
 use Rattle.fv_tree.proofs.Erased.{no_choice, stamp_there}
 use Rattle.fv_inode.specs.Changing.{Rewrites, HasNeighbor, Takes}
 use Rattle.fv_inode.proofs.Slots.{cell_within, block_there, cell_there}
-use Rattle.fv_inode.proofs.Machines.{spot_total, spot_ties, shown, shown_tree, rewritten}
+use Rattle.fv_laws.proofs.Orders.{spot_total, spot_ties}
+use Rattle.fv_inode.proofs.Machines.{shown, shown_tree, rewritten}
 use Rattle.fv_inode.proofs.Placed.{KeepsOthers}
 use Rattle.fv_inode.proofs.Told.{same_test, inode_told, take_file, files_in, in_is, has_file}
 use Rattle.fv_inode.proofs.Grown.{any_true, and_true, some_of, stands_cell, grown_tree}

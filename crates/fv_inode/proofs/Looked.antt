@@ -124,17 +124,8 @@ looks_judged told t old new r cell at block untouched calm lies place damage = r
 -- a call of the tree
 pub loads_at : {T : Type 0} {told reading : Type 0} {t u : Tree} {old new : Shown} {more brought : ℕ} {r : Result T BlockFault} → (told → OnErr r (Remains (standing (under old) t) (standing (under new) u))) → (told → OnErr r (Leaves (loaded old t) (loaded new u)))
     → Steady told reading old new t u more brought r → OnlyLoads told old new t u r
-loads_at {told = told} {t = t} {old = old} {new = new} {r = r} failed leaves did = record {
-  failed = failed;
-  leaves = leaves;
-  owner = did.owner;
-  stands = did.stands;
-  leads = did.leads;
-  keeps = did.keeps;
-  stored_well = did.stored_well;
-  keeps_ready = did.keeps_ready;
-  looks = looks_at told (standing (under old) t) old new r did.untouched did.counts did.cause;
-}
+loads_at {told = told} {t = t} {old = old} {new = new} {r = r} failed leaves did =
+    record { failed = failed; leaves = leaves; owner = did.owner; stands = did.stands; leads = did.leads; keeps = did.keeps; stored_well = did.stored_well; keeps_ready = did.keeps_ready; looks = looks_at told (standing (under old) t) old new r did.untouched did.counts did.cause }
 
 -- a tree that is said of over the blocks of a source, as what it leads to
 abbrev pub loaded_as : Tree → Rooted → Loaded
@@ -177,31 +168,16 @@ pub loads_none_failed : {S T : Type 0} (told : Type 0) (t : Tree) (old new : Sho
 loads_none_failed told t old new e looks = loads_none told t old new (Err e) (looks_failed told (standing (under old) t) old new e looks)
 
 -- of a change that failed, or was done, another answer
+loads_as : {S T : Type 0} {told : Type 0} {t u : Tree} {old new : Shown} {r : Result S BlockFault} {s : Result T BlockFault} → (told → OnErr s (Remains (standing (under old) t) (standing (under new) u))) → (told → OnErr s (Leaves (loaded old t) (loaded new u)))
+    → Looks told (standing (under old) t) old new s → OnlyLoads told old new t u r → OnlyLoads told old new t u s
+loads_as failed leaves looks did =
+    record { failed = failed; leaves = leaves; owner = did.owner; stands = did.stands; leads = did.leads; keeps = did.keeps; stored_well = did.stored_well; keeps_ready = did.keeps_ready; looks = looks }
+
 pub loads_failed : {S T : Type 0} (told : Type 0) (t u : Tree) (old new : Shown) (e : BlockFault) → OnlyLoads {T = S} told old new t u (Err e) → OnlyLoads {T = T} told old new t u (Err e)
-loads_failed told t u old new e loads = record {
-  failed = loads.failed;
-  leaves = loads.leaves;
-  owner = loads.owner;
-  stands = loads.stands;
-  leads = loads.leads;
-  keeps = loads.keeps;
-  stored_well = loads.stored_well;
-  keeps_ready = loads.keeps_ready;
-  looks = looks_failed told (standing (under old) t) old new e loads.looks;
-}
+loads_failed told t u old new e loads = loads_as loads.failed loads.leaves (looks_failed told (standing (under old) t) old new e loads.looks) loads
 
 pub loads_done : {S T : Type 0} (told : Type 0) (t u : Tree) (old new : Shown) (x : S) (y : T) → OnlyLoads told old new t u (Ok x) → OnlyLoads told old new t u (Ok y)
-loads_done told t u old new x y loads = record {
-  failed = λ is. tt;
-  leaves = λ is. tt;
-  owner = loads.owner;
-  stands = loads.stands;
-  leads = loads.leads;
-  keeps = loads.keeps;
-  stored_well = loads.stored_well;
-  keeps_ready = loads.keeps_ready;
-  looks = looks_done told (standing (under old) t) old new x y loads.looks;
-}
+loads_done told t u old new x y loads = loads_as (λ is. tt) (λ is. tt) (looks_done told (standing (under old) t) old new x y loads.looks) loads
 
 -- and then a change in memory
 pub loads_more : {S T : Type 0} (told : Type 0) (t u w : Tree) (old new : Shown) (stamp : ℕ) (x : S) (y : T) → OnlyLoads told old new t u (Ok x) → AltersHeld u w stamp → OnlyLoads told old new t w (Ok y)

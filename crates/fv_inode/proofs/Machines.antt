@@ -1,33 +1,18 @@
 -- To the machine, a change of an inode file is a write of its inode cell.
-use Rattle.std.proofs.Common.{◌≡◌, ℕ, List, refl, sym, ◌∙◌, rules, Less, Equal, Greater}
+use Rattle.std.proofs.Common.{◌≡◌, ℕ, List, refl, sym, ◌∙◌}
 use Rattle.std.specs.Prelude.{Option}
-use Rattle.std.specs.declared.cmp.Ordering.{Ordering}
-use Rattle.std.specs.Ordering.{nat_cmp, ordering_then}
-use Rattle.std.specs.Cmp.{IsTotalOrder}
-use Rattle.std.specs.Cmp.Rules.{comparing}
+use Rattle.std.specs.Ordering.{nat_cmp}
 use Rattle.std.specs.FinMap as fin
 use Rattle.fv_codec.specs.declared.inode.InodeRecord.{InodeRecord}
 use Rattle.fv_model.specs.Trees as trees
-use Rattle.fv_model.specs.Trees.{Spot, spot_cmp, written}
+use Rattle.fv_model.specs.Trees.{Spot, written}
 use Rattle.fv_model.specs.Tables.{inode_cell}
+use Rattle.fv_laws.proofs.Orders.{spot_total, spot_ties}
 use Rattle.fv_tables.specs.Spelled.{Rooted}
 use Rattle.fv_tables.specs.Told.{tree_told, cells_told}
 use Rattle.fv_tables.proofs.Tables.{stamps_told, blocks_told}
 use Rattle.fv_tree.specs.Standing.{Shows}
 use Rattle.fv_inode.specs.Changing.{Rewrites}
-
-both_equal : (r s : Ordering) → ordering_then r s ≡ Equal → (r ≡ Equal) × (s ≡ Equal)
-both_equal Less s e = (e, cc)
-both_equal Equal s e = (refl, e)
-both_equal Greater s e = (e, cc)
-
-pub spot_total : IsTotalOrder spot_cmp
-spot_total = search (comparing, rules)
-
-pub spot_ties : fin.IsAntisymmetric spot_cmp
-spot_ties x y e =
-    let both : (nat_cmp x.0 y.0 ≡ Equal) × (nat_cmp x.1 y.1 ≡ Equal) = both_equal _ _ e in
-    λ i. (fin.nat_cmp-IsAntisymmetric x.0 y.0 both.0 i, fin.nat_cmp-IsAntisymmetric x.1 y.1 both.1 i)
 
 -- a tree shows what it is told as, and nothing else
 pub shown : (t : Rooted) → Shows t (tree_told t) (cells_told t)

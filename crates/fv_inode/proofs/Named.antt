@@ -17,24 +17,6 @@ one_more t name bound none here n lt = ⊎_elim
     (λ ne. none n (omega arith))
     (cases_eq n bound)
 
--- the record of a number has the name
-pub is_first : (t : Rooted) (name : List ℕ) (n : ℕ) (f : InodeRecord) (info : Info) → used_record f ≡ file_at t n → has_name (used_record f) name ≡ true → info ≡ info_of n f → HasNoneBelow t name n
-    → IsFirst t name info
-is_first t name n f info at named told none = so (f.name_length == 0) refl
-  where
-    number : info.number ≡ n
-    number = ap (λ (x : Info). x.number) told
-
-    so : (b : Bool) → (f.name_length == 0) ≡ b → IsFirst t name info
-    so true e = let free : used_record f ≡ None = rw e refl in absurd (both_ways (has_name (used_record f) name) (ap (λ o. has_name o name) free) named)
-    so false e = let used : used_record f ≡ Some f = rw e refl in record {
-      file = f;
-      there = ap (file_at t) number ∙ sym at ∙ used;
-      named = sym (ap (λ o. has_name o name) used) ∙ named;
-      told = told ∙ ap (λ m. info_of m f) (sym number);
-      first = subst (HasNoneBelow t name) (sym number) none;
-    }
-
 -- no file of all has the name
 pub none_at_all : (t : Rooted) (name : List ℕ) → HasNoneBelow t name (records_each * fan ^ t.levels) → HasNone t name
 none_at_all t name none n = ⊎_elim

@@ -48,25 +48,11 @@ new_record name reserve = record {
 
 -- the record with the numbers of an info; the name stays
 abbrev pub with_info : Info → InodeRecord → InodeRecord
-with_info info r = record {
-  name_length = r.name_length;
-  name = r.name;
-  length = info.length;
-  reserve = info.reserve;
-  levels = info.levels;
-  root = info.root;
-}
+with_info info r = record r { length = info.length; reserve = info.reserve; levels = info.levels; root = info.root }
 
 -- the record with another root, of a tree of so many levels; the name and the other numbers stay
 abbrev pub with_root : ℕ → Pointer → InodeRecord → InodeRecord
-with_root levels root r = record {
-  name_length = r.name_length;
-  name = r.name;
-  length = r.length;
-  reserve = r.reserve;
-  levels = levels;
-  root = root;
-}
+with_root levels root r = record r { levels = levels; root = root }
 
 -- the numbers of an info are in the ranges of a record
 pub record IsInfo (info : Info) : Type 0 where

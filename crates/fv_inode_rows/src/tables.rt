@@ -7,6 +7,22 @@ use fv_tree::{Blocks, Sharing, Taken};
 /// The most cells that a file has.
 const MOST_CELLS: u32 = 2_097_152;
 
+/// Whether a call was made, which asks for its premises.
+pub type Done = Result<bool, FilesFault>;
+
+/// What is told of a file; `None` where there is no such file.
+pub type Told<T> = Result<Option<T>, FilesFault>;
+
+/// What is told of the file of a name.
+macro_rules! told {
+    ($table:ident, $blocks:ident, $name:ident, $info:ident => $told:expr) => {
+        match $table.find($blocks, $name)? {
+            None => Ok(None),
+            Some($info) => Ok(Some($told)),
+        }
+    };
+}
+
 /// Makes a file under the least free number; false where none is free.
 ///
 /// # Errors
@@ -18,7 +34,7 @@ pub fn make<B: Blocks>(
     name: &Name,
     reserve: u32,
     stamp: u64,
-) -> Result<bool, FilesFault> {
+) -> Done {
     if stamp == 0 || reserve > MOST_CELLS {
         return Ok(false);
     }
@@ -44,7 +60,7 @@ pub fn write<B: Blocks>(
     index: u32,
     block: &[u8; 4096],
     stamp: u64,
-) -> Result<bool, FilesFault> {
+) -> Done {
     if stamp == 0 || index >= MOST_CELLS {
         return Ok(false);
     }
@@ -69,7 +85,7 @@ pub fn read<B: Blocks>(
     name: &Name,
     index: u32,
     into: &mut [u8; 4096],
-) -> Result<bool, FilesFault> {
+) -> Done {
     match table.find(blocks, name)? {
         None => Ok(false),
         Some(info) => {
@@ -84,15 +100,8 @@ pub fn read<B: Blocks>(
 /// # Errors
 ///
 /// As `Files::find`.
-pub fn length<B: Blocks>(
-    table: &mut Files,
-    blocks: &mut B,
-    name: &Name,
-) -> Result<Option<u32>, FilesFault> {
-    match table.find(blocks, name)? {
-        None => Ok(None),
-        Some(info) => Ok(Some(info.length)),
-    }
+pub fn length<B: Blocks>(table: &mut Files, blocks: &mut B, name: &Name) -> Told<u32> {
+    told!(table, blocks, name, info => info.length)
 }
 
 /// How many shared blocks a write of a block of a file replaces; `None` where there is no such file.
@@ -101,16 +110,8 @@ pub fn length<B: Blocks>(
 ///
 /// As `Files::find` and `Files::staying`.
 #[tactic(auto, using(fv_files::proofs::Tables::first_info))]
-pub fn staying<B: Sharing>(
-    table: &mut Files,
-    blocks: &mut B,
-    name: &Name,
-    index: u32,
-) -> Result<Option<u32>, FilesFault> {
-    match table.find(blocks, name)? {
-        None => Ok(None),
-        Some(info) => Ok(Some(table.staying(blocks, &info, index)?)),
-    }
+pub fn staying<B: Sharing>(table: &mut Files, blocks: &mut B, name: &Name, cell: u32) -> Told<u32> {
+    told!(table, blocks, name, info => table.staying(blocks, &info, cell)?)
 }
 
 /// How many shared blocks the removal of a file replaces or lets go; `None` where there is no such file.
@@ -119,15 +120,8 @@ pub fn staying<B: Sharing>(
 ///
 /// As `Files::find` and `Files::staying_by_removal`.
 #[tactic(auto, using(fv_files::proofs::Tables::first_info))]
-pub fn staying_by_removal<B: Sharing>(
-    table: &mut Files,
-    blocks: &mut B,
-    name: &Name,
-) -> Result<Option<u32>, FilesFault> {
-    match table.find(blocks, name)? {
-        None => Ok(None),
-        Some(info) => Ok(Some(table.staying_by_removal(blocks, &info)?)),
-    }
+pub fn staying_by_removal<B: Sharing>(table: &mut Files, blocks: &mut B, name: &Name) -> Told<u32> {
+    told!(table, blocks, name, info => table.staying_by_removal(blocks, &info)?)
 }
 
 /// What a cut of a file to a length takes; `None` where there is no such file.
@@ -141,11 +135,8 @@ pub fn taken_by_cut<B: Sharing>(
     blocks: &mut B,
     name: &Name,
     length: u32,
-) -> Result<Option<Taken>, FilesFault> {
-    match table.find(blocks, name)? {
-        None => Ok(None),
-        Some(info) => Ok(Some(table.taken_by_cut(blocks, &info, length)?)),
-    }
+) -> Told<Taken> {
+    told!(table, blocks, name, info => table.taken_by_cut(blocks, &info, length)?)
 }
 
 /// What the removal of a file takes; `None` where there is no such file.
@@ -154,13 +145,6 @@ pub fn taken_by_cut<B: Sharing>(
 ///
 /// As `Files::find` and `Files::taken_by_removal`.
 #[tactic(auto, using(fv_files::proofs::Tables::first_info))]
-pub fn taken_by_removal<B: Sharing>(
-    table: &mut Files,
-    blocks: &mut B,
-    name: &Name,
-) -> Result<Option<Taken>, FilesFault> {
-    match table.find(blocks, name)? {
-        None => Ok(None),
-        Some(info) => Ok(Some(table.taken_by_removal(blocks, &info)?)),
-    }
+pub fn taken_by_removal<B: Sharing>(table: &mut Files, blocks: &mut B, name: &Name) -> Told<Taken> {
+    told!(table, blocks, name, info => table.taken_by_removal(blocks, &info)?)
 }

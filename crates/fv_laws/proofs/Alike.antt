@@ -19,9 +19,8 @@ use Rattle.fv_model.specs.Refusals.{Condition, conditions, first_of, refusal, ho
 use Rattle.fv_model.specs.Replies.{AllowsBy, IsAnswer, is_open, answer}
 use Rattle.fv_laws.specs.Isolation.{is_local, rests_elsewhere, AreAlike, IsIsolated}
 use Rattle.fv_laws.proofs.Orders.{name_total}
-use Rattle.fv_laws.proofs.Changes.{by_cases, IsOf, at_home}
-use Rattle.fv_laws.proofs.Commits.{HasBudgetOf}
-use Rattle.fv_laws.proofs.Guarantee.{KeepsBudget, one_volume, afterwards}
+use Rattle.fv_laws.proofs.Changes.{IsOf, at_home}
+use Rattle.fv_laws.proofs.Guarantee.{keeps_budget, afterwards}
 use Rattle.fv_laws.proofs.SetCounts.{or_true}
 
 -- ---- lists of conditions that agree but where others are looked at
@@ -144,30 +143,6 @@ agree k m n (Probe v f i) is h full all = let e = h v refl in
 agree k m n c is h full all = absurd cc
 
 -- ---- commits of a volume of kind `volume` stay
-same_budget : (x y z : Volume) → x ≡ y → z.kind ≡ x.kind → z.size ≡ x.size → z.span ≡ x.span → HasBudgetOf y z
-same_budget x y z same kind size span = record { kind = kind ∙ (λ i. (same i).kind); size = size ∙ (λ i. (same i).size); span = span ∙ (λ i. (same i).span) }
-
-keeps_budget : (m : Machine) (c : Command) → is_local c ≡ true → KeepsBudget m (change_of m c)
-keeps_budget m c is = by_cases m (λ c x. is_local c ≡ true → KeepsBudget m x) (record {
-  stays = λ c is. tt;
-  creates = λ v size kind is. absurd cc;
-  destroys = λ v is. absurd cc;
-  resizes = λ v size x e is. absurd cc;
-  guarantees = λ v kind x e is. absurd cc;
-  news = λ v f reserve x e is y d. same_budget x y _ (one_volume x y _ e d) refl refl refl;
-  puts = λ v f i block x e n file g is y d. same_budget x y _ (one_volume x y _ e d) refl refl refl;
-  cuts = λ v f length x e n file g is y d. same_budget x y _ (one_volume x y _ e d) refl refl refl;
-  removes = λ v f x e n file g is y d. same_budget x y _ (one_volume x y _ e d) refl refl refl;
-  keeps = λ v s x e is y d. same_budget x y _ (one_volume x y _ e d) refl refl refl;
-  forgets = λ v s x e is y d. same_budget x y _ (one_volume x y _ e d) refl refl refl;
-  restores = λ v s x e t g is y d. same_budget x y _ (one_volume x y _ e d) refl refl refl;
-  clones = λ c v s size kind x e t d is. absurd cc;
-  mirrors = λ v s w size kind x e t d is. absurd cc;
-  splits = λ c x e is y d. same_budget x y _ (one_volume x y _ e d) refl refl refl;
-  ends = λ c x e is y d. same_budget x y _ (one_volume x y _ e d) refl refl refl;
-  cleans = λ v x e is y d. same_budget x y _ (one_volume x y _ e d) refl refl refl;
-}) c is
-
 is_within_after : (m : Machine) (v : List ℕ) (c : Command) (x : Volume) → IsAdmitted m → fin.get m.volumes v ≡ Some x → x.kind ≡ Whole → is_local c ≡ true → home c ≡ Some v → is_aggregate_full (effect m c) ≡ false
 is_within_after m v c x ok there whole local here =
     (afterwards m v x (change_of m c) ok there whole (subst (λ (o : Option (List ℕ)). IsOf o (change_of m c)) here (at_home m c)) (keeps_budget m c local)).within

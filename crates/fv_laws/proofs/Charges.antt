@@ -1,5 +1,6 @@
 -- What a volume is charged for, by the positions of its active table.
 use Rattle.std.proofs.Common.{◌≡◌, ℕ, ◌+◌, ◌*◌, Bool, true, false, not, ◌&&◌, ◌||◌, List, [], ◌∷◌, length, map, filter, flat_map, Option, Some, None, inl, inr, refl, sym, ap, subst, ◌∙◌, arith}
+use Rattle.std.proofs.Math.Bool.{or-false, and-true}
 use Rattle.std.specs.List.{list_any}
 use Rattle.std.specs.Option.{option_map_or}
 use Rattle.std.specs.Ordering.{eq_by_cmp}
@@ -47,8 +48,8 @@ charge_by_positions x alone =
     let count : set.len (set.difference (set.union (ids_of x.active) (kept_ids x)) (ids_left_out x.base)) ≡ set.len (ids_of x.active) =
     ap set.len (set.same_set id_total id_ties _ _ (λ q.
     set.contains-difference id_total (set.union (ids_of x.active) (kept_ids x)) (ids_left_out x.base) q
-    ∙ (λ i. (set.contains-union id_total (ids_of x.active) (kept_ids x) q ∙ ap (λ b. set.contains (ids_of x.active) q || b) (kept_none x alone q) ∙ or_none (set.contains (ids_of x.active) q)) i && not (out_none x alone q i))
-    ∙ and_all (set.contains (ids_of x.active) q))) in
+    ∙ (λ i. (set.contains-union id_total (ids_of x.active) (kept_ids x) q ∙ ap (λ b. set.contains (ids_of x.active) q || b) (kept_none x alone q) ∙ or-false (set.contains (ids_of x.active) q)) i && not (out_none x alone q i))
+    ∙ and-true (set.contains (ids_of x.active) q))) in
     sums _ _ _ _ count (ids_are x.active) (maps ∙ nothing (map_blocks x.span))
   where
     nothing : (n : ℕ) → n * 0 ≡ 0
@@ -56,14 +57,6 @@ charge_by_positions x alone =
 
     sums : (a b c d : ℕ) → a ≡ b → b ≡ c → d ≡ 0 → a + d ≡ c
     sums a b c d first second third = omega (arith, first, second, third)
-
-    or_none : (b : Bool) → (b || false) ≡ b
-    or_none true = refl
-    or_none false = refl
-
-    and_all : (b : Bool) → (b && not false) ≡ b
-    and_all true = refl
-    and_all false = refl
 
 -- ---- every volume
 

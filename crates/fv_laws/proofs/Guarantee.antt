@@ -11,6 +11,7 @@ use Rattle.fv_model.specs.Machines.{Machine, capacity}
 use Rattle.fv_model.specs.Space.{charge, need, use_of, commit, commits, IsAdmitted}
 use Rattle.fv_model.specs.Effects.{Change, Stays, Becomes, Goes, changed, change_of, effect}
 use Rattle.fv_model.specs.Refusals.{Condition, conditions, first_of, home, space, is_volume_full, is_aggregate_full}
+use Rattle.fv_laws.specs.Isolation.{is_local}
 use Rattle.fv_laws.specs.Guarantee.{is_change, is_early, is_overcharged, IsChangeOf, IsGuaranteed}
 use Rattle.fv_laws.proofs.Changes.{by_cases, IsOf, at_home}
 use Rattle.fv_laws.proofs.Commits.{now_there, commits_put, HasBudgetOf, same_commit, is_within}
@@ -40,35 +41,19 @@ pub record EndsInSpace (m : Machine) (v : List ℕ) (c : Command) : Type 0 where
 
 at_new : (m : Machine) (v f : List ℕ) (reserve : ℕ) → EndsInSpace m v (New v f reserve)
 unfolding conditions
-at_new m v f reserve = record {
-  early = (Range, _) ∷ (NoVolume, _) ∷ (FileExists, _) ∷ (WrongKind, _) ∷ (TooMany, _) ∷ [];
-  are = (refl, (refl, (refl, (refl, (refl, tt)))));
-  all = refl;
-}
+at_new m v f reserve = record { early = (Range, _) ∷ (NoVolume, _) ∷ (FileExists, _) ∷ (WrongKind, _) ∷ (TooMany, _) ∷ []; are = (refl, (refl, (refl, (refl, (refl, tt))))); all = refl }
 
 at_put : (m : Machine) (v f : List ℕ) (i : ℕ) (block : List ℕ) → EndsInSpace m v (Put v f i block)
 unfolding conditions
-at_put m v f i block = record {
-  early = (Range, _) ∷ (NoVolume, _) ∷ (NoFile, _) ∷ (TooMany, _) ∷ [];
-  are = (refl, (refl, (refl, (refl, tt))));
-  all = refl;
-}
+at_put m v f i block = record { early = (Range, _) ∷ (NoVolume, _) ∷ (NoFile, _) ∷ (TooMany, _) ∷ []; are = (refl, (refl, (refl, (refl, tt)))); all = refl }
 
 at_cut : (m : Machine) (v f : List ℕ) (length : ℕ) → EndsInSpace m v (Cut v f length)
 unfolding conditions
-at_cut m v f length = record {
-  early = (Range, _) ∷ (NoVolume, _) ∷ (NoFile, _) ∷ (Range, _) ∷ (TooMany, _) ∷ [];
-  are = (refl, (refl, (refl, (refl, (refl, tt)))));
-  all = refl;
-}
+at_cut m v f length = record { early = (Range, _) ∷ (NoVolume, _) ∷ (NoFile, _) ∷ (Range, _) ∷ (TooMany, _) ∷ []; are = (refl, (refl, (refl, (refl, (refl, tt))))); all = refl }
 
 at_remove : (m : Machine) (v f : List ℕ) → EndsInSpace m v (Remove v f)
 unfolding conditions
-at_remove m v f = record {
-  early = (NoVolume, _) ∷ (NoFile, _) ∷ (TooMany, _) ∷ [];
-  are = (refl, (refl, (refl, tt)));
-  all = refl;
-}
+at_remove m v f = record { early = (NoVolume, _) ∷ (NoFile, _) ∷ (TooMany, _) ∷ []; are = (refl, (refl, (refl, tt))); all = refl }
 
 pub ends_in_space : (m : Machine) (v : List ℕ) (c : Command) → is_change c ≡ true → home c ≡ Some v → EndsInSpace m v c
 ends_in_space m v (New w f reserve) is h = let same : w ≡ v = cc in subst (λ u. EndsInSpace m u (New w f reserve)) same (at_new m w f reserve)
@@ -89,26 +74,39 @@ budget x y kind size span = record { kind = kind; size = size; span = span }
 pub one_volume : (x y : Volume) (o : Option Volume) → o ≡ Some x → o ≡ Some y → x ≡ y
 one_volume x y o e d = cc
 
-keeps : (m : Machine) (c : Command) → is_change c ≡ true → KeepsBudget m (change_of m c)
-keeps m c is = by_cases m (λ c x. is_change c ≡ true → KeepsBudget m x) (record {
+same_budget : (x y z : Volume) → x ≡ y → z.kind ≡ x.kind → z.size ≡ x.size → z.span ≡ x.span → HasBudgetOf y z
+same_budget x y z same kind size span = record { kind = kind ∙ (λ i. (same i).kind); size = size ∙ (λ i. (same i).size); span = span ∙ (λ i. (same i).span) }
+
+pub keeps_budget : (m : Machine) (c : Command) → is_local c ≡ true → KeepsBudget m (change_of m c)
+keeps_budget m c is = by_cases m (λ c x. is_local c ≡ true → KeepsBudget m x) (record {
   stays = λ c is. tt;
   creates = λ v size kind is. absurd cc;
   destroys = λ v is. absurd cc;
   resizes = λ v size x e is. absurd cc;
   guarantees = λ v kind x e is. absurd cc;
-  news = λ v f reserve x e is y d. let same : x ≡ y = one_volume x y _ e d in record { kind = λ i. (same i).kind; size = λ i. (same i).size; span = λ i. (same i).span };
-  puts = λ v f i block x e n file g is y d. let same : x ≡ y = one_volume x y _ e d in record { kind = λ i. (same i).kind; size = λ i. (same i).size; span = λ i. (same i).span };
-  cuts = λ v f length x e n file g is y d. let same : x ≡ y = one_volume x y _ e d in record { kind = λ i. (same i).kind; size = λ i. (same i).size; span = λ i. (same i).span };
-  removes = λ v f x e n file g is y d. let same : x ≡ y = one_volume x y _ e d in record { kind = λ i. (same i).kind; size = λ i. (same i).size; span = λ i. (same i).span };
-  keeps = λ v s x e is. absurd cc;
-  forgets = λ v s x e is. absurd cc;
-  restores = λ v s x e t d is. absurd cc;
+  news = λ v f reserve x e is y d. same_budget x y _ (one_volume x y _ e d) refl refl refl;
+  puts = λ v f i block x e n file g is y d. same_budget x y _ (one_volume x y _ e d) refl refl refl;
+  cuts = λ v f length x e n file g is y d. same_budget x y _ (one_volume x y _ e d) refl refl refl;
+  removes = λ v f x e n file g is y d. same_budget x y _ (one_volume x y _ e d) refl refl refl;
+  keeps = λ v s x e is y d. same_budget x y _ (one_volume x y _ e d) refl refl refl;
+  forgets = λ v s x e is y d. same_budget x y _ (one_volume x y _ e d) refl refl refl;
+  restores = λ v s x e t g is y d. same_budget x y _ (one_volume x y _ e d) refl refl refl;
   clones = λ c v s size kind x e t d is. absurd cc;
   mirrors = λ v s w size kind x e t d is. absurd cc;
-  splits = λ c x e is. absurd cc;
-  ends = λ c x e is. absurd cc;
-  cleans = λ v x e is. absurd cc;
+  splits = λ c x e is y d. same_budget x y _ (one_volume x y _ e d) refl refl refl;
+  ends = λ c x e is y d. same_budget x y _ (one_volume x y _ e d) refl refl refl;
+  cleans = λ v x e is y d. same_budget x y _ (one_volume x y _ e d) refl refl refl;
 }) c is
+
+keeps : (m : Machine) (c : Command) → is_change c ≡ true → KeepsBudget m (change_of m c)
+keeps m c is = keeps_budget m c (local c is)
+  where
+    local : (c : Command) → is_change c ≡ true → is_local c ≡ true
+    local (New v f reserve) is = refl
+    local (Put v f i block) is = refl
+    local (Cut v f length) is = refl
+    local (Remove v f) is = refl
+    local c is = absurd cc
 
 -- of kind `volume`, the use is the charge
 no_need : (x : Volume) → x.kind ≡ Whole → need x ≡ 0

@@ -122,17 +122,6 @@ later_alone : (x : Volume) (table : ℕ → Table) → IsAlone x → IsAlone (st
 later_alone x table alone = record { snapshots = alone.snapshots; base = alone.base }
 
 module _ (x : Volume) (alone : IsAlone x) (is : IsWellTable x.now x.active) where
-  pub new_charge : (name : List ℕ) (reserve : ℕ) → charge (stamped x (new x.active name reserve)) ≡ charge x + added_by x.active.inode (inode_cell (free_number x.active))
-  new_charge name reserve =
-      charge_by_positions (stamped x (new x.active name reserve)) (later_alone x (new x.active name reserve) alone)
-      ∙ new_positions x.now (x.now + 1) x.active is name reserve
-      ∙ ap (λ n. n + added_by x.active.inode (inode_cell (free_number x.active))) (sym (charge_by_positions x alone))
-
-  pub put_charge : (n : ℕ) (f : File) (i : ℕ) (block : List ℕ) → fin.get x.active.files n ≡ Some f → charge (stamped x (put x.active n f i block)) ≡ charge x + added_by f.tree i
-  put_charge n f i block there =
-      charge_by_positions (stamped x (put x.active n f i block)) (later_alone x (put x.active n f i block) alone)
-      ∙ put_positions x.now (x.now + 1) x.active is n f i block there ∙ ap (λ n. n + added_by f.tree i) (sym (charge_by_positions x alone))
-
   pub cut_charge : (n : ℕ) (f : File) (length : ℕ) → fin.get x.active.files n ≡ Some f → charge (stamped x (cut x.active n f length)) + taken_by_cut f length ≡ charge x
   cut_charge n f length there =
       ap (λ n. n + taken_by_cut f length) (charge_by_positions (stamped x (cut x.active n f length)) (later_alone x (cut x.active n f length) alone))

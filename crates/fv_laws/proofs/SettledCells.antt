@@ -49,15 +49,7 @@ module _ (t : Tree) (gone left : List ℕ) (within : (i : ℕ) → In i gone →
       let low = at.0 in
       let small = below cell.0 t.levels s.0 low (within cell.0 cell.1) in
       let place = at.1 in
-      record {
-        level = s.0;
-        place = s.1;
-        low = omega arith;
-        high = omega (arith, low);
-        within = omega (arith, small, place);
-        passes = and_from (holds_one gone s) (not (holds_one left s)) (holds gone s cell.0 cell.1 at.1) one.1;
-        same = refl;
-      })
+      record { level = s.0; place = s.1; low = omega arith; high = omega (arith, low); within = omega (arith, small, place); passes = and_from (holds_one gone s) (not (holds_one left s)) (holds gone s cell.0 cell.1 at.1) one.1; same = refl })
 
 -- ---- how many stay charged
 

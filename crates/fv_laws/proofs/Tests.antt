@@ -49,9 +49,3 @@ module _ {X : Type 0} (p : X → Bool) where
       so : (b : Bool) → list_any p xs ≡ b → list_any p xs ≡ false
       so false e = e
       so true e = let found = from_any xs e in absurd (both_ways (p found.0) (each found.0 found.1.0) found.1.1)
-
--- the same elements pass the same tests
-pub same_any : {X : Type 0} (p : X → Bool) (xs ys : List X) → ((x : X) → In x xs → In x ys) → ((x : X) → In x ys → In x xs) → list_any p xs ≡ list_any p ys
-same_any p xs ys there back = iff (list_any p xs) (list_any p ys)
-    (λ e. let found = from_any p xs e in to_any p found.0 ys (there found.0 found.1.0) found.1.1)
-    (λ e. let found = from_any p ys e in to_any p found.0 xs (back found.0 found.1.0) found.1.1)

@@ -16,10 +16,9 @@ use Rattle.fv_model.specs.Machines.{Machine, empty_machine}
 use Rattle.fv_model.specs.Space.{span_of}
 use Rattle.fv_model.specs.Effects.{Becomes, changed, change_of, effect, at_file, at_snapshot, stamped, empty_volume, clone_of, mirror_of, being_split}
 use Rattle.fv_model.specs.Refusals.{of_volume, conditions, next, is_parent, is_base, is_splitting}
-use Rattle.fv_model.specs.Runs.{Line, after}
 use Rattle.fv_laws.specs.WellFormed.{IsParent, IsWellTable, IsWellVolume, IsWell}
 use Rattle.fv_laws.proofs.Orders.{name_total}
-use Rattle.fv_laws.proofs.Changes.{along, by_next, volume_of, file_of, snapshot_of, differs}
+use Rattle.fv_laws.proofs.Changes.{by_next, volume_of, file_of, snapshot_of, differs}
 use Rattle.fv_laws.proofs.Halves.{NoneHolds, none_holds}
 use Rattle.fv_laws.proofs.Room.{named_there}
 use Rattle.fv_laws.proofs.Tables.{new_well, put_well, cut_well, rm_well}
@@ -241,6 +240,3 @@ well_empty blocks = record {
   bases = λ name x b e has. absurd (none_there name x e);
   rooted = record { rank = λ name. 0; falls = λ name x b e has. absurd (none_there name x e) };
 }
-
-pub well_after : (m : Machine) (lines : List Line) (k : ℕ) → IsWell m → IsWell (after m lines k)
-well_after = along IsWell well_next

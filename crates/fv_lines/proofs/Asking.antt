@@ -47,13 +47,7 @@ taken_still old new laws into result takes = goes_on old old new (IsStill old) (
 
 -- one take
 pub asks_take : (old new : Shown) (into : List ℕ) (n : ℕ) → IsDisk old → Takes old into new (Ok n) → Asks {T = Unit {0}} old new (Ok tt)
-asks_take old new into n laws takes = record {
-  rests = takes.rests;
-  any_moment = taken_still old new laws into (Ok n) takes;
-  given = takes.given;
-  sink_faults = takes.sink_faults;
-  cause = record { later = takes.cause.later; calm = takes.cause.calm; rose = tt };
-}
+asks_take old new into n laws takes = record { rests = takes.rests; any_moment = taken_still old new laws into (Ok n) takes; given = takes.given; sink_faults = takes.sink_faults; cause = record { later = takes.cause.later; calm = takes.cause.calm; rose = tt } }
 
 pub asks_take_failed : (old new : Shown) (into : List ℕ) (e : Failed) → IsDisk old → Takes old into new (Err e) → Asks {T = Unit {0}} old new (Err e)
 asks_take_failed old new into e laws takes = record {

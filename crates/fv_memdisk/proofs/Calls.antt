@@ -163,9 +163,6 @@ module _ (old : Story) (sound : IsSound old) (f w f' w' : ℕ) (ends : Ends) whe
   pub same_stays : (new : Story) → new ≡ old → Stays (shown_at old f w ends) (shown_at new f' w' ends)
   same_stays new same = subst (λ (n : Story). Stays (shown_at old f w ends) (shown_at n f' w' ends)) (sym same) (stays_same old f w f' w' ends ends)
 
-  pub same_time : (new : Story) → new ≡ old → Elapses (shown_at old f w ends) (shown_at new f' w' ends)
-  same_time new same = subst (λ (n : Story). Elapses (shown_at old f w ends) (shown_at n f' w' ends)) (sym same) (elapses_same old f w f' w' ends ends)
-
 -- the fact of the outcome that came
 pub if_ok : {E P : Type 0} (r : Result (Unit {0}) E) → is_err r ≡ false → OnOk r P → P
 if_ok (Ok u) was p = p

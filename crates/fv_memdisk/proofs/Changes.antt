@@ -161,17 +161,6 @@ abbrev pub without : Story → ℕ → Story
 without s at = record { base = s.base; reads = s.reads; past = s.past; run = s.run; given = s.given; places = (length s.past, at) ∷ s.places }
 
 module _ (s : Story) (at : ℕ) (sound : IsSound s) where
-  pub sound_without : IsSound (without s at)
-  sound_without = record {
-    run = sound.run;
-    reads = sound.reads;
-    whole = sound.whole;
-    whole_settled = sound.whole_settled;
-    within = sound.within;
-    full = sound.full;
-    known = let here : nat_le (length s.past) (length s.past) ≡ true = grind (arith, nat_tests) in rw here sound.known;
-  }
-
   pub opens_now : Opens (is_open (now_of s) s.places) (is_open (now_of s) ((length s.past, at) ∷ s.places)) at
   opens_now = subst (λ (n : ℕ). Opens (is_open (now_of s) s.places) (is_open (now_of s) ((n, at) ∷ s.places)) at) (count_at s.base s.past (length s.past) (omega arith)) (opens_forgotten (now_of s) s.places at (start_at s.base s.past (length s.past)))
 

@@ -1,5 +1,6 @@
 -- What one call more does to the disk and to what a crash may leave of it.
 use Rattle.std.proofs.Common.{◌≡◌, ◌≢◌, ◌==◌, ◌≤◌, ◌<◌, ◌+◌, ◌||◌, ◌&&◌, ⊎_elim, ℕ, Bool, true, false, cond, List, [], ◌∷◌, ◌++◌, length, take, refl, sym, ap, ◌∙◌, subst, arith, length-append}
+use Rattle.std.proofs.Math.Bool.{or_assoc, or_comm}
 use Rattle.std.specs.Prelude.{nat_le}
 use Rattle.std.proofs.lemmas.List.{take_all, take-append-le, length-take-le}
 use Rattle.std.proofs.lemmas.Bool.{false≢true, cases_eq}
@@ -87,15 +88,7 @@ abbrev pub Opens : (ℕ → Bool) → (ℕ → Bool) → ℕ → Type 0
 Opens old new at = (a : ℕ) → new a ≡ old a || (at == a)
 
 or_swap : (b c d : Bool) → ((b || c) || d) ≡ ((b || d) || c)
-or_swap true c d = refl
-or_swap false true true = refl
-or_swap false true false = refl
-or_swap false false true = refl
-or_swap false false false = refl
-
-or_assoc : (b c d : Bool) → (b || (c || d)) ≡ ((b || c) || d)
-or_assoc true c d = refl
-or_assoc false c d = refl
+or_swap b c d = or_assoc b c d ∙ ap (λ (x : Bool). b || x) (or_comm c d) ∙ sym (or_assoc b d c)
 
 opens_written : (s : State) (places : List (ℕ × ℕ)) (at a : ℕ) → are_known s.count places ≡ true
     → (is_among (noted s.written at) a || was_forgotten places s.start (s.count + 1) a) ≡ ((is_among s.written a || was_forgotten places s.start s.count a) || (at == a))
@@ -116,16 +109,10 @@ forgotten_first s places at a le =
     let low : nat_le s.start s.count ≡ true = grind (arith, nat_tests) in let high : nat_le s.count s.count ≡ true = grind (arith, nat_tests) in
     rw (low, high) refl
 
-or_turn : (b c : Bool) → (b || c) ≡ (c || b)
-or_turn true true = refl
-or_turn true false = refl
-or_turn false true = refl
-or_turn false false = refl
-
 pub opens_forgotten : (s : State) (places : List (ℕ × ℕ)) (at : ℕ) → s.start ≤ s.count → Opens (is_open s places) (is_open s ((s.count, at) ∷ places)) at
 unfolding is_open
 opens_forgotten s places at le a =
-    rw (forgotten_first s places at a le) (ap (λ b. is_among s.written a || b) (or_turn (at == a) (was_forgotten places s.start s.count a)) ∙ or_assoc (is_among s.written a) (was_forgotten places s.start s.count a) (at == a))
+    rw (forgotten_first s places at a le) (ap (λ b. is_among s.written a || b) (or_comm (at == a) (was_forgotten places s.start s.count a)) ∙ sym (or_assoc (is_among s.written a) (was_forgotten places s.start s.count a) (at == a)))
 
 -- a write that was forgotten later opens nothing before
 pub opens_later : (s : State) (places : List (ℕ × ℕ)) (n at a : ℕ) → s.count < n → is_open s ((n, at) ∷ places) a ≡ is_open s places a

@@ -158,6 +158,15 @@ impl MemHost {
     }
 }
 
+/// Ends a call that fails to change the disk or the output, and counts its fault.
+macro_rules! write_fails {
+    ($host:ident) => {{
+        raise(&mut $host.faults);
+        raise(&mut $host.write_faults);
+        return Err(Failed);
+    }};
+}
+
 impl Disk for MemHost {
     ghost use Rattle.fv_disk.specs.DiskCalls.{Reads, Writes, Settles};
     ghost use Rattle.std.specs.Prelude.{[]};
@@ -192,16 +201,12 @@ impl Disk for MemHost {
         if self.tallies.next(Call::Write) {
             let kept = self.history.tear(at);
             note(&kept, &mut self.starved);
-            raise(&mut self.faults);
-            raise(&mut self.write_faults);
-            return Err(Failed);
+            write_fails!(self);
         }
         let kept = self.history.write(at, block);
         note(&kept, &mut self.starved);
         if kept.is_err() {
-            raise(&mut self.faults);
-            raise(&mut self.write_faults);
-            return Err(Failed);
+            write_fails!(self);
         }
         Ok(())
     }
@@ -213,16 +218,12 @@ impl Disk for MemHost {
         ensures lived { OnErr result (story self.new ≡ story self.old) }
     {
         if self.tallies.next(Call::Barrier) {
-            raise(&mut self.faults);
-            raise(&mut self.write_faults);
-            return Err(Failed);
+            write_fails!(self);
         }
         let kept = self.history.barrier();
         note(&kept, &mut self.starved);
         if kept.is_err() {
-            raise(&mut self.faults);
-            raise(&mut self.write_faults);
-            return Err(Failed);
+            write_fails!(self);
         }
         Ok(())
     }

@@ -47,12 +47,3 @@ module _ {X : Type 0} where
 
 pub needed_same : {S S' : Ids} {m m' : Stamps} {l l' : ℕ} {es es' : List (ℕ × File)} → S ≡ S' → m ≡ m' → l ≡ l' → es ≡ es' → sum_by (λ (e : ℕ × File). count_by (needs_block S m) (reserved_places l e.0 e.1)) es ≡ sum_by (λ (e : ℕ × File). count_by (needs_block S' m') (reserved_places l' e.0 e.1)) es'
 needed_same s m l es = λ i. sum_by (λ (e : ℕ × File). count_by (needs_block (s i) (m i)) (reserved_places (l i) e.0 e.1)) (es i)
-
--- past 256 nodes there is a level more
-pub nodes_step : (fuel n : ℕ) → 0 < fuel → 256 < n → nodes_above fuel n ≡ ceil_div n 256 + nodes_above (fuel - 1) (ceil_div n 256)
-unfolding nodes_above
-nodes_step zero n some many = absurd (omega arith)
-nodes_step (suc fuel) n some many =
-    let less : suc fuel - 1 ≡ fuel = omega arith in
-    let big : nat_le n 256 ≡ false = grind (arith, nat_tests) in
-    rw less (ap (λ b. cond b 1 (ceil_div n 256 + nodes_above fuel (ceil_div n 256))) big)

@@ -1,5 +1,6 @@
 -- What the calls of a `BTreeSet` are to the finite set that it stands for, and how sets are made one key after another.
 use Rattle.std.proofs.Common.{◌≡◌, ◌+◌, Bool, true, false, cond, not, ◌&&◌, ◌||◌, List, [], ◌∷◌, length, refl, sym, ap, ◌∙◌, Less, arith}
+use Rattle.std.proofs.Math.Bool.{or-false, or_assoc, and-true}
 use Rattle.std.specs.declared.cmp.Ordering.{Ordering}
 use Rattle.std.specs.Ordering.{is_eq, eq_by_cmp}
 use Rattle.std.specs.Cmp.{IsTotalOrder, eq_by_cmp_equiv}
@@ -23,23 +24,11 @@ turned true false c = refl
 turned false true c = refl
 turned false false c = refl
 
-grouped : (a b c : Bool) → ((a || b) || c) ≡ (a || (b || c))
-grouped true b c = refl
-grouped false b c = refl
-
 without : (e s r : Bool) → ((not e && s) && not r) ≡ (s && not (e || r))
 without true true r = refl
 without true false r = refl
 without false true r = refl
 without false false r = refl
-
-or_none : (a : Bool) → (a || false) ≡ a
-or_none true = refl
-or_none false = refl
-
-and_all : (a : Bool) → (a && not false) ≡ a
-and_all true = refl
-and_all false = refl
 
 module _ {K : Type 0} {R : K → K → Ordering} (o : IsTotalOrder R) where
   pub held : (s : tree.BTreeSet K) (k : K) → tree.contains R s k ≡ set.contains (set_of R s) k
@@ -70,18 +59,18 @@ module _ {K : Type 0} {R : K → K → Ordering} (o : IsTotalOrder R) where
         set.contains-union o (set.insert s k) (set.from_list ks) q ∙ ap (λ b. b || set.contains (set.from_list {R = R} ks) q) (set.contains-insert o s k q) ∙ turned (eq_by_cmp R q k) (set.contains s q) (set.contains (set.from_list {R = R} ks) q) ∙ sym (set.contains-union o s (set.from_list (k ∷ ks)) q ∙ ap (λ b. set.contains s q || b) (set.contains-insert o (set.from_list {R = R} ks) k q)))
 
     pub union_end : (s : set.FinSet R) → set.union s set.empty ≡ s
-    union_end s = set.same_set o ties _ _ (λ q. set.contains-union o s set.empty q ∙ ap (λ b. set.contains s q || b) (set.contains-empty R q) ∙ or_none (set.contains s q))
+    union_end s = set.same_set o ties _ _ (λ q. set.contains-union o s set.empty q ∙ ap (λ b. set.contains s q || b) (set.contains-empty R q) ∙ or-false (set.contains s q))
 
     pub union_start : (s : set.FinSet R) → set.union set.empty s ≡ s
     union_start s = set.same_set o ties _ _ (λ q. set.contains-union o set.empty s q ∙ ap (λ b. b || set.contains s q) (set.contains-empty R q))
 
     pub union_grouped : (s t u : set.FinSet R) → set.union (set.union s t) u ≡ set.union s (set.union t u)
     union_grouped s t u = set.same_set o ties _ _ (λ q.
-        set.contains-union o (set.union s t) u q ∙ ap (λ b. b || set.contains u q) (set.contains-union o s t q) ∙ grouped (set.contains s q) (set.contains t q) (set.contains u q) ∙ sym (set.contains-union o s (set.union t u) q ∙ ap (λ b. set.contains s q || b) (set.contains-union o t u q)))
+        set.contains-union o (set.union s t) u q ∙ ap (λ b. b || set.contains u q) (set.contains-union o s t q) ∙ or_assoc (set.contains s q) (set.contains t q) (set.contains u q) ∙ sym (set.contains-union o s (set.union t u) q ∙ ap (λ b. set.contains s q || b) (set.contains-union o t u q)))
 
     pub difference_step : (s : set.FinSet R) (k : K) (ks : List K) → set.difference (set.remove s k) (set.from_list ks) ≡ set.difference s (set.from_list (k ∷ ks))
     difference_step s k ks = set.same_set o ties _ _ (λ q.
         set.contains-difference o (set.remove s k) (set.from_list ks) q ∙ ap (λ b. b && not (set.contains (set.from_list {R = R} ks) q)) (set.contains-remove o s k q) ∙ without (eq_by_cmp R q k) (set.contains s q) (set.contains (set.from_list {R = R} ks) q) ∙ sym (set.contains-difference o s (set.from_list (k ∷ ks)) q ∙ ap (λ b. set.contains s q && not b) (set.contains-insert o (set.from_list {R = R} ks) k q)))
 
     pub difference_end : (s : set.FinSet R) → set.difference s set.empty ≡ s
-    difference_end s = set.same_set o ties _ _ (λ q. set.contains-difference o s set.empty q ∙ ap (λ b. set.contains s q && not b) (set.contains-empty R q) ∙ and_all (set.contains s q))
+    difference_end s = set.same_set o ties _ _ (λ q. set.contains-difference o s set.empty q ∙ ap (λ b. set.contains s q && not b) (set.contains-empty R q) ∙ and-true (set.contains s q))

@@ -15,6 +15,19 @@ use crate::volumes::Volume;
 use fv_model::{Block, Command, Kind, Name};
 use std::alloc::{AllocError, Global};
 
+/// The aggregate after a change.
+type Changed = Result<Aggregate, AllocError>;
+
+/// The aggregate with a change of what was found in it, or as it is where that isn't found.
+macro_rules! where_found {
+    ($aggregate:ident, $found:expr, $one:pat => $changed:expr) => {
+        match $found {
+            None => $aggregate.clone(),
+            Some($one) => $changed,
+        }
+    };
+}
+
 /// The aggregate after a command, whatever the volumes use and commit then.
 #[tactic(auto, unfolding(fv_model::specs::Effects::change_of))]
 pub fn effect(
@@ -74,45 +87,23 @@ pub fn effect(
 }
 
 #[tactic(auto, using(crate::proofs::Room::size_of_new))]
-fn created(
-    alloc: Global,
-    aggregate: &Aggregate,
-    name: &Name,
-    size: u32,
-    kind: Kind,
-) -> Result<Aggregate, AllocError>
+fn created(alloc: Global, aggregate: &Aggregate, name: &Name, size: u32, kind: Kind) -> Changed
     requires { first_of (before_space aggregate.now (Command.VolCreate name.now size kind)) ≡ None }
     ensures { IfOk result (λ m. m ≡ changed aggregate.now (Becomes name.now (empty_volume size kind))) }
 {
     aggregate.with_volume(alloc, name, Volume::empty(alloc, size, kind)?)
 }
 
-fn resized(
-    alloc: Global,
-    aggregate: &Aggregate,
-    name: &Name,
-    size: u32,
-) -> Result<Aggregate, AllocError>
+fn resized(alloc: Global, aggregate: &Aggregate, name: &Name, size: u32) -> Changed
     ensures { IfOk result (λ m. m ≡ changed aggregate.now (at_volume aggregate.now name.now (λ x. Becomes name.now (record x { size = size })))) }
 {
-    match aggregate.volume(name) {
-        None => aggregate.clone(),
-        Some(volume) => aggregate.with_volume(alloc, name, volume.with_size(size)?),
-    }
+    where_found!(aggregate, aggregate.volume(name), volume => aggregate.with_volume(alloc, name, volume.with_size(size)?))
 }
 
-fn guaranteed(
-    alloc: Global,
-    aggregate: &Aggregate,
-    name: &Name,
-    kind: Kind,
-) -> Result<Aggregate, AllocError>
+fn guaranteed(alloc: Global, aggregate: &Aggregate, name: &Name, kind: Kind) -> Changed
     ensures { IfOk result (λ m. m ≡ changed aggregate.now (at_volume aggregate.now name.now (λ x. Becomes name.now (record x { kind = kind })))) }
 {
-    match aggregate.volume(name) {
-        None => aggregate.clone(),
-        Some(volume) => aggregate.with_volume(alloc, name, volume.with_kind(kind)?),
-    }
+    where_found!(aggregate, aggregate.volume(name), volume => aggregate.with_volume(alloc, name, volume.with_kind(kind)?))
 }
 
 #[tactic(auto, using(crate::proofs::Room::changes_left_by_new, crate::proofs::Room::files_left))]
@@ -122,14 +113,11 @@ fn with_file(
     name: &Name,
     file: &Name,
     reserve: u32,
-) -> Result<Aggregate, AllocError>
+) -> Changed
     requires { first_of (before_space aggregate.now (Command.New name.now file.now reserve)) ≡ None }
     ensures { IfOk result (λ m. m ≡ changed aggregate.now (at_volume aggregate.now name.now (λ x. Becomes name.now (stamped x (new x.active file.now reserve))))) }
 {
-    match aggregate.volume(name) {
-        None => aggregate.clone(),
-        Some(volume) => with_file_in(alloc, aggregate, name, volume, file, reserve),
-    }
+    where_found!(aggregate, aggregate.volume(name), volume => with_file_in(alloc, aggregate, name, volume, file, reserve))
 }
 
 fn with_file_in(
@@ -139,7 +127,7 @@ fn with_file_in(
     volume: &Volume,
     file: &Name,
     reserve: u32,
-) -> Result<Aggregate, AllocError>
+) -> Changed
     requires changes { volume.now.now < most_changes }
     requires files { fin.len volume.now.active.files < most_files }
     ensures { IfOk result (λ m. m ≡ changed aggregate.now (Becomes name.now (stamped volume.now (new volume.now.active file.now reserve)))) }
@@ -158,14 +146,11 @@ fn written(
     file: &Name,
     index: u32,
     block: &Block,
-) -> Result<Aggregate, AllocError>
+) -> Changed
     requires { first_of (before_space aggregate.now (Command.Put name.now file.now index block.now)) ≡ None }
     ensures { IfOk result (λ m. m ≡ changed aggregate.now (at_volume aggregate.now name.now (λ x. at_file x file.now (λ n f. Becomes name.now (stamped x (put x.active n f index block.now)))))) }
 {
-    match aggregate.volume(name) {
-        None => aggregate.clone(),
-        Some(volume) => written_in(alloc, aggregate, name, volume, file, index, block),
-    }
+    where_found!(aggregate, aggregate.volume(name), volume => written_in(alloc, aggregate, name, volume, file, index, block))
 }
 
 fn written_in(
@@ -176,36 +161,24 @@ fn written_in(
     file: &Name,
     index: u32,
     block: &Block,
-) -> Result<Aggregate, AllocError>
+) -> Changed
     requires { volume.now.now < most_changes }
     ensures { IfOk result (λ m. m ≡ changed aggregate.now (at_file volume.now file.now (λ n f. Becomes name.now (stamped volume.now (put volume.now.active n f index block.now))))) }
 {
-    match volume.active().file_named(file) {
-        None => aggregate.clone(),
-        Some((number, file)) => {
-            let table = volume
-                .active()
-                .put(alloc, number, file, index, block, volume.next_stamp())?;
-            aggregate.with_volume(alloc, name, volume.changed(table)?)
-        }
-    }
+    where_found!(aggregate, volume.active().file_named(file), (number, file) => {
+        let table = volume
+            .active()
+            .put(alloc, number, file, index, block, volume.next_stamp())?;
+        aggregate.with_volume(alloc, name, volume.changed(table)?)
+    })
 }
 
 #[tactic(auto, using(crate::proofs::Room::changes_left_by_cut))]
-fn shortened(
-    alloc: Global,
-    aggregate: &Aggregate,
-    name: &Name,
-    file: &Name,
-    length: u32,
-) -> Result<Aggregate, AllocError>
+fn shortened(alloc: Global, aggregate: &Aggregate, name: &Name, file: &Name, length: u32) -> Changed
     requires { first_of (before_space aggregate.now (Command.Cut name.now file.now length)) ≡ None }
     ensures { IfOk result (λ m. m ≡ changed aggregate.now (at_volume aggregate.now name.now (λ x. at_file x file.now (λ n f. Becomes name.now (stamped x (cut x.active n f length)))))) }
 {
-    match aggregate.volume(name) {
-        None => aggregate.clone(),
-        Some(volume) => shortened_in(alloc, aggregate, name, volume, file, length),
-    }
+    where_found!(aggregate, aggregate.volume(name), volume => shortened_in(alloc, aggregate, name, volume, file, length))
 }
 
 fn shortened_in(
@@ -215,35 +188,24 @@ fn shortened_in(
     volume: &Volume,
     file: &Name,
     length: u32,
-) -> Result<Aggregate, AllocError>
+) -> Changed
     requires { volume.now.now < most_changes }
     ensures { IfOk result (λ m. m ≡ changed aggregate.now (at_file volume.now file.now (λ n f. Becomes name.now (stamped volume.now (cut volume.now.active n f length))))) }
 {
-    match volume.active().file_named(file) {
-        None => aggregate.clone(),
-        Some((number, file)) => {
-            let table = volume
-                .active()
-                .cut(alloc, number, file, length, volume.next_stamp())?;
-            aggregate.with_volume(alloc, name, volume.changed(table)?)
-        }
-    }
+    where_found!(aggregate, volume.active().file_named(file), (number, file) => {
+        let table = volume
+            .active()
+            .cut(alloc, number, file, length, volume.next_stamp())?;
+        aggregate.with_volume(alloc, name, volume.changed(table)?)
+    })
 }
 
 #[tactic(auto, using(crate::proofs::Room::changes_left_by_removal))]
-fn without_file(
-    alloc: Global,
-    aggregate: &Aggregate,
-    name: &Name,
-    file: &Name,
-) -> Result<Aggregate, AllocError>
+fn without_file(alloc: Global, aggregate: &Aggregate, name: &Name, file: &Name) -> Changed
     requires { first_of (before_space aggregate.now (Command.Remove name.now file.now)) ≡ None }
     ensures { IfOk result (λ m. m ≡ changed aggregate.now (at_volume aggregate.now name.now (λ x. at_file x file.now (λ n f. Becomes name.now (stamped x (rm x.active n)))))) }
 {
-    match aggregate.volume(name) {
-        None => aggregate.clone(),
-        Some(volume) => without_file_in(alloc, aggregate, name, volume, file),
-    }
+    where_found!(aggregate, aggregate.volume(name), volume => without_file_in(alloc, aggregate, name, volume, file))
 }
 
 fn without_file_in(
@@ -252,59 +214,32 @@ fn without_file_in(
     name: &Name,
     volume: &Volume,
     file: &Name,
-) -> Result<Aggregate, AllocError>
+) -> Changed
     requires { volume.now.now < most_changes }
     ensures { IfOk result (λ m. m ≡ changed aggregate.now (at_file volume.now file.now (λ n f. Becomes name.now (stamped volume.now (rm volume.now.active n))))) }
 {
-    match volume.active().file_named(file) {
-        None => aggregate.clone(),
-        Some((number, _file)) => {
-            let table = volume.active().remove(alloc, number, volume.next_stamp())?;
-            aggregate.with_volume(alloc, name, volume.changed(table)?)
-        }
-    }
+    where_found!(aggregate, volume.active().file_named(file), (number, _file) => {
+        let table = volume.active().remove(alloc, number, volume.next_stamp())?;
+        aggregate.with_volume(alloc, name, volume.changed(table)?)
+    })
 }
 
-fn kept(
-    alloc: Global,
-    aggregate: &Aggregate,
-    name: &Name,
-    snapshot: &Name,
-) -> Result<Aggregate, AllocError>
+fn kept(alloc: Global, aggregate: &Aggregate, name: &Name, snapshot: &Name) -> Changed
     ensures { IfOk result (λ m. m ≡ changed aggregate.now (at_volume aggregate.now name.now (λ x. Becomes name.now (record x { snapshots = fin.insert x.snapshots snapshot.now x.active })))) }
 {
-    match aggregate.volume(name) {
-        None => aggregate.clone(),
-        Some(volume) => aggregate.with_volume(alloc, name, volume.with_snapshot(snapshot)?),
-    }
+    where_found!(aggregate, aggregate.volume(name), volume => aggregate.with_volume(alloc, name, volume.with_snapshot(snapshot)?))
 }
 
-fn forgotten(
-    alloc: Global,
-    aggregate: &Aggregate,
-    name: &Name,
-    snapshot: &Name,
-) -> Result<Aggregate, AllocError>
+fn forgotten(alloc: Global, aggregate: &Aggregate, name: &Name, snapshot: &Name) -> Changed
     ensures { IfOk result (λ m. m ≡ changed aggregate.now (at_volume aggregate.now name.now (λ x. Becomes name.now (record x { snapshots = fin.remove x.snapshots snapshot.now })))) }
 {
-    match aggregate.volume(name) {
-        None => aggregate.clone(),
-        Some(volume) => aggregate.with_volume(alloc, name, volume.without_snapshot(snapshot)?),
-    }
+    where_found!(aggregate, aggregate.volume(name), volume => aggregate.with_volume(alloc, name, volume.without_snapshot(snapshot)?))
 }
 
-fn restored(
-    alloc: Global,
-    aggregate: &Aggregate,
-    name: &Name,
-    snapshot: &Name,
-) -> Result<Aggregate, AllocError>
+fn restored(alloc: Global, aggregate: &Aggregate, name: &Name, snapshot: &Name) -> Changed
     ensures { IfOk result (λ m. m ≡ changed aggregate.now (at_volume aggregate.now name.now (λ x. at_snapshot x snapshot.now (λ t. Becomes name.now (record x { active = t }))))) }
 {
-    match aggregate.volume(name) {
-        None => aggregate.clone(),
-        Some(volume) => restored_in(alloc, aggregate, name, volume, snapshot),
-    }
+    where_found!(aggregate, aggregate.volume(name), volume => restored_in(alloc, aggregate, name, volume, snapshot))
 }
 
 fn restored_in(
@@ -313,13 +248,10 @@ fn restored_in(
     name: &Name,
     volume: &Volume,
     snapshot: &Name,
-) -> Result<Aggregate, AllocError>
+) -> Changed
     ensures { IfOk result (λ m. m ≡ changed aggregate.now (at_snapshot volume.now snapshot.now (λ t. Becomes name.now (record volume.now { active = t })))) }
 {
-    match volume.snapshot(snapshot) {
-        None => aggregate.clone(),
-        Some(table) => aggregate.with_volume(alloc, name, volume.restored(table)?),
-    }
+    where_found!(aggregate, volume.snapshot(snapshot), table => aggregate.with_volume(alloc, name, volume.restored(table)?))
 }
 
 #[tactic(auto, using(crate::proofs::Room::span_of_clone))]
@@ -331,16 +263,11 @@ fn cloned(
     snapshot: &Name,
     size: u32,
     kind: Kind,
-) -> Result<Aggregate, AllocError>
+) -> Changed
     requires { first_of (before_space aggregate.now (Command.CloneCreate clone.now parent.now snapshot.now size kind)) ≡ None }
     ensures { IfOk result (λ m. m ≡ changed aggregate.now (at_volume aggregate.now parent.now (λ x. at_snapshot x snapshot.now (λ t. Becomes clone.now (clone_of parent.now x snapshot.now t size kind))))) }
 {
-    match aggregate.volume(parent) {
-        None => aggregate.clone(),
-        Some(volume) => cloned_from(
-            alloc, aggregate, clone, parent, volume, snapshot, size, kind,
-        ),
-    }
+    where_found!(aggregate, aggregate.volume(parent), volume => cloned_from(alloc, aggregate, clone, parent, volume, snapshot, size, kind))
 }
 
 fn cloned_from(
@@ -352,40 +279,23 @@ fn cloned_from(
     snapshot: &Name,
     size: u32,
     kind: Kind,
-) -> Result<Aggregate, AllocError>
+) -> Changed
     requires { (t : Table) → Some t ≡ fin.get volume.now.snapshots snapshot.now → span_of size (set.len (ids_of t)) volume.now.span ≤ greatest_span }
     ensures { IfOk result (λ m. m ≡ changed aggregate.now (at_snapshot volume.now snapshot.now (λ t. Becomes clone.now (clone_of parent.now volume.now snapshot.now t size kind)))) }
 {
-    match volume.snapshot(snapshot) {
-        None => aggregate.clone(),
-        Some(table) => aggregate.with_volume(
-            alloc,
-            clone,
-            volume.clone_on(alloc, parent, snapshot, table, size, kind)?,
-        ),
-    }
+    where_found!(aggregate, volume.snapshot(snapshot), table => aggregate.with_volume(alloc, clone, volume.clone_on(alloc, parent, snapshot, table, size, kind)?))
 }
 
-fn split_started(alloc: Global, aggregate: &Aggregate, name: &Name) -> Result<Aggregate, AllocError>
+fn split_started(alloc: Global, aggregate: &Aggregate, name: &Name) -> Changed
     ensures { IfOk result (λ m. m ≡ changed aggregate.now (at_volume aggregate.now name.now (λ x. Becomes name.now (record x { base = option_map being_split x.base; known = false })))) }
 {
-    match aggregate.volume(name) {
-        None => aggregate.clone(),
-        Some(volume) => aggregate.with_volume(alloc, name, volume.split_started()?),
-    }
+    where_found!(aggregate, aggregate.volume(name), volume => aggregate.with_volume(alloc, name, volume.split_started()?))
 }
 
-fn split_finished(
-    alloc: Global,
-    aggregate: &Aggregate,
-    name: &Name,
-) -> Result<Aggregate, AllocError>
+fn split_finished(alloc: Global, aggregate: &Aggregate, name: &Name) -> Changed
     ensures { IfOk result (λ m. m ≡ changed aggregate.now (at_volume aggregate.now name.now (λ x. Becomes name.now (record x { base = None })))) }
 {
-    match aggregate.volume(name) {
-        None => aggregate.clone(),
-        Some(volume) => aggregate.with_volume(alloc, name, volume.split_finished()?),
-    }
+    where_found!(aggregate, aggregate.volume(name), volume => aggregate.with_volume(alloc, name, volume.split_finished()?))
 }
 
 #[tactic(auto, using(crate::proofs::Room::span_of_mirror))]
@@ -397,14 +307,11 @@ fn mirrored(
     mirror: &Name,
     size: u32,
     kind: Kind,
-) -> Result<Aggregate, AllocError>
+) -> Changed
     requires { first_of (before_space aggregate.now (Command.Mirror source.now snapshot.now mirror.now size kind)) ≡ None }
     ensures { IfOk result (λ m. m ≡ changed aggregate.now (at_volume aggregate.now source.now (λ x. at_snapshot x snapshot.now (λ t. Becomes mirror.now (mirror_of x t size kind))))) }
 {
-    match aggregate.volume(source) {
-        None => aggregate.clone(),
-        Some(volume) => mirrored_from(alloc, aggregate, volume, snapshot, mirror, size, kind),
-    }
+    where_found!(aggregate, aggregate.volume(source), volume => mirrored_from(alloc, aggregate, volume, snapshot, mirror, size, kind))
 }
 
 fn mirrored_from(
@@ -415,25 +322,15 @@ fn mirrored_from(
     mirror: &Name,
     size: u32,
     kind: Kind,
-) -> Result<Aggregate, AllocError>
+) -> Changed
     requires { span_of size 0 volume.now.span ≤ greatest_span }
     ensures { IfOk result (λ m. m ≡ changed aggregate.now (at_snapshot volume.now snapshot.now (λ t. Becomes mirror.now (mirror_of volume.now t size kind)))) }
 {
-    match volume.snapshot(snapshot) {
-        None => aggregate.clone(),
-        Some(table) => aggregate.with_volume(
-            alloc,
-            mirror,
-            volume.mirror_with(alloc, table, size, kind)?,
-        ),
-    }
+    where_found!(aggregate, volume.snapshot(snapshot), table => aggregate.with_volume(alloc, mirror, volume.mirror_with(alloc, table, size, kind)?))
 }
 
-fn cleaned(alloc: Global, aggregate: &Aggregate, name: &Name) -> Result<Aggregate, AllocError>
+fn cleaned(alloc: Global, aggregate: &Aggregate, name: &Name) -> Changed
     ensures { IfOk result (λ m. m ≡ changed aggregate.now (at_volume aggregate.now name.now (λ x. Becomes name.now (record x { known = true })))) }
 {
-    match aggregate.volume(name) {
-        None => aggregate.clone(),
-        Some(volume) => aggregate.with_volume(alloc, name, volume.cleaned()?),
-    }
+    where_found!(aggregate, aggregate.volume(name), volume => aggregate.with_volume(alloc, name, volume.cleaned()?))
 }

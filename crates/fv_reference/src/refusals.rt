@@ -85,6 +85,13 @@ pub fn refusal_before_space(
     }
 }
 
+/// The first of these refusals whose condition holds.
+macro_rules! refusals {
+    ($($refusal:ident: $condition:expr),*) => {
+        first_of(&[$((Refusal::$refusal, $condition)),*])
+    };
+}
+
 /// The first refusal whose condition holds.
 fn first_of(conditions: &[(Refusal, bool)]) -> Option<Refusal>
     ensures { result ≡ first_of conditions.now }
@@ -101,62 +108,46 @@ fn first_of(conditions: &[(Refusal, bool)]) -> Option<Refusal>
 fn of_creation(aggregate: &Aggregate, name: &Name, size: u32, kind: Kind) -> Option<Refusal>
     ensures { result ≡ first_of (before_space aggregate.now (Command.VolCreate name.now size kind)) }
 {
-    first_of(&[
-        (Refusal::Range, !in_size(u64::from(size))),
-        (Refusal::VolumeExists, is_taken(aggregate, name)),
-        (Refusal::TooMany, has_all_volumes(aggregate)),
-    ])
+    refusals!(Range: !in_size(u64::from(size)), VolumeExists: is_taken(aggregate, name), TooMany: has_all_volumes(aggregate))
 }
 
 #[tactic(auto, unfolding(fv_model::specs::Refusals::conditions))]
 fn of_removal(aggregate: &Aggregate, name: &Name) -> Option<Refusal>
     ensures { result ≡ first_of (before_space aggregate.now (Command.VolDestroy name.now)) }
 {
-    first_of(&[
-        (Refusal::NoVolume, is_missing(aggregate, name)),
-        (Refusal::VolumeInUse, is_parent(aggregate, name)),
-    ])
+    refusals!(NoVolume: is_missing(aggregate, name), VolumeInUse: is_parent(aggregate, name))
 }
 
 #[tactic(auto, unfolding(fv_model::specs::Refusals::conditions))]
 fn of_size(aggregate: &Aggregate, name: &Name, size: u32) -> Option<Refusal>
     ensures { result ≡ first_of (before_space aggregate.now (Command.VolResize name.now size)) }
 {
-    first_of(&[
-        (Refusal::Range, !in_size(u64::from(size))),
-        (Refusal::NoVolume, is_missing(aggregate, name)),
-        (Refusal::Range, is_past_most(aggregate, name, size)),
-    ])
+    refusals!(Range: !in_size(u64::from(size)), NoVolume: is_missing(aggregate, name), Range: is_past_most(aggregate, name, size))
 }
 
 #[tactic(auto, unfolding(fv_model::specs::Refusals::conditions))]
 fn of_kind(aggregate: &Aggregate, name: &Name, kind: Kind) -> Option<Refusal>
     ensures { result ≡ first_of (before_space aggregate.now (Command.VolGuarantee name.now kind)) }
 {
-    first_of(&[(Refusal::NoVolume, is_missing(aggregate, name))])
+    refusals!(NoVolume: is_missing(aggregate, name))
 }
 
 #[tactic(auto, unfolding(fv_model::specs::Refusals::conditions))]
 fn of_stat(aggregate: &Aggregate, name: &Name) -> Option<Refusal>
     ensures { result ≡ first_of (before_space aggregate.now (Command.VolStat name.now)) }
 {
-    first_of(&[(Refusal::NoVolume, is_missing(aggregate, name))])
+    refusals!(NoVolume: is_missing(aggregate, name))
 }
 
 #[tactic(auto, unfolding(fv_model::specs::Refusals::conditions))]
 fn of_new(aggregate: &Aggregate, name: &Name, file: &Name, reserve: u32) -> Option<Refusal>
     ensures { result ≡ first_of (before_space aggregate.now (Command.New name.now file.now reserve)) }
 {
-    first_of(&[
-        (Refusal::Range, !in_reserve(u64::from(reserve))),
-        (Refusal::NoVolume, is_missing(aggregate, name)),
-        (Refusal::FileExists, has_file(aggregate, name, file)),
-        (Refusal::WrongKind, is_wrong_kind(aggregate, name, reserve)),
-        (
-            Refusal::TooMany,
-            has_all_files(aggregate, name) || has_all_changes(aggregate, name),
-        ),
-    ])
+    refusals!(
+        Range: !in_reserve(u64::from(reserve)), NoVolume: is_missing(aggregate, name),
+        FileExists: has_file(aggregate, name, file), WrongKind: is_wrong_kind(aggregate, name, reserve),
+        TooMany: has_all_files(aggregate, name) || has_all_changes(aggregate, name)
+    )
 }
 
 #[tactic(auto, unfolding(fv_model::specs::Refusals::conditions))]
@@ -169,12 +160,10 @@ fn of_put(
 ) -> Option<Refusal>
     ensures { result ≡ first_of (before_space aggregate.now (Command.Put name.now file.now index block.now)) }
 {
-    first_of(&[
-        (Refusal::Range, !in_index(u64::from(index))),
-        (Refusal::NoVolume, is_missing(aggregate, name)),
-        (Refusal::NoFile, lacks_file(aggregate, name, &None, file)),
-        (Refusal::TooMany, has_all_changes(aggregate, name)),
-    ])
+    refusals!(
+        Range: !in_index(u64::from(index)), NoVolume: is_missing(aggregate, name),
+        NoFile: lacks_file(aggregate, name, &None, file), TooMany: has_all_changes(aggregate, name)
+    )
 }
 
 #[tactic(auto, unfolding(fv_model::specs::Refusals::conditions))]
@@ -187,19 +176,11 @@ fn of_get(
 ) -> Option<Refusal>
     ensures { result ≡ first_of (before_space aggregate.now (Command.Get name.now snapshot.now file.now index)) }
 {
-    first_of(&[
-        (Refusal::Range, !in_index(u64::from(index))),
-        (Refusal::NoVolume, is_missing(aggregate, name)),
-        (
-            Refusal::NoSnapshot,
-            lacks_snapshot(aggregate, name, snapshot),
-        ),
-        (Refusal::NoFile, lacks_file(aggregate, name, snapshot, file)),
-        (
-            Refusal::Range,
-            is_past_end(aggregate, name, snapshot, file, index),
-        ),
-    ])
+    refusals!(
+        Range: !in_index(u64::from(index)), NoVolume: is_missing(aggregate, name),
+        NoSnapshot: lacks_snapshot(aggregate, name, snapshot), NoFile: lacks_file(aggregate, name, snapshot, file),
+        Range: is_past_end(aggregate, name, snapshot, file, index)
+    )
 }
 
 #[tactic(auto, unfolding(fv_model::specs::Refusals::conditions))]
@@ -211,102 +192,72 @@ fn of_len(
 ) -> Option<Refusal>
     ensures { result ≡ first_of (before_space aggregate.now (Command.Len name.now snapshot.now file.now)) }
 {
-    first_of(&[
-        (Refusal::NoVolume, is_missing(aggregate, name)),
-        (
-            Refusal::NoSnapshot,
-            lacks_snapshot(aggregate, name, snapshot),
-        ),
-        (Refusal::NoFile, lacks_file(aggregate, name, snapshot, file)),
-    ])
+    refusals!(
+        NoVolume: is_missing(aggregate, name), NoSnapshot: lacks_snapshot(aggregate, name, snapshot),
+        NoFile: lacks_file(aggregate, name, snapshot, file)
+    )
 }
 
 #[tactic(auto, unfolding(fv_model::specs::Refusals::conditions))]
 fn of_cut(aggregate: &Aggregate, name: &Name, file: &Name, length: u32) -> Option<Refusal>
     ensures { result ≡ first_of (before_space aggregate.now (Command.Cut name.now file.now length)) }
 {
-    first_of(&[
-        (Refusal::Range, !in_reserve(u64::from(length))),
-        (Refusal::NoVolume, is_missing(aggregate, name)),
-        (Refusal::NoFile, lacks_file(aggregate, name, &None, file)),
-        (
-            Refusal::Range,
-            is_past_length(aggregate, name, file, length),
-        ),
-        (Refusal::TooMany, has_all_changes(aggregate, name)),
-    ])
+    refusals!(
+        Range: !in_reserve(u64::from(length)), NoVolume: is_missing(aggregate, name),
+        NoFile: lacks_file(aggregate, name, &None, file), Range: is_past_length(aggregate, name, file, length),
+        TooMany: has_all_changes(aggregate, name)
+    )
 }
 
 #[tactic(auto, unfolding(fv_model::specs::Refusals::conditions))]
 fn of_remove(aggregate: &Aggregate, name: &Name, file: &Name) -> Option<Refusal>
     ensures { result ≡ first_of (before_space aggregate.now (Command.Remove name.now file.now)) }
 {
-    first_of(&[
-        (Refusal::NoVolume, is_missing(aggregate, name)),
-        (Refusal::NoFile, lacks_file(aggregate, name, &None, file)),
-        (Refusal::TooMany, has_all_changes(aggregate, name)),
-    ])
+    refusals!(
+        NoVolume: is_missing(aggregate, name), NoFile: lacks_file(aggregate, name, &None, file),
+        TooMany: has_all_changes(aggregate, name)
+    )
 }
 
 #[tactic(auto, unfolding(fv_model::specs::Refusals::conditions))]
 fn of_ls(aggregate: &Aggregate, name: &Name, snapshot: &Option<Name>) -> Option<Refusal>
     ensures { result ≡ first_of (before_space aggregate.now (Command.Ls name.now snapshot.now)) }
 {
-    first_of(&[
-        (Refusal::NoVolume, is_missing(aggregate, name)),
-        (
-            Refusal::NoSnapshot,
-            lacks_snapshot(aggregate, name, snapshot),
-        ),
-    ])
+    refusals!(NoVolume: is_missing(aggregate, name), NoSnapshot: lacks_snapshot(aggregate, name, snapshot))
 }
 
 #[tactic(auto, unfolding(fv_model::specs::Refusals::conditions))]
 fn of_snapshot(aggregate: &Aggregate, name: &Name, snapshot: &Name) -> Option<Refusal>
     ensures { result ≡ first_of (before_space aggregate.now (Command.SnapCreate name.now snapshot.now)) }
 {
-    first_of(&[
-        (Refusal::NoVolume, is_missing(aggregate, name)),
-        (
-            Refusal::SnapshotExists,
-            has_snapshot(aggregate, name, snapshot),
-        ),
-        (Refusal::TooMany, has_all_snapshots(aggregate, name)),
-    ])
+    refusals!(
+        NoVolume: is_missing(aggregate, name), SnapshotExists: has_snapshot(aggregate, name, snapshot),
+        TooMany: has_all_snapshots(aggregate, name)
+    )
 }
 
 #[tactic(auto, unfolding(fv_model::specs::Refusals::conditions))]
 fn of_deletion(aggregate: &Aggregate, name: &Name, snapshot: &Name) -> Option<Refusal>
     ensures { result ≡ first_of (before_space aggregate.now (Command.SnapDelete name.now snapshot.now)) }
 {
-    first_of(&[
-        (Refusal::NoVolume, is_missing(aggregate, name)),
-        (
-            Refusal::NoSnapshot,
-            lacks_snapshot(aggregate, name, &Some(*snapshot)),
-        ),
-        (Refusal::SnapshotInUse, is_base(aggregate, name, snapshot)),
-    ])
+    refusals!(
+        NoVolume: is_missing(aggregate, name), NoSnapshot: lacks_snapshot(aggregate, name, &Some(*snapshot)),
+        SnapshotInUse: is_base(aggregate, name, snapshot)
+    )
 }
 
 #[tactic(auto, unfolding(fv_model::specs::Refusals::conditions))]
 fn of_restoring(aggregate: &Aggregate, name: &Name, snapshot: &Name) -> Option<Refusal>
     ensures { result ≡ first_of (before_space aggregate.now (Command.SnapRestore name.now snapshot.now)) }
 {
-    first_of(&[
-        (Refusal::NoVolume, is_missing(aggregate, name)),
-        (
-            Refusal::NoSnapshot,
-            lacks_snapshot(aggregate, name, &Some(*snapshot)),
-        ),
-    ])
+    refusals!(NoVolume: is_missing(aggregate, name), NoSnapshot: lacks_snapshot(aggregate, name, &Some(*snapshot)))
 }
 
 #[tactic(auto, unfolding(fv_model::specs::Refusals::conditions))]
 fn of_snap_list(aggregate: &Aggregate, name: &Name) -> Option<Refusal>
     ensures { result ≡ first_of (before_space aggregate.now (Command.SnapList name.now)) }
 {
-    first_of(&[(Refusal::NoVolume, is_missing(aggregate, name))])
+    refusals!(NoVolume: is_missing(aggregate, name))
 }
 
 #[tactic(auto, unfolding(fv_model::specs::Refusals::conditions))]
@@ -321,43 +272,29 @@ fn of_clone(
 ) -> Result<Option<Refusal>, AllocError>
     ensures { IfOk result (λ r. r ≡ first_of (before_space aggregate.now (Command.CloneCreate clone.now parent.now snapshot.now size kind))) }
 {
-    Ok(first_of(&[
-        (Refusal::Range, !in_size(u64::from(size))),
-        (Refusal::NoVolume, is_missing(aggregate, parent)),
-        (
-            Refusal::NoSnapshot,
-            lacks_snapshot(aggregate, parent, &Some(*snapshot)),
-        ),
-        (Refusal::VolumeExists, is_taken(aggregate, clone)),
-        (Refusal::VolumeInUse, is_splitting(aggregate, parent)),
-        (Refusal::ParentNotClean, is_unclean(aggregate, parent)),
-        (
-            Refusal::Range,
-            is_clone_too_wide(alloc, aggregate, parent, snapshot, size)?,
-        ),
-        (Refusal::TooMany, has_all_volumes(aggregate)),
-    ]))
+    Ok(refusals!(
+        Range: !in_size(u64::from(size)), NoVolume: is_missing(aggregate, parent),
+        NoSnapshot: lacks_snapshot(aggregate, parent, &Some(*snapshot)), VolumeExists: is_taken(aggregate, clone),
+        VolumeInUse: is_splitting(aggregate, parent), ParentNotClean: is_unclean(aggregate, parent),
+        Range: is_clone_too_wide(alloc, aggregate, parent, snapshot, size)?, TooMany: has_all_volumes(aggregate)
+    ))
 }
 
 #[tactic(auto, unfolding(fv_model::specs::Refusals::conditions))]
 fn of_split(aggregate: &Aggregate, name: &Name) -> Option<Refusal>
     ensures { result ≡ first_of (before_space aggregate.now (Command.SplitStart name.now)) }
 {
-    first_of(&[
-        (Refusal::NoVolume, is_missing(aggregate, name)),
-        (Refusal::NotClone, is_no_whole_clone(aggregate, name)),
-        (Refusal::VolumeInUse, is_parent(aggregate, name)),
-    ])
+    refusals!(
+        NoVolume: is_missing(aggregate, name), NotClone: is_no_whole_clone(aggregate, name),
+        VolumeInUse: is_parent(aggregate, name)
+    )
 }
 
 #[tactic(auto, unfolding(fv_model::specs::Refusals::conditions))]
 fn of_split_end(aggregate: &Aggregate, name: &Name) -> Option<Refusal>
     ensures { result ≡ first_of (before_space aggregate.now (Command.SplitFinish name.now)) }
 {
-    first_of(&[
-        (Refusal::NoVolume, is_missing(aggregate, name)),
-        (Refusal::NotClone, is_unsplit(aggregate, name)),
-    ])
+    refusals!(NoVolume: is_missing(aggregate, name), NotClone: is_unsplit(aggregate, name))
 }
 
 #[tactic(auto, unfolding(fv_model::specs::Refusals::conditions))]
@@ -371,49 +308,35 @@ fn of_mirror(
 ) -> Option<Refusal>
     ensures { result ≡ first_of (before_space aggregate.now (Command.Mirror source.now snapshot.now name.now size kind)) }
 {
-    first_of(&[
-        (Refusal::Range, !in_size(u64::from(size))),
-        (Refusal::NoVolume, is_missing(aggregate, source)),
-        (
-            Refusal::NoSnapshot,
-            lacks_snapshot(aggregate, source, &Some(*snapshot)),
-        ),
-        (Refusal::VolumeExists, is_taken(aggregate, name)),
-        (Refusal::Range, is_mirror_too_wide(aggregate, source, size)),
-        (Refusal::TooMany, has_all_volumes(aggregate)),
-    ])
+    refusals!(
+        Range: !in_size(u64::from(size)), NoVolume: is_missing(aggregate, source),
+        NoSnapshot: lacks_snapshot(aggregate, source, &Some(*snapshot)), VolumeExists: is_taken(aggregate, name),
+        Range: is_mirror_too_wide(aggregate, source, size), TooMany: has_all_volumes(aggregate)
+    )
 }
 
 #[tactic(auto, unfolding(fv_model::specs::Refusals::conditions))]
 fn of_cleaning(aggregate: &Aggregate, name: &Name) -> Option<Refusal>
     ensures { result ≡ first_of (before_space aggregate.now (Command.Clean name.now)) }
 {
-    first_of(&[
-        (Refusal::NoVolume, is_missing(aggregate, name)),
-        (Refusal::VolumeInUse, is_splitting(aggregate, name)),
-    ])
+    refusals!(NoVolume: is_missing(aggregate, name), VolumeInUse: is_splitting(aggregate, name))
 }
 
 #[tactic(auto, unfolding(fv_model::specs::Refusals::conditions))]
 fn of_probe(aggregate: &Aggregate, name: &Name, file: &Name, index: u32) -> Option<Refusal>
     ensures { result ≡ first_of (before_space aggregate.now (Command.Probe name.now file.now index)) }
 {
-    first_of(&[
-        (Refusal::Range, !in_index(u64::from(index))),
-        (Refusal::NoVolume, is_missing(aggregate, name)),
-        (Refusal::NoFile, lacks_file(aggregate, name, &None, file)),
-        (
-            Refusal::Range,
-            is_past_end(aggregate, name, &None, file, index),
-        ),
-    ])
+    refusals!(
+        Range: !in_index(u64::from(index)), NoVolume: is_missing(aggregate, name),
+        NoFile: lacks_file(aggregate, name, &None, file), Range: is_past_end(aggregate, name, &None, file, index)
+    )
 }
 
 #[tactic(auto, unfolding(fv_model::specs::Refusals::conditions))]
 fn of_work(aggregate: &Aggregate, steps: u32) -> Option<Refusal>
     ensures { result ≡ first_of (before_space aggregate.now (Command.Work steps)) }
 {
-    first_of(&[(Refusal::Range, !in_steps(u64::from(steps)))])
+    refusals!(Range: !in_steps(u64::from(steps)))
 }
 
 #[tactic(auto, unfolding(fv_model::specs::Refusals::conditions))]

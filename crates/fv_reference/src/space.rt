@@ -21,6 +21,9 @@ use fv_model::{Kind, Name};
 use std::alloc::{AllocError, Global};
 use std::collections::{BTreeMap, BTreeSet};
 
+/// Whether there was memory for what is listed.
+type Listed = Result<(), AllocError>;
+
 /// The blocks that the reserves of a volume of kind `file` still need.
 #[tactic(auto, unfolding(fv_model::specs::Space::need))]
 pub fn need(alloc: Global, volume: &Volume) -> Result<u128, AllocError>
@@ -63,7 +66,7 @@ fn shared_ids(
     Ok(ids)
 }
 
-fn add_base(alloc: Global, ids: &mut BTreeSet<Id>, base: &Option<Base>) -> Result<(), AllocError>
+fn add_base(alloc: Global, ids: &mut BTreeSet<Id>, base: &Option<Base>) -> Listed
     ensures { OnOk result (set_of id_cmp ids.new ≡ set.union (set_of id_cmp ids.old) (base_ids base.now)) }
 {
     match base {
@@ -134,12 +137,7 @@ fn reserved_places(
     Ok(places)
 }
 
-fn list_reserved(
-    places: &mut Vec<Place>,
-    number: u32,
-    reserve: u32,
-    levels: u32,
-) -> Result<(), AllocError>
+fn list_reserved(places: &mut Vec<Place>, number: u32, reserve: u32, levels: u32) -> Listed
     requires { levels ≤ 5 }
     ensures { OnOk result (places.new.items ≡ places.old.items ++ flat_map (reserved_at number reserve) (range_with_len 0 (levels + 1))) }
 {
@@ -151,12 +149,7 @@ fn list_reserved(
 
 /// Lists the ranges of a level that meet the indexes below a reserve.
 #[tactic(auto, unfolding(fv_model::specs::Space::reserved_at))]
-fn list_level(
-    places: &mut Vec<Place>,
-    number: u32,
-    reserve: u32,
-    level: u32,
-) -> Result<(), AllocError>
+fn list_level(places: &mut Vec<Place>, number: u32, reserve: u32, level: u32) -> Listed
     requires { level ≤ 5 }
     ensures { OnOk result (places.new.items ≡ places.old.items ++ reserved_at number reserve level) }
 {
@@ -166,13 +159,7 @@ fn list_level(
     Ok(())
 }
 
-fn list_range(
-    places: &mut Vec<Place>,
-    number: u32,
-    reserve: u32,
-    level: u32,
-    index: u32,
-) -> Result<(), AllocError>
+fn list_range(places: &mut Vec<Place>, number: u32, reserve: u32, level: u32, index: u32) -> Listed
     requires { level ≤ 5 }
     ensures { OnOk result (places.new.items ≡ places.old.items ++ cond (nat_lt (index * fan ^ level) reserve) (record { owner = OfFile number; level = level; index = index } ∷ []) []) }
 {
@@ -183,7 +170,7 @@ fn list_range(
     Ok(())
 }
 
-fn list_inode(places: &mut Vec<Place>, spots: &[Spot]) -> Result<(), AllocError>
+fn list_inode(places: &mut Vec<Place>, spots: &[Spot]) -> Listed
     ensures { OnOk result (places.new.items ≡ places.old.items ++ map (placed InodeFile) spots.now) }
 {
     for spot in spots {

@@ -1,5 +1,5 @@
 -- Lines are answered, one after another.
-use Rattle.std.proofs.Common.{◌≡◌, inl, false, ℕ, ◌+◌, ◌<◌, ◌≤◌, ◌++◌, List, [], ◌∷◌, length, take, refl, sym, ap, subst, ◌∙◌, arith, append_assoc, append-nil}
+use Rattle.std.proofs.Common.{◌≡◌, inl, false, ℕ, ◌+◌, ◌<◌, ◌++◌, List, [], ◌∷◌, length, take, refl, sym, ap, subst, ◌∙◌, arith, append_assoc, append-nil}
 use Rattle.std.specs.Prelude.{flat_map, Some, IsTrue, Result, Err}
 use Rattle.fv_disk.specs.Shown.{Image, Shown, IsDisk}
 use Rattle.fv_disk.specs.HostCalls.{Rests}
@@ -17,12 +17,12 @@ use Rattle.fv_aggregate.specs.declared.session.Session.{Session}
 use Rattle.fv_aggregate.specs.Standing.{OneOf, StandsAfter}
 use Rattle.fv_run.specs.declared.ending.Fault.{Fault}
 use Rattle.fv_run.specs.declared.ending.Fault.TheVariants.{Sink}
-use Rattle.fv_run.specs.Running.{asks_point, begun, left_by, pending_behind, HasFollowed, IsAfterSome, IsAtRest, Survives}
-use Rattle.fv_run.specs.Answering.{BeginsFor, HasAnswered, IsLine, StandsOnward}
+use Rattle.fv_run.specs.Running.{asks_point, begun, pending_behind, rooms_along, HasFollowed, IsAfterSome, IsAtRest, Survives}
+use Rattle.fv_run.specs.Answering.{BeginsFor, HasAnswered, IsCounted, IsLine, StandsOnward}
 use Rattle.fv_run.proofs.Acked.{up_to_take}
-use Rattle.fv_run.proofs.Following.{follows_first, follows_part, one_more, one_text, taken_next, left_next, left_below, line_behind}
+use Rattle.fv_run.proofs.Following.{follows_first, follows_part, one_more, one_text, taken_next, left_next, left_below}
 use Rattle.fv_run.proofs.Lines.{no_end}
-use Rattle.fv_run.proofs.Rooms.{behind_more, behind_none}
+use Rattle.fv_run.proofs.Counted.{counted_none, counted_still}
 use Rattle.fv_run.proofs.Sessions.{images_stand, point_stays, rests_standing_for}
 use Rattle.fv_run.proofs.Surviving.{after_some, asked_for, rested, rested_after, which_point, IsOnward, onward, one_of, one_told}
 
@@ -43,7 +43,7 @@ none_answered m lines old session laws stands = record {
   least = up_to_take 0 lines (omega arith);
   most = omega arith;
   asked = inl (omega (arith, up_to_take 0 lines (omega arith)));
-  pending = omega (arith, stands.pending, behind_none lines);
+  counted = counted_none (rooms_along m lines) lines old session stands.pending;
   stands = stands.stands;
   crash = started old (Survives m lines old.given) laws
       (λ c now. survives m lines old.given c old.given [] (sym (append-nil old.given))
@@ -65,7 +65,7 @@ module _ (m : Machine) (lines left : List Line) (old : Shown) (session : Session
   -- nothing more was done
   pub rested_here : (new : Shown) → Rests now new → new.given ≡ now.given → (result : Result Unit Fault) → IsAtRest m lines result old new
   rested_here new rests same result = rested m lines old new session (after m lines count) count so_far.point output (same ∙ so_far.given) so_far.answered so_far.within so_far.least so_far.most result
-      (asked_for lines output result count so_far.point so_far.answered so_far.within so_far.asked) (rests_standing_for now new session (after m lines so_far.point) (after m lines count) rests so_far.stands)
+      (asked_for m lines output result count so_far.point so_far.answered so_far.within so_far.asked) (rests_standing_for now new session (after m lines so_far.point) (after m lines count) rests so_far.stands)
 
   -- while the source is asked
   pub crash_asked : (mid : Shown) → Leaves now mid (IsStill now) → Leaves old mid (Survives m lines old.given)
@@ -84,7 +84,7 @@ module _ (m : Machine) (lines left : List Line) (old : Shown) (session : Session
     least = so_far.least;
     most = so_far.most;
     asked = so_far.asked;
-    pending = so_far.pending;
+    counted = counted_still (rooms_along m lines) lines old session now count so_far.counted mid rests.stays.reads;
     stands = rests_standing_for now mid session (after m lines so_far.point) (after m lines count) rests so_far.stands;
     crash = crash_asked mid still;
   }
@@ -95,7 +95,7 @@ left_as m lines left others old session now count is so_far = subst (λ (l : Lis
 
 -- the next line is applied, and then answered
 module _ (m : Machine) (lines : List Line) (line : Line) (rest : List Line) (old : Shown) (session : Session) (mid : Shown) (count : ℕ) (so_far : HasAnswered m lines (line ∷ rest) old session mid count)
-    (next_session : Session) (end : Shown) (meanwhile : Leaves mid end (λ c g. OneOf (after m lines so_far.point) (after m lines count) (after_line (after m lines count) line) c × (g ≡ mid.given))) (calm : asks_point (pending_behind lines count) line ≡ false → end.reads ≡ mid.reads) where
+    (next_session : Session) (end : Shown) (meanwhile : Leaves mid end (λ c g. OneOf (after m lines so_far.point) (after m lines count) (after_line (after m lines count) line) c × (g ≡ mid.given))) (calm : asks_point (rooms_along m lines count) (pending_behind (rooms_along m lines) lines count) line ≡ false → end.reads ≡ mid.reads) where
   abbrev given_so_far : List ℕ
   given_so_far = flat_map text so_far.replies
 
@@ -107,7 +107,7 @@ module _ (m : Machine) (lines : List Line) (line : Line) (rest : List Line) (old
       (one_of m lines rest line count so_far.left_over so_far.point given_so_far c so_far.answered so_far.least so_far.most one.0)) meanwhile)
 
   -- the last point stays where the line asks for none
-  stays : (now : Machine) (stands : StandsAfter end next_session (after m lines so_far.point) (after m lines count) now) → asks_point (pending_behind lines count) line ≡ false → stands.point ≡ after m lines so_far.point
+  stays : (now : Machine) (stands : StandsAfter end next_session (after m lines so_far.point) (after m lines count) now) → asks_point (rooms_along m lines count) (pending_behind (rooms_along m lines) lines count) line ≡ false → stands.point ≡ after m lines so_far.point
   stays now stands none = point_stays mid end session next_session (after m lines so_far.point) (after m lines count) (after m lines count) now (calm none) so_far.stands stands
 
   -- it wasn't applied
@@ -158,8 +158,8 @@ module _ (m : Machine) (lines : List Line) (line : Line) (rest : List Line) (old
     more_text = ap whole (one_text so_far.replies reply) ∙ whole_append given_so_far (text reply) ∙ rw (so_far.answered, one) refl
 
     -- all of it was given
-    pub answered_one : Rests end new → new.given ≡ end.given ++ text reply → next_session.pending ≤ left_by session.pending line → HasAnswered m lines rest old next_session new (count + 1)
-    answered_one rests given more = record {
+    pub answered_one : Rests end new → new.given ≡ end.given ++ text reply → IsCounted (rooms_along m lines) lines old next_session new (count + 1) → HasAnswered m lines rest old next_session new (count + 1)
+    answered_one rests given counted = record {
       replies = so_far.replies ++ reply ∷ [];
       allowed = all_allowed;
       given = given ∙ ap (λ (l : List ℕ). l ++ text reply) (same ∙ so_far.given) ∙ append_assoc old.given given_so_far (text reply) ∙ ap (λ (l : List ℕ). old.given ++ l) (sym (one_text so_far.replies reply));
@@ -170,7 +170,7 @@ module _ (m : Machine) (lines : List Line) (line : Line) (rest : List Line) (old
       least = next.least;
       most = next.most;
       asked = next.asked;
-      pending = behind_more lines count line (line_behind count lines rest line so_far.left_over) session.pending next_session.pending so_far.pending more;
+      counted = counted;
       stands = rests_standing_for end new next_session (after m lines next.point) (after m lines (count + 1)) rests next.stands;
       crash = crash_told;
     }

@@ -1,8 +1,8 @@
 -- A line is applied.
-use Rattle.std.proofs.Common.{◌≡◌, ◌≢◌, ◌⊎◌, ◌≤◌, ◌+◌, ℕ, inl, inr, ⊎_elim, Bool, true, false, cond, List, [], ◌∷◌, refl, sym, subst, ap, ◌∙◌, arith}
+use Rattle.std.proofs.Common.{◌≡◌, ◌≢◌, ◌⊎◌, ◌≤◌, ◌+◌, ℕ, max, inl, inr, ⊎_elim, Bool, true, false, cond, List, [], ◌∷◌, refl, sym, subst, ap, ◌∙◌, arith}
 use Rattle.std.proofs.lemmas.Bool.{both_ways}
 use Rattle.std.proofs.lemmas.Bool.Decides.{nat_tests}
-use Rattle.std.specs.Prelude.{◌||◌, ◌&&◌, is_some, nat_lt, if◌then◌else◌, Option, Some, None, Ok, Err, IsTrue, IsNone}
+use Rattle.std.specs.Prelude.{◌||◌, ◌==◌, ◌&&◌, is_some, nat_lt, if◌then◌else◌, Option, Some, None, Ok, Err, IsTrue, IsNone}
 use Rattle.fv_disk.specs.Shown.{Shown, IsDisk, Ends, Rose}
 use Rattle.fv_disk.specs.Crash.{Leaves}
 use Rattle.fv_disk.proofs.Moments.{started}
@@ -24,8 +24,10 @@ use Rattle.fv_aggregate.specs.declared.fault.Fault.TheVariants as session_fault
 use Rattle.fv_aggregate.specs.declared.session.Session.{Session}
 use Rattle.fv_aggregate.specs.Calls.{Goes, GoesFor, KeepsAsking}
 use Rattle.fv_aggregate.specs.Calls as calls
-use Rattle.fv_aggregate.specs.Commands.{changed_by, changes_volume, dirty_limit, is_built, machine_after, reads_files, Replies, RepliesBy, room_of, snapped_by}
+use Rattle.fv_aggregate.specs.Commands.{changed_by, changes_volume, dirty_limit, is_built, machine_after, reads_files, most_room, Replies, RepliesBy, room_by, room_with, snapped_by}
+use Rattle.fv_aggregate.specs.Asking.{AsksWithin}
 use Rattle.fv_aggregate.specs.Standing.{IsWithoutFiles, OneOf, StandsAfter, StandsFor}
+use Rattle.fv_aggregate.proofs.Rooms.{fixed_room}
 use Rattle.fv_run.specs.declared.ending.Fault.{Fault}
 use Rattle.fv_run.specs.declared.ending.Fault.TheVariants.{Disk, Memory, Damaged}
 use Rattle.fv_run.specs.Endings.{count_of, of_session, IsWholeFault}
@@ -89,15 +91,15 @@ unfolding machine_after is_built conditions change_of
 after_cp m = refl
 
 -- what isn't built adds no block and changes no volume
-unbuilt_room : (c : Command) → is_built c ≡ false → room_of c ≡ 0
-unfolding is_built room_of
-unbuilt_room (VolCreate v size kind) e = absurd cc
-unbuilt_room (New v f reserve) e = rw e refl
-unbuilt_room (Put v f i block) e = absurd cc
-unbuilt_room (Cut v f length) e = absurd cc
-unbuilt_room (Remove v f) e = absurd cc
-unbuilt_room (SnapCreate v s) e = absurd cc
-unbuilt_room c e = refl
+unbuilt_room : (maps : List ℕ → ℕ) (c : Command) → is_built c ≡ false → room_with maps c ≡ 0
+unfolding is_built room_with
+unbuilt_room maps (VolCreate v size kind) e = absurd cc
+unbuilt_room maps (New v f reserve) e = rw e refl
+unbuilt_room maps (Put v f i block) e = absurd cc
+unbuilt_room maps (Cut v f length) e = absurd cc
+unbuilt_room maps (Remove v f) e = absurd cc
+unbuilt_room maps (SnapCreate v s) e = absurd cc
+unbuilt_room maps c e = refl
 
 unbuilt_change : (c : Command) → is_built c ≡ false → changes_volume c ≡ false
 unfolding is_built
@@ -119,7 +121,11 @@ cp_built = refl
 -- what reads files is built
 built_reads : (c : Command) → reads_files c ≡ true → is_built c ≡ true
 unfolding is_built reads_files
-built_reads (New v f reserve) e = e
+built_reads (New v f reserve) e = by (reserve == 0) e
+  where
+    by : (t : Bool) → (is_some (if t then Some v else None) || false) ≡ true → t ≡ true
+    by true e = refl
+    by false e = absurd cc
 built_reads (Put v f i block) e = refl
 built_reads (Get v s f i) e = refl
 built_reads (Len v s f) e = refl
@@ -129,28 +135,29 @@ built_reads (Ls v s) e = refl
 built_reads c e = absurd cc
 
 -- the room of a command is that of its line
-room_said : (c : Command) → IsRoomIn (built (Says c) ∷ []) (room_of c)
+room_said : (c : Command) → IsRoomIn (built (Says c) ∷ []) (most_room c)
 room_said c = so (is_built c) refl
   where
-    so : (is : Bool) → is_built c ≡ is → IsRoomIn (cond is (Says c) NoCommand ∷ []) (room_of c)
+    so : (is : Bool) → is_built c ≡ is → IsRoomIn (cond is (Says c) NoCommand ∷ []) (most_room c)
     so true e = inr (c, (0, omega arith, refl), refl)
-    so false e = inl (unbuilt_room c e)
+    so false e = inl (unbuilt_room _ c e)
 
 -- a line has the room of its command
-room_built : (c : Command) → room_in (built (Says c)) ≡ room_of c
-room_built c = so (is_built c) refl
+room_built : (session : Session) (c : Command) → room_in (room_by session.volumes) (built (Says c)) ≡ room_by session.volumes c
+room_built session c = so (is_built c) refl
   where
-    so : (is : Bool) → is_built c ≡ is → room_in (cond is (Says c) NoCommand) ≡ room_of c
+    so : (is : Bool) → is_built c ≡ is → room_in (room_by session.volumes) (cond is (Says c) NoCommand) ≡ room_by session.volumes c
     so true e = refl
-    so false e = sym (unbuilt_room c e)
+    so false e = sym (unbuilt_room _ c e)
 
 pub cp_reads_none : (c : Command) → c ≡ Cp → reads_files c ≡ false
 unfolding reads_files
 cp_reads_none c is = ap reads_files is
 
 -- a line that asks for no point says no `cp`, and no command whose room passes the dirty limit
-quiet : (c : Command) (pending : ℕ) → asks_point pending (built (Says c)) ≡ false → (c ≢ Cp) × ((room_of c ≡ 0) ⊎ (pending + room_of c ≤ dirty_limit))
-quiet c pending none = so (is_built c) refl none
+quiet : (session : Session) (c : Command) (pending : ℕ) → asks_point (room_by session.volumes) pending (built (Says c)) ≡ false
+    → (c ≢ Cp) × ((room_by session.volumes c ≡ 0) ⊎ (pending + room_by session.volumes c ≤ dirty_limit))
+quiet session c pending none = so (is_built c) refl none
   where
     neither : (a b : Bool) → (a || b) ≡ false → (a ≡ false) × (b ≡ false)
     neither true b e = absurd cc
@@ -170,11 +177,11 @@ quiet c pending none = so (is_built c) refl none
     built_point : c ≡ Cp → is_built c ≡ true
     built_point e = ap is_built e ∙ cp_built
 
-    so : (is : Bool) → is_built c ≡ is → asks_point pending (cond is (Says c) NoCommand) ≡ false → (c ≢ Cp) × ((room_of c ≡ 0) ⊎ (pending + room_of c ≤ dirty_limit))
+    so : (is : Bool) → is_built c ≡ is → asks_point (room_by session.volumes) pending (cond is (Says c) NoCommand) ≡ false → (c ≢ Cp) × ((room_by session.volumes c ≡ 0) ⊎ (pending + room_by session.volumes c ≤ dirty_limit))
     so true e none =
-        let parts = neither (is_cp (Says c)) (nat_lt 0 (room_of c) && nat_lt dirty_limit (pending + room_of c)) none in
-        (λ is. both_ways _ parts.0 (is_point is), nothing (room_of c) parts.1)
-    so false e none = (λ is. both_ways _ e (built_point is), inl (unbuilt_room c e))
+        let parts = neither (is_cp (Says c)) (nat_lt 0 (room_by session.volumes c) && nat_lt dirty_limit (pending + room_by session.volumes c)) none in
+        (λ is. both_ways _ parts.0 (is_point is), nothing (room_by session.volumes c) parts.1)
+    so false e none = (λ is. both_ways _ e (built_point is), inl (unbuilt_room _ c e))
 
 -- a line reads files where its command does, and changes a volume that stays where its command does
 reads_said : (c : Command) → reads_files c ≡ true → reads_blocks (built (Says c)) ≡ true
@@ -241,7 +248,7 @@ no_change session line reply host laws ready no_point allowed stays = record {
   counts = counts_none host;
   writes = refl;
   calm = λ pending few none. refl;
-  pending = left_other line session.pending no_point;
+  pending = left_other (room_by session.volumes) line session.pending no_point;
 }
   where
     never : is_cp line ≡ false → is_cp line ≡ true → ⊥
@@ -262,30 +269,30 @@ module _ (session new_session : Session) (line : Line) (command : Command) (old 
   after_is : (m : Machine) → machine_after m command ≡ after_line m (built line)
   after_is m = after_built m command ∙ ap (λ (l : Line). after_line m (built l)) (sym says)
 
-  calm_by : (command ≢ Cp → (room_of command ≡ 0) ⊎ (session.pending + room_of command ≤ dirty_limit) → new.reads ≡ old.reads) → (pending : ℕ) → session.pending ≤ pending → asks_point pending (built line) ≡ false → new.reads ≡ old.reads
+  calm_by : (command ≢ Cp → (room_by session.volumes command ≡ 0) ⊎ (session.pending + room_by session.volumes command ≤ dirty_limit) → new.reads ≡ old.reads) → (pending : ℕ) → session.pending ≤ pending → asks_point (room_by session.volumes) pending (built line) ≡ false → new.reads ≡ old.reads
   calm_by calm pending few none =
-      let is = quiet command pending (subst (λ (l : Line). asks_point pending (built l) ≡ false) says none) in
-      calm is.0 (⊎_elim (λ (nothing : room_of command ≡ 0). inl nothing) (λ (low : pending + room_of command ≤ dirty_limit). inr (omega (arith, low, few))) is.1)
+      let is = quiet session command pending (subst (λ (l : Line). asks_point (room_by session.volumes) pending (built l) ≡ false) says none) in
+      calm is.0 (⊎_elim (λ (nothing : room_by session.volumes command ≡ 0). inl nothing) (λ (low : pending + room_by session.volumes command ≤ dirty_limit). inr (omega (arith, low, few))) is.1)
 
   -- a point leaves nothing pending, and each other command adds its room at most
-  pending_by : (command ≡ Cp → new_session.pending ≡ 0) → new_session.pending ≤ session.pending + room_of command → new_session.pending ≤ left_by session.pending (built line)
+  pending_by : (command ≡ Cp → new_session.pending ≡ 0) → new_session.pending ≤ session.pending + room_by session.volumes command → new_session.pending ≤ left_by (room_by session.volumes) session.pending (built line)
   pending_by pointed most = by (is_cp (built line)) refl
     where
-      by : (cp : Bool) → is_cp (built line) ≡ cp → new_session.pending ≤ left_by session.pending (built line)
+      by : (cp : Bool) → is_cp (built line) ≡ cp → new_session.pending ≤ left_by (room_by session.volumes) session.pending (built line)
       by true e =
           let none : new_session.pending ≡ 0 = pointed (cp_by (is_built command) command (subst (λ (l : Line). is_cp (built l) ≡ true) says e)) in
           omega (arith, none)
       by false e =
-          let room : room_in (built line) ≡ room_of command = ap (λ (l : Line). room_in (built l)) says ∙ room_built command in
-          let left : left_by session.pending (built line) ≡ session.pending + room_in (built line) = ap (λ (cp : Bool). if cp then 0 else session.pending + room_in (built line)) e in
+          let room : room_in (room_by session.volumes) (built line) ≡ room_by session.volumes command = ap (λ (l : Line). room_in (room_by session.volumes) (built l)) says ∙ room_built session command in
+          let left : left_by (room_by session.volumes) session.pending (built line) ≡ session.pending + room_in (room_by session.volumes) (built line) = ap (λ (cp : Bool). if cp then 0 else session.pending + room_in (room_by session.volumes) (built line)) e in
           omega (arith, left, room, most)
 
   same_by : changes_volumes (built line) ≡ false → changes_volume command ≡ false
   same_by none = changes_said command (subst (λ (l : Line). changes_volumes (built l) ≡ false) says none)
 
   -- the command was carried out, or refused
-  pub applied : (reply : Reply) → (command ≢ Cp → (room_of command ≡ 0) ⊎ (session.pending + room_of command ≤ dirty_limit) → new.reads ≡ old.reads) → Goes (room_of command) old session new new_session (Ok reply)
-      → (changes_volume command ≡ false → KeepsAsking (room_of command) old session new new_session)
+  pub applied : (reply : Reply) → (command ≢ Cp → (room_by session.volumes command ≡ 0) ⊎ (session.pending + room_by session.volumes command ≤ dirty_limit) → new.reads ≡ old.reads) → Goes (room_by session.volumes command) old session new new_session (Ok reply)
+      → (changes_volume command ≡ false → KeepsAsking (room_by session.volumes command) old session new new_session)
       → (IsTrue old.tells → changed_by command ≡ None → IsWithoutFiles session → IsWithoutFiles new_session)
       → (IsTrue old.tells → (last m : Machine) → StandsFor old session last m → GoesFor {T = Reply} old last m (machine_after m command) new new_session (Ok reply))
       → (IsTrue old.tells → (last m : Machine) → StandsFor old session last m → Replies m command reply)
@@ -306,7 +313,11 @@ module _ (session new_session : Session) (line : Line) (command : Command) (old 
     ready = record { unfailed = goes.done.goes_on; stands = goes.stands goes.done.goes_on };
     ends = tt;
     files = λ tells same none. files tells (changes_none command (same_by same)) none;
-    asks = λ tells same room asks. (room_of command, subst (λ (l : Line). IsRoomIn (built l ∷ []) (room_of command)) (sym says) (room_said command), keeps (same_by same) tells room asks goes.done.goes_on);
+    asks = λ tells same room asks. (
+      most_room command,
+      subst (λ (l : Line). IsRoomIn (built l ∷ []) (most_room command)) (sym says) (room_said command),
+      subst (λ (k : ℕ). AsksWithin new new_session (max room k)) (fixed_room session command (same_by same)) (keeps (same_by same) tells room asks goes.done.goes_on),
+    );
     given = goes.ends.given;
     left = ap (λ (e : Ends). e.left) goes.ends.ends;
     counts = record { tells = goes.ends.tells; source = ap (λ (e : Ends). e.source_faults) goes.ends.ends; sink = ap (λ (e : Ends). e.sink_faults) goes.ends.ends; disk = goes.done.counts.faults };
@@ -319,7 +330,7 @@ module _ (session new_session : Session) (line : Line) (command : Command) (old 
       at_point m is stands = subst (λ (x : Machine). StandsFor new new_session x x) (sym (ap (machine_after m) is ∙ after_cp m) ∙ after_is m) (stands is)
 
   -- it wasn't
-  module _ (calm : command ≢ Cp → (room_of command ≡ 0) ⊎ (session.pending + room_of command ≤ dirty_limit) → new.reads ≡ old.reads) (fault : SessionFault) (goes : Goes {T = Reply} (room_of command) old session new new_session (Err fault))
+  module _ (calm : command ≢ Cp → (room_by session.volumes command ≡ 0) ⊎ (session.pending + room_by session.volumes command ≤ dirty_limit) → new.reads ≡ old.reads) (fault : SessionFault) (goes : Goes {T = Reply} (room_by session.volumes command) old session new new_session (Err fault))
       (goes_for : IsTrue old.tells → (last m : Machine) → StandsFor old session last m → GoesFor {T = Reply} old last m (machine_after m command) new new_session (Err fault)) where
     stopped_by : (end : Fault) → Counts old new (count_of end) → (¬ Rose old.write_faults new.write_faults → IsNone new_session.failed)
         → (IsTrue old.tells → (last m : Machine) → StandsFor old session last m → IsWholeFault end) → IsSessionFault (built line) old session new end → Applies session (built line) old new_session new (Err end)
@@ -351,7 +362,7 @@ module _ (session new_session : Session) (line : Line) (command : Command) (old 
       so true e = inl (ap (λ (l : Line). reads_blocks (built l)) says ∙ reads_said command e)
       so false e = inr (lacks old new session new_session at want found (plain e))
 
-  pub unapplied : (command ≢ Cp → (room_of command ≡ 0) ⊎ (session.pending + room_of command ≤ dirty_limit) → new.reads ≡ old.reads) → (fault : SessionFault) → Goes {T = Reply} (room_of command) old session new new_session (Err fault)
+  pub unapplied : (command ≢ Cp → (room_by session.volumes command ≡ 0) ⊎ (session.pending + room_by session.volumes command ≤ dirty_limit) → new.reads ≡ old.reads) → (fault : SessionFault) → Goes {T = Reply} (room_by session.volumes command) old session new new_session (Err fault)
       → (reads_files command ≡ false → calls.IsForWant old session new new_session fault)
       → (IsTrue old.tells → (last m : Machine) → StandsFor old session last m → GoesFor {T = Reply} old last m (machine_after m command) new new_session (Err fault))
       → Applies session (built line) old new_session new (Err (of_session fault))

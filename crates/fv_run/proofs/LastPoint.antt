@@ -6,6 +6,7 @@ use Rattle.fv_disk.specs.Shown.{Ends, Image, Shown, Rose}
 use Rattle.fv_disk.specs.Crash.{Leaves}
 use Rattle.fv_disk.specs.Partly.{PartlyGiven}
 use Rattle.fv_disk.proofs.Moments.{then, weaken}
+use Rattle.fv_model.specs.declared.commands.Command.{Command}
 use Rattle.fv_model.specs.Machines.{Machine}
 use Rattle.fv_model.specs.Runs.{Line, after, Full, whole}
 use Rattle.fv_model.specs.Lines.{line_of}
@@ -28,7 +29,7 @@ use Rattle.fv_run.specs.declared.ending.Fault.{Fault}
 use Rattle.fv_run.specs.declared.ending.Fault.TheVariants.{Disk, Memory, Damaged}
 use Rattle.fv_run.specs.Built.{built, lines_built}
 use Rattle.fv_run.specs.Endings.{count_of, IsWholeFault, of_session}
-use Rattle.fv_run.specs.Running.{HasChanged, IsAtRest, IsOverLimit, Survives, IsQuiet}
+use Rattle.fv_run.specs.Running.{HasChanged, IsAtRest, IsOverLimit, most_rooms, rooms_along, Survives, IsQuiet}
 use Rattle.fv_run.specs.Answering.{AsksFor, HasAnswered, IsAtEnd, IsEndOf, LacksSpace, IsLine, TellsLine, BeginsFor}
 use Rattle.fv_run.proofs.Acked.{acked_all, acked_whole, up_to_take}
 use Rattle.fv_run.proofs.Following.{follows_part, follows_whole, full}
@@ -59,8 +60,8 @@ module _ (limit : ℕ) (session : Session) (mid : Shown) (last : Session) (end :
   all_lines : IsTrue mid.tells → length (lines_built mid.ends.left) ≤ count
   all_lines tells = none_left (lines_built mid.ends.left) count (sym (ap lines_built (at_end.none tells) ∙ no_lines) ∙ at_end.stands.behind tells)
 
-  never_quiet : (new : Shown) → IsTrue mid.tells → (more : List ℕ) → new.given ≡ end.given ++ more → IsQuiet (lines_built mid.ends.left) mid new
-  never_quiet new tells more since output given asks =
+  never_quiet : (rooms : ℕ → Command → ℕ) (new : Shown) → IsTrue mid.tells → (more : List ℕ) → new.given ≡ end.given ++ more → IsQuiet rooms (lines_built mid.ends.left) mid new
+  never_quiet rooms new tells more since output given asks =
       let read = at_end.stands.reads tells in
       let all : new.given ≡ mid.given ++ (read.output ++ more) = since ∙ ap (λ (l : List ℕ). l ++ more) read.given ∙ append_assoc mid.given read.output more in
       let answered : whole output ≡ count + whole more = ap whole (same_behind mid.given output (read.output ++ more) (sym given ∙ all)) ∙ whole_append read.output more ∙ ap (λ (n : ℕ). n + whole more) read.answered in
@@ -107,14 +108,15 @@ module _ (limit : ℕ) (session : Session) (mid : Shown) (last : Session) (end :
             replies = followed m L (lines_built (unread at_end.held end)) mid last end count a point keeps.given;
             crash = crash_point tells m stands;
             at_rest = λ calm. rested m L mid point next (after m L count) count a.point (flat_map text a.replies) (keeps.given ∙ a.given) a.answered a.within a.least a.most (Err fault)
-                (asked_for L (flat_map text a.replies) (Err fault) count a.point a.answered a.within a.asked) (still (end_told tells) (after m L a.point) (after m L count) a.stands (calm_since point calm));
+                (asked_for m L (flat_map text a.replies) (Err fault) count a.point a.answered a.within a.asked) (still (end_told tells) (after m L a.point) (after m L count) a.stands (calm_since point calm));
+            quiet = never_quiet (rooms_along m L) point tells [] (keeps.given ∙ sym (append-nil end.given));
           };
       done = λ tells m stands. tt;
       no_damage = no_damage;
       counts = counts_then mid end point (count_of fault) at_end.stands.counts counts;
       reason = reason;
       cut_off = λ tells past. absurd (never_past point tells past);
-      quiet = λ tells none. never_quiet point tells [] (keeps.given ∙ sym (append-nil end.given));
+      quiet = λ tells none. never_quiet most_rooms point tells [] (keeps.given ∙ sym (append-nil end.given));
     }
 
     -- it was done, and the last line was given, or not
@@ -206,6 +208,7 @@ module _ (limit : ℕ) (session : Session) (mid : Shown) (last : Session) (end :
           };
           crash = crash_done tells m stands (one_end (done_text count) told.line) told.tells.any_moment;
           at_rest = λ none. rested_whole tells m stands told;
+          quiet = never_quiet (rooms_along m (lines_built mid.ends.left)) new tells (done_text count) (told.tells.gives.all (point_told tells) ∙ ap (λ (l : List ℕ). l ++ done_text count) keeps.given);
         };
         done = λ tells m stands.
             let last_stands = rests_standing_for point new next (after m (lines_built mid.ends.left) count) (after m (lines_built mid.ends.left) count) told.tells.gives.rests (stands_point tells m stands) in
@@ -220,7 +223,7 @@ module _ (limit : ℕ) (session : Session) (mid : Shown) (last : Session) (end :
         counts = counts_then mid point new None point_counts (counting.told point new (done_text count) told.tells);
         reason = tt;
         cut_off = λ tells past. absurd (never_past new tells past);
-        quiet = λ tells none. never_quiet new tells (done_text count) (told.tells.gives.all (point_told tells) ∙ ap (λ (l : List ℕ). l ++ done_text count) keeps.given);
+        quiet = λ tells none. never_quiet most_rooms new tells (done_text count) (told.tells.gives.all (point_told tells) ∙ ap (λ (l : List ℕ). l ++ done_text count) keeps.given);
       }
       told_whole (Err fault) told = record {
         holds = λ tells m stands.
@@ -234,13 +237,14 @@ module _ (limit : ℕ) (session : Session) (mid : Shown) (last : Session) (end :
               };
               crash = crash_done tells m stands (one_end (done_text count) told.line) told.tells.any_moment;
               at_rest = λ none. rested_part tells m stands fault told;
+              quiet = never_quiet (rooms_along m (lines_built mid.ends.left)) new tells (take part.0 (done_text count)) (part.2 ∙ ap (λ (l : List ℕ). l ++ take part.0 (done_text count)) keeps.given);
             };
         done = λ tells m stands. tt;
         no_damage = λ tells m stands. subst IsWholeFault (sym told.sink) tt;
         counts = counts_then mid point new (count_of fault) point_counts (subst (λ (f : Fault). Counts point new (count_of f)) (sym told.sink) (counting.untold point new (done_text count) (record {}) told.tells));
         reason = subst (λ (f : Fault). IsEndOf limit session mid new f) (sym told.sink) tt;
         cut_off = λ tells past. absurd (never_past new tells past);
-        quiet = λ tells none. let part = told.tells.gives.part (point_told tells) in never_quiet new tells (take part.0 (done_text count)) (part.2 ∙ ap (λ (l : List ℕ). l ++ take part.0 (done_text count)) keeps.given);
+        quiet = λ tells none. let part = told.tells.gives.part (point_told tells) in never_quiet most_rooms new tells (take part.0 (done_text count)) (part.2 ∙ ap (λ (l : List ℕ). l ++ take part.0 (done_text count)) keeps.given);
       }
 
   -- the point was made, and the last line was given, or not

@@ -14,6 +14,7 @@ mod Promises
 mod Ran
 mod Resting
 mod Rooms
+mod Counted
 mod Sessions
 mod Stepped
 mod Surviving

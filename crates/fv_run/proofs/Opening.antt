@@ -78,6 +78,7 @@ module _ (limit : ℕ) (old mid : Shown) (laws : IsDisk old) (unwritten : IsUnwr
       counts = counts;
       reason = reason;
       unopened = how;
+      quiet_for = λ tells m is output given asks. unwritten.reads;
       quiet = λ tells output given asks. unwritten.reads;
       opened = λ tells. inr (refl, unwritten);
       cut_off = λ tells past. absurd (none_taken past);

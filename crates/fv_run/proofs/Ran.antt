@@ -4,6 +4,7 @@ use Rattle.std.specs.Prelude.{Some, None, Result, Ok, Err, IsTrue, IfErr, OnOk}
 use Rattle.fv_disk.specs.Shown.{Ends, Image, Shown, IsDisk, IsSettled, Rose}
 use Rattle.fv_disk.specs.Crash.{Leaves}
 use Rattle.fv_disk.proofs.Moments.{then, weaken}
+use Rattle.fv_model.specs.declared.commands.Command.{Command}
 use Rattle.fv_model.specs.Machines.{Machine}
 use Rattle.fv_model.specs.Runs.{after, acked, Full, Follows, whole}
 use Rattle.fv_image.specs.WholeMachine.{machine_of}
@@ -20,7 +21,7 @@ use Rattle.fv_run.specs.declared.ending.Fault.TheVariants.{Usage, NotAggregate, 
 use Rattle.fv_run.specs.Built.{lines_built}
 use Rattle.fv_run.specs.Endings.{IsWholeFault, raised_by}
 use Rattle.fv_run.specs.Promises.{line_at}
-use Rattle.fv_run.specs.Running.{HasAnsweredAll, HasChanged, HasFollowed, HasReason, Holds, IsAskedFor, IsAtRest, IsFileDamage, IsLacking, IsOverLimit, IsPastLimit, IsSessionDamage, Ran, reads_blocks, Survives, SurvivesFrom, AsksNone, IsQuiet}
+use Rattle.fv_run.specs.Running.{HasAnsweredAll, HasChanged, HasFollowed, HasReason, Holds, IsAskedFor, IsAtRest, IsFileDamage, IsLacking, IsOverLimit, IsPastLimit, most_rooms, rooms_along, IsSessionDamage, Ran, reads_blocks, Survives, SurvivesFrom, AsksNone, IsQuiet}
 use Rattle.fv_run.specs.Answering.{IsEndOf, Stopped, BeginsFor}
 use Rattle.fv_run.proofs.Admitted.{image_is_admitted}
 use Rattle.fv_run.proofs.Sessions.{not_opened}
@@ -35,7 +36,7 @@ pub record RanOpen (limit : ℕ) (session : Session) (mid new : Shown) (result :
   pub counts : Counts mid new (raised_by result)
   pub reason : IfErr result (IsEndOf limit session mid new)
   pub cut_off : IsTrue mid.tells → IsOverLimit limit mid new → result ≡ Err Limit
-  pub quiet : IsTrue mid.tells → session.pending ≡ 0 → IsQuiet (lines_built mid.ends.left) mid new
+  pub quiet : IsTrue mid.tells → session.pending ≡ 0 → IsQuiet most_rooms (lines_built mid.ends.left) mid new
 
 pub stopped_open : (limit : ℕ) (session : Session) (mid new : Shown) (fault : Fault) → Stopped limit session mid new fault → RanOpen limit session mid new (Err fault)
 stopped_open limit session mid new fault stopped = record {
@@ -82,7 +83,7 @@ module _ (limit : ℕ) (session : Session) (old mid new : Shown) (laws : IsDisk 
     acknowledged = subst (λ (l : List ℕ). acked (lines_built l) r.output ≤ r.count) same_left r.acknowledged;
     all = subst (λ (l : List ℕ). r.count ≤ length (lines_built l)) same_left r.all;
     answered = r.answered;
-    asked = subst (λ (l : List ℕ). IsAskedFor (lines_built l) r.output result r.count) same_left r.asked;
+    asked = subst (λ (l : List ℕ). IsAskedFor m (lines_built l) r.output result r.count) same_left r.asked;
     machine = subst (λ (l : List ℕ). machine_of new.reads ≡ Some (after m (lines_built l) r.count)) same_left r.machine;
     settled = r.settled;
   }
@@ -147,6 +148,10 @@ module _ (limit : ℕ) (session : Session) (old mid new : Shown) (laws : IsDisk 
   dones_since m (Ok done) is = answered_since m is
   dones_since m (Err fault) is = tt
 
+  quiet_since : (rooms : List ℕ → ℕ → Command → ℕ) → IsQuiet (rooms mid.ends.left) (lines_built mid.ends.left) mid new → IsQuiet (rooms old.ends.left) (lines_built old.ends.left) old new
+  quiet_since rooms quiet output given asks =
+      quiet output (given ∙ ap (λ (l : List ℕ). l ++ output) (sym unwritten.kept.given)) (subst (λ (l : List ℕ). AsksNone (rooms l) (lines_built l) output) (sym same_left) asks) ∙ unwritten.reads
+
   pub ran : (result : Result Unit Fault) → RanOpen limit session mid new result → Ran limit old new result
   ran result r = record {
     replies = λ tells m is. followed_since m (r.holds (mid_told tells) m (machine tells m is)).replies;
@@ -160,8 +165,8 @@ module _ (limit : ℕ) (session : Session) (old mid new : Shown) (laws : IsDisk 
     counts = counts_then old mid new (raised_by result) open_counts r.counts;
     reason = reasons_since result r.reason;
     unopened = λ tells none. absurd (not_opened mid session (mid_told tells) stands (rw unwritten.reads none));
-    quiet = λ tells output given asks.
-        r.quiet (mid_told tells) begins output (given ∙ ap (λ (l : List ℕ). l ++ output) (sym unwritten.kept.given)) (subst (λ (l : List ℕ). AsksNone (lines_built l) output) (sym same_left) asks) ∙ unwritten.reads;
+    quiet_for = λ tells m is. quiet_since (λ l. rooms_along m (lines_built l)) (r.holds (mid_told tells) m (machine tells m is)).quiet;
+    quiet = λ tells. quiet_since (λ l. most_rooms) (r.quiet (mid_told tells) begins);
     opened = λ tells. inl (session, loaded tells);
     cut_off = λ tells past. r.cut_off (mid_told tells) (past_before past);
   }

@@ -10,7 +10,7 @@ use Rattle.fv_image.specs.Views.{slots}
 use Rattle.fv_image.specs.WholeMachine.{Tells}
 use Rattle.fv_root.specs.Finding.{IsFound, root_found}
 use Rattle.fv_container.specs.Chains.{container_at}
-use Rattle.fv_volume.specs.declared.pool.Pool.{Pool}
+use Rattle.fv_pool.specs.declared.pool.Pool.{Pool}
 use Rattle.fv_volume.specs.States.{States, state_at}
 use Rattle.fv_volumes.specs.UnderRoot.{IsLentAt, IsMapOf}
 use Rattle.fv_volumes.proofs.Resting.{held_rests, named_rests, ready_rests}

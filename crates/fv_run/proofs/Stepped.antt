@@ -7,6 +7,7 @@ use Rattle.fv_disk.specs.Shown.{Shown, IsDisk, Rose}
 use Rattle.fv_disk.specs.HostCalls.{Rests}
 use Rattle.fv_disk.specs.Crash.{Leaves}
 use Rattle.fv_model.specs.declared.answers.Reply.{Reply}
+use Rattle.fv_model.specs.declared.commands.Command.{Command}
 use Rattle.fv_model.specs.Machines.{Machine}
 use Rattle.fv_model.specs.Lines.{line_of}
 use Rattle.fv_model.specs.Runs.{Line, after, whole}
@@ -14,24 +15,26 @@ use Rattle.fv_model.specs.Texts.{text}
 use Rattle.fv_lines.specs.declared.reading.Found.TheVariants as found
 use Rattle.fv_lines.specs.Counts.{Counts}
 use Rattle.fv_lines.specs.Held.{Held, none_taken}
-use Rattle.fv_lines.specs.Reading.{to_come, unread, Finds}
+use Rattle.fv_lines.specs.Reading.{to_come, unread, Finds, IsStill}
 use Rattle.fv_lines.proofs.Counting.{counts_none, counts_then}
 use Rattle.fv_lines.proofs.Counting as counting
 use Rattle.fv_lines.proofs.Ends.{whole_append}
 use Rattle.fv_aggregate.specs.declared.session.Session.{Session}
 use Rattle.fv_aggregate.specs.Asking.{AsksWithin}
+use Rattle.fv_aggregate.specs.Commands.{most_room, room_by}
 use Rattle.fv_aggregate.specs.Standing.{IsWithoutFiles}
 use Rattle.fv_run.specs.declared.ending.Fault.{Fault}
 use Rattle.fv_run.specs.declared.ending.Fault.TheVariants.{Usage, NotAggregate, Source, Sink, Disk, Memory, Damaged, Limit}
 use Rattle.fv_run.specs.Built.{built, lines_built}
 use Rattle.fv_run.specs.Endings.{count_of, IsWholeFault}
 use Rattle.fv_run.specs.Promises.{line_at}
-use Rattle.fv_run.specs.Running.{begun, changes_volumes, HasChanged, Holds, IsOverLimit, IsPastLimit, IsSessionDamage, reads_blocks, Survives, asks_behind, asks_point, pending_behind, AsksNone}
-use Rattle.fv_run.specs.Answering.{Applies, AsksFor, BeginsFor, HasAnswered, HasRead, IsAtEnd, IsEndOf, LacksSpace, IsReady, IsSessionFault, StandsAt, Stopped, TellsLine}
+use Rattle.fv_run.specs.Running.{begun, changes_volumes, HasChanged, Holds, IsOverLimit, IsPastLimit, IsSessionDamage, most_rooms, reads_blocks, rooms_along, Survives, asks_point, pending_behind, IsQuiet}
+use Rattle.fv_run.specs.Answering.{Applies, AsksFor, BeginsFor, HasAnswered, HasRead, IsAtEnd, IsCounted, IsEndOf, LacksSpace, IsReady, IsSessionFault, StandsAt, Stopped, TellsLine}
 use Rattle.fv_run.proofs.Following.{left_next, line_behind}
 use Rattle.fv_run.proofs.Lines.{no_end, one_end}
 use Rattle.fv_run.proofs.Limits.{all_read, ends_before, ends_all, past_limit, same_behind, none_behind, to_come_most}
-use Rattle.fv_run.proofs.Rooms.{behind_more, behind_none, first_in, later_in, greater_room, room_of_line}
+use Rattle.fv_run.proofs.Counted.{bound_for, bound_most, calm_next, counted_next, counted_none, counted_still, quiet_next, quiet_still}
+use Rattle.fv_run.proofs.Rooms.{first_in, later_in, greater_room, room_of_line}
 use Rattle.fv_run.proofs.Sessions.{rests_asking, rests_standing}
 use Rattle.fv_run.proofs.Answered.{none_answered, followed, rested_here, asked, crash_asked, left_as, crash_applied, rested_unapplied, crash_told, followed_part, rested_part, answered_one}
 
@@ -45,8 +48,7 @@ starts limit first old laws ready = record {
   reads = λ tells. record { output = []; given = sym (append-nil old.given); answered = refl; read = []; front = refl; room = omega arith; ended = inl refl };
   lines = λ tells line is. is;
   behind = λ tells. refl;
-  pending = λ tells none. omega (arith, none, behind_none (lines_built old.ends.left));
-  quiet = λ tells none lines. refl;
+  counted = λ tells none. counted_none most_rooms (lines_built old.ends.left) old first none;
   asks = λ tells asks none. inl (record { none = none; room = 0; line = inl refl; asks = asks });
   answers = λ tells m stands. none_answered m (lines_built old.ends.left) old first laws stands;
 }
@@ -65,8 +67,20 @@ module _ (limit : ℕ) (first : Session) (old : Shown) (held : Held) (session : 
       let read = so_far.reads tells in
       ap whole (same_behind old.given output read.output (sym given ∙ same ∙ read.given)) ∙ read.answered
 
-  quiet_so_far : IsTrue old.tells → first.pending ≡ 0 → (output : List ℕ) → AsksNone script output → whole output ≡ count → now.reads ≡ old.reads
-  quiet_so_far tells none output asks answered = so_far.quiet tells none (λ line low. asks.none line (omega (arith, low, answered)))
+  -- while no line is applied
+  quiet_so_far : (rooms : ℕ → Command → ℕ) → IsCounted rooms script old session now count → IsTrue old.tells → (new : Shown) → new.given ≡ now.given → new.reads ≡ now.reads → IsQuiet rooms script old new
+  quiet_so_far rooms counted tells new same reads output given asks = reads ∙ quiet_still rooms script old session now count counted output asks (answered_by new tells output same given)
+
+  -- so a run holds what it has to that ends there
+  asked_holds : Rests now mid → mid.given ≡ now.given → Leaves now mid (IsStill now) → (fault : Fault) → IsTrue old.tells → (m : Machine) → BeginsFor old first m → Holds m (Err fault) old mid
+  asked_holds rests given still fault tells m stands =
+      let answers = so_far.answers tells m stands in
+      record {
+        replies = followed m _ _ old session now count answers mid given;
+        crash = crash_asked m _ _ old session now count answers mid still;
+        at_rest = λ calm. rested_here m _ _ old session now count answers mid rests given (Err fault);
+        quiet = quiet_so_far (rooms_along m script) answers.counted tells mid given rests.stays.reads;
+      }
 
   -- while the source is asked a session asks for what it did
   asks_still : Rests now mid → AsksFor script now session ⊎ HasChanged script count → AsksFor script mid session ⊎ HasChanged script count
@@ -78,15 +92,7 @@ module _ (limit : ℕ) (first : Session) (old : Shown) (held : Held) (session : 
   -- the source failed
   module _ (e : Failed) (finds : Finds held now new_held mid bytes (Err e)) where
     source_holds : IsTrue old.tells → (m : Machine) → BeginsFor old first m → Holds m (Err Source) old mid × IsWholeFault Source
-    source_holds tells m stands =
-        let answers = so_far.answers tells m stands in (
-          record {
-            replies = followed m _ _ old session now count answers mid finds.asks.given;
-            crash = crash_asked m _ _ old session now count answers mid finds.asks.any_moment;
-            at_rest = λ calm. rested_here m _ _ old session now count answers mid finds.asks.rests finds.asks.given (Err Source);
-          },
-          tt,
-        )
+    source_holds tells m stands = (asked_holds finds.asks.rests finds.asks.given finds.asks.any_moment Source tells m stands, tt)
 
     source_limit : IsTrue old.tells → IsOverLimit limit old mid → ⊥
     source_limit tells past =
@@ -102,21 +108,13 @@ module _ (limit : ℕ) (first : Session) (old : Shown) (held : Held) (session : 
       counts = counts_then old now mid (count_of Source) so_far.counts (counting.asked_failed now mid e finds.asks);
       reason = tt;
       cut_off = λ tells past. absurd (source_limit tells past);
-      quiet = λ tells none output given asks. finds.asks.rests.stays.reads ∙ quiet_so_far tells none output asks (answered_by mid tells output finds.asks.given given);
+      quiet = λ tells none. quiet_so_far most_rooms (so_far.counted tells none) tells mid finds.asks.given finds.asks.rests.stays.reads;
     }
 
   -- a byte past the limit was found
   module _ (finds : Finds held now new_held mid bytes (Ok found.PastLimit)) where
     limit_holds : IsTrue old.tells → (m : Machine) → BeginsFor old first m → Holds m (Err Limit) old mid × IsWholeFault Limit
-    limit_holds tells m stands =
-        let answers = so_far.answers tells m stands in (
-          record {
-            replies = followed m _ _ old session now count answers mid finds.asks.given;
-            crash = crash_asked m _ _ old session now count answers mid finds.asks.any_moment;
-            at_rest = λ calm. rested_here m _ _ old session now count answers mid finds.asks.rests finds.asks.given (Err Limit);
-          },
-          tt,
-        )
+    limit_holds tells m stands = (asked_holds finds.asks.rests finds.asks.given finds.asks.any_moment Limit tells m stands, tt)
 
     some_held : (held : List ℕ) → 0 < length held → (left : List ℕ) → held ++ left ≡ [] → ⊥
     some_held [] some left none = omega arith
@@ -144,7 +142,7 @@ module _ (limit : ℕ) (first : Session) (old : Shown) (held : Held) (session : 
       counts = counts_then old now mid None so_far.counts (counting.asked now mid found.PastLimit finds.asks);
       reason = is_past;
       cut_off = λ tells past. refl;
-      quiet = λ tells none output given asks. finds.asks.rests.stays.reads ∙ quiet_so_far tells none output asks (answered_by mid tells output finds.asks.given given);
+      quiet = λ tells none. quiet_so_far most_rooms (so_far.counted tells none) tells mid finds.asks.given finds.asks.rests.stays.reads;
     }
 
   -- no line is left
@@ -173,8 +171,7 @@ module _ (limit : ℕ) (first : Session) (old : Shown) (held : Held) (session : 
         reads = end_reads;
         lines = λ tells line is. let more = finds.reads (told tells) in so_far.lines tells line (subst (λ (l : List Line). Contains l line) (ap lines_built (more.found.1 ∙ sym more.found.0)) is);
         behind = λ tells. let more = finds.reads (told tells) in ap lines_built (more.found.1 ∙ sym more.found.0) ∙ so_far.behind tells;
-        pending = so_far.pending;
-        quiet = λ tells none lines. finds.asks.rests.stays.reads ∙ so_far.quiet tells none lines;
+        counted = λ tells none. counted_still most_rooms script old session now count (so_far.counted tells none) mid finds.asks.rests.stays.reads;
         asks = λ tells within none. asks_still finds.asks.rests (so_far.asks tells within none);
         answers = λ tells m stands.
             let more = finds.reads (told tells) in
@@ -211,9 +208,11 @@ module _ (limit : ℕ) (first : Session) (old : Shown) (held : Held) (session : 
     line_is : IsTrue old.tells → line_at script count ≡ built (line_of bytes)
     line_is tells = line_behind count script (lines_built (unread new_held mid)) (built (line_of bytes)) (mid_behind tells)
 
-    -- the line asks for no point
-    asks_none : IsTrue old.tells → asks_behind script count ≡ false → asks_point (pending_behind script count) (built (line_of bytes)) ≡ false
-    asks_none tells none = subst (λ (l : Line). asks_point (pending_behind script count) l ≡ false) (line_is tells) none
+    mid_counted : IsTrue old.tells → first.pending ≡ 0 → IsCounted most_rooms script old session mid count
+    mid_counted tells none = counted_still most_rooms script old session now count (so_far.counted tells none) mid finds.asks.rests.stays.reads
+
+    mid_bound : (c : Command) → room_by session.volumes c ≤ most_room c
+    mid_bound c = bound_most mid session mid_ready.stands c
 
     found_next : IsTrue old.tells → (m : Machine) → BeginsFor old first m → HasAnswered m (lines_built old.ends.left) (built (line_of bytes) ∷ lines_built (unread new_held mid)) old session mid count
     found_next tells m stands =
@@ -221,15 +220,30 @@ module _ (limit : ℕ) (first : Session) (old : Shown) (held : Held) (session : 
         left_as m (lines_built old.ends.left) (lines_built (unread held now)) (built (line_of bytes) ∷ lines_built (unread new_held mid)) old session mid count (ap (λ (l : List Line). map built l) more.found.0)
         (asked m (lines_built old.ends.left) (lines_built (unread held now)) old session now count (so_far.answers tells m stands) mid finds.asks.rests finds.asks.given finds.asks.any_moment)
 
+    bound_along : (tells : IsTrue old.tells) (m : Machine) → BeginsFor old first m → (c : Command) → room_by session.volumes c ≤ rooms_along m script count c
+    bound_along tells m stands c = let answers = found_next tells m stands in bound_for mid session (after m script answers.point) (after m script count) answers.stands c
+
     calm_since : (new : Shown) → ¬ Rose old.write_faults new.write_faults → ¬ Rose mid.write_faults new.write_faults
     calm_since new calm rose = calm (subst (λ (n : ℕ). Rose n new.write_faults) mid_writes rose)
 
     module _ (next_session : Session) (end : Shown) where
+      -- a line that asks for no point writes nothing
+      calm_along : (result : Result Reply Fault) → Applies session (built (line_of bytes)) mid next_session end result → (tells : IsTrue old.tells) (m : Machine) → BeginsFor old first m
+          → asks_point (rooms_along m script count) (pending_behind (rooms_along m script) script count) (built (line_of bytes)) ≡ false → end.reads ≡ mid.reads
+      calm_along result applies tells m stands =
+          calm_next (rooms_along m script) script old session mid count (found_next tells m stands).counted (built (line_of bytes)) (line_is tells) (bound_along tells m stands) end applies.calm
+
+      -- so it is while its reply isn't given whole
+      stays_quiet : (rooms : ℕ → Command → ℕ) → IsCounted rooms script old session mid count → ((c : Command) → room_by session.volumes c ≤ rooms count c) → (result : Result Reply Fault) → Applies session (built (line_of bytes)) mid next_session end result
+          → IsTrue old.tells → (new : Shown) → new.reads ≡ end.reads → ((output : List ℕ) → new.given ≡ old.given ++ output → whole output ≡ count) → IsQuiet rooms script old new
+      stays_quiet rooms counted bound result applies tells new same answered output given asks =
+          same ∙ quiet_next rooms script old session mid count counted (built (line_of bytes)) (line_is tells) bound end applies.calm output asks (answered output given)
+
       crash_so_far : (result : Result Reply Fault) → Applies session (built (line_of bytes)) mid next_session end result → IsTrue old.tells → (m : Machine) → BeginsFor old first m → Leaves old end (Survives m (lines_built old.ends.left) old.given)
       crash_so_far result applies tells m stands =
           let answers = found_next tells m stands in
           crash_applied m (lines_built old.ends.left) (built (line_of bytes)) (lines_built (unread new_held mid)) old session mid count answers next_session end
-          (applies.any_moment (mid_told tells) (after m (lines_built old.ends.left) answers.point) (after m (lines_built old.ends.left) count) answers.stands) (applies.calm _ answers.pending)
+          (applies.any_moment (mid_told tells) (after m (lines_built old.ends.left) answers.point) (after m (lines_built old.ends.left) count) answers.stands) (calm_along result applies tells m stands)
 
       none_past : (new : Shown) (tells : IsTrue old.tells) → IsOverLimit limit old new → unread new_held mid ≡ [] → ⊥
       none_past new tells past none =
@@ -305,6 +319,9 @@ module _ (limit : ℕ) (first : Session) (old : Shown) (held : Held) (session : 
       in_line Damaged is output = refl
       in_line Limit is output = absurd is
 
+      unanswered : IsTrue old.tells → end.given ≡ mid.given → (output : List ℕ) → end.given ≡ old.given ++ output → whole output ≡ count
+      unanswered tells same output given = answered_by end tells output (same ∙ finds.asks.given) given
+
       -- the line wasn't applied
       pub apply_failed : (fault : Fault) → Applies session (built (line_of bytes)) mid next_session end (Err fault) → Stopped limit first old end fault
       apply_failed fault applies = record {
@@ -314,16 +331,15 @@ module _ (limit : ℕ) (first : Session) (old : Shown) (held : Held) (session : 
                 replies = followed m (lines_built old.ends.left) (built (line_of bytes) ∷ lines_built (unread new_held mid)) old session mid count answers end applies.given;
                 crash = crash_so_far (Err fault) applies tells m stands;
                 at_rest = λ calm. rested_unapplied m (lines_built old.ends.left) (built (line_of bytes)) (lines_built (unread new_held mid)) old session mid count answers next_session end
-                    (applies.any_moment (mid_told tells) (after m (lines_built old.ends.left) answers.point) (after m (lines_built old.ends.left) count) answers.stands) (applies.calm _ answers.pending) applies.given (Err fault) (in_line fault applies.ends (flat_map text answers.replies))
+                    (applies.any_moment (mid_told tells) (after m (lines_built old.ends.left) answers.point) (after m (lines_built old.ends.left) count) answers.stands) (calm_along (Err fault) applies tells m stands) applies.given (Err fault) (in_line fault applies.ends (flat_map text answers.replies))
                     (applies.still (mid_told tells) (after m (lines_built old.ends.left) answers.point) (after m (lines_built old.ends.left) count) answers.stands (calm_since end calm));
+                quiet = stays_quiet (rooms_along m script) answers.counted (bound_along tells m stands) (Err fault) applies tells end refl (unanswered tells applies.given);
               },
               applies.no_damage (mid_told tells) (after m (lines_built old.ends.left) answers.point) (after m (lines_built old.ends.left) count) answers.stands,
             );
         counts = counts_then old mid end (count_of fault) mid_counts applies.counts;
         reason = ends_so applies.given fault applies.ends;
-        quiet = λ tells none output given asks.
-            let answered = answered_by end tells output (applies.given ∙ finds.asks.given) given in
-            applies.calm (pending_behind script count) (so_far.pending tells none) (asks_none tells (asks.none count (omega (arith, answered)))) ∙ finds.asks.rests.stays.reads ∙ quiet_so_far tells none output asks answered;
+        quiet = λ tells none. stays_quiet most_rooms (mid_counted tells none) mid_bound (Err fault) applies tells end refl (unanswered tells applies.given);
         cut_off = λ tells past. absurd (not_past end tells past (output_since end tells [] past.output (applies.given ∙ sym (append-nil mid.given)) past.given ∙ omega arith));
       }
 
@@ -335,6 +351,14 @@ module _ (limit : ℕ) (first : Session) (old : Shown) (held : Held) (session : 
         end_counts : Counts old end None
         end_counts = counts_then old mid end None mid_counts applies.counts
 
+        -- a part of a reply answers no line
+        part_answered : (fault : Fault) → TellsLine end (text reply) new (Err fault) → (tells : IsTrue old.tells) (output : List ℕ) → new.given ≡ old.given ++ output → whole output ≡ count
+        part_answered fault tells_it tells output given =
+            let part = tells_it.tells.gives.part (end_told tells) in
+            let since : new.given ≡ mid.given ++ take part.0 (text reply) = part.2 ∙ ap (λ (l : List ℕ). l ++ take part.0 (text reply)) applies.given in
+            let none : whole (take part.0 (text reply)) ≡ 0 = no_end (text reply) part.0 tells_it.line part.1 in
+            output_since new tells (take part.0 (text reply)) output since given ∙ rw none (omega arith)
+
         told_holds : (fault : Fault) → TellsLine end (text reply) new (Err fault) → IsTrue old.tells → (m : Machine) → BeginsFor old first m → Holds m (Err fault) old new
         told_holds fault tells_it tells m stands =
             let L : List Line = lines_built old.ends.left in
@@ -344,19 +368,12 @@ module _ (limit : ℕ) (first : Session) (old : Shown) (held : Held) (session : 
             let one : whole (text reply) ≡ 1 = one_end (text reply) tells_it.line in
             let part = tells_it.tells.gives.part (end_told tells) in
             record {
-              replies = followed_part m L (built (line_of bytes)) (lines_built (unread new_held mid)) old session mid count answers next_session end moments (applies.calm _ answers.pending) (end_told tells) applies.given reply done.0 done.1 new tells_it.tells.any_moment one (part.0, part.2);
-              crash = crash_told m L (built (line_of bytes)) (lines_built (unread new_held mid)) old session mid count answers next_session end moments (applies.calm _ answers.pending) (end_told tells) applies.given reply done.0 done.1 new tells_it.tells.any_moment one;
-              at_rest = λ calm. rested_part m L (built (line_of bytes)) (lines_built (unread new_held mid)) old session mid count answers next_session end moments (applies.calm _ answers.pending) (end_told tells) applies.given reply done.0 done.1 new tells_it.tells.any_moment one
+              replies = followed_part m L (built (line_of bytes)) (lines_built (unread new_held mid)) old session mid count answers next_session end moments (calm_along (Ok reply) applies tells m stands) (end_told tells) applies.given reply done.0 done.1 new tells_it.tells.any_moment one (part.0, part.2);
+              crash = crash_told m L (built (line_of bytes)) (lines_built (unread new_held mid)) old session mid count answers next_session end moments (calm_along (Ok reply) applies tells m stands) (end_told tells) applies.given reply done.0 done.1 new tells_it.tells.any_moment one;
+              at_rest = λ calm. rested_part m L (built (line_of bytes)) (lines_built (unread new_held mid)) old session mid count answers next_session end moments (calm_along (Ok reply) applies tells m stands) (end_told tells) applies.given reply done.0 done.1 new tells_it.tells.any_moment one
                   tells_it.tells.gives.rests tells_it.line part fault tells_it.sink;
+              quiet = stays_quiet (rooms_along m script) answers.counted (bound_along tells m stands) (Ok reply) applies tells new tells_it.tells.gives.rests.stays.reads (part_answered fault tells_it tells);
             }
-
-        -- a part of a reply answers no line
-        part_answered : (fault : Fault) → TellsLine end (text reply) new (Err fault) → (tells : IsTrue old.tells) (output : List ℕ) → new.given ≡ old.given ++ output → whole output ≡ count
-        part_answered fault tells_it tells output given =
-            let part = tells_it.tells.gives.part (end_told tells) in
-            let since : new.given ≡ mid.given ++ take part.0 (text reply) = part.2 ∙ ap (λ (l : List ℕ). l ++ take part.0 (text reply)) applies.given in
-            let none : whole (take part.0 (text reply)) ≡ 0 = no_end (text reply) part.0 tells_it.line part.1 in
-            output_since new tells (take part.0 (text reply)) output since given ∙ rw none (omega arith)
 
         part_past : (fault : Fault) → TellsLine end (text reply) new (Err fault) → IsTrue old.tells → IsOverLimit limit old new → ⊥
         part_past fault tells_it tells past = not_past new tells past (part_answered fault tells_it tells past.output past.given)
@@ -368,10 +385,7 @@ module _ (limit : ℕ) (first : Session) (old : Shown) (held : Held) (session : 
           counts = counts_then old end new (count_of fault) end_counts (subst (λ (f : Fault). Counts end new (count_of f)) (sym tells_it.sink) (counting.untold end new (text reply) (record {}) tells_it.tells));
           reason = subst (λ (f : Fault). IsEndOf limit first old new f) (sym tells_it.sink) tt;
           cut_off = λ tells past. absurd (part_past fault tells_it tells past);
-          quiet = λ tells none output given asks.
-              let answered = part_answered fault tells_it tells output given in
-              tells_it.tells.gives.rests.stays.reads ∙ applies.calm (pending_behind script count) (so_far.pending tells none) (asks_none tells (asks.none count (omega (arith, answered)))) ∙ finds.asks.rests.stays.reads
-              ∙ quiet_so_far tells none output asks answered;
+          quiet = λ tells none. stays_quiet most_rooms (mid_counted tells none) mid_bound (Ok reply) applies tells new tells_it.tells.gives.rests.stays.reads (part_answered fault tells_it tells);
         }
 
         same_left : TellsLine end (text reply) new (Ok tt) → unread new_held new ≡ unread new_held mid
@@ -425,10 +439,7 @@ module _ (limit : ℕ) (first : Session) (old : Shown) (held : Held) (session : 
           reads = reads_next tells_it;
           lines = λ tells line is. all_lines tells line (later_in (built (line_of bytes)) (lines_built (unread new_held mid)) line (subst (λ (l : List ℕ). Contains (lines_built l) line) (same_left tells_it) is));
           behind = λ tells. ap lines_built (same_left tells_it) ∙ left_next count script (lines_built (unread new_held mid)) (built (line_of bytes)) (mid_behind tells);
-          pending = λ tells none. behind_more script count (built (line_of bytes)) (line_is tells) session.pending next_session.pending (so_far.pending tells none) applies.pending;
-          quiet = λ tells none lines.
-              tells_it.tells.gives.rests.stays.reads ∙ applies.calm (pending_behind script count) (so_far.pending tells none) (asks_none tells (lines count (omega arith))) ∙ finds.asks.rests.stays.reads
-              ∙ so_far.quiet tells none (λ line low. lines line (omega (arith, low)));
+          counted = λ tells none. next_counted most_rooms (mid_counted tells none) mid_bound tells;
           asks = asks_next tells_it;
           answers = λ tells m stands.
               let L : List Line = lines_built old.ends.left in
@@ -436,6 +447,10 @@ module _ (limit : ℕ) (first : Session) (old : Shown) (held : Held) (session : 
               let done = applies.done (mid_told tells) (after m L answers.point) (after m L count) answers.stands in
               let moments = applies.any_moment (mid_told tells) (after m L answers.point) (after m L count) answers.stands in
               left_as m L (lines_built (unread new_held mid)) (lines_built (unread new_held new)) old next_session new (count + 1) (ap lines_built (sym (same_left tells_it)))
-              (answered_one m L (built (line_of bytes)) (lines_built (unread new_held mid)) old session mid count answers next_session end moments (applies.calm _ answers.pending) (end_told tells) applies.given reply done.0 done.1 new tells_it.tells.any_moment
-              (one_end (text reply) tells_it.line) tells_it.tells.gives.rests (tells_it.tells.gives.all (end_told tells)) applies.pending);
+              (answered_one m L (built (line_of bytes)) (lines_built (unread new_held mid)) old session mid count answers next_session end moments (calm_along (Ok reply) applies tells m stands) (end_told tells) applies.given reply done.0 done.1 new tells_it.tells.any_moment
+              (one_end (text reply) tells_it.line) tells_it.tells.gives.rests (tells_it.tells.gives.all (end_told tells)) (next_counted (rooms_along m script) answers.counted (bound_along tells m stands) tells));
         }
+          where
+            next_counted : (rooms : ℕ → Command → ℕ) → IsCounted rooms script old session mid count → ((c : Command) → room_by session.volumes c ≤ rooms count c) → IsTrue old.tells → IsCounted rooms script old next_session new (count + 1)
+            next_counted rooms counted bound tells =
+                counted_next rooms script old session mid count counted (built (line_of bytes)) (line_is tells) bound end applies.calm next_session new tells_it.tells.gives.rests.stays.reads applies.pending

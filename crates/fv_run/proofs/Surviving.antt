@@ -10,7 +10,7 @@ use Rattle.fv_aggregate.specs.declared.session.Session.{Session}
 use Rattle.fv_aggregate.specs.Standing.{OneOf, StandsAfter, StandsFor}
 use Rattle.fv_run.specs.declared.ending.Fault.{Fault}
 use Rattle.fv_run.specs.declared.ending.Fault.TheVariants.{Usage, NotAggregate, Source, Sink, Disk, Memory, Damaged, Limit}
-use Rattle.fv_run.specs.Running.{asks_behind, asks_point, begun, pending_behind, IsAfterSome, IsAskedFor, IsAtRest}
+use Rattle.fv_run.specs.Running.{asks_behind, asks_point, begun, pending_behind, rooms_along, IsAfterSome, IsAskedFor, IsAtRest}
 use Rattle.fv_run.specs.Answering.{IsLastPoint, StandsOnward}
 use Rattle.fv_run.proofs.Acked.{acked_part, acked_all, up_to_here, up_to_take, up_to_next}
 use Rattle.fv_run.proofs.Following.{after_next, left_below, line_at, line_behind}
@@ -52,15 +52,15 @@ begun_least (Err Damaged) output = omega arith
 begun_least (Err Limit) output = omega arith
 
 -- the last point over the lines that an output answers is one that was asked for
-pub asked_for : (lines : List Line) (output : List ℕ) (result : Result Unit Fault) (count n : ℕ) → whole output ≡ count → count ≤ length lines → IsLastPoint lines count n → IsAskedFor lines output result n
-asked_for lines output result count n counted within asked = ⊎_elim
+pub asked_for : (m : Machine) (lines : List Line) (output : List ℕ) (result : Result Unit Fault) (count n : ℕ) → whole output ≡ count → count ≤ length lines → IsLastPoint m lines count n → IsAskedFor m lines output result n
+asked_for m lines output result count n counted within asked = ⊎_elim
     (λ (e : n ≡ up_to_cp (take count lines)). inl (e ∙ sym (acked_part lines output count counted within)))
-    (λ (asks : (n < count) × (asks_behind lines n ≡ true)). inr (inl (omega (arith, asks.0, counted, begun_least result output), asks.1)))
+    (λ (asks : (n < count) × (asks_behind (rooms_along m lines) lines n ≡ true)). inr (inl (omega (arith, asks.0, counted, begun_least result output), asks.1)))
     asked
 
 -- the disk once a run has ended, with so many lines in the output, over the image of a session's last point
 pub rested : (m : Machine) (lines : List Line) (old new : Shown) (session : Session) (now : Machine) (count n : ℕ) (output : List ℕ) → new.given ≡ old.given ++ output → whole output ≡ count → count ≤ length lines
-    → up_to_cp (take count lines) ≤ n → n ≤ count → (result : Result Unit Fault) → IsAskedFor lines output result n → StandsFor new session (after m lines n) now → IsAtRest m lines result old new
+    → up_to_cp (take count lines) ≤ n → n ≤ count → (result : Result Unit Fault) → IsAskedFor m lines output result n → StandsFor new session (after m lines n) now → IsAtRest m lines result old new
 rested m lines old new session now count n output given counted within least most result asked stands = record {
   output = output;
   given = given;
@@ -75,18 +75,18 @@ rested m lines old new session now count n output given counted within least mos
 
 -- the last point is one of the two that it may be
 pub rested_after : (m : Machine) (lines : List Line) (old new : Shown) (session : Session) (now : Machine) (count n : ℕ) (output : List ℕ) → new.given ≡ old.given ++ output → whole output ≡ count → count ≤ length lines
-    → up_to_cp (take count lines) ≤ n → n ≤ count → (result : Result Unit Fault) → IsLastPoint lines count n → (stands : StandsAfter new session (after m lines n) (after m lines count) now)
-    → count < begun result output → (asks_behind lines count ≡ true) ⊎ (stands.point ≡ after m lines n) → IsAtRest m lines result old new
+    → up_to_cp (take count lines) ≤ n → n ≤ count → (result : Result Unit Fault) → IsLastPoint m lines count n → (stands : StandsAfter new session (after m lines n) (after m lines count) now)
+    → count < begun result output → (asks_behind (rooms_along m lines) lines count ≡ true) ⊎ (stands.point ≡ after m lines n) → IsAtRest m lines result old new
 rested_after m lines old new session now count n output given counted within least most result asked stands began which = ⊎_elim
     (λ (e : stands.point ≡ after m lines n). stayed e)
     (λ (e : stands.point ≡ after m lines count). ⊎_elim
-    (λ (asks : asks_behind lines count ≡ true). rested m lines old new session now count count output given counted within (up_to_take count lines within) (omega arith) result (inr (inl (began, asks))) (subst (λ (x : Machine). StandsFor new session x now) e stands.stands))
+    (λ (asks : asks_behind (rooms_along m lines) lines count ≡ true). rested m lines old new session now count count output given counted within (up_to_take count lines within) (omega arith) result (inr (inl (began, asks))) (subst (λ (x : Machine). StandsFor new session x now) e stands.stands))
     (λ (same : stands.point ≡ after m lines n). stayed same)
     which)
     stands.one
   where
     stayed : stands.point ≡ after m lines n → IsAtRest m lines result old new
-    stayed e = rested m lines old new session now count n output given counted within least most result (asked_for lines output result count n counted within asked) (subst (λ (x : Machine). StandsFor new session x now) e stands.stands)
+    stayed e = rested m lines old new session now count n output given counted within least most result (asked_for m lines output result count n counted within asked) (subst (λ (x : Machine). StandsFor new session x now) e stands.stands)
 
 none_or_one : (n : ℕ) → n ≤ 1 → (n ≡ 0) ⊎ (n ≡ 1)
 none_or_one zero most = inl refl
@@ -106,7 +106,7 @@ module _ (m : Machine) (lines rest : List Line) (line : Line) (count : ℕ) (is 
     pub before : up_to_cp (take count lines) ≤ point
     pub least : up_to_cp (take (count + 1) lines) ≤ point
     pub most : point ≤ count + 1
-    pub asked : IsLastPoint lines (count + 1) point
+    pub asked : IsLastPoint m lines (count + 1) point
     pub stands : StandsFor disk session (after m lines point) (after m lines (count + 1))
 
   below : count < length lines
@@ -128,7 +128,7 @@ module _ (m : Machine) (lines rest : List Line) (line : Line) (count : ℕ) (is 
     stands = stands;
   }
 
-  at_old : (disk : Shown) (session : Session) (n : ℕ) → is_cp line ≡ false → up_to_cp (take count lines) ≤ n → n ≤ count → IsLastPoint lines (count + 1) n → StandsFor disk session (after m lines n) (after m lines (count + 1)) → IsOnward disk session
+  at_old : (disk : Shown) (session : Session) (n : ℕ) → is_cp line ≡ false → up_to_cp (take count lines) ≤ n → n ≤ count → IsLastPoint m lines (count + 1) n → StandsFor disk session (after m lines n) (after m lines (count + 1)) → IsOnward disk session
   at_old disk session n other least most asked stands = record {
     point = n;
     before = least;
@@ -139,18 +139,18 @@ module _ (m : Machine) (lines rest : List Line) (line : Line) (count : ℕ) (is 
   }
 
   -- a line more that is no `cp`
-  one_more : is_cp line ≡ false → (n : ℕ) → IsLastPoint lines count n → IsLastPoint lines (count + 1) n
+  one_more : is_cp line ≡ false → (n : ℕ) → IsLastPoint m lines count n → IsLastPoint m lines (count + 1) n
   one_more other n asked = ⊎_elim
       (λ (e : n ≡ up_to_cp (take count lines)). inl (e ∙ sym (up_to_next count lines line below (line_at count lines rest line is) other)))
-      (λ (asks : (n < count) × (asks_behind lines n ≡ true)). inr (omega (arith, asks.0), asks.1))
+      (λ (asks : (n < count) × (asks_behind (rooms_along m lines) lines n ≡ true)). inr (omega (arith, asks.0), asks.1))
       asked
 
-  one_point : (disk : Shown) (session : Session) (n : ℕ) (point : Machine) → is_cp line ≡ false → up_to_cp (take count lines) ≤ n → n ≤ count → IsLastPoint lines count n
-      → (point ≡ after m lines n) ⊎ (point ≡ after m lines count) → (asks_behind lines count ≡ true) ⊎ (point ≡ after m lines n) → StandsFor disk session point (after m lines (count + 1)) → IsOnward disk session
+  one_point : (disk : Shown) (session : Session) (n : ℕ) (point : Machine) → is_cp line ≡ false → up_to_cp (take count lines) ≤ n → n ≤ count → IsLastPoint m lines count n
+      → (point ≡ after m lines n) ⊎ (point ≡ after m lines count) → (asks_behind (rooms_along m lines) lines count ≡ true) ⊎ (point ≡ after m lines n) → StandsFor disk session point (after m lines (count + 1)) → IsOnward disk session
   one_point disk session n point other least most asked one which stands = ⊎_elim
       (λ (e : point ≡ after m lines n). stayed e)
       (λ (e : point ≡ after m lines count). ⊎_elim
-      (λ (asks : asks_behind lines count ≡ true). at_old disk session count other still_before (omega arith) (inr (omega arith, asks)) (subst (λ (x : Machine). StandsFor disk session x (after m lines (count + 1))) e stands))
+      (λ (asks : asks_behind (rooms_along m lines) lines count ≡ true). at_old disk session count other still_before (omega arith) (inr (omega arith, asks)) (subst (λ (x : Machine). StandsFor disk session x (after m lines (count + 1))) e stands))
       (λ (same : point ≡ after m lines n). stayed same)
       which)
       one
@@ -159,17 +159,17 @@ module _ (m : Machine) (lines rest : List Line) (line : Line) (count : ℕ) (is 
       stayed e = at_old disk session n other least most (one_more other n asked) (subst (λ (x : Machine). StandsFor disk session x (after m lines (count + 1))) e stands)
 
   -- a point over the first `count` lines is one that the next line asks for
-  pub which_point : (point last : Machine) → (asks_point (pending_behind lines count) line ≡ false → point ≡ last) → (asks_behind lines count ≡ true) ⊎ (point ≡ last)
+  pub which_point : (point last : Machine) → (asks_point (rooms_along m lines count) (pending_behind (rooms_along m lines) lines count) line ≡ false → point ≡ last) → (asks_behind (rooms_along m lines) lines count ≡ true) ⊎ (point ≡ last)
   which_point point last calm = ⊎_elim
-      (λ (asks : asks_point (pending_behind lines count) line ≡ true). inl (ap (asks_point (pending_behind lines count)) (line_behind count lines rest line is) ∙ asks))
-      (λ (none : asks_point (pending_behind lines count) line ≡ false). inr (calm none))
-      (yes_or_no (asks_point (pending_behind lines count) line))
+      (λ (asks : asks_point (rooms_along m lines count) (pending_behind (rooms_along m lines) lines count) line ≡ true). inl (ap (asks_point (rooms_along m lines count) (pending_behind (rooms_along m lines) lines count)) (line_behind count lines rest line is) ∙ asks))
+      (λ (none : asks_point (rooms_along m lines count) (pending_behind (rooms_along m lines) lines count) line ≡ false). inr (calm none))
+      (yes_or_no (asks_point (rooms_along m lines count) (pending_behind (rooms_along m lines) lines count) line))
     where
       yes_or_no : (b : Bool) → (b ≡ true) ⊎ (b ≡ false)
       yes_or_no true = inl refl
       yes_or_no false = inr refl
 
-  pub onward : (disk : Shown) (session : Session) (n : ℕ) → up_to_cp (take count lines) ≤ n → n ≤ count → IsLastPoint lines count n → (stands : StandsOnward disk session (after m lines n) (after m lines count) line) → (asks_point (pending_behind lines count) line ≡ false → stands.after.point ≡ after m lines n) → IsOnward disk session
+  pub onward : (disk : Shown) (session : Session) (n : ℕ) → up_to_cp (take count lines) ≤ n → n ≤ count → IsLastPoint m lines count n → (stands : StandsOnward disk session (after m lines n) (after m lines count) line) → (asks_point (rooms_along m lines count) (pending_behind (rooms_along m lines) lines count) line ≡ false → stands.after.point ≡ after m lines n) → IsOnward disk session
   onward disk session n least most asked stands calm = ⊎_elim
       (λ (cp : is_cp line ≡ true). at_next disk session cp (subst (λ (x : Machine). StandsFor disk session x x) (sym next_is) (stands.point cp)))
       (λ (other : is_cp line ≡ false). one_point disk session n stands.after.point other least most asked stands.after.one (which_point stands.after.point (after m lines n) calm) (subst (λ (x : Machine). StandsFor disk session stands.after.point x) (sym next_is) stands.after.stands))

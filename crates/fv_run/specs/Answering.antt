@@ -3,6 +3,7 @@ use Rattle.std.specs.Prelude.{◌≡◌, ◌⊎◌, ◌<◌, ◌≤◌, ◌+◌,
 use Rattle.fv_disk.specs.Shown.{Image, Shown, Rose}
 use Rattle.fv_disk.specs.Crash.{Leaves}
 use Rattle.fv_model.specs.declared.answers.Reply.{Reply}
+use Rattle.fv_model.specs.declared.commands.Command.{Command}
 use Rattle.fv_model.specs.Machines.{Machine}
 use Rattle.fv_model.specs.Runs.{Line, after, after_line, AllowsAt, AnswersAll, is_cp, up_to_cp, whole}
 use Rattle.fv_model.specs.Texts.{text}
@@ -12,12 +13,13 @@ use Rattle.fv_lines.specs.Held.{Held}
 use Rattle.fv_lines.specs.Reading.{unread}
 use Rattle.fv_aggregate.specs.declared.session.Session.{Session}
 use Rattle.fv_aggregate.specs.Asking.{AsksWithin, IsShort}
+use Rattle.fv_aggregate.specs.Commands.{room_by}
 use Rattle.fv_aggregate.specs.Standing.{IsWithoutFiles, OneOf, Stands, StandsAfter, StandsFor}
 use Rattle.fv_run.specs.declared.ending.Fault.{Fault}
 use Rattle.fv_run.specs.declared.ending.Fault.TheVariants.{Source, Sink, Disk, Memory, Damaged, Limit}
 use Rattle.fv_run.specs.Endings.{IsWholeFault, count_of, raised_by}
 use Rattle.fv_run.specs.Built.{lines_built}
-use Rattle.fv_run.specs.Running.{asks_behind, asks_point, changes_volumes, HasChanged, Holds, IsOverLimit, IsPastLimit, IsRoomIn, IsSessionDamage, reads_blocks, Survives, left_by, pending_behind, IsQuiet}
+use Rattle.fv_run.specs.Running.{asks_behind, asks_point, changes_volumes, HasChanged, Holds, IsOverLimit, IsPastLimit, IsRoomIn, IsSessionDamage, most_rooms, reads_blocks, rooms_along, Survives, left_by, pending_behind, IsQuiet}
 
 -- ---- lines and their replies
 
@@ -88,8 +90,8 @@ pub record Applies (session : Session) (line : Line) (old : Shown) (new_session 
   pub left : new.ends.left ≡ old.ends.left
   pub counts : Counts old new (raised_by result)
   pub writes : OnOk result (new.write_faults ≡ old.write_faults)
-  pub calm : (pending : ℕ) → session.pending ≤ pending → asks_point pending line ≡ false → new.reads ≡ old.reads
-  pub pending : OnOk result (new_session.pending ≤ left_by session.pending line)
+  pub calm : (pending : ℕ) → session.pending ≤ pending → asks_point (room_by session.volumes) pending line ≡ false → new.reads ≡ old.reads
+  pub pending : OnOk result (new_session.pending ≤ left_by (room_by session.volumes) session.pending line)
 
 -- ---- all lines
 
@@ -105,8 +107,13 @@ pub record HasRead (limit : ℕ) (old : Shown) (held : Held) (now : Shown) (coun
   pub ended : (whole read ≡ count) ⊎ (unread held now ≡ [])
 
 -- The last point of a session that answered the first `count` lines is after the last `cp` of them, or before one that asks for a point.
-abbrev pub IsLastPoint : List Line → ℕ → ℕ → Type 0
-IsLastPoint lines count point = (point ≡ up_to_cp (take count lines)) ⊎ ((point < count) × (asks_behind lines point ≡ true))
+abbrev pub IsLastPoint : Machine → List Line → ℕ → ℕ → Type 0
+IsLastPoint m lines count point = (point ≡ up_to_cp (take count lines)) ⊎ ((point < count) × (asks_behind (rooms_along m lines) lines point ≡ true))
+
+-- With these rooms a session has no more pending than the first `count` lines leave, and the disk stays as it was while none of them asks for a point.
+pub record IsCounted (rooms : ℕ → Command → ℕ) (lines : List Line) (old : Shown) (session : Session) (now : Shown) (count : ℕ) : Type 0 where
+  pub pending : session.pending ≤ pending_behind rooms lines count
+  pub quiet : ((line : ℕ) → line < count → asks_behind rooms lines line ≡ false) → now.reads ≡ old.reads
 
 -- The first `count` lines are answered, and `left` are the others. The session stands for the machine after them, and its last consistency
 -- point for the one after `point` of them.
@@ -120,8 +127,8 @@ pub record HasAnswered (m : Machine) (lines left : List Line) (old : Shown) (ses
   pub point : ℕ
   pub least : up_to_cp (take count lines) ≤ point
   pub most : point ≤ count
-  pub asked : IsLastPoint lines count point
-  pub pending : session.pending ≤ pending_behind lines count
+  pub asked : IsLastPoint m lines count point
+  pub counted : IsCounted (rooms_along m lines) lines old session now count
   pub stands : StandsFor now session (after m lines point) (after m lines count)
   pub crash : Leaves old now (Survives m lines old.given)
 
@@ -135,8 +142,7 @@ pub record StandsAt (limit : ℕ) (first : Session) (old : Shown) (held : Held) 
   pub lines : IsTrue old.tells → (line : Line) → Contains (lines_built (unread held now)) line → Contains (lines_built old.ends.left) line
   pub behind : IsTrue old.tells → lines_built (unread held now) ≡ drop count (lines_built old.ends.left)
   -- over any disk
-  pub pending : IsTrue old.tells → first.pending ≡ 0 → session.pending ≤ pending_behind (lines_built old.ends.left) count
-  pub quiet : IsTrue old.tells → first.pending ≡ 0 → ((line : ℕ) → line < count → asks_behind (lines_built old.ends.left) line ≡ false) → now.reads ≡ old.reads
+  pub counted : IsTrue old.tells → first.pending ≡ 0 → IsCounted most_rooms (lines_built old.ends.left) old session now count
   -- until a line has changed a volume that stays
   pub asks : IsTrue old.tells → AsksWithin old first 0 → IsWithoutFiles first → AsksFor (lines_built old.ends.left) now session ⊎ HasChanged (lines_built old.ends.left) count
   pub answers : IsTrue old.tells → (m : Machine) → BeginsFor old first m → HasAnswered m (lines_built old.ends.left) (lines_built (unread held now)) old session now count
@@ -163,7 +169,7 @@ pub record Stopped (limit : ℕ) (first : Session) (old new : Shown) (fault : Fa
   pub counts : Counts old new (count_of fault)
   pub reason : IsEndOf limit first old new fault
   pub cut_off : IsTrue old.tells → IsOverLimit limit old new → fault ≡ Limit
-  pub quiet : IsTrue old.tells → first.pending ≡ 0 → IsQuiet (lines_built old.ends.left) old new
+  pub quiet : IsTrue old.tells → first.pending ≡ 0 → IsQuiet most_rooms (lines_built old.ends.left) old new
 
 abbrev pub AnswersLines : ℕ → Session → Shown → Session → Shown → Result ℕ Fault → Type 0
 AnswersLines limit first old session new (Ok count) = IsAtEnd limit first old session new count

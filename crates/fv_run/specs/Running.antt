@@ -12,7 +12,7 @@ use Rattle.fv_aggregate.specs.declared.fault.OpenFault.TheVariants as opening
 use Rattle.fv_aggregate.specs.declared.session.Session.{Session}
 use Rattle.fv_aggregate.specs.Asking.{IsShort}
 use Rattle.fv_aggregate.specs.Causes.{IsOpenFault, IsUnwritten}
-use Rattle.fv_aggregate.specs.Commands.{changes_volume, dirty_limit, reads_files, room_of}
+use Rattle.fv_aggregate.specs.Commands.{changes_volume, dirty_limit, most_room, reads_files, room_of}
 use Rattle.fv_aggregate.specs.Opening.{IsOpened}
 use Rattle.fv_run.specs.declared.ending.Fault.{Fault}
 use Rattle.fv_run.specs.declared.ending.Fault.TheVariants.{Usage, NotAggregate, Source, Sink, Disk, Memory, Damaged, Limit}
@@ -57,40 +57,46 @@ SurvivesFrom m lines old c g = (old.images c × (g ≡ old.given)) ⊎ Survives 
 
 -- ---- consistency points
 
+-- the room of a line, where those of commands are these
+abbrev pub room_in : (Command → ℕ) → Line → ℕ
+room_in rooms (Says command) = rooms command
+room_in rooms NoCommand = 0
+room_in rooms OutOfRange = 0
+
 -- whether a line asks for a consistency point where so many blocks may be pending: a `cp` does, and so does a command with room that would pass the
 -- dirty limit with them, before which a point makes room for it
-abbrev pub asks_point : ℕ → Line → Bool
-asks_point pending (Says command) = is_cp (Says command) || (nat_lt 0 (room_of command) && nat_lt dirty_limit (pending + room_of command))
-asks_point pending NoCommand = false
-asks_point pending OutOfRange = false
-
--- the room of a line
-abbrev pub room_in : Line → ℕ
-room_in (Says command) = room_of command
-room_in NoCommand = 0
-room_in OutOfRange = 0
+abbrev pub asks_point : (Command → ℕ) → ℕ → Line → Bool
+asks_point rooms pending line = is_cp line || (nat_lt 0 (room_in rooms line) && nat_lt dirty_limit (pending + room_in rooms line))
 
 -- how many blocks may be pending once a line is answered: none after a `cp`
-abbrev pub left_by : ℕ → Line → ℕ
-left_by pending line = if is_cp line then 0 else pending + room_in line
+abbrev pub left_by : (Command → ℕ) → ℕ → Line → ℕ
+left_by rooms pending line = if is_cp line then 0 else pending + room_in rooms line
+
+-- the rooms of commands behind the first `count` lines, in the machine that those make of `m`
+abbrev pub rooms_along : Machine → List Line → ℕ → Command → ℕ
+rooms_along m lines count = room_of (after m lines count)
+
+-- the most that they may be, whatever stands behind those lines
+abbrev pub most_rooms : ℕ → Command → ℕ
+most_rooms count = most_room
 
 -- how many may be once the first `count` lines are: the rooms of those behind the last `cp`
-unfoldable pub pending_behind : List Line → ℕ → ℕ
-pending_behind lines zero = 0
-pending_behind lines (suc count) = left_by (pending_behind lines count) (line_at lines count)
+unfoldable pub pending_behind : (ℕ → Command → ℕ) → List Line → ℕ → ℕ
+pending_behind rooms lines zero = 0
+pending_behind rooms lines (suc count) = left_by (rooms count) (pending_behind rooms lines count) (line_at lines count)
 
 -- whether the line behind the first `count` does
-abbrev pub asks_behind : List Line → ℕ → Bool
-asks_behind lines count = asks_point (pending_behind lines count) (get_or lines count NoCommand)
+abbrev pub asks_behind : (ℕ → Command → ℕ) → List Line → ℕ → Bool
+asks_behind rooms lines count = asks_point (rooms count) (pending_behind rooms lines count) (get_or lines count NoCommand)
 
 -- There is a line behind those that an output answers, and neither it nor one of those asks for a point.
-pub record AsksNone (lines : List Line) (output : List ℕ) : Type 0 where
+pub record AsksNone (rooms : ℕ → Command → ℕ) (lines : List Line) (output : List ℕ) : Type 0 where
   pub more : whole output < length lines
-  pub none : (line : ℕ) → line ≤ whole output → asks_behind lines line ≡ false
+  pub none : (line : ℕ) → line ≤ whole output → asks_behind rooms lines line ≡ false
 
 -- a run that ended so wrote nothing
-abbrev pub IsQuiet : List Line → Shown → Shown → Type 0
-IsQuiet lines old new = (output : List ℕ) → new.given ≡ old.given ++ output → AsksNone lines output → new.reads ≡ old.reads
+abbrev pub IsQuiet : (ℕ → Command → ℕ) → List Line → Shown → Shown → Type 0
+IsQuiet rooms lines old new = (output : List ℕ) → new.given ≡ old.given ++ output → AsksNone rooms lines output → new.reads ≡ old.reads
 
 -- the sink failed in the last line, which comes after the point that the end of the script asks for
 pub record IsUntold (lines : List Line) (output : List ℕ) (result : Result Unit Fault) (count : ℕ) : Type 0 where
@@ -108,8 +114,8 @@ begun result output = whole output + 1
 -- The first `count` lines are those before a point that was asked for: all that the output acknowledges, or those before a line that was begun
 -- and asks for a point, done or not: a `cp`, or a command whose room passes the dirty limit with the rooms of the lines behind the `cp` before it.
 -- No fault asks for one but in such a line.
-abbrev pub IsAskedFor : List Line → List ℕ → Result Unit Fault → ℕ → Type 0
-IsAskedFor lines output result count = (count ≡ acked lines output) ⊎ (((count < begun result output) × (asks_behind lines count ≡ true)) ⊎ IsUntold lines output result count)
+abbrev pub IsAskedFor : Machine → List Line → List ℕ → Result Unit Fault → ℕ → Type 0
+IsAskedFor m lines output result count = (count ≡ acked lines output) ⊎ (((count < begun result output) × (asks_behind (rooms_along m lines) lines count ≡ true)) ⊎ IsUntold lines output result count)
 
 -- The disk once a run has ended: nothing is in flight, and the image stands for the machine after
 -- the first `count` lines: at least those that the output acknowledges, and none that it doesn't answer. It is that of the last point that
@@ -121,7 +127,7 @@ pub record IsAtRest (m : Machine) (lines : List Line) (result : Result Unit Faul
   pub acknowledged : acked lines output ≤ count
   pub all : count ≤ length lines
   pub answered : count ≤ whole output
-  pub asked : IsAskedFor lines output result count
+  pub asked : IsAskedFor m lines output result count
   pub machine : machine_of new.reads ≡ Some (after m lines count)
   pub settled : IsSettled new
 
@@ -141,9 +147,9 @@ pub record IsOverLimit (limit : ℕ) (old new : Shown) : Type 0 where
   pub taken : limit + length new.ends.left < length old.ends.left
   pub answered : whole (take limit old.ends.left) ≤ whole output
 
--- the room of a consistency point that a line asks for, or of one that none asks for
+-- the most room of a consistency point that a line asks for, or that of one that none asks for
 abbrev pub IsRoomIn : List Line → ℕ → Type 0
-IsRoomIn lines room = (room ≡ 0) ⊎ ((command : Command) × Contains lines (Says command) × (room ≡ room_of command))
+IsRoomIn lines room = (room ≡ 0) ⊎ ((command : Command) × Contains lines (Says command) × (room ≡ most_room command))
 
 -- whether a line changes a volume that was there before it and is there after it: its files, its size or its kind of guarantee
 abbrev pub changes_volumes : Line → Bool
@@ -220,12 +226,13 @@ IsUnopened (Err Disk) = Unit {0}
 IsUnopened (Err Memory) = Unit {0}
 IsUnopened result = ⊥
 
--- Of a run over a machine's image: the replies, what a crash at any moment leaves, and the disk at the end where no write and no barrier
--- failed.
+-- Of a run over a machine's image: the replies, what a crash at any moment leaves, the disk at the end where no write and no barrier
+-- failed, and that it stays as it is while no line asks for a point.
 pub record Holds (m : Machine) (result : Result Unit Fault) (old new : Shown) : Type 0 where
   pub replies : HasFollowed m (lines_built old.ends.left) old new
   pub crash : Leaves old new (Survives m (lines_built old.ends.left) old.given)
   pub at_rest : ¬ Rose old.write_faults new.write_faults → IsAtRest m (lines_built old.ends.left) result old new
+  pub quiet : IsQuiet (rooms_along m (lines_built old.ends.left)) (lines_built old.ends.left) old new
 
 -- A run, over any source and any disk.
 pub record Ran (limit : ℕ) (old new : Shown) (result : Result Unit Fault) : Type 0 where
@@ -247,8 +254,9 @@ pub record Ran (limit : ℕ) (old new : Shown) (result : Result Unit Fault) : Ty
   pub counts : Counts old new (raised_by result)
   pub reason : IfErr result (HasReason limit old new)
   pub unopened : IsTrue old.tells → IsNoAggregate old.reads → IsUnopened result
-  -- what opens stays as it is while no line asks for a point, whatever it stands for
-  pub quiet : IsTrue old.tells → IsQuiet (lines_built old.ends.left) old new
+  -- what opens stays as it is while no line asks for a point, by the rooms in the machine, or by the most where it stands for none
+  pub quiet_for : IsTrue old.tells → (m : Machine) → machine_of old.reads ≡ Some m → IsQuiet (rooms_along m (lines_built old.ends.left)) (lines_built old.ends.left) old new
+  pub quiet : IsTrue old.tells → IsQuiet most_rooms (lines_built old.ends.left) old new
   -- what doesn't open stays as it is, whatever the fault, and nothing is given
   pub opened : IsTrue old.tells → Opens old.reads ⊎ (IsErr result × IsUnwritten old new)
   pub cut_off : IsTrue old.tells → IsOverLimit limit old new → result ≡ Err Limit

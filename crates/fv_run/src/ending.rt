@@ -1,6 +1,7 @@
 //! How a run of the program ends.
 
 ghost use Rattle.std.specs.Prelude.{◌≡◌};
+ghost use Rattle.fv_run.specs.Endings.{of_opening, of_session, status_of};
 
 use fv_aggregate as sessions;
 use fv_aggregate::OpenFault;
@@ -28,8 +29,6 @@ pub(crate) enum Fault {
 }
 
 impl Fault {
-    ghost use Rattle.fv_run.specs.Endings.{status_of};
-
     /// The status that tells of it.
     pub(crate) fn status(self) -> u8
         ensures { result ≡ status_of self }
@@ -48,26 +47,20 @@ impl Fault {
 }
 
 impl From<OpenFault> for Fault {
-    ghost use Rattle.std.specs.Prelude.{◌≡◌};
-    ghost use Rattle.fv_run.specs.Endings.{of_opening};
-
     ghost from_gives = { λ fault e. e ≡ of_opening fault };
 
     fn from(fault: OpenFault) -> Fault {
         match fault {
             OpenFault::DiskFault => Fault::Disk,
-            OpenFault::NotAggregate => Fault::NotAggregate,
             OpenFault::Damaged { .. } => Fault::Damaged,
             OpenFault::Memory => Fault::Memory,
+            OpenFault::NotAggregate => Fault::NotAggregate,
         }
     }
 }
 
 /// A run ends with the first fault, so that its session never tells of an earlier one.
 impl From<sessions::Fault> for Fault {
-    ghost use Rattle.std.specs.Prelude.{◌≡◌};
-    ghost use Rattle.fv_run.specs.Endings.{of_session};
-
     ghost from_gives = { λ fault e. e ≡ of_session fault };
 
     fn from(fault: sessions::Fault) -> Fault {

@@ -7,7 +7,7 @@ ghost use Rattle.fv_script.specs.Reading.{outcome};
 
 use crate::LineFault;
 use crate::values::{blocks, index};
-use crate::words::{Words, block, end, name, number, table};
+use crate::words::{Words, block, end, form, name, number, table};
 use fv_model::Command;
 
 /// `new V F` or `new V F RESERVE`.
@@ -24,13 +24,7 @@ pub fn new(words: &mut Words<'_>) -> Result<Command, LineFault>
             reserve: 0,
         });
     }
-    let digits = number(words)?;
-    end(words)?;
-    Ok(Command::New {
-        volume,
-        file,
-        reserve: blocks(digits)?,
-    })
+    form!(words; digits = number; Command::New { volume, file, reserve: blocks(digits)? })
 }
 
 /// `put V F I HEX`.
@@ -38,17 +32,7 @@ pub fn new(words: &mut Words<'_>) -> Result<Command, LineFault>
 pub fn put(words: &mut Words<'_>) -> Result<Command, LineFault>
     ensures { result ≡ outcome (put_form (line_words words.old.line.now)) }
 {
-    let volume = name(words)?;
-    let file = name(words)?;
-    let digits = number(words)?;
-    let block = block(words)?;
-    end(words)?;
-    Ok(Command::Put {
-        volume,
-        file,
-        index: index(digits)?,
-        block,
-    })
+    form!(words; volume = name, file = name, digits = number, block = block; Command::Put { volume, file, index: index(digits)?, block })
 }
 
 /// `get V F I`.
@@ -56,16 +40,7 @@ pub fn put(words: &mut Words<'_>) -> Result<Command, LineFault>
 pub fn get(words: &mut Words<'_>) -> Result<Command, LineFault>
     ensures { result ≡ outcome (get (line_words words.old.line.now)) }
 {
-    let (volume, snapshot) = table(words)?;
-    let file = name(words)?;
-    let digits = number(words)?;
-    end(words)?;
-    Ok(Command::Get {
-        volume,
-        snapshot,
-        file,
-        index: index(digits)?,
-    })
+    form!(words; (volume, snapshot) = table, file = name, digits = number; Command::Get { volume, snapshot, file, index: index(digits)? })
 }
 
 /// `len V F`.
@@ -73,14 +48,7 @@ pub fn get(words: &mut Words<'_>) -> Result<Command, LineFault>
 pub fn len(words: &mut Words<'_>) -> Result<Command, LineFault>
     ensures { result ≡ outcome (len (line_words words.old.line.now)) }
 {
-    let (volume, snapshot) = table(words)?;
-    let file = name(words)?;
-    end(words)?;
-    Ok(Command::Len {
-        volume,
-        snapshot,
-        file,
-    })
+    form!(words; (volume, snapshot) = table, file = name; Command::Len { volume, snapshot, file })
 }
 
 /// `cut V F N`.
@@ -88,15 +56,7 @@ pub fn len(words: &mut Words<'_>) -> Result<Command, LineFault>
 pub fn cut(words: &mut Words<'_>) -> Result<Command, LineFault>
     ensures { result ≡ outcome (cut_form (line_words words.old.line.now)) }
 {
-    let volume = name(words)?;
-    let file = name(words)?;
-    let digits = number(words)?;
-    end(words)?;
-    Ok(Command::Cut {
-        volume,
-        file,
-        length: blocks(digits)?,
-    })
+    form!(words; volume = name, file = name, digits = number; Command::Cut { volume, file, length: blocks(digits)? })
 }
 
 /// `rm V F`.
@@ -104,10 +64,7 @@ pub fn cut(words: &mut Words<'_>) -> Result<Command, LineFault>
 pub fn rm(words: &mut Words<'_>) -> Result<Command, LineFault>
     ensures { result ≡ outcome (rm_form (line_words words.old.line.now)) }
 {
-    let volume = name(words)?;
-    let file = name(words)?;
-    end(words)?;
-    Ok(Command::Remove { volume, file })
+    form!(words; volume = name, file = name; Command::Remove { volume, file })
 }
 
 /// `ls V`.
@@ -115,7 +72,5 @@ pub fn rm(words: &mut Words<'_>) -> Result<Command, LineFault>
 pub fn ls(words: &mut Words<'_>) -> Result<Command, LineFault>
     ensures { result ≡ outcome (ls (line_words words.old.line.now)) }
 {
-    let (volume, snapshot) = table(words)?;
-    end(words)?;
-    Ok(Command::Ls { volume, snapshot })
+    form!(words; (volume, snapshot) = table; Command::Ls { volume, snapshot })
 }

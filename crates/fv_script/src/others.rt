@@ -7,7 +7,7 @@ ghost use Rattle.fv_script.specs.Reading.{outcome};
 
 use crate::LineFault;
 use crate::values::{index, size, steps};
-use crate::words::{Words, end, kind, name, number};
+use crate::words::{Words, end, form, kind, name, number};
 use fv_model::Command;
 
 /// `mirror V S W SIZE KIND`.
@@ -15,19 +15,7 @@ use fv_model::Command;
 pub fn mirror(words: &mut Words<'_>) -> Result<Command, LineFault>
     ensures { result ≡ outcome (mirror (line_words words.old.line.now)) }
 {
-    let source = name(words)?;
-    let snapshot = name(words)?;
-    let volume = name(words)?;
-    let digits = number(words)?;
-    let kind = kind(words)?;
-    end(words)?;
-    Ok(Command::Mirror {
-        source,
-        snapshot,
-        volume,
-        size: size(digits)?,
-        kind,
-    })
+    form!(words; source = name, snapshot = name, volume = name, digits = number, kind = kind; Command::Mirror { source, snapshot, volume, size: size(digits)?, kind })
 }
 
 /// `clean V`.
@@ -35,9 +23,7 @@ pub fn mirror(words: &mut Words<'_>) -> Result<Command, LineFault>
 pub fn clean(words: &mut Words<'_>) -> Result<Command, LineFault>
     ensures { result ≡ outcome (clean (line_words words.old.line.now)) }
 {
-    let volume = name(words)?;
-    end(words)?;
-    Ok(Command::Clean { volume })
+    form!(words; volume = name; Command::Clean { volume })
 }
 
 /// `probe V F I`.
@@ -45,15 +31,7 @@ pub fn clean(words: &mut Words<'_>) -> Result<Command, LineFault>
 pub fn probe(words: &mut Words<'_>) -> Result<Command, LineFault>
     ensures { result ≡ outcome (probe (line_words words.old.line.now)) }
 {
-    let volume = name(words)?;
-    let file = name(words)?;
-    let digits = number(words)?;
-    end(words)?;
-    Ok(Command::Probe {
-        volume,
-        file,
-        index: index(digits)?,
-    })
+    form!(words; volume = name, file = name, digits = number; Command::Probe { volume, file, index: index(digits)? })
 }
 
 /// `work N`.
@@ -61,11 +39,7 @@ pub fn probe(words: &mut Words<'_>) -> Result<Command, LineFault>
 pub fn work(words: &mut Words<'_>) -> Result<Command, LineFault>
     ensures { result ≡ outcome (work (line_words words.old.line.now)) }
 {
-    let digits = number(words)?;
-    end(words)?;
-    Ok(Command::Work {
-        steps: steps(digits)?,
-    })
+    form!(words; digits = number; Command::Work { steps: steps(digits)? })
 }
 
 /// `cp`.

@@ -7,7 +7,7 @@ ghost use Rattle.fv_script.specs.Reading.{outcome};
 
 use crate::LineFault;
 use crate::values::{is, size};
-use crate::words::{Words, end, kind, name, number, word};
+use crate::words::{Words, end, form, kind, name, number, word};
 use fv_model::Command;
 
 /// The forms that begin with `snap`: `snap create V S`, `snap delete V S`, `snap restore V S` and `snap list V`.
@@ -17,27 +17,16 @@ pub fn snap(words: &mut Words<'_>) -> Result<Command, LineFault>
 {
     let verb = word(words)?;
     if is(verb, b"create") {
-        let volume = name(words)?;
-        let snapshot = name(words)?;
-        end(words)?;
-        return Ok(Command::SnapCreate { volume, snapshot });
+        return form!(words; volume = name, snapshot = name; Command::SnapCreate { volume, snapshot });
     }
     if is(verb, b"delete") {
-        let volume = name(words)?;
-        let snapshot = name(words)?;
-        end(words)?;
-        return Ok(Command::SnapDelete { volume, snapshot });
+        return form!(words; volume = name, snapshot = name; Command::SnapDelete { volume, snapshot });
     }
     if is(verb, b"restore") {
-        let volume = name(words)?;
-        let snapshot = name(words)?;
-        end(words)?;
-        return Ok(Command::SnapRestore { volume, snapshot });
+        return form!(words; volume = name, snapshot = name; Command::SnapRestore { volume, snapshot });
     }
     if is(verb, b"list") {
-        let volume = name(words)?;
-        end(words)?;
-        return Ok(Command::SnapList { volume });
+        return form!(words; volume = name; Command::SnapList { volume });
     }
     Err(LineFault::Syntax)
 }
@@ -49,19 +38,7 @@ pub fn clone(words: &mut Words<'_>) -> Result<Command, LineFault>
 {
     let verb = word(words)?;
     if is(verb, b"create") {
-        let clone = name(words)?;
-        let parent = name(words)?;
-        let snapshot = name(words)?;
-        let digits = number(words)?;
-        let kind = kind(words)?;
-        end(words)?;
-        return Ok(Command::CloneCreate {
-            clone,
-            parent,
-            snapshot,
-            size: size(digits)?,
-            kind,
-        });
+        return form!(words; clone = name, parent = name, snapshot = name, digits = number, kind = kind; Command::CloneCreate { clone, parent, snapshot, size: size(digits)?, kind });
     }
     Err(LineFault::Syntax)
 }
@@ -73,14 +50,10 @@ pub fn split(words: &mut Words<'_>) -> Result<Command, LineFault>
 {
     let verb = word(words)?;
     if is(verb, b"start") {
-        let clone = name(words)?;
-        end(words)?;
-        return Ok(Command::SplitStart { clone });
+        return form!(words; clone = name; Command::SplitStart { clone });
     }
     if is(verb, b"finish") {
-        let clone = name(words)?;
-        end(words)?;
-        return Ok(Command::SplitFinish { clone });
+        return form!(words; clone = name; Command::SplitFinish { clone });
     }
     Err(LineFault::Syntax)
 }

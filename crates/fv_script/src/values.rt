@@ -72,52 +72,37 @@ fn held(value: u32, digit: u8) -> u32
         .saturating_add(u32::from(digit.saturating_sub(b'0')))
 }
 
+/// The value of decimal digits where it is in a range.
+macro_rules! ranged {
+    ($digits:ident, $within:ident) => {{
+        let value = value($digits);
+        if $within(u64::from(value)) {
+            Ok(value)
+        } else {
+            Err(LineFault::Range)
+        }
+    }};
+}
+
 /// The size of a volume in blocks.
 pub fn size(digits: &[u8]) -> Result<u32, LineFault>
     ensures { result ≡ in_range (is_size (value_of digits.now)) (value_of digits.now) }
 {
-    let blocks = value(digits);
-    if in_size(u64::from(blocks)) {
-        Ok(blocks)
-    } else {
-        Err(LineFault::Range)
-    }
+    ranged!(digits, in_size)
 }
 
 /// The reserve or the length of a file in blocks.
 pub fn blocks(digits: &[u8]) -> Result<u32, LineFault>
     ensures { result ≡ in_range (is_reserve (value_of digits.now)) (value_of digits.now) }
 {
-    let blocks = value(digits);
-    if in_reserve(u64::from(blocks)) {
-        Ok(blocks)
-    } else {
-        Err(LineFault::Range)
-    }
+    ranged!(digits, in_reserve)
 }
 
 /// The index of a cell.
 pub fn index(digits: &[u8]) -> Result<u32, LineFault>
     ensures { result ≡ in_range (is_index (value_of digits.now)) (value_of digits.now) }
 {
-    let index = value(digits);
-    if in_index(u64::from(index)) {
-        Ok(index)
-    } else {
-        Err(LineFault::Range)
-    }
-}
-
-/// A number of background steps.
-pub fn steps(digits: &[u8]) -> Result<u32, LineFault>
-    ensures { result ≡ in_range (is_step_count (value_of digits.now)) (value_of digits.now) }
-{
-    let steps = value(digits);
-    if in_steps(u64::from(steps)) {
-        Ok(steps)
-    } else {
-        Err(LineFault::Range)
-    }
+    ranged!(digits, in_index)
 }
 
 /// The kind that the word names.
@@ -165,6 +150,13 @@ fn before_at(word: &[u8]) -> usize
     ensures within { result ≤ length word.now }
 {
     word.iter().take_while(|b| **b != b'@').count()
+}
+
+/// A number of background steps.
+pub fn steps(digits: &[u8]) -> Result<u32, LineFault>
+    ensures { result ≡ in_range (is_step_count (value_of digits.now)) (value_of digits.now) }
+{
+    ranged!(digits, in_steps)
 }
 
 /// Whether the word is this text.

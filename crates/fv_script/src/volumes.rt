@@ -7,7 +7,7 @@ ghost use Rattle.fv_script.specs.Reading.{outcome};
 
 use crate::LineFault;
 use crate::values::{is, size};
-use crate::words::{Words, end, kind, name, number, word};
+use crate::words::{Words, end, form, kind, name, number, word};
 use fv_model::Command;
 
 /// The forms that begin with `vol`: `vol create`, `vol destroy V`, `vol resize V SIZE`, `vol guarantee V KIND`, `vol list` and `vol stat V`.
@@ -20,33 +20,20 @@ pub fn vol(words: &mut Words<'_>) -> Result<Command, LineFault>
         return vol_create(words);
     }
     if is(verb, b"destroy") {
-        let volume = name(words)?;
-        end(words)?;
-        return Ok(Command::VolDestroy { volume });
+        return form!(words; volume = name; Command::VolDestroy { volume });
     }
     if is(verb, b"resize") {
-        let volume = name(words)?;
-        let digits = number(words)?;
-        end(words)?;
-        return Ok(Command::VolResize {
-            volume,
-            size: size(digits)?,
-        });
+        return form!(words; volume = name, digits = number; Command::VolResize { volume, size: size(digits)? });
     }
     if is(verb, b"guarantee") {
-        let volume = name(words)?;
-        let kind = kind(words)?;
-        end(words)?;
-        return Ok(Command::VolGuarantee { volume, kind });
+        return form!(words; volume = name, kind = kind; Command::VolGuarantee { volume, kind });
     }
     if is(verb, b"list") {
         end(words)?;
         return Ok(Command::VolList);
     }
     if is(verb, b"stat") {
-        let volume = name(words)?;
-        end(words)?;
-        return Ok(Command::VolStat { volume });
+        return form!(words; volume = name; Command::VolStat { volume });
     }
     Err(LineFault::Syntax)
 }
@@ -56,13 +43,5 @@ pub fn vol(words: &mut Words<'_>) -> Result<Command, LineFault>
 fn vol_create(words: &mut Words<'_>) -> Result<Command, LineFault>
     ensures { result ≡ outcome (vol_create (line_words words.old.line.now)) }
 {
-    let volume = name(words)?;
-    let digits = number(words)?;
-    let kind = kind(words)?;
-    end(words)?;
-    Ok(Command::VolCreate {
-        volume,
-        size: size(digits)?,
-        kind,
-    })
+    form!(words; volume = name, digits = number, kind = kind; Command::VolCreate { volume, size: size(digits)?, kind })
 }

@@ -11,6 +11,17 @@ use crate::hex::block_of;
 use crate::values::{is_number, kind_of, table_of};
 use fv_model::{Block, Kind, Name};
 
+/// The command of a form: what each of its words says, one after the other to the end of the line, and then the numbers in their ranges.
+macro_rules! form {
+    ($words:ident; $($said:pat = $read:ident),*; $command:expr) => {{
+        $(let $said = $read($words)?;)*
+        end($words)?;
+        Ok($command)
+    }};
+}
+
+pub(crate) use form;
+
 /// The words of a line that are still to be read.
 #[derive(Drop)]
 pub struct Words<'a> {
@@ -85,8 +96,7 @@ pub fn number<'a>(words: &mut Words<'a>) -> Result<&'a [u8], LineFault>
 pub fn kind(words: &mut Words<'_>) -> Result<Kind, LineFault>
     ensures { Gives (λ kind. kind) result (line_words words.new.line.now) (first kind_of (line_words words.old.line.now)) }
 {
-    let word = word(words)?;
-    kind_of(word).ok_or(LineFault::Syntax)
+    kind_of(word(words)?).ok_or(LineFault::Syntax)
 }
 
 /// The volume, or the volume and its snapshot, that the next word names.
@@ -94,8 +104,7 @@ pub fn kind(words: &mut Words<'_>) -> Result<Kind, LineFault>
 pub fn table(words: &mut Words<'_>) -> Result<(Name, Option<Name>), LineFault>
     ensures { Gives (λ table. table) result (line_words words.new.line.now) (first table_of (line_words words.old.line.now)) }
 {
-    let word = word(words)?;
-    table_of(word).ok_or(LineFault::Syntax)
+    table_of(word(words)?).ok_or(LineFault::Syntax)
 }
 
 /// The block that the next word spells.
@@ -103,8 +112,7 @@ pub fn table(words: &mut Words<'_>) -> Result<(Name, Option<Name>), LineFault>
 pub fn block(words: &mut Words<'_>) -> Result<Block, LineFault>
     ensures { Gives (λ block. block) result (line_words words.new.line.now) (first block_of (line_words words.old.line.now)) }
 {
-    let word = word(words)?;
-    block_of(word).ok_or(LineFault::Syntax)
+    block_of(word(words)?).ok_or(LineFault::Syntax)
 }
 
 /// No word is left.

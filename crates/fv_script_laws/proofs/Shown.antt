@@ -50,247 +50,122 @@ step_small n is = grind (arith, nat_tests)
 shows_vol_create : (v : List ℕ) (size : ℕ) (k : Kind) → Named v → is_size size ≡ true → Reads (VolCreate v size k)
 unfolding first is_end text_of command vol vol_create
 shows_vol_create v size k v_is range =
-    let small : size ≤ 2097152 = size_small size range in
-    let wide : size < 2 ^ 64 = omega (arith, small) in
-    record {
-      words = rw (name_word v v_is, number_word size wide, kind_word k) refl;
-      short = omega (arith, name_short v v_is, number_short size small, kind_short k);
-      says = rw (name_reads v v_is, number_reads size wide, kind_reads k) refl;
-    }
+    let small : size ≤ 2097152 = size_small size range in let wide : size < 2 ^ 64 = omega (arith, small) in
+    record { words = rw (name_word v v_is, number_word size wide, kind_word k) refl; short = omega (arith, name_short v v_is, number_short size small, kind_short k); says = rw (name_reads v v_is, number_reads size wide, kind_reads k) refl }
 
 shows_vol_destroy : (v : List ℕ) → Named v → Reads (VolDestroy v)
 unfolding first is_end text_of command vol vol_destroy
-shows_vol_destroy v v_is =
-    record {
-      words = rw (name_word v v_is) refl;
-      short = omega (arith, name_short v v_is);
-      says = rw (name_reads v v_is) refl;
-    }
+shows_vol_destroy v v_is = record { words = rw (name_word v v_is) refl; short = omega (arith, name_short v v_is); says = rw (name_reads v v_is) refl }
 
 shows_vol_resize : (v : List ℕ) (size : ℕ) → Named v → is_size size ≡ true → Reads (VolResize v size)
 unfolding first is_end text_of command vol vol_resize
 shows_vol_resize v size v_is range =
-    let small : size ≤ 2097152 = size_small size range in
-    let wide : size < 2 ^ 64 = omega (arith, small) in
-    record {
-      words = rw (name_word v v_is, number_word size wide) refl;
-      short = omega (arith, name_short v v_is, number_short size small);
-      says = rw (name_reads v v_is, number_reads size wide) refl;
-    }
+    let small : size ≤ 2097152 = size_small size range in let wide : size < 2 ^ 64 = omega (arith, small) in
+    record { words = rw (name_word v v_is, number_word size wide) refl; short = omega (arith, name_short v v_is, number_short size small); says = rw (name_reads v v_is, number_reads size wide) refl }
 
 shows_vol_guarantee : (v : List ℕ) (k : Kind) → Named v → Reads (VolGuarantee v k)
 unfolding first is_end text_of command vol vol_guarantee
-shows_vol_guarantee v k v_is =
-    record {
-      words = rw (name_word v v_is, kind_word k) refl;
-      short = omega (arith, name_short v v_is, kind_short k);
-      says = rw (name_reads v v_is, kind_reads k) refl;
-    }
+shows_vol_guarantee v k v_is = record { words = rw (name_word v v_is, kind_word k) refl; short = omega (arith, name_short v v_is, kind_short k); says = rw (name_reads v v_is, kind_reads k) refl }
 
 shows_vol_list : Reads VolList
 unfolding first is_end text_of command vol vol_list
-shows_vol_list =
-    record {
-      words = refl;
-      short = omega arith;
-      says = refl;
-    }
+shows_vol_list = record { words = refl; short = omega arith; says = refl }
 
 shows_vol_stat : (v : List ℕ) → Named v → Reads (VolStat v)
 unfolding first is_end text_of command vol vol_stat
-shows_vol_stat v v_is =
-    record {
-      words = rw (name_word v v_is) refl;
-      short = omega (arith, name_short v v_is);
-      says = rw (name_reads v v_is) refl;
-    }
+shows_vol_stat v v_is = record { words = rw (name_word v v_is) refl; short = omega (arith, name_short v v_is); says = rw (name_reads v v_is) refl }
 
 shows_new : (v : List ℕ) (f : List ℕ) (reserve : ℕ) → Named v → Named f → is_reserve reserve ≡ true → Reads (New v f reserve)
 unfolding first is_end text_of command new_form
 shows_new v f reserve v_is f_is range =
-    let small : reserve ≤ 2097152 = reserve_small reserve range in
-    let wide : reserve < 2 ^ 64 = omega (arith, small) in
-    record {
-      words = rw (name_word v v_is, name_word f f_is, number_word reserve wide) refl;
-      short = omega (arith, name_short v v_is, name_short f f_is, number_short reserve small);
-      says = rw (name_reads v v_is, name_reads f f_is, number_reads reserve wide) refl;
-    }
+    let small : reserve ≤ 2097152 = reserve_small reserve range in let wide : reserve < 2 ^ 64 = omega (arith, small) in
+    record { words = rw (name_word v v_is, name_word f f_is, number_word reserve wide) refl; short = omega (arith, name_short v v_is, name_short f f_is, number_short reserve small); says = rw (name_reads v v_is, name_reads f f_is, number_reads reserve wide) refl }
 
 shows_put : (v : List ℕ) (f : List ℕ) (i : ℕ) (block : List ℕ) → Named v → Named f → IsBlock block → is_index i ≡ true → Reads (Put v f i block)
 unfolding first is_end text_of command put_form
 shows_put v f i block v_is f_is block_is range =
-    let small : i ≤ 2097152 = index_small i range in
-    let wide : i < 2 ^ 64 = omega (arith, small) in
-    record {
-      words = rw (name_word v v_is, name_word f f_is, number_word i wide, block_is_word block block_is) refl;
-      short = omega (arith, name_short v v_is, name_short f f_is, number_short i small, block_word_short block block_is);
-      says = rw (name_reads v v_is, name_reads f f_is, number_reads i wide, block_reads block block_is) refl;
-    }
+    let small : i ≤ 2097152 = index_small i range in let wide : i < 2 ^ 64 = omega (arith, small) in
+    record { words = rw (name_word v v_is, name_word f f_is, number_word i wide, block_is_word block block_is) refl; short = omega (arith, name_short v v_is, name_short f f_is, number_short i small, block_word_short block block_is); says = rw (name_reads v v_is, name_reads f f_is, number_reads i wide, block_reads block block_is) refl }
 
 shows_get : (v : List ℕ) (s : Option (List ℕ)) (f : List ℕ) (i : ℕ) → Named v → NamedOrNone s → Named f → is_index i ≡ true → Reads (Get v s f i)
 unfolding first is_end text_of command get
 shows_get v s f i v_is s_is f_is range =
-    let small : i ≤ 2097152 = index_small i range in
-    let wide : i < 2 ^ 64 = omega (arith, small) in
-    record {
-      words = rw (table_is_word v s v_is s_is, name_word f f_is, number_word i wide) refl;
-      short = omega (arith, table_short v s v_is s_is, name_short f f_is, number_short i small);
-      says = rw (table_reads v s v_is s_is, name_reads f f_is, number_reads i wide) refl;
-    }
+    let small : i ≤ 2097152 = index_small i range in let wide : i < 2 ^ 64 = omega (arith, small) in
+    record { words = rw (table_is_word v s v_is s_is, name_word f f_is, number_word i wide) refl; short = omega (arith, table_short v s v_is s_is, name_short f f_is, number_short i small); says = rw (table_reads v s v_is s_is, name_reads f f_is, number_reads i wide) refl }
 
 shows_len : (v : List ℕ) (s : Option (List ℕ)) (f : List ℕ) → Named v → NamedOrNone s → Named f → Reads (Len v s f)
 unfolding first is_end text_of command len
-shows_len v s f v_is s_is f_is =
-    record {
-      words = rw (table_is_word v s v_is s_is, name_word f f_is) refl;
-      short = omega (arith, table_short v s v_is s_is, name_short f f_is);
-      says = rw (table_reads v s v_is s_is, name_reads f f_is) refl;
-    }
+shows_len v s f v_is s_is f_is = record { words = rw (table_is_word v s v_is s_is, name_word f f_is) refl; short = omega (arith, table_short v s v_is s_is, name_short f f_is); says = rw (table_reads v s v_is s_is, name_reads f f_is) refl }
 
 shows_cut : (v : List ℕ) (f : List ℕ) (n : ℕ) → Named v → Named f → is_reserve n ≡ true → Reads (Cut v f n)
 unfolding first is_end text_of command cut_form
 shows_cut v f n v_is f_is range =
-    let small : n ≤ 2097152 = reserve_small n range in
-    let wide : n < 2 ^ 64 = omega (arith, small) in
-    record {
-      words = rw (name_word v v_is, name_word f f_is, number_word n wide) refl;
-      short = omega (arith, name_short v v_is, name_short f f_is, number_short n small);
-      says = rw (name_reads v v_is, name_reads f f_is, number_reads n wide) refl;
-    }
+    let small : n ≤ 2097152 = reserve_small n range in let wide : n < 2 ^ 64 = omega (arith, small) in
+    record { words = rw (name_word v v_is, name_word f f_is, number_word n wide) refl; short = omega (arith, name_short v v_is, name_short f f_is, number_short n small); says = rw (name_reads v v_is, name_reads f f_is, number_reads n wide) refl }
 
 shows_remove : (v : List ℕ) (f : List ℕ) → Named v → Named f → Reads (Remove v f)
 unfolding first is_end text_of command rm_form
-shows_remove v f v_is f_is =
-    record {
-      words = rw (name_word v v_is, name_word f f_is) refl;
-      short = omega (arith, name_short v v_is, name_short f f_is);
-      says = rw (name_reads v v_is, name_reads f f_is) refl;
-    }
+shows_remove v f v_is f_is = record { words = rw (name_word v v_is, name_word f f_is) refl; short = omega (arith, name_short v v_is, name_short f f_is); says = rw (name_reads v v_is, name_reads f f_is) refl }
 
 shows_ls : (v : List ℕ) (s : Option (List ℕ)) → Named v → NamedOrNone s → Reads (Ls v s)
 unfolding first is_end text_of command ls
-shows_ls v s v_is s_is =
-    record {
-      words = rw (table_is_word v s v_is s_is) refl;
-      short = omega (arith, table_short v s v_is s_is);
-      says = rw (table_reads v s v_is s_is) refl;
-    }
+shows_ls v s v_is s_is = record { words = rw (table_is_word v s v_is s_is) refl; short = omega (arith, table_short v s v_is s_is); says = rw (table_reads v s v_is s_is) refl }
 
 shows_snap_create : (v : List ℕ) (s : List ℕ) → Named v → Named s → Reads (SnapCreate v s)
 unfolding first is_end text_of command snap snap_create
-shows_snap_create v s v_is s_is =
-    record {
-      words = rw (name_word v v_is, name_word s s_is) refl;
-      short = omega (arith, name_short v v_is, name_short s s_is);
-      says = rw (name_reads v v_is, name_reads s s_is) refl;
-    }
+shows_snap_create v s v_is s_is = record { words = rw (name_word v v_is, name_word s s_is) refl; short = omega (arith, name_short v v_is, name_short s s_is); says = rw (name_reads v v_is, name_reads s s_is) refl }
 
 shows_snap_delete : (v : List ℕ) (s : List ℕ) → Named v → Named s → Reads (SnapDelete v s)
 unfolding first is_end text_of command snap snap_delete
-shows_snap_delete v s v_is s_is =
-    record {
-      words = rw (name_word v v_is, name_word s s_is) refl;
-      short = omega (arith, name_short v v_is, name_short s s_is);
-      says = rw (name_reads v v_is, name_reads s s_is) refl;
-    }
+shows_snap_delete v s v_is s_is = record { words = rw (name_word v v_is, name_word s s_is) refl; short = omega (arith, name_short v v_is, name_short s s_is); says = rw (name_reads v v_is, name_reads s s_is) refl }
 
 shows_snap_restore : (v : List ℕ) (s : List ℕ) → Named v → Named s → Reads (SnapRestore v s)
 unfolding first is_end text_of command snap snap_restore
-shows_snap_restore v s v_is s_is =
-    record {
-      words = rw (name_word v v_is, name_word s s_is) refl;
-      short = omega (arith, name_short v v_is, name_short s s_is);
-      says = rw (name_reads v v_is, name_reads s s_is) refl;
-    }
+shows_snap_restore v s v_is s_is = record { words = rw (name_word v v_is, name_word s s_is) refl; short = omega (arith, name_short v v_is, name_short s s_is); says = rw (name_reads v v_is, name_reads s s_is) refl }
 
 shows_snap_list : (v : List ℕ) → Named v → Reads (SnapList v)
 unfolding first is_end text_of command snap snap_list
-shows_snap_list v v_is =
-    record {
-      words = rw (name_word v v_is) refl;
-      short = omega (arith, name_short v v_is);
-      says = rw (name_reads v v_is) refl;
-    }
+shows_snap_list v v_is = record { words = rw (name_word v v_is) refl; short = omega (arith, name_short v v_is); says = rw (name_reads v v_is) refl }
 
 shows_clone_create : (c : List ℕ) (v : List ℕ) (s : List ℕ) (size : ℕ) (k : Kind) → Named c → Named v → Named s → is_size size ≡ true → Reads (CloneCreate c v s size k)
 unfolding first is_end text_of command clone clone_create
 shows_clone_create c v s size k c_is v_is s_is range =
-    let small : size ≤ 2097152 = size_small size range in
-    let wide : size < 2 ^ 64 = omega (arith, small) in
-    record {
-      words = rw (name_word c c_is, name_word v v_is, name_word s s_is, number_word size wide, kind_word k) refl;
-      short = omega (arith, name_short c c_is, name_short v v_is, name_short s s_is, number_short size small, kind_short k);
-      says = rw (name_reads c c_is, name_reads v v_is, name_reads s s_is, number_reads size wide, kind_reads k) refl;
-    }
+    let small : size ≤ 2097152 = size_small size range in let wide : size < 2 ^ 64 = omega (arith, small) in
+    record { words = rw (name_word c c_is, name_word v v_is, name_word s s_is, number_word size wide, kind_word k) refl; short = omega (arith, name_short c c_is, name_short v v_is, name_short s s_is, number_short size small, kind_short k); says = rw (name_reads c c_is, name_reads v v_is, name_reads s s_is, number_reads size wide, kind_reads k) refl }
 
 shows_split_start : (c : List ℕ) → Named c → Reads (SplitStart c)
 unfolding first is_end text_of command split split_start
-shows_split_start c c_is =
-    record {
-      words = rw (name_word c c_is) refl;
-      short = omega (arith, name_short c c_is);
-      says = rw (name_reads c c_is) refl;
-    }
+shows_split_start c c_is = record { words = rw (name_word c c_is) refl; short = omega (arith, name_short c c_is); says = rw (name_reads c c_is) refl }
 
 shows_split_finish : (c : List ℕ) → Named c → Reads (SplitFinish c)
 unfolding first is_end text_of command split split_finish
-shows_split_finish c c_is =
-    record {
-      words = rw (name_word c c_is) refl;
-      short = omega (arith, name_short c c_is);
-      says = rw (name_reads c c_is) refl;
-    }
+shows_split_finish c c_is = record { words = rw (name_word c c_is) refl; short = omega (arith, name_short c c_is); says = rw (name_reads c c_is) refl }
 
 shows_mirror : (v : List ℕ) (s : List ℕ) (w : List ℕ) (size : ℕ) (k : Kind) → Named v → Named s → Named w → is_size size ≡ true → Reads (Mirror v s w size k)
 unfolding first is_end text_of command mirror
 shows_mirror v s w size k v_is s_is w_is range =
-    let small : size ≤ 2097152 = size_small size range in
-    let wide : size < 2 ^ 64 = omega (arith, small) in
-    record {
-      words = rw (name_word v v_is, name_word s s_is, name_word w w_is, number_word size wide, kind_word k) refl;
-      short = omega (arith, name_short v v_is, name_short s s_is, name_short w w_is, number_short size small, kind_short k);
-      says = rw (name_reads v v_is, name_reads s s_is, name_reads w w_is, number_reads size wide, kind_reads k) refl;
-    }
+    let small : size ≤ 2097152 = size_small size range in let wide : size < 2 ^ 64 = omega (arith, small) in
+    record { words = rw (name_word v v_is, name_word s s_is, name_word w w_is, number_word size wide, kind_word k) refl; short = omega (arith, name_short v v_is, name_short s s_is, name_short w w_is, number_short size small, kind_short k); says = rw (name_reads v v_is, name_reads s s_is, name_reads w w_is, number_reads size wide, kind_reads k) refl }
 
 shows_clean : (v : List ℕ) → Named v → Reads (Clean v)
 unfolding first is_end text_of command clean
-shows_clean v v_is =
-    record {
-      words = rw (name_word v v_is) refl;
-      short = omega (arith, name_short v v_is);
-      says = rw (name_reads v v_is) refl;
-    }
-
-shows_probe : (v : List ℕ) (f : List ℕ) (i : ℕ) → Named v → Named f → is_index i ≡ true → Reads (Probe v f i)
-unfolding first is_end text_of command probe
-shows_probe v f i v_is f_is range =
-    let small : i ≤ 2097152 = index_small i range in
-    let wide : i < 2 ^ 64 = omega (arith, small) in
-    record {
-      words = rw (name_word v v_is, name_word f f_is, number_word i wide) refl;
-      short = omega (arith, name_short v v_is, name_short f f_is, number_short i small);
-      says = rw (name_reads v v_is, name_reads f f_is, number_reads i wide) refl;
-    }
+shows_clean v v_is = record { words = rw (name_word v v_is) refl; short = omega (arith, name_short v v_is); says = rw (name_reads v v_is) refl }
 
 shows_work : (n : ℕ) → is_step_count n ≡ true → Reads (Work n)
 unfolding first is_end text_of command work
 shows_work n range =
-    let small : n ≤ 2097152 = step_small n range in
-    let wide : n < 2 ^ 64 = omega (arith, small) in
-    record {
-      words = rw (number_word n wide) refl;
-      short = omega (arith, number_short n small);
-      says = rw (number_reads n wide) refl;
-    }
+    let small : n ≤ 2097152 = step_small n range in let wide : n < 2 ^ 64 = omega (arith, small) in
+    record { words = rw (number_word n wide) refl; short = omega (arith, number_short n small); says = rw (number_reads n wide) refl }
+
+shows_probe : (v : List ℕ) (f : List ℕ) (i : ℕ) → Named v → Named f → is_index i ≡ true → Reads (Probe v f i)
+unfolding first is_end text_of command probe
+shows_probe v f i v_is f_is range =
+    let small : i ≤ 2097152 = index_small i range in let wide : i < 2 ^ 64 = omega (arith, small) in
+    record { words = rw (name_word v v_is, name_word f f_is, number_word i wide) refl; short = omega (arith, name_short v v_is, name_short f f_is, number_short i small); says = rw (name_reads v v_is, name_reads f f_is, number_reads i wide) refl }
 
 shows_cp : Reads Cp
 unfolding first is_end text_of command cp
-shows_cp =
-    record {
-      words = refl;
-      short = omega arith;
-      says = refl;
-    }
+shows_cp = record { words = refl; short = omega arith; says = refl }
 
 reads_of : (c : Command) → CanShow c → is_in_range c ≡ true → Reads c
 reads_of (VolCreate v size k) can range = shows_vol_create v size k can range

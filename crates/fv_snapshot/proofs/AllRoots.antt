@@ -8,7 +8,7 @@ use Rattle.fv_codec.specs.declared.pointer.Pointer.{Pointer}
 use Rattle.fv_codec.specs.Blocks.{greatest_word}
 use Rattle.fv_laws.proofs.Lists.{In}
 use Rattle.fv_tables.specs.Spelled.{Under, stored}
-use Rattle.fv_tables.specs.Told.{file_at}
+use Rattle.fv_tables.specs.Told.{file_at, standing_at, table_told}
 use Rattle.fv_tree.specs.Beside.{unread}
 use Rattle.fv_tree.specs.Sources.{Use}
 use Rattle.fv_tree.specs.Standing.{under}
@@ -17,14 +17,18 @@ use Rattle.fv_files.specs.Apart.{LeadsFrom, LeadsIn, Trees, stored_trees}
 use Rattle.fv_files.specs.Sharing.{owner_in}
 use Rattle.fv_files.specs.Tables.{AreReached}
 use Rattle.fv_files.proofs.Beside.{same_or}
-use Rattle.fv_volume.specs.declared.pool.Pool.{Pool}
+use Rattle.fv_pool.specs.declared.pool.Pool.{Pool}
+use Rattle.fv_volmap.specs.Slots.{slot_at}
+use Rattle.fv_pool.specs.declared.rooted.Rooted.{Rooted}
 use Rattle.fv_volume.specs.declared.state.Snap.{Snap}
 use Rattle.fv_volume.specs.declared.state.VolumeState.{VolumeState}
-use Rattle.fv_volume.specs.OneVolume.{blocks_in, shows, trees_for, uses_in, RootStands}
-use Rattle.fv_volume.specs.Sharing.{pointer_in, trees_by, trees_kept, AreShared, IsOnePlace, SharesWith, StandsInBlock}
-use Rattle.fv_volume.proofs.ActiveRoot.{agrees}
+use Rattle.fv_volume.specs.OneVolume.{blocks_in, shows, table_for, trees_for, uses_in, RootStands}
+use Rattle.fv_volume.specs.Sharing.{pointer_in, trees_kept, AreShared, IsOnePlace, SharesWith, StandsInBlock}
+use Rattle.fv_pool.specs.Tables.{trees_by}
+use Rattle.fv_volume.proofs.ActiveRoot.{agrees, root_table}
 use Rattle.fv_volume.proofs.EachRoot.{all_among, all_in}
-use Rattle.fv_volume.proofs.OverBlocks.{same_place}
+use Rattle.fv_pool.proofs.OverBlocks.{same_place}
+use Rattle.fv_volume.proofs.SlotMoves.{blocks_move}
 use Rattle.fv_volume.proofs.Shared.{shares_back, shares_by, IsAlike}
 use Rattle.fv_volume.proofs.SharedRoots.{stored_place, stored_same}
 
@@ -150,6 +154,30 @@ pub record WasRoot (d : Disk) (p : Pool) (x y : VolumeState) (some : List Snap) 
   pub root : Snap
   pub there : In root some
   pub trees : trees_kept (blocks_in d p y) q ≡ trees_kept (blocks_in d p x) root
+
+module _ (d : Disk) (p : Pool) (x y : VolumeState) (same : y.slot ≡ x.slot) (some : List Snap) where
+  -- A root is one that was, with the same table, where its slot has that one's numbers.
+  pub root_moved : (q r : Snap) → q.table ≡ r.table → In r some → slot_at y.map q.slot ≡ slot_at x.map r.slot → WasRoot d p x y some q
+  root_moved q r table there at = record {
+    root = r;
+    there = there;
+    trees = ap (λ (t : Rooted). stored_trees (blocks_in d p y q.slot) t.levels t.root) table
+        ∙ ap (λ (u : Under). stored_trees u r.table.levels r.table.root) (blocks_move d p x y same q.slot r.slot at);
+  }
+
+  -- So each is, where the active one is and those of the snapshots are.
+  pub roots_moved : WasRoot d p x y some (active_root y) → All (WasRoot d p x y some) y.snapshots → (q : Snap) → In q (roots y) → WasRoot d p x y some q
+  roots_moved first later q (inl e) = subst (WasRoot d p x y some) e first
+  roots_moved first later q (inr there) = all_in (WasRoot d p x y some) y.snapshots later q there
+
+-- Where no file is in memory, a volume with the same active root, whose slot 0 has the same numbers, has the same table.
+pub table_moves : (d : Disk) (p : Pool) (x y : VolumeState) → y.slot ≡ x.slot → y.active ≡ x.active → x.files ≡ None → y.files ≡ None → RootStands d p x 0 x.active → RootStands d p y 0 y.active → slot_at y.map 0 ≡ slot_at x.map 0
+    → table_for d p y ≡ table_for d p x
+table_moves d p x y same active none none_now was now at =
+    root_table d p y now none_now
+    ∙ ap (λ (t : Rooted). table_told (standing_at (blocks_in d p y 0) t.levels t.root)) active
+    ∙ ap (λ (u : Under). table_told (standing_at u x.active.levels x.active.root)) (blocks_move d p x y same 0 0 at)
+    ∙ sym (root_table d p x was none)
 
 -- So what each of those shared each shares.
 pub shares_again : (d : Disk) (p : Pool) (x y : VolumeState) (some : List Snap) → ((q : Snap) → In q (roots y) → WasRoot d p x y some q) → EachShares d p x some → EachShares d p y (roots y)

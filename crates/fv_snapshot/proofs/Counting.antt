@@ -31,7 +31,7 @@ use Rattle.fv_image.specs.Volumes.{snap_at}
 use Rattle.fv_image.proofs.SnapTables.{count_told, no_other}
 use Rattle.fv_image.proofs.Uses.{no_entries}
 use Rattle.fv_volmap.specs.Slots.{AreUnited, IsVolume, Slot, has, slot_at, slot_of_base, taken_in}
-use Rattle.fv_volume.specs.declared.pool.Pool.{Pool}
+use Rattle.fv_pool.specs.declared.pool.Pool.{Pool}
 use Rattle.fv_volume.specs.declared.state.Snap.{Snap}
 use Rattle.fv_volume.specs.declared.state.VolumeState.{VolumeState}
 use Rattle.fv_volume.specs.Files.{IsLabelled}
@@ -40,9 +40,9 @@ use Rattle.fv_volume.specs.SnapRecords.{IsSayableSnap}
 use Rattle.fv_volume.specs.States.{head_in, snap_in, snaps_in}
 use Rattle.fv_volume.proofs.CountedMaps.{members}
 use Rattle.fv_volume.proofs.EachRoot.{all_in}
-use Rattle.fv_volume.proofs.Holding.{has_taken}
+use Rattle.fv_pool.proofs.Holding.{has_taken}
 use Rattle.fv_volume.proofs.KeptReads.{each_sayable}
-use Rattle.fv_volume.proofs.Shows.{slot_below}
+use Rattle.fv_pool.proofs.Shows.{slot_below}
 use Rattle.fv_snapshot.proofs.OwnIds.{all_items, items_in, of_root, root_lies}
 use Rattle.fv_snapshot.proofs.Told.{by_heads, table_of}
 

@@ -4,6 +4,7 @@ use Rattle.std.specs.Prelude.{IfErr}
 use Rattle.std.proofs.lemmas.Bool.{cases_lt, true≢false}
 use Rattle.fv_disk.specs.Shown.{Shown as Disk}
 use Rattle.fv_model.specs.declared.answers.Refusal.{Refusal}
+use Rattle.fv_model.specs.declared.commands.Command.TheVariants.{SnapCreate}
 use Rattle.fv_model.specs.Effects.{Becomes}
 use Rattle.fv_model.specs.Space.{map_blocks}
 use Rattle.fv_model.specs.Spelling.{is_name}
@@ -11,12 +12,13 @@ use Rattle.fv_model.specs.Volumes.{Volume}
 use Rattle.std.specs.FinMap as fin
 use Rattle.fv_image.specs.Views.{Snap as HeadSnap}
 use Rattle.fv_volmap.specs.Slots.{IsVolume, slot_at}
-use Rattle.fv_volume.specs.declared.fault.VolumeFault.{VolumeFault}
-use Rattle.fv_volume.specs.declared.fault.VolumeFault.TheVariants.{Refused, DiskFault, Damaged, Memory}
-use Rattle.fv_volume.specs.declared.pool.Pool.{Pool}
+use Rattle.fv_pool.specs.declared.fault.VolumeFault.{VolumeFault}
+use Rattle.fv_pool.specs.declared.fault.VolumeFault.TheVariants.{Refused, Memory}
+use Rattle.fv_pool.specs.declared.pool.Pool.{Pool}
 use Rattle.fv_volume.specs.declared.state.Snap.{Snap}
 use Rattle.fv_volume.specs.declared.state.VolumeState.{VolumeState}
 use Rattle.fv_volume.specs.Asking.{snap_named}
+use Rattle.fv_volume.specs.Calls.{Changes, HasBeside}
 use Rattle.fv_volume.specs.Held.{IsHeldIn, IsPlaceFault, IsPlacedAs, MayFail}
 use Rattle.fv_volume.specs.OneVolume.{blocks_in, table_for, volume_for, IsReady}
 use Rattle.fv_volume.specs.Promising.{CanHave}
@@ -25,9 +27,9 @@ use Rattle.fv_volume.specs.Snapshots.{IsLeastFree}
 use Rattle.fv_volume.specs.States.{head_in}
 use Rattle.fv_volume.proofs.MapSlots.{is_free}
 use Rattle.fv_volume.proofs.SnapSlots.{least_is_free}
-use Rattle.fv_snapshot.specs.Creating.{content_by, Creates, IsGranted, JudgesCreation, TellsCreation}
+use Rattle.fv_snapshot.specs.Creating.{content_by, Creates, IsGranted, JudgesCreation, SnapFails, TellsCreation}
 use Rattle.fv_snapshot.proofs.Judging.{create_change}
-use Rattle.fv_snapshot.proofs.Placing.{placed_held}
+use Rattle.fv_snapshot.proofs.Placing.{never_refused, none_placed, place_changes, place_fails, placed_held}
 use Rattle.fv_snapshot.proofs.Snapped.{snapped_held, snapped_ready, snapped_volume}
 use Rattle.fv_snapshot.proofs.Told.{distinct_told}
 
@@ -36,37 +38,24 @@ module _ (d : Disk) (p : Pool) (x : VolumeState) (others : ℕ) (name : List ℕ
   can_have : IsHeldIn d p x.slot x → CanHave x (content_by (table_for d p x) (blocks_in d p x) x)
   can_have held = record { reserves = held.stands.reserves; ledger = held.stands.ledger }
 
-  module _ (left : Pool) (mid : VolumeState) (placed : IsPlacedAs d p x d left mid) where
-    -- Memory ran out,
-    pub lacking_creates : Creates d p x others name left mid (Err Memory)
-    lacking_creates = record {
-      changes = λ held. record { agrees = λ m has. tt; becomes = tt; stays = placed.volume held.stands };
-      done = tt;
-      failed = placed;
-      refused = λ r e. absurd (differs r e);
-      held = λ held. placed_held d p left x mid placed held;
-      cause = tt;
-    }
-      where
-        differs : (r : Refusal) → Memory ≡ Refused r → ⊥
-        differs r e = cc
+  -- It is refused,
+  pub refused_creates : (r : Refusal) → JudgesCreation x p.found.blocks others name (Err r) → Creates d p x others name p x (Err (Refused r))
+  refused_creates r judged =
+      let changes : IsHeldIn d p x.slot x → Changes (HasBeside x.name (volume_for d p x) others p.found.blocks) (SnapCreate x.name name) x.name (volume_for d p x) (volume_for d p x) (Err (Refused r)) =
+      λ held. record { agrees = λ m has. judged.agrees (table_for d p x) (blocks_in d p x) m (can_have held) (distinct_told x.snapshots held.stands.names) has; becomes = tt; stays = refl } in
+      record { changes = changes; done = tt; failed = none_placed d p x ready; refused = λ s e. (refl, refl); held = λ held. held; cause = tt }
 
-    -- or what changed of the files isn't placed,
+  module _ (left : Pool) (mid : VolumeState) (placed : IsPlacedAs d p x d left mid) where
+    -- or it isn't done,
+    lacks : (e : VolumeFault) → IsPlaceFault e → SnapFails d p x e → Creates d p x others name left mid (Err e)
+    lacks e calm cause = record { changes = λ held. place_changes _ (SnapCreate x.name name) x.name _ _ e calm (placed.volume held.stands); done = tt; failed = placed; refused = λ r is. absurd (never_refused e calm r is); held = placed_held d p left x mid placed; cause = cause }
+
+    -- since what changed of the files isn't placed, or memory ran out.
     pub failed_creates : (e : VolumeFault) → IsPlaceFault e → MayFail d p (Some x) e → Creates d p x others name left mid (Err e)
-    failed_creates (Refused r) calm may = absurd calm
-    failed_creates DiskFault calm may = absurd calm
-    failed_creates (Damaged at want found) calm may = record {
-      changes = λ held. record { agrees = λ m has. tt; becomes = tt; stays = placed.volume held.stands };
-      done = tt;
-      failed = placed;
-      refused = λ r e. absurd (differs r e);
-      held = λ held. placed_held d p left x mid placed held;
-      cause = may;
-    }
-      where
-        differs : (r : Refusal) → Damaged at want found ≡ Refused r → ⊥
-        differs r e = cc
-    failed_creates Memory calm may = lacking_creates
+    failed_creates e calm may = lacks e calm (place_fails d p x e calm may)
+
+    pub lacking_creates : Creates d p x others name left mid (Err Memory)
+    lacking_creates = lacks Memory tt tt
 
     module _ (none : mid.files ≡ None) (whole : IsVolume mid.map) (slot : ℕ) (granted : IsGranted x name slot) where
       same_snaps : mid.snapshots ≡ x.snapshots
@@ -96,7 +85,7 @@ module _ (d : Disk) (p : Pool) (x : VolumeState) (others : ℕ) (name : List ℕ
         pub done_ready : IsReady d left (with_snapshot mid slot name)
         done_ready = snapped_ready mid whole slot free name placed.ready.labelled named d left fits placed.ready
 
-        -- or it is made.
+        -- Else it is made.
         pub done_creates : JudgesCreation x p.found.blocks others name (Ok slot) → Creates d p x others name left (with_snapshot mid slot name) (Ok tt)
         done_creates judged = record {
           changes = λ held. record {
@@ -145,18 +134,16 @@ least_one snaps a b one other = ⊎_elim
     (cases_lt a b)
 
 module _ (p : Pool) (x : VolumeState) (others : ℕ) (name : List ℕ) where
-  -- It isn't refused.
+  -- It is refused as it is judged,
+  pub refused_tells : (r : Refusal) → JudgesCreation x p.found.blocks others name (Err r) → TellsCreation p x others name x (Err (Refused r))
+  refused_tells r judged = record { judged = λ s e. sym judged.same ∙ ap (λ (k : Refusal). Some k) (same r s e); waits = tt }
+    where
+      same : (r s : Refusal) → Refused r ≡ Refused s → r ≡ s
+      same r s e = cc
+
+  -- and by nothing else.
   pub failed_tells : (y : VolumeState) (e : VolumeFault) → IsPlaceFault e → TellsCreation p x others name y (Err e)
-  failed_tells y (Refused r) calm = absurd calm
-  failed_tells y DiskFault calm = absurd calm
-  failed_tells y (Damaged at want found) calm = record { judged = λ r e. absurd (other r e); waits = tt }
-    where
-      other : (r : Refusal) → Damaged at want found ≡ Refused r → ⊥
-      other r e = cc
-  failed_tells y Memory calm = record { judged = λ r e. absurd (other r e); waits = tt }
-    where
-      other : (r : Refusal) → Memory ≡ Refused r → ⊥
-      other r e = cc
+  failed_tells y e calm = record { judged = λ r is. absurd (never_refused e calm r is); waits = tt }
 
   -- The map that was kept waits.
   pub kept_tells : (slot : ℕ) → IsLeastFree x.snapshots slot → (y : VolumeState) (r : Result Unit VolumeFault) → OnOk r (get_or y.fresh slot false ≡ true) → IfErr r (λ e. e ≡ Memory) → TellsCreation p x others name y r

@@ -3,8 +3,8 @@ use Rattle.std.proofs.Common.{◌≡◌, ℕ, zero, suc, ◌+◌, ◌<◌, ◌�
 use Rattle.std.specs.Prelude.{slice_index_or}
 use Rattle.std.specs.FinMap as fin
 use Rattle.fv_disk.specs.Shown.{Shown as Disk}
-use Rattle.fv_model.specs.declared.answers.Refusal.{Refusal}
 use Rattle.fv_model.specs.declared.answers.Refusal.TheVariants.{NoSnapshot, SnapshotInUse}
+use Rattle.fv_model.specs.declared.commands.Command.TheVariants.{SnapDelete}
 use Rattle.fv_model.specs.Effects.{Becomes}
 use Rattle.fv_model.specs.Refusals.{is_base}
 use Rattle.fv_model.specs.Space.{use_of}
@@ -14,9 +14,9 @@ use Rattle.fv_laws.proofs.Release.{use_without_snapshot}
 use Rattle.fv_charge.specs.declared.ledger.Ledger.{Ledger}
 use Rattle.fv_charge.specs.Ledgers.{IsLedgerOf}
 use Rattle.fv_volmap.specs.Slots.{IsVolume}
-use Rattle.fv_volume.specs.declared.fault.VolumeFault.{VolumeFault}
-use Rattle.fv_volume.specs.declared.fault.VolumeFault.TheVariants.{Refused, DiskFault, Damaged, Memory}
-use Rattle.fv_volume.specs.declared.pool.Pool.{Pool}
+use Rattle.fv_pool.specs.declared.fault.VolumeFault.{VolumeFault}
+use Rattle.fv_pool.specs.declared.fault.VolumeFault.TheVariants.{Refused}
+use Rattle.fv_pool.specs.declared.pool.Pool.{Pool}
 use Rattle.fv_volume.specs.declared.state.Snap.{Snap}
 use Rattle.fv_volume.specs.declared.state.VolumeState.{VolumeState}
 use Rattle.fv_volume.specs.Asking.{snap_named}
@@ -31,7 +31,7 @@ use Rattle.fv_snapshot.proofs.Finding.{found_nowhere, found_there, found_within}
 use Rattle.fv_volume.specs.States.{head_in}
 use Rattle.fv_snapshot.proofs.Full.{few_snaps}
 use Rattle.fv_snapshot.proofs.Judging.{delete_by, delete_change, none_found, some_found}
-use Rattle.fv_snapshot.proofs.Placing.{none_placed, placed_held}
+use Rattle.fv_snapshot.proofs.Placing.{never_refused, none_placed, place_changes, place_fails, placed_held}
 use Rattle.fv_snapshot.proofs.Recounted.{counted_booked, recounted}
 use Rattle.fv_snapshot.proofs.Removing.{left_of, slot_there}
 use Rattle.fv_snapshot.proofs.Unsnapped as without
@@ -86,30 +86,7 @@ module _ (d : Disk) (p : Pool) (x : VolumeState) (name : List ℕ) (ready : IsRe
   module _ (left : Pool) (mid : VolumeState) (placed : IsPlacedAs d p x d left mid) where
     -- or what changed of the files isn't placed,
     pub failed_deletes : (e : VolumeFault) → IsPlaceFault e → MayFail d p (Some x) e → Deletes d p x name left mid (Err e)
-    failed_deletes (Refused r) calm may = absurd calm
-    failed_deletes DiskFault calm may = absurd calm
-    failed_deletes (Damaged at want found) calm may = record {
-      changes = λ held. record { agrees = λ m has. tt; becomes = tt; stays = placed.volume held.stands };
-      done = tt;
-      failed = placed;
-      refused = λ r e. absurd (differs r e);
-      held = λ held. placed_held d p left x mid placed held;
-      cause = may;
-    }
-      where
-        differs : (r : Refusal) → Damaged at want found ≡ Refused r → ⊥
-        differs r e = cc
-    failed_deletes Memory calm may = record {
-      changes = λ held. record { agrees = λ m has. tt; becomes = tt; stays = placed.volume held.stands };
-      done = tt;
-      failed = placed;
-      refused = λ r e. absurd (differs r e);
-      held = λ held. placed_held d p left x mid placed held;
-      cause = tt;
-    }
-      where
-        differs : (r : Refusal) → Memory ≡ Refused r → ⊥
-        differs r e = cc
+    failed_deletes e calm may = record { changes = λ held. place_changes _ (SnapDelete x.name name) x.name _ _ e calm (placed.volume held.stands); done = tt; failed = placed; refused = λ r is. absurd (never_refused e calm r is); held = placed_held d p left x mid placed; cause = place_fails d p x e calm may }
 
     module _ (none : mid.files ≡ None) (whole : IsVolume mid.map) (at : ℕ) (finds : FindsSnap x.snapshots name (Some at)) (some : Snap) (ledger : Ledger) where
       same_snaps : mid.snapshots ≡ x.snapshots

@@ -33,7 +33,7 @@ use Rattle.fv_charge.specs.Changes.{IsChanged, IsLeft, admission, answer_of, mac
 use Rattle.fv_charge.specs.Ledgers.{IsLedgerOf}
 use Rattle.fv_image.specs.ReachRules.{are_distinct}
 use Rattle.fv_image.proofs.SnapTables.{count_told}
-use Rattle.fv_volume.specs.declared.pool.Pool.{Pool}
+use Rattle.fv_pool.specs.declared.pool.Pool.{Pool}
 use Rattle.fv_volume.specs.declared.state.Snap.{Snap}
 use Rattle.fv_volume.specs.declared.state.VolumeState.{VolumeState}
 use Rattle.fv_volume.specs.declared.tables.TableAsked.TheVariants.{Kept}
@@ -48,6 +48,8 @@ use Rattle.fv_volume.proofs.Charging.{left_by}
 use Rattle.fv_volume.proofs.SnapReads.{asked_table}
 use Rattle.fv_charge.proofs.Admissions.{machine_admits, one_ledger}
 use Rattle.fv_snapshot.specs.Creating.{IsGranted, JudgesCreation, are_full, content_by, creation_refusal, refusal_in}
+use Rattle.fv_snapshot.specs.Granting.{slot_granted}
+use Rattle.fv_snapshot.specs.declared.creating.Granted.{Granted}
 use Rattle.fv_snapshot.proofs.Full.{free_few, full_many, some_slots}
 use Rattle.fv_snapshot.proofs.Told.{by_heads, table_of}
 
@@ -305,3 +307,16 @@ module _ (x : VolumeState) (name : List ℕ) where
         admitted l changed =
             accepts (admission grown others (capacity blocks)) (sym (by_space granted.none (some_free x.snapshots slot granted.free)) ∙ accepted)
             ∙ ap (λ (k : Ledger). admission k others (capacity blocks)) (one_ledger x.ledger delta grown l moved changed)
+
+-- ---- what is granted
+
+-- What was judged is granted, and isn't refused.
+module _ (x : VolumeState) (blocks others : ℕ) (name : List ℕ) where
+  granted_is : (r : Result Granted Refusal) (granted : Granted) → r ≡ Ok granted → JudgesCreation x blocks others name (slot_granted r) → JudgesCreation x blocks others name (Ok granted.slot)
+  granted_is r granted is judged = subst (λ (q : Result Granted Refusal). JudgesCreation x blocks others name (slot_granted q)) is judged
+
+  pub is_granted : (r : Result Granted Refusal) (granted : Granted) → r ≡ Ok granted → JudgesCreation x blocks others name (slot_granted r) → IsGranted x name granted.slot
+  is_granted r granted is judged = let its = granted_is r granted is judged in record { free = its.slot; none = its.none; fits = its.fits }
+
+  pub not_refused : (r : Result Granted Refusal) (granted : Granted) → r ≡ Ok granted → JudgesCreation x blocks others name (slot_granted r) → creation_refusal x.snapshots x.ledger blocks others name ≡ None
+  not_refused r granted is judged = let its = granted_is r granted is judged in sym its.same

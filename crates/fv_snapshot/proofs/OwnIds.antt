@@ -21,7 +21,7 @@ use Rattle.fv_tables.proofs.TablePlaces as place
 use Rattle.fv_files.specs.Apart.{Trees, stored_trees}
 use Rattle.fv_files.specs.Sharing.{owner_in}
 use Rattle.fv_image.specs.Views.{Rooted, Snap as HeadSnap}
-use Rattle.fv_volume.specs.declared.pool.Pool.{Pool}
+use Rattle.fv_pool.specs.declared.pool.Pool.{Pool}
 use Rattle.fv_volume.specs.declared.state.Snap.{Snap}
 use Rattle.fv_volume.specs.declared.state.VolumeState.{VolumeState}
 use Rattle.fv_volume.specs.OneVolume.{blocks_in, standing_kept, IsKeptTable, RootStands}

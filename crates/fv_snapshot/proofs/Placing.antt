@@ -1,15 +1,24 @@
--- What changed of a volume's files was placed: it is what it was between points. And nothing is placed of a volume that stays.
-use Rattle.std.proofs.Common.{◌≡◌, ◌+◌, ◌≤◌, Bool, true, false, Option, is_some, refl, sym, ap, ◌∙◌, arith}
+-- What changed of a volume's files was placed: it is what it was between points. Nothing is placed of a volume that stays. And what placing fails
+-- for.
+use Rattle.std.proofs.Common.{◌≡◌, ◌+◌, ◌≤◌, ℕ, Bool, true, false, List, Option, Some, Err, is_some, refl, sym, ap, subst, ◌∙◌, arith}
 use Rattle.std.proofs.lemmas.Bool.{true≢false}
 use Rattle.fv_disk.specs.Shown.{Shown as Disk}
 use Rattle.fv_charge.specs.declared.ledger.Ledger.{Ledger}
 use Rattle.fv_files.specs.declared.files.Files.{Files}
-use Rattle.fv_volume.specs.declared.pool.Pool.{Pool}
+use Rattle.fv_model.specs.declared.answers.Refusal.{Refusal}
+use Rattle.fv_model.specs.declared.commands.Command.{Command}
+use Rattle.fv_model.specs.Machines.{Machine}
+use Rattle.fv_model.specs.Volumes.{Volume}
+use Rattle.fv_pool.specs.declared.fault.VolumeFault.{VolumeFault}
+use Rattle.fv_pool.specs.declared.fault.VolumeFault.TheVariants.{Refused, DiskFault, Damaged, Memory}
+use Rattle.fv_pool.specs.declared.pool.Pool.{Pool}
 use Rattle.fv_volume.specs.declared.state.VolumeState.{VolumeState}
-use Rattle.fv_volume.specs.Held.{IsHeldIn, IsPlacedAs}
-use Rattle.fv_volume.specs.Lending.{lent_for, no_damage}
-use Rattle.fv_volume.specs.LendingLaws.{goes_itself}
+use Rattle.fv_volume.specs.Calls.{Changes}
+use Rattle.fv_volume.specs.Held.{IsHeldIn, IsPlaceFault, IsPlacedAs, MayFail}
+use Rattle.fv_pool.specs.Lending.{lent_for, no_damage}
+use Rattle.fv_pool.specs.LendingLaws.{goes_itself}
 use Rattle.fv_volume.specs.OneVolume.{home_in, IsReady}
+use Rattle.fv_snapshot.specs.Creating.{SnapFails}
 
 -- A volume between points is one still where what changed of its files was placed.
 pub placed_held : (d : Disk) (p q : Pool) (x y : VolumeState) → IsPlacedAs d p x d q y → IsHeldIn d p x.slot x → IsHeldIn d q x.slot y
@@ -52,3 +61,23 @@ none_placed d p x ready = record {
     by : (b : Bool) → x.changed ≡ b → is_some x.files ≡ true → x.changed ≡ true
     by true e some = e
     by false e some = absurd (true≢false (sym some ∙ ap (λ (o : Option Files). is_some o) (ready.changed e)))
+
+-- ---- why a step on snapshots wasn't done
+
+-- Placing refuses nothing,
+pub never_refused : (e : VolumeFault) → IsPlaceFault e → (r : Refusal) → e ≡ Refused r → ⊥
+never_refused e calm r is = subst IsPlaceFault is calm
+
+-- so what it fails for a step on snapshots fails for,
+pub place_fails : (d : Disk) (p : Pool) (x : VolumeState) (e : VolumeFault) → IsPlaceFault e → MayFail d p (Some x) e → SnapFails d p x e
+place_fails d p x (Refused r) calm may = absurd calm
+place_fails d p x DiskFault calm may = absurd calm
+place_fails d p x (Damaged at want found) calm may = may
+place_fails d p x Memory calm may = tt
+
+-- and no machine is asked.
+pub place_changes : (has : Machine → Type 0) (command : Command) (name : List ℕ) (old new : Volume) (e : VolumeFault) → IsPlaceFault e → new ≡ old → Changes has command name old new (Err e)
+place_changes has command name old new (Refused r) calm same = absurd calm
+place_changes has command name old new DiskFault calm same = absurd calm
+place_changes has command name old new (Damaged at want found) calm same = record { agrees = λ m is. tt; becomes = tt; stays = same }
+place_changes has command name old new Memory calm same = record { agrees = λ m is. tt; becomes = tt; stays = same }

@@ -16,8 +16,8 @@ use Rattle.fv_tables.specs.Told.{table_told}
 use Rattle.fv_charge.specs.declared.ledger.Ledger.{Ledger}
 use Rattle.fv_charge.specs.Ledgers.{IsLedgerOf}
 use Rattle.fv_volmap.specs.Slots.{IsVolume, Volume as Maps, slot_at, with_slot}
-use Rattle.fv_volume.specs.declared.fault.VolumeFault.TheVariants.{Refused}
-use Rattle.fv_volume.specs.declared.pool.Pool.{Pool}
+use Rattle.fv_pool.specs.declared.fault.VolumeFault.TheVariants.{Refused}
+use Rattle.fv_pool.specs.declared.pool.Pool.{Pool}
 use Rattle.fv_volume.specs.declared.state.Snap.{Snap}
 use Rattle.fv_volume.specs.declared.state.VolumeState.{VolumeState}
 use Rattle.fv_volume.specs.declared.tables.TableAsked.TheVariants.{Kept}

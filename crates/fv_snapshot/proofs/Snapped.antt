@@ -18,7 +18,6 @@ use Rattle.fv_laws.proofs.PathCharges.{no_need}
 use Rattle.fv_laws.proofs.Snapshots.{create_charge}
 use Rattle.fv_tables.specs.Spelled.{Under}
 use Rattle.fv_tables.specs.Told.{standing_at, table_told}
-use Rattle.fv_files.specs.Apart.{stored_trees}
 use Rattle.fv_files.specs.Numbering.{AreNumbersIf}
 use Rattle.fv_charge.specs.Ledgers.{IsLedgerOf}
 use Rattle.fv_image.specs.Mapped.{AreInSlots}
@@ -28,7 +27,7 @@ use Rattle.fv_image.specs.Views.{Snap as HeadSnap}
 use Rattle.fv_image.specs.Volumes.{snap_at}
 use Rattle.fv_image.proofs.SnapLists.{distinct_added, slots_added}
 use Rattle.fv_volmap.specs.Slots.{IsVolume, has, active_of, slot_at, taken_in}
-use Rattle.fv_volume.specs.declared.pool.Pool.{Pool}
+use Rattle.fv_pool.specs.declared.pool.Pool.{Pool}
 use Rattle.fv_volume.specs.declared.state.Snap.{Snap}
 use Rattle.fv_volume.specs.declared.state.VolumeState.{VolumeState}
 use Rattle.fv_volume.specs.declared.tables.TableAsked.TheVariants.{Kept}
@@ -36,15 +35,15 @@ use Rattle.fv_volume.specs.Asking.{snap_named, standing_of}
 use Rattle.fv_volume.specs.Files.{HasSlotsOf, IsLabelled}
 use Rattle.fv_volume.specs.Held.{IsHeldIn}
 use Rattle.fv_volume.specs.Labels.{label_said}
-use Rattle.fv_volume.specs.OneVolume.{blocks_in, snap_by, snaps_by, table_for, trees_for, volume_as, volume_for, IsKeptTable, IsReady, IsStanding, RootStands}
+use Rattle.fv_volume.specs.OneVolume.{IsBooked, blocks_in, snap_by, snaps_by, table_for, trees_for, volume_as, volume_for, IsKeptTable, IsReady, IsStanding, RootStands}
 use Rattle.fv_volume.specs.Sharing.{AreShared}
 use Rattle.fv_volume.specs.SnapRecords.{AreSayable, IsSayableSnap}
 use Rattle.fv_volume.specs.Snaps.{with_snapshot}
 use Rattle.fv_volume.specs.Snapshots.{IsLeastFree, has_slot}
 use Rattle.fv_volume.specs.States.{head_in, snap_in, snaps_in, table_in}
 use Rattle.fv_volume.proofs.ActiveRoot.{root_leads, root_standing, root_table, root_well}
-use Rattle.fv_volume.proofs.EachRoot.{all_among, all_in}
-use Rattle.fv_volume.proofs.Holding.{has_taken}
+use Rattle.fv_volume.proofs.EachRoot.{all_among}
+use Rattle.fv_pool.proofs.Holding.{has_taken}
 use Rattle.fv_volume.proofs.Labels.{label_turned}
 use Rattle.fv_volume.proofs.ActiveStands.{active_stands}
 use Rattle.fv_volume.proofs.SlotMoves.{blocks_move, less_told, root_moves, taken_set}
@@ -52,7 +51,8 @@ use Rattle.fv_volume.proofs.SnapReads.{asked_table}
 use Rattle.fv_volume.proofs.SnapRecords.{all_said}
 use Rattle.fv_volume.proofs.SnapSlots.{added_in, least_is_free, slots_more}
 use Rattle.fv_volume.proofs.SnapNames.{names_in}
-use Rattle.fv_snapshot.proofs.AllRoots.{active_root, are_shared, each_shares, roots, shares_again, WasRoot}
+use Rattle.fv_snapshot.proofs.AllRoots.{active_root, are_shared, each_shares, root_moved, roots, roots_moved, shares_again, table_moves, WasRoot}
+use Rattle.fv_snapshot.proofs.Changed.{ready_again, relabelled}
 use Rattle.fv_snapshot.proofs.Told.{distinct_told, none_named, snaps_more}
 
 -- ---- lists
@@ -162,19 +162,8 @@ module _ (x : VolumeState) (whole : IsVolume x.map) (slot : ℕ) (free : IsLeast
     -- Its label can be written.
     pub snapped_labelled : IsLabelled x.slot y
     unfolding label_said
-    snapped_labelled = record {
-      slot_is = labelled.slot_is;
-      form = labelled.form;
-      span = labelled.span;
-      map = labelled.map;
-      snapshots = sayable;
-      slots = slots_now;
-      waits = waits_now;
-      counts = labelled.counts;
-      levels = labelled.levels;
-      named = labelled.named;
-      label = λ container height low least most. let is = labelled.label container height low least most in label_turned x x.active y.snapshots container height is is.levels is.root (all_said (head_in y) sayable);
-    }
+    snapped_labelled = relabelled x y refl labelled labelled.map sayable slots_now waits_now labelled.counts labelled.levels
+        (λ container height low least most. let is = labelled.label container height low least most in label_turned x x.active y.snapshots container height is is.levels is.root (all_said (head_in y) sayable))
 
     its_size : x.size ≤ 500000
     unfolding label_said
@@ -182,14 +171,9 @@ module _ (x : VolumeState) (whole : IsVolume x.map) (slot : ℕ) (free : IsLeast
 
     -- Calls can be made on it.
     pub snapped_ready : (d : Disk) (p : Pool) → x.ledger.charge + map_blocks x.span ≤ x.size → IsReady d p x → IsReady d p y
-    snapped_ready d p fits is = record {
-      lent = record { within = is.lent.within; stands = is.lent.stands; few = is.lent.few; entries = is.lent.entries };
-      labelled = snapped_labelled;
-      booked = record { size = is.booked.size; kind = is.booked.kind; span = is.booked.span; need = is.booked.need; charge = (let few = its_size in omega (arith, fits, few)) };
-      blocks = is.blocks;
-      changed = λ isnt. absurd (true≢false isnt);
-      fresh = λ isnt. absurd (true≢false isnt);
-    }
+    snapped_ready d p fits is =
+        let booked : IsBooked y = record { size = is.booked.size; kind = is.booked.kind; span = is.booked.span; need = is.booked.need; charge = (let few = its_size in omega (arith, fits, few)) } in
+        ready_again d p x y refl (record { within = is.lent.within; stands = is.lent.stands; few = is.lent.few; entries = is.lent.entries }) snapped_labelled booked is
 
   -- ---- what it stands for
 
@@ -201,10 +185,7 @@ module _ (x : VolumeState) (whole : IsVolume x.map) (slot : ℕ) (free : IsLeast
     root_now = root_moves d p x y refl 0 0 (at_other 0 not_active) refl x.active root
 
     table_is : table_for d p y ≡ table_for d p x
-    table_is =
-        root_table d p y root_now none
-        ∙ ap (λ (u : Under). table_told (standing_at u x.active.levels x.active.root)) (blocks_move d p x y refl 0 0 (at_other 0 not_active))
-        ∙ sym (root_table d p x root none)
+    table_is = table_moves d p x y refl refl none none root root_now (at_other 0 not_active)
 
     kept_now : All (IsKeptTable d p y) y.snapshots
     kept_now = all_inserted (IsKeptTable d p y) x.snapshots (position_or_len (λ q. nat_lt slot q.slot) x.snapshots) new
@@ -246,18 +227,11 @@ module _ (x : VolumeState) (whole : IsVolume x.map) (slot : ℕ) (free : IsLeast
 
     -- each root was one
     was_root : (q : Snap) → In q (roots y) → WasRoot d p x y (roots x) q
-    was_root q there = by there
-      where
-        by : In q (roots y) → WasRoot d p x y (roots x) q
-        by (inl e) = subst (WasRoot d p x y (roots x)) e
-            (record { root = active_root x; there = inl refl; trees = ap (λ (u : Under). stored_trees u x.active.levels x.active.root) (blocks_move d p x y refl 0 0 (at_other 0 not_active)) })
-        by (inr later) = all_in (WasRoot d p x y (roots x)) y.snapshots
-            (all_inserted (WasRoot d p x y (roots x)) x.snapshots (position_or_len (λ q. nat_lt slot q.slot) x.snapshots) new
-            (all_apart slot (λ (r : Snap). In r (roots x)) (WasRoot d p x y (roots x))
-            (λ r differs one. record { root = r; there = one; trees = ap (λ (u : Under). stored_trees u r.table.levels r.table.root) (blocks_move d p x y refl r.slot r.slot (at_other r.slot differs)) })
-            x.snapshots free.free (all_among (λ (r : Snap). In r (roots x)) x.snapshots (λ r one. inr one)))
-            (record { root = active_root x; there = inl refl; trees = ap (λ (u : Under). stored_trees u x.active.levels x.active.root) (blocks_move d p x y refl slot 0 at_new) }))
-            q later
+    was_root = roots_moved d p x y refl (roots x) (root_moved d p x y refl (roots x) (active_root y) (active_root x) refl (inl refl) (at_other 0 not_active))
+        (all_inserted (WasRoot d p x y (roots x)) x.snapshots (position_or_len (λ q. nat_lt slot q.slot) x.snapshots) new
+        (all_apart slot (λ (r : Snap). In r (roots x)) (WasRoot d p x y (roots x)) (λ r differs one. root_moved d p x y refl (roots x) r r refl one (at_other r.slot differs))
+        x.snapshots free.free (all_among (λ (r : Snap). In r (roots x)) x.snapshots (λ r one. inr one)))
+        (root_moved d p x y refl (roots x) new (active_root x) refl (inl refl) at_new))
 
     shared_now : AreShared (trees_for d p y) (blocks_in d p y) y.snapshots
     shared_now = are_shared d p y none root_now (shares_again d p x y (roots x) was_root (each_shares d p x none root held.stands.shared))

@@ -2,7 +2,6 @@
 use Rattle.std.proofs.Common.{length, ◌≡◌, ◌≢◌, ℕ, ◌<◌, ◌≤◌, true, List, [], ◌∷◌, map, inl, inr, Some, None, refl, ap, ap₂, subst, ◌∙◌, ⊎_elim, arith, get_or-set_other, get_or-set_same}
 use Rattle.std.specs.Prelude.{All, slice_index_or}
 use Rattle.std.specs.FinMap as fin
-use Rattle.std.proofs.lemmas.Bool.{true≢false}
 use Rattle.std.proofs.lemmas.List.Elements.{All-head, All-tail}
 use Rattle.fv_disk.specs.Shown.{Shown as Disk}
 use Rattle.fv_model.specs.Spelling.{is_same_name, name_cmp}
@@ -10,31 +9,31 @@ use Rattle.fv_laws.specs.Positions.{HasNoReserve}
 use Rattle.fv_laws.proofs.Lists.{In}
 use Rattle.fv_tables.specs.Spelled.{Under}
 use Rattle.fv_tables.specs.Told.{standing_at, table_told}
-use Rattle.fv_files.specs.Apart.{stored_trees}
 use Rattle.fv_charge.specs.declared.ledger.Ledger.{Ledger}
 use Rattle.fv_charge.specs.Ledgers.{IsLedgerOf}
 use Rattle.fv_volmap.specs.Slots.{IsVolume, slot_at, taken_in, with_slot}
-use Rattle.fv_volume.specs.declared.pool.Pool.{Pool}
+use Rattle.fv_pool.specs.declared.pool.Pool.{Pool}
 use Rattle.fv_volume.specs.declared.state.Snap.{Snap}
 use Rattle.fv_volume.specs.declared.state.VolumeState.{VolumeState}
 use Rattle.fv_volume.specs.Asking.{snap_named}
 use Rattle.fv_volume.specs.Files.{IsLabelled}
 use Rattle.fv_volume.specs.Held.{IsHeldIn}
 use Rattle.fv_volume.specs.Labels.{label_said}
-use Rattle.fv_volume.specs.Lending.{IsTold}
+use Rattle.fv_pool.specs.Lending.{IsTold}
 use Rattle.fv_volume.specs.OneVolume.{blocks_in, snap_by, standing_kept, table_for, volume_as, volume_for, IsBooked, IsKeptTable, IsReady, IsStanding, RootStands}
 use Rattle.fv_volume.specs.SnapRecords.{IsSayableSnap}
 use Rattle.fv_volume.specs.Snaps.{turned_to}
 use Rattle.fv_volume.specs.States.{head_in, snap_in, table_in}
 use Rattle.fv_volume.proofs.ActiveRoot.{root_leads, root_standing, root_table, root_well}
 use Rattle.fv_volume.proofs.EachRoot.{all_among, all_in}
-use Rattle.fv_volume.proofs.Holding.{has_taken}
+use Rattle.fv_pool.proofs.Holding.{has_taken}
 use Rattle.fv_volume.proofs.KeptReads.{each_sayable}
 use Rattle.fv_volume.proofs.Labels.{label_turned}
 use Rattle.fv_volume.proofs.SlotMoves.{blocks_move, less_told, root_moves, taken_set}
 use Rattle.fv_volume.proofs.SnapReads.{found_among}
 use Rattle.fv_volume.proofs.SnapSlots.{slots_turned}
-use Rattle.fv_snapshot.proofs.AllRoots.{are_shared, kept_share, roots, shares_again, EachShares, WasRoot}
+use Rattle.fv_snapshot.proofs.AllRoots.{active_root, are_shared, kept_share, root_moved, roots, shares_again, EachShares, WasRoot}
+use Rattle.fv_snapshot.proofs.Changed.{ready_again, relabelled}
 
 module _ (x : VolumeState) (whole : IsVolume x.map) (labelled : IsLabelled x.slot x) (name : List ℕ) (q : Snap) (found : snap_named x.snapshots name ≡ Some q) (ledger : Ledger) where
   -- with the table of the snapshot
@@ -66,30 +65,15 @@ module _ (x : VolumeState) (whole : IsVolume x.map) (labelled : IsLabelled x.slo
   -- Its label can be written.
   pub turned_labelled : ledger.span ≡ x.span → IsLabelled x.slot y
   unfolding label_said
-  turned_labelled counts = record {
-    slot_is = labelled.slot_is;
-    form = labelled.form;
-    span = labelled.span;
-    map = labelled.map;
-    snapshots = record { slots = record { within = labelled.snapshots.slots.within; rising = labelled.snapshots.slots.rising }; each = labelled.snapshots.each };
-    slots = slots_turned (head_in x) (table_in q.table) x.map (let count = whole.count in omega (arith, count)) labelled.slots (slot_at x.map q.slot);
-    waits = labelled.waits;
-    counts = counts;
-    levels = said.levels;
-    named = labelled.named;
-    label = λ container height low least most. let is = labelled.label container height low least most in label_turned x q.table x.snapshots container height is said.levels said.root is.snapshots;
-  }
+  turned_labelled counts = relabelled x y refl labelled labelled.map
+      (record { slots = record { within = labelled.snapshots.slots.within; rising = labelled.snapshots.slots.rising }; each = labelled.snapshots.each })
+      (slots_turned (head_in x) (table_in q.table) x.map (let count = whole.count in omega (arith, count)) labelled.slots (slot_at x.map q.slot)) labelled.waits counts said.levels
+      (λ container height low least most. let is = labelled.label container height low least most in label_turned x q.table x.snapshots container height is said.levels said.root is.snapshots)
 
   -- Calls can be made on it.
   pub turned_ready : (d : Disk) (p : Pool) → IsBooked y → IsReady d p x → IsReady d p y
-  turned_ready d p booked is = record {
-    lent = record { within = is.lent.within; stands = is.lent.stands; few = is.lent.few; entries = is.lent.entries };
-    labelled = turned_labelled booked.span;
-    booked = record { size = booked.size; kind = booked.kind; span = booked.span; need = booked.need; charge = booked.charge };
-    blocks = is.blocks;
-    changed = λ isnt. absurd (true≢false isnt);
-    fresh = λ isnt. absurd (true≢false isnt);
-  }
+  turned_ready d p booked is = ready_again d p x y refl (record { within = is.lent.within; stands = is.lent.stands; few = is.lent.few; entries = is.lent.entries }) (turned_labelled booked.span)
+      (record { size = booked.size; kind = booked.kind; span = booked.span; need = booked.need; charge = booked.charge }) is
 
   -- ---- what it stands for
 
@@ -138,8 +122,8 @@ module _ (x : VolumeState) (whole : IsVolume x.map) (labelled : IsLabelled x.slo
 
         by : In r (roots y) → WasRoot d p x y x.snapshots r
         by (inl e) = subst (WasRoot d p x y x.snapshots) e
-            (record { root = q; there = there_too; trees = ap (λ (u : Under). stored_trees u q.table.levels q.table.root) (blocks_move d p x y refl 0 q.slot at_first) })
-        by (inr later) = record { root = r; there = later; trees = ap (λ (u : Under). stored_trees u r.table.levels r.table.root) (blocks_move d p x y refl r.slot r.slot (at_other r.slot (λ same. kept_apart same later))) }
+            (root_moved d p x y refl x.snapshots (active_root y) q refl there_too at_first)
+        by (inr later) = root_moved d p x y refl x.snapshots r r refl later (at_other r.slot (λ same. kept_apart same later))
 
     pub each_now : EachShares d p y (roots y)
     each_now = shares_again d p x y x.snapshots was_root (kept_share d p x stands.shared)
@@ -149,12 +133,4 @@ module _ (x : VolumeState) (whole : IsVolume x.map) (labelled : IsLabelled x.slo
 
     -- So it is what it is between points.
     pub turned_held : IsHeldIn d p x.slot x → IsBooked y → IsLedgerOf (volume_for d p y) ledger → ledger.charge ≤ x.size → IsHeldIn d p x.slot y
-    turned_held held booked right fits = record {
-      slot = held.slot;
-      ready = turned_ready d p booked held.ready;
-      stands = turned_standing right;
-      led = root_leads d p y root_now refl;
-      well = root_well d p y root_now refl;
-      wide = held.wide;
-      within = fits;
-    }
+    turned_held held booked right fits = record { slot = held.slot; ready = turned_ready d p booked held.ready; stands = turned_standing right; led = root_leads d p y root_now refl; well = root_well d p y root_now refl; wide = held.wide; within = fits }

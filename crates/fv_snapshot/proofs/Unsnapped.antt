@@ -9,10 +9,7 @@ use Rattle.std.proofs.lemmas.List.Elements.{All-cons, All-head, All-tail}
 use Rattle.fv_disk.specs.Shown.{Shown as Disk}
 use Rattle.fv_model.specs.Spelling.{name_cmp}
 use Rattle.fv_model.specs.Tables.{Table}
-use Rattle.fv_tables.specs.Told.{standing_at, table_told}
-use Rattle.fv_tables.specs.Spelled.{Under}
 use Rattle.fv_laws.proofs.Lists.{In}
-use Rattle.fv_files.specs.Apart.{stored_trees}
 use Rattle.fv_files.specs.Numbering.{AreNumbersIf}
 use Rattle.fv_charge.specs.declared.ledger.Ledger.{Ledger}
 use Rattle.fv_charge.specs.Ledgers.{IsLedgerOf}
@@ -21,27 +18,28 @@ use Rattle.fv_image.specs.Views.{Snap as HeadSnap}
 use Rattle.fv_image.specs.Volumes.{snap_at}
 use Rattle.fv_image.proofs.SnapLists.{distinct_without}
 use Rattle.fv_volmap.specs.Slots.{IsVolume, has, slot_at, slot_of_base, taken_in, with_slot}
-use Rattle.fv_volume.specs.declared.pool.Pool.{Pool}
+use Rattle.fv_pool.specs.declared.pool.Pool.{Pool}
 use Rattle.fv_volume.specs.declared.state.Snap.{Snap}
 use Rattle.fv_volume.specs.declared.state.VolumeState.{VolumeState}
 use Rattle.fv_volume.specs.Files.{HasSlotsOf, IsLabelled}
 use Rattle.fv_volume.specs.Held.{IsHeldIn}
 use Rattle.fv_volume.specs.Labels.{label_said}
-use Rattle.fv_volume.specs.Lending.{IsTold}
+use Rattle.fv_pool.specs.Lending.{IsTold}
 use Rattle.fv_volume.specs.OneVolume.{blocks_in, snaps_by, table_for, volume_as, volume_for, IsBooked, IsKeptTable, IsReady, IsStanding, RootStands}
 use Rattle.fv_volume.specs.SnapRecords.{AreSayable, IsSayableSnap}
 use Rattle.fv_volume.specs.Snapshots.{FindsSnap}
 use Rattle.fv_volume.specs.States.{head_in, snap_in, snaps_in}
-use Rattle.fv_volume.proofs.ActiveRoot.{root_leads, root_standing, root_table, root_well}
+use Rattle.fv_volume.proofs.ActiveRoot.{root_leads, root_standing, root_well}
 use Rattle.fv_volume.proofs.CountedMaps.{slot_with}
-use Rattle.fv_volume.proofs.EachRoot.{all_among, all_in}
+use Rattle.fv_volume.proofs.EachRoot.{all_among}
 use Rattle.fv_volume.proofs.Labels.{label_turned}
 use Rattle.fv_volume.proofs.ActiveStands.{active_stands}
 use Rattle.fv_volume.proofs.SlotMoves.{blocks_move, less_told, root_moves, taken_set}
 use Rattle.fv_volume.proofs.SnapRecords.{all_said}
 use Rattle.fv_volume.proofs.SnapSlots.{removed_in}
 use Rattle.fv_volume.proofs.SnapNames.{names_in}
-use Rattle.fv_snapshot.proofs.AllRoots.{active_root, are_shared, each_shares, roots, shares_again, EachShares, WasRoot}
+use Rattle.fv_snapshot.proofs.AllRoots.{active_root, are_shared, each_shares, root_moved, roots, roots_moved, shares_again, table_moves, EachShares, WasRoot}
+use Rattle.fv_snapshot.proofs.Changed.{ready_again, relabelled}
 use Rattle.fv_snapshot.proofs.Removing.{find_left, left_apart, left_of, slot_there, slots_left, told_left}
 use Rattle.fv_snapshot.proofs.Told.{distinct_told, snaps_fewer}
 
@@ -140,30 +138,12 @@ module _ (x : VolumeState) (whole : IsVolume x.map) (labelled : IsLabelled x.slo
   -- Its label can be written.
   pub unsnapped_labelled : ledger.span ≡ x.span → IsLabelled x.slot y
   unfolding label_said
-  unsnapped_labelled counts = record {
-    slot_is = labelled.slot_is;
-    form = labelled.form;
-    span = labelled.span;
-    map = labelled.map;
-    snapshots = sayable;
-    slots = slots_now;
-    waits = waits_now;
-    counts = counts;
-    levels = labelled.levels;
-    named = labelled.named;
-    label = λ container height low least most. let is = labelled.label container height low least most in label_turned x x.active y.snapshots container height is is.levels is.root (all_said (head_in y) sayable);
-  }
+  unsnapped_labelled counts = relabelled x y refl labelled labelled.map sayable slots_now waits_now counts labelled.levels
+      (λ container height low least most. let is = labelled.label container height low least most in label_turned x x.active y.snapshots container height is is.levels is.root (all_said (head_in y) sayable))
 
   -- Calls can be made on it.
   pub unsnapped_ready : (d : Disk) (p : Pool) → IsBooked y → IsReady d p x → IsReady d p y
-  unsnapped_ready d p booked is = record {
-    lent = record { within = is.lent.within; stands = is.lent.stands; few = is.lent.few; entries = is.lent.entries };
-    labelled = unsnapped_labelled booked.span;
-    booked = record { size = booked.size; kind = booked.kind; span = booked.span; need = booked.need; charge = booked.charge };
-    blocks = is.blocks;
-    changed = λ isnt. absurd (true≢false isnt);
-    fresh = λ isnt. absurd (true≢false isnt);
-  }
+  unsnapped_ready d p booked is = ready_again d p x y refl (record { within = is.lent.within; stands = is.lent.stands; few = is.lent.few; entries = is.lent.entries }) (unsnapped_labelled booked.span) booked is
 
   -- ---- what it stands for
 
@@ -175,10 +155,7 @@ module _ (x : VolumeState) (whole : IsVolume x.map) (labelled : IsLabelled x.slo
     root_now = root_moves disk p x y refl 0 0 (at_other 0 not_active) refl x.active root
 
     table_is : table_for disk p y ≡ table_for disk p x
-    table_is =
-        root_table disk p y root_now none
-        ∙ ap (λ (u : Under). table_told (standing_at u x.active.levels x.active.root)) (blocks_move disk p x y refl 0 0 (at_other 0 not_active))
-        ∙ sym (root_table disk p x root none)
+    table_is = table_moves disk p x y refl refl none none root root_now (at_other 0 not_active)
 
     pub kept_now : All (IsKeptTable disk p y) y.snapshots
     kept_now = left_apart (IsKeptTable disk p x) (IsKeptTable disk p y) x.snapshots at d labelled.snapshots.slots.rising within
@@ -192,16 +169,9 @@ module _ (x : VolumeState) (whole : IsVolume x.map) (labelled : IsLabelled x.slo
 
     -- each root was one
     was_root : (q : Snap) → In q (roots y) → WasRoot disk p x y (roots x) q
-    was_root q there = by there
-      where
-        by : In q (roots y) → WasRoot disk p x y (roots x) q
-        by (inl e) = subst (WasRoot disk p x y (roots x)) e
-            (record { root = active_root x; there = inl refl; trees = ap (λ (u : Under). stored_trees u x.active.levels x.active.root) (blocks_move disk p x y refl 0 0 (at_other 0 not_active)) })
-        by (inr later) = all_in (WasRoot disk p x y (roots x)) y.snapshots
-            (left_apart (λ (r : Snap). In r (roots x)) (WasRoot disk p x y (roots x)) x.snapshots at d labelled.snapshots.slots.rising within
-            (λ r differs one. record { root = r; there = one; trees = ap (λ (u : Under). stored_trees u r.table.levels r.table.root) (blocks_move disk p x y refl r.slot r.slot (at_other r.slot differs)) })
-            (all_among (λ (r : Snap). In r (roots x)) x.snapshots (λ r one. inr one)))
-            q later
+    was_root = roots_moved disk p x y refl (roots x) (root_moved disk p x y refl (roots x) (active_root y) (active_root x) refl (inl refl) (at_other 0 not_active))
+        (left_apart (λ (r : Snap). In r (roots x)) (WasRoot disk p x y (roots x)) x.snapshots at d labelled.snapshots.slots.rising within
+        (λ r differs one. root_moved disk p x y refl (roots x) r r refl one (at_other r.slot differs)) (all_among (λ (r : Snap). In r (roots x)) x.snapshots (λ r one. inr one)))
 
     pub each_now : EachShares disk p y (roots y)
     each_now = shares_again disk p x y (roots x) was_root (each_shares disk p x none root held.stands.shared)
@@ -236,12 +206,4 @@ module _ (x : VolumeState) (whole : IsVolume x.map) (labelled : IsLabelled x.slo
 
       -- and is what it is between points.
       pub unsnapped_held : IsBooked y → IsLedgerOf (volume_for disk p y) ledger → ledger.charge ≤ x.size → IsHeldIn disk p x.slot y
-      unsnapped_held booked right fits = record {
-        slot = held.slot;
-        ready = unsnapped_ready disk p booked held.ready;
-        stands = unsnapped_standing right;
-        led = root_leads disk p y root_now none;
-        well = root_well disk p y root_now none;
-        wide = held.wide;
-        within = fits;
-      }
+      unsnapped_held booked right fits = record { slot = held.slot; ready = unsnapped_ready disk p booked held.ready; stands = unsnapped_standing right; led = root_leads disk p y root_now none; well = root_well disk p y root_now none; wide = held.wide; within = fits }

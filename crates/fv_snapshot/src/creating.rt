@@ -7,7 +7,7 @@ ghost use Rattle.fv_model.specs.Space.{map_blocks};
 ghost use Rattle.fv_model.specs.Spelling.{is_name};
 ghost use Rattle.fv_root.specs.Formatted.{IsSize};
 ghost use Rattle.fv_volmap.specs.Slots.{slot_at, stored_count};
-ghost use Rattle.fv_volume.specs.declared.fault.VolumeFault.TheVariants.{Memory};
+ghost use Rattle.fv_pool.specs.declared.fault.VolumeFault.TheVariants.{Memory};
 ghost use Rattle.fv_volume.specs.Files.{IsLabelled};
 ghost use Rattle.fv_volume.specs.OneVolume.{greatest_charge, IsBooked, IsReady};
 ghost use Rattle.fv_volume.specs.Snaps.{with_snapshot};
@@ -16,7 +16,7 @@ ghost use Rattle.fv_snapshot.specs.Granting.{slot_granted};
 
 use fv_charge::{Delta, Ledger};
 use fv_disk::Disk;
-use fv_model::{Name, Refusal};
+use fv_model::{Name, Refusal, map_blocks};
 use fv_root::capacity;
 use fv_volume::{Pool, VolumeFault, VolumeState};
 
@@ -30,7 +30,7 @@ pub struct Granted {
 }
 
 /// Whether a snapshot of a name is made of a volume, in an aggregate of so many blocks of which the other volumes commit `others`, at most
-/// 2^62: the map slot that it gets, the least that is free, and the blocks of its map. `create` takes it.
+/// 2^62: the map slot that it gets, the least that is free, and the blocks of its map. `make` takes it.
 ///
 /// # Errors
 /// The refusal comes exactly where the machine refuses `snap create`, and is its refusal: a snapshot has the name; there are 24; the volume
@@ -71,7 +71,7 @@ fn map_room(span: u32) -> u32
     ensures exact { result ≡ map_blocks span }
     ensures few { result ≤ 32 }
 {
-    span.div_ceil(32_768)
+    map_blocks(span)
 }
 
 /// A change of a ledger by the blocks of one map more.
@@ -93,8 +93,36 @@ fn map_more(ledger: &Ledger, room: u32) -> Delta
     }
 }
 
-/// Makes a snapshot of the active table of a volume. What changed of its files is placed first, so that the active root spells the table. Of
-/// the snapshot's map no block is placed: it waits for the next consistency point.
+/// Makes a snapshot of the active table of a volume, where it isn't refused: `judge_create`, and then `make`.
+///
+/// `others` is what the other volumes of the aggregate commit together, in blocks, at most 2^62.
+///
+/// # Errors
+/// `Refused` as `judge_create` refuses; nothing changes then. `Damaged` and `Memory` as `make`. After each of them the volume stands for
+/// what it stood for.
+///
+/// No call is made of the disk. Costs what both cost.
+pub fn create<D: Disk>(
+    volume: &mut VolumeState,
+    pool: &mut Pool,
+    disk: &D,
+    others: u64,
+    name: &Name,
+) -> Result<(), VolumeFault>
+    requires ready { IsReady (D.shown disk.now) pool.old volume.old }
+    requires others { others ≤ 2 ^ 62 }
+    ensures creates { Creates (D.shown disk.now) pool.old volume.old others name.now pool.new volume.new result }
+    ensures tells { TellsCreation pool.old volume.old others name.now volume.new result }
+    ensures ready { IsReady (D.shown disk.now) pool.new volume.new }
+{
+    match judge_create(volume, pool.found.blocks, others, name) {
+        Ok(granted) => make(volume, pool, disk, granted, name),
+        Err(refusal) => Err(VolumeFault::Refused(refusal)),
+    }
+}
+
+/// Makes what `judge_create` granted: a snapshot of the active table of a volume. What changed of its files is placed first, so that the
+/// active root spells the table. Of the snapshot's map no block is placed: it waits for the next consistency point.
 ///
 /// `granted` is what `judge_create` answered for the name, since when neither the volume's snapshots nor its ledger changed. So it isn't
 /// refused.
@@ -105,7 +133,7 @@ fn map_more(ledger: &Ledger, room: u32) -> Delta
 ///
 /// No call is made of the disk. Costs what `VolumeState::place_files` costs and a step for each word of 64 numbers of the span, whatever the
 /// number of files. Nothing is copied but the map.
-pub fn create<D: Disk>(
+pub fn make<D: Disk>(
     volume: &mut VolumeState,
     pool: &mut Pool,
     disk: &D,
@@ -120,23 +148,7 @@ pub fn create<D: Disk>(
     ensures ready { IsReady (D.shown disk.now) pool.new volume.new }
 {
     volume.place_files(pool, disk)?;
-    keep(volume, granted.slot, name)
-}
-
-/// Keeps a snapshot of the active table, of which nothing is in memory.
-fn keep(volume: &mut VolumeState, slot: u8, name: &Name) -> Result<(), VolumeFault>
-    requires above { 0 < slot }
-    requires stored { slot < stored_count }
-    requires free { slot_at volume.old.map slot ≡ None }
-    requires charge { volume.old.ledger.charge ≤ greatest_charge }
-    requires span { volume.old.span ≤ greatest_span }
-    ensures kept { OnOk result (volume.new ≡ with_snapshot volume.old slot name.now) }
-    ensures failed { OnErr result (volume.new ≡ volume.old) }
-    ensures waits { OnOk result (get_or volume.new.fresh slot false ≡ true) }
-    ensures fault { IfErr result (λ e. e ≡ Memory) }
-    ensures named { is_name name.now ≡ true }
-{
-    match volume.keep_snapshot(slot, name) {
+    match volume.keep_snapshot(granted.slot, name) {
         Ok(()) => Ok(()),
         Err(_) => Err(VolumeFault::Memory),
     }

@@ -6,6 +6,6 @@ mod creating;
 mod deleting;
 mod restoring;
 
-pub use creating::{Granted, create, judge_create};
+pub use creating::{Granted, create, judge_create, make};
 pub use deleting::delete;
 pub use restoring::restore;

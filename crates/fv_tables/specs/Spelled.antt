@@ -29,6 +29,7 @@ abbrev pub pointers_of : Result Node Shape → List Pointer
 pointers_of (Ok n) = n.children
 pointers_of (Err fault) = []
 
+-- those of a block that may not be there
 abbrev pub pointers_in : Option (List ℕ) → List Pointer
 pointers_in None = []
 pointers_in (Some block) = pointers_of (node_at block)

@@ -1,7 +1,7 @@
 -- What calls of a tree leave, one after another.
 use Rattle.std.proofs.Common.{◌≡◌, ◌≢◌, ◌≤◌, ◌+◌, ℕ, Bool, refl, sym, ap, subst, ◌∙◌, arith, Result, Ok, Err}
 use Rattle.std.specs.Ordering.{nat_cmp}
-use Rattle.std.specs.Prelude.{IfErr}
+use Rattle.std.specs.Prelude.{IfErr, IsErrAnd}
 use Rattle.std.specs.BTreeMap as maps
 use Rattle.std.specs.FinMap as fin
 use Rattle.std.proofs.lemmas.Result.{IfErr-weaker}
@@ -26,7 +26,7 @@ use Rattle.fv_tree.proofs.Altered.{leaves_brought, leaves_itself, leaves_then}
 use Rattle.fv_tree.proofs.Anew.{anew_itself, anew_on, anew_still, left_then}
 use Rattle.fv_tree.proofs.Bordered.{brings_marks}
 use Rattle.fv_tree.proofs.Brought.{brings_stands}
-use Rattle.fv_tree.proofs.Causes.{at_ok, calm_itself, calm_then, counts_then, fails_later, fails_same, untouched_itself, untouched_then}
+use Rattle.fv_tree.proofs.Causes.{at_ok, calm_itself, calm_then, counts_then, fails_later, fails_same, fails_then, untouched_itself, untouched_then}
 use Rattle.fv_tree.proofs.Differing.{fits_itself, fits_still, fits_then}
 use Rattle.fv_tree.proofs.Flushes.{flushes_then}
 use Rattle.fv_tree.proofs.Gone.{flushes_still, is_memory}
@@ -48,7 +48,7 @@ pub counts_calm : {T : Type 0} (a b : Shown) (result : Result T BlockFault) → 
 counts_calm a b result calm = record { faults = omega (arith, calm.faults); damages = omega (arith, calm.damages); spent = calm.spent; calm = at_ok result calm }
 
 -- another result of the same sort
-counts_err : {T U : Type 0} {a b : Shown} {e : BlockFault} → Counts {T = T} {E = BlockFault} a b (Err e) → Counts {T = U} {E = BlockFault} a b (Err e)
+pub counts_err : {T U : Type 0} {a b : Shown} {e : BlockFault} → Counts {T = T} {E = BlockFault} a b (Err e) → Counts {T = U} {E = BlockFault} a b (Err e)
 counts_err did = record { faults = did.faults; damages = did.damages; spent = did.spent; calm = tt }
 
 -- want of memory comes where no call failed
@@ -89,6 +89,13 @@ loads_ok {a = a} {b = b} y did = record { untouched = did.untouched; reads = did
 pub loads_err : {T U : Type 0} {reading : Type 0} {fails : BlockFault → Type 0} {a b : Shown} {e : BlockFault} → LoadsFrom {T = T} reading fails a b (Err e) → LoadsFrom {T = U} reading (λ _. Unit {0}) a b (Err e)
 loads_err did = record { untouched = did.untouched; reads = did.reads; counts = counts_err did.counts; cause = tt }
 
+-- a load failed after others, and its fault was handed on
+pub loads_on : {T U : Type 0} {reading : Type 0} (told : Type 0) (t : Tree) (old mid new : Shown) (result : Result T BlockFault) (e : BlockFault) → IsErrAnd result (λ fault. fault ≡ e) → IsUntouched old mid → IsCalm old mid → reading → IsUntouched mid new
+    → Counts {T = U} mid new (Err e) → Fails told (standing (under mid) t) mid new e → LoadsFrom reading (Fails told (standing (under old) t) old new) old new result
+loads_on told t old mid new (Ok x) e is was calm reads untouched counts cause = absurd is
+loads_on {T = T} {reading = reading} told t old mid new (Err fault) e is was calm reads untouched counts cause = subst (λ y. LoadsFrom {T = T} reading (Fails told (standing (under old) t) old new) old new (Err y)) (sym is)
+    (record { untouched = untouched_then old mid new was untouched; reads = reads; counts = counts_then old mid new (Err e) calm (counts_err counts); cause = fails_then told t old mid new e calm was cause })
+
 -- the node to which this pointer leads was brought
 pub loading_brought : {T : Type 0} (told reading : Type 0) (a b : Shown) (t u : Tree) (level place : ℕ) (p : Pointer) (result : Result T BlockFault) → 1 ≤ level → (told → pointer_at (standing (under a) t) level place ≡ p)
     → (told → Keeps (standing (under a) t) (standing (under b) u) level place p) → (told → Brings (under a) t u level place p) → IsSameBut t u → changes_in u.nodes ≤ changes_in t.nodes
@@ -116,19 +123,7 @@ loading_brought told reading a b t u level place p result low at keeps brings fi
 
 -- for another result
 loading_as : {T U : Type 0} {told reading : Type 0} {a b : Shown} {t u : Tree} {r : Result T BlockFault} (result : Result U BlockFault) → Loading told reading a b t u r → Counts a b result → IfErr result (Fails told (standing (under a) t) a b) → Loading told reading a b t u result
-loading_as result did counts cause = record {
-  fields = did.fields;
-  same = did.same;
-  blocks = did.blocks;
-  leaves = did.leaves;
-  stands = did.stands;
-  changes = did.changes;
-  marks = did.marks;
-  untouched = did.untouched;
-  reads = did.reads;
-  counts = counts;
-  cause = cause;
-}
+loading_as result did counts cause = record { fields = did.fields; same = did.same; blocks = did.blocks; leaves = did.leaves; stands = did.stands; changes = did.changes; marks = did.marks; untouched = did.untouched; reads = did.reads; counts = counts; cause = cause }
 
 pub loading_ok : {T U : Type 0} {told reading : Type 0} {a b : Shown} {t u : Tree} {x : T} (y : U) → Loading told reading a b t u (Ok x) → Loading told reading a b t u (Ok y)
 loading_ok {a = a} {b = b} y did = loading_as (Ok y) did (counts_calm a b (Ok y) did.counts.calm) tt
@@ -237,21 +232,7 @@ removing_err {a = a} {b = b} {t = t} {u = u} gone start s did on = let rises = r
 
 pub removing_done : {told going : Type 0} {a b : Shown} {t u : Tree} {gone : ℕ → Bool} {start s : ℕ} (count : ℕ) → (told → Removes a b t u gone start s) → (told → positions_of (standing (under a) t) ≡ positions_of (standing (under a) u) + count)
     → u.owner ≡ t.owner → a.room ≤ b.room → cells_held u ≤ cells_held t → going → IsCalm a b → Removing told going a b t u gone start s (Ok count)
-removing_done {a = a} {b = b} count done counted owner room held calls calm = record {
-  done = done;
-  count = counted;
-  failed = λ _. tt;
-  owner = owner;
-  stays = λ _. tt;
-  leaves = λ _. tt;
-  untouched = tt;
-  room = room;
-  still = tt;
-  held = held;
-  calls = calls;
-  counts = counts_calm a b (Ok count) calm;
-  cause = tt;
-}
+removing_done {a = a} {b = b} count done counted owner room held calls calm = record { done = done; count = counted; failed = λ _. tt; owner = owner; stays = λ _. tt; leaves = λ _. tt; untouched = tt; room = room; still = tt; held = held; calls = calls; counts = counts_calm a b (Ok count) calm; cause = tt }
 
 -- ---- flushes
 
@@ -306,26 +287,17 @@ module _ {B : Type 0} {told known : Type 0} {shown : B → Shown} {goes : B → 
   -- for another result
   flushes_as : {T U : Type 0} {old new : B} {t u : Tree} {r : Result T BlockFault} (result : Result U BlockFault) → PlacesChanged told known shown goes stays old new t u r → (told → Stands (shown old) t → IsEnough (pending t) (shown old).room result)
       → Counts (shown old) (shown new) result → IfErr result (HasCause (shown old) (shown new)) → PlacesChanged told known shown goes stays old new t u result
-  flushes_as result did enough counts cause = record {
-    flushes = did.flushes;
-    anew = did.anew;
-    keeps = did.keeps;
-    strays = did.strays;
-    fits = did.fits;
-    enough = enough;
-    left = did.left;
-    spent = did.spent;
-    places = did.places;
-    calls = did.calls;
-    counts = counts;
-    cause = cause;
-  }
+  flushes_as result did enough counts cause = record { flushes = did.flushes; anew = did.anew; keeps = did.keeps; strays = did.strays; fits = did.fits; enough = enough; left = did.left; spent = did.spent; places = did.places; calls = did.calls; counts = counts; cause = cause }
 
   pub flushes_ok : {T U : Type 0} {old new : B} {t u : Tree} {x : T} (y : U) → PlacesChanged told known shown goes stays old new t u (Ok x) → PlacesChanged told known shown goes stays old new t u (Ok y)
   flushes_ok {old = old} {new = new} y did = flushes_as (Ok y) did (λ _ _ _. tt) (counts_calm (shown old) (shown new) (Ok y) did.counts.calm) tt
 
   pub flushes_err : {T U : Type 0} {old new : B} {t u : Tree} {e : BlockFault} → PlacesChanged {T = T} told known shown goes stays old new t u (Err e) → PlacesChanged {T = U} told known shown goes stays old new t u (Err e)
   flushes_err {e = e} did = flushes_as (Err e) did did.enough (counts_err did.counts) did.cause
+
+  pub flushes_failing : {T U : Type 0} {old new : B} {t u : Tree} {e : BlockFault} (result : Result U BlockFault) → IsErrAnd result (λ fault. fault ≡ e) → PlacesChanged {T = T} told known shown goes stays old new t u (Err e) → PlacesChanged told known shown goes stays old new t u result
+  flushes_failing (Ok y) is did = absurd is
+  flushes_failing {U = U} {old = old} {new = new} {t = t} {u = u} (Err fault) is did = subst (λ e. PlacesChanged {T = U} told known shown goes stays old new t u (Err e)) (sym is) (flushes_err did)
 
   pub flushes_on : {T U : Type 0} {old mid new : B} {t v u : Tree} {x : T} {result : Result U BlockFault} → ((old mid new : B) → goes old mid → goes mid new → goes old new) → ((w : ℕ) (old mid new : B) → stays w old mid → stays w mid new → stays w old new)
       → PlacesChanged told known shown goes stays old mid t v (Ok x) → PlacesChanged told known shown goes stays mid new v u result → PlacesChanged told known shown goes stays old new t u result

@@ -1,6 +1,6 @@
 -- Why calls of a tree fail, over several calls of its source.
 use Rattle.std.proofs.Common.{◌≡◌, ◌≢◌, ◌≤◌, ℕ, zero, suc, true, inl, inr, ap, subst, sym, ◌∙◌, arith, refl, Option, Some, None, Result, Ok, Err, OnOk, OnErr, is_some}
-use Rattle.std.specs.Prelude.{IfErr}
+use Rattle.std.specs.Prelude.{IfErr, IsErrAnd}
 use Rattle.std.specs.FinMap as fin
 use Rattle.std.proofs.lemmas.Result.{IfErr-weaker}
 use Rattle.std.specs.Option.{option_map}
@@ -13,7 +13,7 @@ use Rattle.fv_tree.specs.Spelled.{Under, Rooted, pointer_at}
 use Rattle.fv_tree.specs.Sources.{Shown, Counts, IsCalm, IsDamaged, IsUntouched}
 use Rattle.fv_tree.specs.Carried.{kept_at}
 use Rattle.fv_tree.specs.Keeping.{IsSame}
-use Rattle.fv_tree.specs.Standing.{standing, under, cell_in, IsBlockDamage, IsUnread, LeadsAway, node_in, PointerFails, LoadFails, Fails}
+use Rattle.fv_tree.specs.Standing.{standing, under, cell_in, IsBlockDamage, IsUnread, LacksBlock, LeadsAway, node_in, PointerFails, LoadFails, Fails}
 
 -- ---- what isn't in memory
 
@@ -45,41 +45,23 @@ err_unless P C (Err e) unless cause = (unless, cause)
 
 -- ---- one call
 
+lacks_block : (t : Rooted) (level place : ℕ) → level ≤ t.levels → IsUnread t level place → (p : Pointer) → p ≡ pointer_at t level place → (blocks : Under) → t.under ≡ blocks → LeadsAway blocks p → LacksBlock t
+lacks_block t level place high unread p is blocks over away =
+    record { level = level; place = place; high = high; unread = unread; away = subst (LeadsAway t.under) is (subst (λ b. LeadsAway b p) (sym over) away) }
+
 -- a cell of the tree that wasn't loaded
 pub cell_fails : (told : Type 0) (t : Rooted) (old new : Shown) (index : ℕ) (p : Pointer) (e : BlockFault) → t.under ≡ under old → (told → p ≡ pointer_at t 0 index) → (is_some (t.cells index) ≡ true → ⊥) → PointerFails old new p e → Fails told t old new e
 cell_fails told t old new index p DiskFault held is fresh (cause, away) = cause
-cell_fails told t old new index p (Damaged at want found) held is fresh ((faults, was), away) = (
-  faults,
-  inl (
-    was,
-    λ tells. record {
-      level = 0;
-      place = index;
-      high = omega arith;
-      unread = none_there (t.cells index) fresh;
-      away = subst (LeadsAway t.under) (is tells) (subst (λ b. LeadsAway b p) (sym held) (away tt));
-    },
-  ),
-)
+cell_fails told t old new index p (Damaged at want found) held is fresh ((faults, was), away) =
+    (faults, inl (was, λ tells. lacks_block t 0 index (omega arith) (none_there (t.cells index) fresh) p (is tells) (under old) held (away tt)))
 cell_fails told t old new index p Memory held is fresh (cause, away) = cause
 
 -- a node of the tree that wasn't loaded
 pub node_fails : (told : Type 0) (t : Rooted) (old new : Shown) (level place : ℕ) (p : Pointer) (e : BlockFault) → t.under ≡ under old → 1 ≤ level → level ≤ t.levels → (told → pointer_at t level place ≡ p)
     → (IsDamaged e → is_some (t.nodes level place) ≡ true → ⊥) → LoadFails told old new p e → Fails told t old new e
 node_fails told t old new level place p DiskFault held low high is fresh h = h
-node_fails told t old new level place p (Damaged at want found) held low high is fresh (faults, inl h) = (
-  faults,
-  inl (
-    h.0,
-    λ tells. record {
-      level = level;
-      place = place;
-      high = high;
-      unread = node_unread t level place low (fresh tt);
-      away = subst (LeadsAway t.under) (sym (is tells)) (subst (λ b. LeadsAway b p) (sym held) h.1);
-    },
-  ),
-)
+node_fails told t old new level place p (Damaged at want found) held low high is fresh (faults, inl h) =
+    (faults, inl (h.0, λ tells. lacks_block t level place high (node_unread t level place low (fresh tt)) p (sym (is tells)) (under old) held h.1))
 node_fails told t old new level place p (Damaged at want found) held low high is fresh (faults, inr h) = (
   faults,
   inr (
@@ -102,13 +84,7 @@ pub untouched_itself : (source : Shown) → IsUntouched source source
 untouched_itself source = record { held = refl; used = refl; strays = refl; room = refl; cost = refl }
 
 pub untouched_then : (old mid new : Shown) → IsUntouched old mid → IsUntouched mid new → IsUntouched old new
-untouched_then old mid new first second = record {
-  held = second.held ∙ first.held;
-  used = second.used ∙ first.used;
-  strays = second.strays ∙ first.strays;
-  room = second.room ∙ first.room;
-  cost = second.cost ∙ first.cost;
-}
+untouched_then old mid new first second = record { held = second.held ∙ first.held; used = second.used ∙ first.used; strays = second.strays ∙ first.strays; room = second.room ∙ first.room; cost = second.cost ∙ first.cost }
 
 pub calm_itself : (source : Shown) → IsCalm source source
 calm_itself source = record { faults = refl; damages = refl; spent = omega arith }
@@ -130,6 +106,11 @@ counts_then old mid new (Err e) first second = record {
   calm = tt;
 }
 
+-- the block of a pointer was damaged already
+damage_later : (old mid new : Shown) (p : Pointer) (at want found : ℕ) → mid.held ≡ old.held → IsBlockDamage mid new p at want found → IsBlockDamage old new p at want found
+damage_later old mid new p at want found held is =
+    record { some = is.some; block = is.block; lies = subst (λ held. fin.get held p.vvbn ≡ Some is.block) held is.lies; fault = is.fault; read = is.read }
+
 -- a tree over the same blocks fails for the same reason when the calls began earlier
 pub fails_later : (told : Type 0) (t : Rooted) (old mid new : Shown) (e : BlockFault) → IsCalm old mid → mid.held ≡ old.held → Fails told t mid new e → Fails told t old new e
 fails_later told t old mid new DiskFault calm held h = (rw (← calm.faults) h.0, h.1 ∙ calm.damages)
@@ -138,20 +119,7 @@ fails_later told t old mid new (Damaged at want found) calm held (faults, inr (d
   faults ∙ calm.faults,
   inr (
     damages ∙ calm.damages,
-    λ tells. let h = is tells in record {
-      level = h.level;
-      place = h.place;
-      low = h.low;
-      high = h.high;
-      unread = h.unread;
-      damage = record {
-        some = h.damage.some;
-        block = h.damage.block;
-        lies = subst (λ held. fin.get held (pointer_at t h.level h.place).vvbn ≡ Some h.damage.block) held h.damage.lies;
-        fault = h.damage.fault;
-        read = h.damage.read;
-      };
-    },
+    λ tells. let h = is tells in record { level = h.level; place = h.place; low = h.low; high = h.high; unread = h.unread; damage = damage_later old mid new (pointer_at t h.level h.place) at want found held h.damage },
   ),
 )
 fails_later told t old mid new Memory calm held h = calm_then old mid new calm h
@@ -160,6 +128,12 @@ fails_later told t old mid new Memory calm held h = calm_then old mid new calm h
 pub fails_then : (told : Type 0) (t : Tree) (old mid new : Shown) (e : BlockFault) → IsCalm old mid → IsUntouched old mid → Fails told (standing (under mid) t) mid new e → Fails told (standing (under old) t) old new e
 fails_then told t old mid new e calm untouched cause =
     fails_later told (standing (under old) t) old mid new e calm untouched.held (subst (λ held. Fails told (standing (λ v. fin.get held v) t) mid new e) untouched.held cause)
+
+-- and hands that on
+pub fails_on : {T : Type 0} (told : Type 0) (t : Tree) (old mid new : Shown) (result : Result T BlockFault) (e : BlockFault) → IsErrAnd result (λ fault. fault ≡ e) → IsCalm old mid → IsUntouched old mid → Fails told (standing (under mid) t) mid new e
+    → IfErr result (Fails told (standing (under old) t) old new)
+fails_on told t old mid new (Ok x) e is calm untouched cause = tt
+fails_on told t old mid new (Err fault) e is calm untouched cause = subst (Fails told (standing (under old) t) old new) (sym is) (fails_then told t old mid new e calm untouched cause)
 
 -- a cell whose pointer was found before wasn't read
 pub pointed_fails : {T : Type 0} (told : Type 0) (old mid new : Shown) (t : Tree) (i : ℕ) (p : Pointer) (r : Result T BlockFault) → IsCalm old mid → mid.held ≡ old.held → (told → p ≡ pointer_at (standing (under old) t) 0 i)
@@ -184,13 +158,9 @@ fails_same told t u old new (Damaged at want found) same (faults, inl h) = (
   faults,
   inl (
     h.0,
-    λ tells. let was = h.1 tells in let alike = same tells in record {
-      level = was.level;
-      place = was.place;
-      high = omega (arith, was.high, alike.levels);
-      unread = same_unread t u alike was.level was.place (λ none. was.away.0 (ap (λ (p : Pointer). p.stamp) (alike.pointers was.level was.place) ∙ none)) was.unread;
-      away = subst (λ b. LeadsAway b (pointer_at t was.level was.place)) alike.under (subst (LeadsAway u.under) (alike.pointers was.level was.place) was.away);
-    },
+    λ tells. let was = h.1 tells in let alike = same tells in
+        lacks_block t was.level was.place (omega (arith, was.high, alike.levels)) (same_unread t u alike was.level was.place (λ none. was.away.0 (ap (λ (p : Pointer). p.stamp) (alike.pointers was.level was.place) ∙ none)) was.unread)
+        (pointer_at u was.level was.place) (alike.pointers was.level was.place) u.under (sym alike.under) was.away,
   ),
 )
 fails_same told t u old new (Damaged at want found) same (faults, inr (damages, is)) = (

@@ -1,8 +1,8 @@
 -- How much of what is in memory differs from its blocks, where a flush places a block.
-use Rattle.std.proofs.Common.{rules, ◌≡◌, ◌≢◌, ◌≤◌, ◌<◌, ℕ, ◌+◌, ◌/◌, Bool, true, false, Option, Some, None, refl, sym, ap, ◌∙◌, arith}
+use Rattle.std.proofs.Common.{rules, ◌≡◌, ◌≢◌, ◌≤◌, ◌<◌, ℕ, ◌+◌, ◌/◌, Bool, true, false, cond, Option, Some, None, refl, sym, ap, ◌∙◌, arith}
 use Rattle.std.specs.Prelude.{unwrap_or}
 use Rattle.std.specs.Option.{option_map}
-use Rattle.std.specs.Ordering.{nat_cmp}
+use Rattle.std.specs.Ordering.{is_eq, nat_cmp}
 use Rattle.std.specs.Cmp.{IsTotalOrder}
 use Rattle.std.specs.Cmp.Rules.{comparing}
 use Rattle.std.specs.Map.{remove_entry, set_value}
@@ -13,11 +13,13 @@ use Rattle.fv_tree.specs.declared.kept.Tree.{Tree}
 use Rattle.fv_tree.specs.declared.kept.KeptNode.{KeptNode}
 use Rattle.fv_tree.specs.declared.kept.KeptCell.{KeptCell}
 use Rattle.fv_tree.specs.Sources.{Shown}
-use Rattle.fv_tree.specs.Flushing.{cell_changed, changed_in, changed_of, node_changed, pointer_in, Stands}
+use Rattle.fv_tree.specs.Flushing.{cell_changed, changed_in, changed_of, node_changed, node_placed, pointer_in, Stands}
+use Rattle.fv_tree.specs.Carried.{MarksNode}
 use Rattle.fv_tree.specs.Costs.{cells_changed, changes_in, pending, Fits}
 use Rattle.fv_tree.proofs.Gone.{spot_changed}
-use Rattle.fv_tree.proofs.MapMarks.{counted, few_marked, one_fewer, set_again, some_marked}
+use Rattle.fv_tree.proofs.MapMarks.{counted, few_marked, one_fewer, set_again, set_one, some_marked}
 use Rattle.fv_tree.proofs.Moved.{shown_is}
+use Rattle.fv_tree.proofs.Observed.{elsewhere_same, here_now, observed}
 
 pub spot_total : IsTotalOrder spot_cmp
 spot_total = search (comparing, rules)
@@ -41,6 +43,16 @@ cell_weighs (Some kept) changed = ap counted changed
 pub node_again : (o n : maps.BTreeMap Spot KeptNode) (k : Spot) (was now : KeptNode) → Some was ≡ maps.get spot_cmp o k → n.entries ≡ set_value (maps.is_at (spot_cmp k)) o.entries now → node_changed (maps.get spot_cmp o k) ≡ true
     → changes_in n ≤ changes_in o
 node_again o n k was now held is changed = set_again spot_cmp node_mark o n k was now held is (ap node_changed held ∙ changed)
+
+-- a node that was written is changed, and lies where it did
+pub marks_node : (o n : maps.BTreeMap Spot KeptNode) (level place : ℕ) (was now : KeptNode) → ((q : Spot) → maps.get spot_cmp n q ≡ cond (is_eq (spot_cmp (level, place) q)) (Some now) (maps.get spot_cmp o q)) → Some was ≡ maps.get spot_cmp o (level, place)
+    → n.entries ≡ set_value (maps.is_at (spot_cmp (level, place))) o.entries now → now.changed ≡ true → now.placed ≡ was.placed → MarksNode o n level place
+marks_node o n level place was now updates held is changed placed = record {
+  placed = observed o n level place was now updates held node_placed placed;
+  changed = λ _. ap node_changed (here_now o n level place was now updates held) ∙ changed;
+  others = elsewhere_same o n level place was now updates held;
+  count = set_one spot_cmp node_mark o n (level, place) was now held is;
+}
 
 pub node_fewer : (o n : maps.BTreeMap Spot KeptNode) (k : Spot) → n.entries ≡ remove_entry (maps.is_at (spot_cmp k)) o.entries → node_changed (maps.get spot_cmp o k) ≡ true → changes_in n + 1 ≡ changes_in o
 node_fewer o n k is changed = one_fewer spot_cmp node_mark o n k is (node_weighs (maps.get spot_cmp o k) changed)

@@ -362,15 +362,7 @@ module _ (s : Loaded) (used : ℕ → Option Use) (u : Loaded) (uses : ℕ → O
   ]
 
   pub stands : IsSound uses u
-  stands = record {
-    once = once;
-    held = held;
-    used = in_use;
-    over = over;
-    same = same;
-    cells = in_cells;
-    empty = empty;
-  }
+  stands = record { once = once; held = held; used = in_use; over = over; same = same; cells = in_cells; empty = empty }
 
   -- ---- what was placed and replaced
 

@@ -83,15 +83,7 @@ at_root t i lt =
     sym ((own_way t).top (i / fan ^ t.levels) ∙ ap (λ q. if q == 0 then t.root else hole) none)
 
 pub same_self : (t : Rooted) → IsSame t t
-same_self t = record {
-  under = refl;
-  owner = refl;
-  levels = refl;
-  root = refl;
-  cells = refl;
-  pointers = λ k q. refl;
-  nodes = λ k q some none. none;
-}
+same_self t = record { under = refl; owner = refl; levels = refl; root = refl; cells = refl; pointers = λ k q. refl; nodes = λ k q some none. none }
 
 -- ---- a node that was put into memory, and the others
 
@@ -105,9 +97,4 @@ pub put_elsewhere : (t u : Tree) (level place : ℕ) (xs : List Pointer) → IsP
 put_elsewhere t u level place xs is k q other = is k q ∙ ap (λ b. cond b (Some xs) (node_in t k q)) (elsewhere k q level place other)
 
 pub but_then : (t u v : Tree) → IsSameBut t u → IsSameBut u v → IsSameBut t v
-but_then t u v first second = record {
-  owner = second.owner ∙ first.owner;
-  levels = second.levels ∙ first.levels;
-  root = second.root ∙ first.root;
-  cells = second.cells ∙ first.cells;
-}
+but_then t u v first second = record { owner = second.owner ∙ first.owner; levels = second.levels ∙ first.levels; root = second.root ∙ first.root; cells = second.cells ∙ first.cells }

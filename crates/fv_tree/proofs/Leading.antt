@@ -28,9 +28,6 @@ leads_then a b c first second level place v led = first level place v (second le
 pub hints_then : (a b c : Loaded) → KeepsHints a b → LeadsNoMore b c → KeepsHints b c → KeepsHints a c
 hints_then a b c first no_more second level place v led = second level place v led ∙ first level place v (no_more level place v led)
 
-pub carries_itself : (source : Shown) (t : Tree) → Carries source source t t
-carries_itself source t = record { stands = λ stands. stands; leads = λ level place v led. led; keeps = λ level place v led. led; hints = λ level place v led. refl }
-
 pub carries_then : (a b c : Shown) (t u w : Tree) → Carries a b t u → Carries b c u w → Carries a c t w
 carries_then a b c t u w first second = record {
   stands = λ stands. second.stands (first.stands stands);

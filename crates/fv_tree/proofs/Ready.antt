@@ -1,5 +1,5 @@
 -- A cell's content that comes into memory, and the marks over it.
-use Rattle.std.proofs.Common.{◌≡◌, ◌≢◌, ◌≤◌, ◌<◌, ℕ, ◌+◌, ◌/◌, ◌%◌, ◌^◌, ◌⊎◌, inl, inr, Bool, true, false, not, cond, nat_eq, ◌&&◌, List, Option, Some, get_or, is_some, refl, sym, ap, subst, ◌∙◌, arith, ◌==◌, if◌then◌else◌}
+use Rattle.std.proofs.Common.{◌≡◌, ◌≢◌, ◌≤◌, ◌<◌, ℕ, ◌+◌, ◌/◌, ◌%◌, ◌^◌, ◌⊎◌, inl, inr, Bool, true, false, not, cond, nat_eq, ◌&&◌, List, Option, Some, None, get_or, is_some, refl, sym, ap, subst, ◌∙◌, arith, ◌==◌, if◌then◌else◌}
 use Rattle.std.specs.Ordering.{nat_cmp}
 use Rattle.std.specs.Option.{option_map}
 use Rattle.std.specs.BTreeMap as tree
@@ -227,6 +227,11 @@ cell_there w v i block cells =
 
 pub unstamped : (p : Pointer) → p.stamp ≡ 0 → not (p.stamp == 0) ≡ false
 unstamped p e = let test : (p.stamp == 0) ≡ true = grind (arith, nat_tests) in ap not test
+
+-- whether a place was answered tells whether a cell is there
+pub as_there : {X : Type 0} (x : X) (at : Option ℕ) → option_map (λ (place : ℕ). x) at ≡ cond (is_some at) (Some x) None
+as_there x None = refl
+as_there x (Some place) = refl
 
 pub is_stamped : (p : Pointer) → p.stamp ≢ 0 → not (p.stamp == 0) ≡ true
 is_stamped p some = let test : (p.stamp == 0) ≡ false = grind (arith, nat_tests) in ap not test

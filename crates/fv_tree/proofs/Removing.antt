@@ -1,5 +1,5 @@
 -- Whole removals, over the blocks that there were before and over those that there are afterwards.
-use Rattle.std.proofs.Common.{◌≡◌, ◌≤◌, ℕ, ◌+◌, ◌/◌, ◌^◌, ◌⊎◌, inl, inr, Bool, false, ◌||◌, Result, Ok, Err, IfOk, OnOk, OnErr, None, cond, nat_eq, sym, ap, subst, ◌∙◌, arith}
+use Rattle.std.proofs.Common.{◌≡◌, ◌≤◌, ℕ, ◌+◌, ◌/◌, ◌^◌, ◌⊎◌, inl, inr, Bool, false, ◌||◌, Result, Ok, Err, IfOk, OnOk, OnErr, None, cond, nat_eq, refl, sym, ap, subst, ◌∙◌, arith}
 use Rattle.std.specs.FinMap as fin
 use Rattle.std.proofs.lemmas.Bool.{cases_eq}
 use Rattle.std.proofs.lemmas.Bool.Decides.{nat_tests}
@@ -19,7 +19,7 @@ use Rattle.fv_tree.specs.Flushing.{Leads, IsSound, Stands, loaded, loaded_over}
 use Rattle.fv_tree.specs.Leading.{KeepsHints, LeadsNoMore, Carries}
 use Rattle.fv_tree.specs.Counting.{positions_of}
 use Rattle.fv_tree.specs.Removal.{Removal}
-use Rattle.fv_tree.specs.Calls.{Removing}
+use Rattle.fv_tree.specs.Calls.{ErasesCell, Removing}
 use Rattle.fv_tree.specs.Unlinking.{HasWay, CellGoes}
 use Rattle.fv_tree.proofs.Counts.{alike_count}
 use Rattle.fv_tree.proofs.Erased.{nothing_erased, erased_then, erased_as, holds_cells, stands_as, no_choice, choice}
@@ -142,6 +142,13 @@ same_holds old new t u held same holds level place stands holes =
     let here = same_over old new t u held same in
     let stamps : (k q : ℕ) → (pointer_at (standing old u) k q).stamp ≡ (pointer_at (standing old t) k q).stamp = λ k q. ap (λ (p : Pointer). p.stamp) (here.pointers k q) in
     holds level place (λ none. stands (stamps level place ∙ none)) (λ i at. sym (stamps 0 i) ∙ holes i at)
+
+-- one cell goes of a tree that was loaded
+pub removes_one : (a b c : Shown) (t u w : Tree) (i start s count : ℕ) → IsUntouched a b → IsCalm a b → IsSame (standing (under a) t) (standing (under b) u) → KeepsBlocks (under a) t u → (Stands a t → Stands b u) → Leaves (loaded a t) (loaded b u)
+    → ErasesCell (under a) b c u w i start s count → Removes a c t w (nat_eq i) start s
+removes_one a b c t u w i start s count untouched calm same keeps sound leaves erases =
+    removes_then a b c t u w (λ _. false) (nat_eq i) i start s (removes_nothing a b t u (λ _. false) start s untouched calm same keeps sound leaves (λ _ _. refl)) erases.goes erases.released erases.strays (λ _. refl)
+    (same_holds (under a) (under b) t u (ap (λ h v. fin.get h v) untouched.held) same)
 
 -- a cell past the levels
 pub none_past : (t : Rooted) (i : ℕ) → fan ^ t.levels ≤ i → (pointer_at t 0 i).stamp ≡ 0

@@ -90,10 +90,6 @@ hits f s from (suc count) m k p low high at =
 
 -- ---- whether any stamp stands
 
-empty_gets : (es : List (Spot × ℕ)) (k : Spot) → length es ≡ 0 → find spot_cmp k es ≡ None
-empty_gets [] k e = refl
-empty_gets (x ∷ xs) k e = absurd (omega arith)
-
 first_found : (k p v : ℕ) (es : List (Spot × ℕ)) → find spot_cmp (k, p) (((k, p), v) ∷ es) ≡ Some v
 first_found k p v es = ap (λ c. cond c (Some v) (find spot_cmp (k, p) es)) (same_spot k p k p ∙ here k p)
 

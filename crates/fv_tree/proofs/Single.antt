@@ -428,11 +428,4 @@ module _ (blocks : Under) (t u : Tree) (i lost start stamp : ℕ) (way : HasWay 
   ]
 
   pub one_goes : CellGoes blocks t u i start stamp
-  one_goes = record {
-    erased = one_erased;
-    cells = cells_left;
-    keeps = one_keeps;
-    ways = one_ways;
-    sound = one_sound;
-    alters = one_alters;
-  }
+  one_goes = record { erased = one_erased; cells = cells_left; keeps = one_keeps; ways = one_ways; sound = one_sound; alters = one_alters }

@@ -13,7 +13,7 @@ use Rattle.fv_model.specs.Trees.{fan}
 use Rattle.fv_tree.specs.declared.kept.Tree.{Tree}
 use Rattle.fv_tree.specs.Spelled.{Under, Rooted, hole, pointer_at, pointers_at, pointer_below}
 use Rattle.fv_tree.specs.Sources.{Shown, IsUntouched}
-use Rattle.fv_tree.specs.Standing.{standing, under}
+use Rattle.fv_tree.specs.Standing.{standing, under, IsPlaceOf}
 use Rattle.fv_tree.specs.Flushing.{Loaded, cell_changed, changed_of, changed_in, loaded_over}
 use Rattle.fv_tree.specs.Beside.{unread}
 use Rattle.fv_tree.specs.Costs.{pending}
@@ -111,14 +111,12 @@ child_low t level place slot some high range lt = let few = t.few in let under =
 -- what a call for a child of a place needs
 pub child_meets : (told : Type 0) (old mid : Shown) (t : Tree) (level place slot : ℕ) (p : Pointer) (xs : List Pointer) → IsUntouched old mid → level ≢ 0 → level ≤ t.levels → place < fan ^ (3 - level)
     → (told → p ≡ pointer_at (standing (under old) t) level place) → (told → xs ≡ pointers_at (standing (under old) t) level place p) → slot < fan
-    → (level - 1 ≤ t.levels) × ((place * fan + slot < fan ^ (3 - (level - 1))) × (told → get_or xs slot hole ≡ pointer_at (standing (under mid) t) (level - 1) (place * fan + slot)))
-child_meets told old mid t level place slot p xs untouched some high range way is lt = (
-  omega (arith, high),
-  (
-    child_low t level place slot some high range lt,
-    λ tells. child_later old mid t level place slot p xs untouched.held (omega (arith, some)) high (way tells) (is tells) lt,
-  ),
-)
+    → IsPlaceOf told mid t (level - 1) (place * fan + slot) (get_or xs slot hole)
+child_meets told old mid t level place slot p xs untouched some high range way is lt = record {
+  high = omega (arith, high);
+  range = child_low t level place slot some high range lt;
+  pointer = λ tells. child_later old mid t level place slot p xs untouched.held (omega (arith, some)) high (way tells) (is tells) lt;
+}
 
 above : (place q : ℕ) → place * fan ≤ q → q < place * fan + fan → q / fan ≡ place
 above place q low high = omega (arith, low, high)

@@ -272,9 +272,6 @@ module _ (s : Loaded) (shared goes : ℕ → Bool) where
 
   -- ---- one place after another
 
-  pub no_sum : (level place : ℕ) (sum : Part) → sum ≡ record { taken = record { gone = 0; staying = 0 }; some = false; left = false } → IsSum s shared goes level place 0 sum
-  no_sum level place sum is = record { gone = ap (λ p. p.taken.gone) is; staying = ap (λ p. p.taken.staying) is; some = ap (λ p. p.some) is; left = ap (λ p. p.left) is }
-
   pub more_sum : (level place slot : ℕ) (sum part next : Part) → IsSum s shared goes level place slot sum → IsPart s shared goes (level - 1) (place * fan + slot) part
       → next.taken.gone ≡ sum.taken.gone + part.taken.gone → next.taken.staying ≡ sum.taken.staying + part.taken.staying → next.some ≡ (sum.some || part.some) → next.left ≡ (sum.left || part.left)
       → IsSum s shared goes level place (slot + 1) next

@@ -138,15 +138,7 @@ keeps_unread t u level place p keeps k q none = elim (cases_eq k level) [
     own here (inr there) = absurd (let both = sym here ∙ there.1 in cc)
 
 pub keeps_same : (t u : Rooted) (level place : ℕ) → Keeps t u level place (pointer_at t level place) → IsSame t u
-keeps_same t u level place keeps = record {
-  under = keeps.under;
-  owner = keeps.owner;
-  levels = keeps.levels;
-  root = keeps.root;
-  cells = keeps.cells;
-  pointers = keeps_pointers t u level place keeps;
-  nodes = λ k q some none. keeps_unread t u level place (pointer_at t level place) keeps k q none;
-}
+keeps_same t u level place keeps = record { under = keeps.under; owner = keeps.owner; levels = keeps.levels; root = keeps.root; cells = keeps.cells; pointers = keeps_pointers t u level place keeps; nodes = λ k q some none. keeps_unread t u level place (pointer_at t level place) keeps k q none }
 
 pub same_then : (t u v : Rooted) → IsSame t u → IsSame u v → IsSame t v
 same_then t u v first second = record {

@@ -2,7 +2,7 @@
 use Rattle.std.specs.Prelude.{◌≡◌, ◌≢◌, ◌≤◌, ◌<◌, ◌⊎◌, ℕ, ◌+◌, ◌/◌, ◌^◌, true, false, Option, Some, None, is_some, replicate}
 use Rattle.std.specs.BTreeMap as tree
 use Rattle.fv_codec.specs.declared.pointer.Pointer.{Pointer}
-use Rattle.fv_model.specs.Trees.{fan, spot_cmp}
+use Rattle.fv_model.specs.Trees.{fan, Spot, spot_cmp}
 use Rattle.fv_tree.specs.declared.kept.Tree.{Tree}
 use Rattle.fv_tree.specs.declared.kept.KeptNode.{KeptNode}
 use Rattle.fv_tree.specs.Spelled.{Under, hole, pointers_in}
@@ -54,6 +54,13 @@ pub record MarksFew (old new : Tree) : Type 0 where
 pub record IsTop (t : Tree) (level : ℕ) : Type 0 where
   pub changed : changed_in t.nodes level 0 ≡ true
   pub placed : placed_in t.nodes level 0 ≡ false
+
+-- A node changed, where it is in memory, and no other one. Where each lies is as it was.
+pub record MarksNode (old new : tree.BTreeMap Spot KeptNode) (level place : ℕ) : Type 0 where
+  pub placed : (k q : ℕ) → placed_in new k q ≡ placed_in old k q
+  pub changed : is_some (tree.get spot_cmp old (level, place)) ≡ true → changed_in new level place ≡ true
+  pub others : (k q : ℕ) → (k ≢ level) ⊎ (q ≢ place) → tree.get spot_cmp new (k, q) ≡ tree.get spot_cmp old (k, q)
+  pub count : changes_in new ≤ changes_in old + 1
 
 -- the nodes over a cell changed, where they are in memory
 pub record Marks (old new : Tree) (i : ℕ) : Type 0 where

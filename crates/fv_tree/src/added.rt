@@ -5,6 +5,7 @@ ghost use Rattle.fv_model.specs.Trees.{levels_with};
 ghost use Rattle.fv_tree.specs.Sources.{Counts, IsUntouched};
 ghost use Rattle.fv_tree.specs.Standing.{standing, under, Fails};
 ghost use Rattle.fv_tree.specs.Counting.{added_at, found_at};
+ghost use Rattle.fv_tree.specs.Calls.{LoadsFrom};
 
 use crate::blocks::{Blocks, TreeFault};
 use crate::grow::levels_over;
@@ -39,10 +40,7 @@ impl Tree {
 fn found_over<B: Blocks>(tree: &Tree, blocks: &mut B, index: u32) -> Result<u32, TreeFault>
     ensures found { B.told → IfOk result (λ count. count ≡ found_at (standing (under (B.shown blocks.old)) tree.now) index) }
     ensures few { IfOk result (λ count. count ≤ tree.now.levels + 1) }
-    ensures untouched { IsUntouched (B.shown blocks.old) (B.shown blocks.new) }
-    ensures reads { B.reads blocks.old blocks.new }
-    ensures counts { Counts (B.shown blocks.old) (B.shown blocks.new) result }
-    ensures cause { IfErr result (Fails B.told (standing (under (B.shown blocks.old)) tree.now) (B.shown blocks.old) (B.shown blocks.new)) }
+    ensures loads { LoadsFrom (B.reads blocks.old blocks.new) (Fails B.told (standing (under (B.shown blocks.old)) tree.now) (B.shown blocks.old) (B.shown blocks.new)) (B.shown blocks.old) (B.shown blocks.new) result }
 {
     let mut level = tree.levels;
     let mut pointer = top(tree, index);

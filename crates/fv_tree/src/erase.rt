@@ -15,7 +15,7 @@ ghost use Rattle.fv_tree.specs.Releasing.{Releases};
 ghost use Rattle.fv_tree.specs.Flushing.{placed_in, placed_of, changed_in};
 ghost use Rattle.fv_tree.specs.Costs.{cells_changed, cells_held, changes_in, pending};
 ghost use Rattle.fv_tree.specs.Unlinking.{HasWay, HasNoOther, HasOther, AreBare, Unlinks, cleared_in, IsNamed, IsOnWay, IsOver, MarksOnly, NamesOnce, CutsWay, StampsAbove};
-ghost use Rattle.fv_tree.specs.Carried.{MarksNoMore};
+ghost use Rattle.fv_tree.specs.Carried.{MarksNode, MarksNoMore};
 ghost use Rattle.fv_tree.specs.Readying.{IsReady, KeepsOthersReady};
 ghost use Rattle.fv_tree.specs.Calls.{ErasesCell};
 
@@ -215,10 +215,7 @@ fn clear_slot(nodes: &mut BTreeMap<(u8, u32), KeptNode>, level: u8, place: u32, 
     requires slot { slot < fan }
     requires other { (xs : List Pointer) → children_in nodes.old level place ≡ Some xs → HasOther xs slot }
     ensures children { (k q : ℕ) → children_in nodes.new k q ≡ cond (nat_eq k level && nat_eq q place) (option_map (cleared_in slot) (children_in nodes.old k q)) (children_in nodes.old k q) }
-    ensures placed { (k q : ℕ) → placed_in nodes.new k q ≡ placed_in nodes.old k q }
-    ensures changed { is_some (tree_map.get spot_cmp nodes.old (level, place)) ≡ true → changed_in nodes.new level place ≡ true }
-    ensures others { (k q : ℕ) → (k ≢ level) ⊎ (q ≢ place) → tree_map.get spot_cmp nodes.new (k, q) ≡ tree_map.get spot_cmp nodes.old (k, q) }
-    ensures count { changes_in nodes.new ≤ changes_in nodes.old + 1 }
+    ensures marked { MarksNode nodes.old nodes.new level place }
     ensures ordered { tree_map.IsOrdered spot_cmp nodes.new }
 {
     if let Some(node) = nodes.get_mut(&(level, place)) {

@@ -1,7 +1,8 @@
 //! How much a flush has to place.
 
-ghost use Rattle.std.specs.Prelude.{◌≡◌, ◌<◌, ◌^◌, cond};
-ghost use Rattle.fv_tree.specs.Costs.{cells_changed, changes_in, pending};
+ghost use Rattle.std.specs.Prelude.{◌≡◌, ◌<◌, ◌^◌, Bool, cond, count_by};
+ghost use Rattle.std.specs.BTreeMap as maps;
+ghost use Rattle.fv_tree.specs.Costs.{pending};
 
 use crate::kept::{KeptCell, KeptNode, Tree};
 use std::collections::BTreeMap;
@@ -12,30 +13,43 @@ impl Tree {
     pub fn pending(&self) -> u64
         ensures { result ≡ pending self.now }
     {
-        count_changed(&self.nodes) + count_cells(&self.cells)
+        count_changed(&self.nodes) + count_changed(&self.cells)
     }
 }
 
-/// How many cells in memory differ from their blocks.
-fn count_cells(cells: &BTreeMap<u32, KeptCell>) -> u64
-    ensures count { result ≡ cells_changed cells.now }
-    ensures few { result < 2 ^ 63 }
-{
-    let mut count = 0;
-    for (index, cell) in cells.iter() {
-        count += one_for(cell.changed);
-    }
-    count
+/// What lies in memory in place of a block.
+trait InMemory {
+    ghost changed: { Self → Bool };
+
+    /// Whether it differs from its block.
+    fn is_changed(&self) -> bool
+        ensures { result ≡ changed self.now };
 }
 
-/// How many nodes in memory differ from their blocks.
-fn count_changed(nodes: &BTreeMap<(u8, u32), KeptNode>) -> u64
-    ensures count { result ≡ changes_in nodes.now }
+impl InMemory for KeptCell {
+    ghost changed = { λ kept. kept.changed };
+
+    fn is_changed(&self) -> bool {
+        self.changed
+    }
+}
+
+impl InMemory for KeptNode {
+    ghost changed = { λ kept. kept.changed };
+
+    fn is_changed(&self) -> bool {
+        self.changed
+    }
+}
+
+/// How many of what lies in memory differ from their blocks.
+fn count_changed<K: Ord, V: InMemory>(kept: &BTreeMap<K, V>) -> u64
+    ensures count { result ≡ count_by V.changed (maps.values kept.now) }
     ensures few { result < 2 ^ 63 }
 {
     let mut count = 0;
-    for (spot, node) in nodes.iter() {
-        count += one_for(node.changed);
+    for (place, one) in kept.iter() {
+        count += one_for(one.is_changed());
     }
     count
 }

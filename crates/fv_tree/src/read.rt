@@ -1,6 +1,6 @@
 //! Reading a cell with the place where it was read.
 
-ghost use Rattle.std.specs.Prelude.{◌≡◌, ◌≤◌, ◌+◌, ℕ, Option, Some, None, is_some, true, IfOk, IfErr, OnOk, OnErr};
+ghost use Rattle.std.specs.Prelude.{◌≡◌, ◌≤◌, ◌+◌, ◌==◌, ℕ, Option, Some, None, is_some, not, true, IfOk, IfErr, OnOk, OnErr};
 ghost use Rattle.std.specs.Option.{option_map};
 ghost use Rattle.fv_tree.specs.Spelled.{pointer_at, block_at};
 ghost use Rattle.fv_tree.specs.Sources.{Counts, IsUntouched};
@@ -45,7 +45,7 @@ impl Tree {
 
 /// Copies a cell's content from memory, or loads it.
 #[tactic(auto, unfolding(crate::specs::Spelled::block_at))]
-fn read_pointed<B: Blocks>(
+pub fn read_pointed<B: Blocks>(
     tree: &Tree,
     blocks: &mut B,
     index: u32,
@@ -56,6 +56,7 @@ fn read_pointed<B: Blocks>(
     ensures cell { B.told → IfOk result (λ at. block_at (standing (under (B.shown blocks.old)) tree.now) index ≡ option_map (λ (place : ℕ). into.new) at) }
     ensures place { B.told → IfOk result (λ at. (place : ℕ) → at ≡ Some place → place ≡ cell_read_at (standing (under (B.shown blocks.old)) tree.now) (B.shown blocks.new) index) }
     ensures spent { OnOk result ((B.shown blocks.new).spent ≡ (B.shown blocks.old).spent + load_cost (B.shown blocks.old).cost (is_some (cell_in tree.now index)) pointer.now) }
+    ensures there { IfOk result (λ at. is_some at ≡ not (pointer.now.stamp == 0)) }
     ensures held { is_some (cell_in tree.now index) ≡ true → OnErr result ⊥ }
     ensures untouched { IsUntouched (B.shown blocks.old) (B.shown blocks.new) }
     ensures reads { B.reads blocks.old blocks.new }

@@ -6,13 +6,13 @@ ghost use Rattle.fv_codec.specs.declared.pointer.Pointer.{Pointer};
 ghost use Rattle.fv_codec.specs.Blocks.{all_holes};
 ghost use Rattle.fv_model.specs.Trees.{spot_cmp};
 ghost use Rattle.fv_tree.specs.Standing.{standing, under, node_in, children_in, IsSameBut};
-ghost use Rattle.fv_tree.specs.Writing.{IsAlike, Remains};
+ghost use Rattle.fv_tree.specs.Writing.{Remains};
 ghost use Rattle.fv_disk.specs.declared.fault.BlockFault.TheVariants.{Memory};
 ghost use Rattle.fv_tree.specs.Readying.{IsReady};
 ghost use Rattle.fv_tree.specs.Refilling.{IsFilledWay, IsRefilled, Refills};
 ghost use Rattle.fv_tree.specs.Flushing.{changed_in, loaded, placed_in, Stands, changed_of};
 ghost use Rattle.fv_tree.specs.Altering.{Leaves};
-ghost use Rattle.fv_tree.specs.Carried.{Marks};
+ghost use Rattle.fv_tree.specs.Carried.{Marks, MarksNode};
 ghost use Rattle.fv_tree.specs.Costs.{changes_in, pending};
 ghost use Rattle.fv_tree.specs.Calls.{Steady};
 
@@ -50,37 +50,17 @@ impl Tree {
         ensures still { OnErr result (pending self.new ≤ pending self.old) }
         ensures steady { Steady B.told (B.reads blocks.old blocks.new) (B.shown blocks.old) (B.shown blocks.new) self.old self.new 4 1 result }
     {
-        refill_cell(self, blocks, index, block)
+        if index >= width(self.levels) {
+            return Ok(false);
+        }
+        let pointer = keep_path(self, blocks, index)?;
+        if pointer.stamp == 0 {
+            return Ok(false);
+        }
+        keep_cell(self, index, block, true)?;
+        mark_path(self, index);
+        Ok(true)
     }
-}
-
-/// Gives a cell another content, where it stands.
-pub fn refill_cell<B: Blocks>(
-    tree: &mut Tree,
-    blocks: &mut B,
-    index: u32,
-    block: &[u8; 4096],
-) -> Result<bool, TreeFault>
-    ensures done { B.told → IfOk result (IsRefilled (standing (under (B.shown blocks.old)) tree.old) (standing (under (B.shown blocks.new)) tree.new) index block.now) }
-    ensures failed { B.told → OnErr result (IsAlike (standing (under (B.shown blocks.old)) tree.old) (standing (under (B.shown blocks.new)) tree.new)) }
-    ensures ready { IfOk result (λ there. there ≡ true → IsReady tree.new index) }
-    ensures held { IsReady tree.old index → IfErr result (λ e. e ≡ Memory) }
-    ensures levels { tree.new.levels ≡ tree.old.levels }
-    ensures leaves { B.told → Stands (B.shown blocks.old) tree.old → changed_of tree.old 0 index ≡ true → Leaves (loaded (B.shown blocks.old) tree.old) (loaded (B.shown blocks.new) tree.new) }
-    ensures unchanged { B.told → OnErr result (Leaves (loaded (B.shown blocks.old) tree.old) (loaded (B.shown blocks.new) tree.new)) }
-    ensures still { OnErr result (pending tree.new ≤ pending tree.old) }
-    ensures steady { Steady B.told (B.reads blocks.old blocks.new) (B.shown blocks.old) (B.shown blocks.new) tree.old tree.new 4 1 result }
-{
-    if index >= width(tree.levels) {
-        return Ok(false);
-    }
-    let pointer = keep_path(tree, blocks, index)?;
-    if pointer.stamp == 0 {
-        return Ok(false);
-    }
-    keep_cell(tree, index, block, true)?;
-    mark_path(tree, index);
-    Ok(true)
 }
 
 /// Marks the nodes over a cell as changed.
@@ -101,10 +81,7 @@ fn mark_path(tree: &mut Tree, index: u32)
 fn mark_spot(nodes: &mut BTreeMap<(u8, u32), KeptNode>, level: u8, place: u32)
     requires filled { (xs : List Pointer) → children_in nodes.old level place ≡ Some xs → all_holes xs ≡ false }
     ensures children { (k q : ℕ) → children_in nodes.new k q ≡ children_in nodes.old k q }
-    ensures placed { (k q : ℕ) → placed_in nodes.new k q ≡ placed_in nodes.old k q }
-    ensures changed { is_some (maps.get spot_cmp nodes.old (level, place)) ≡ true → changed_in nodes.new level place ≡ true }
-    ensures others { (k q : ℕ) → (k ≢ level) ⊎ (q ≢ place) → maps.get spot_cmp nodes.new (k, q) ≡ maps.get spot_cmp nodes.old (k, q) }
-    ensures count { changes_in nodes.new ≤ changes_in nodes.old + 1 }
+    ensures marked { MarksNode nodes.old nodes.new level place }
 {
     if let Some(node) = nodes.get_mut(&(level, place)) {
         mark(node);

@@ -1,11 +1,9 @@
 //! Removing a cell.
 
 ghost use Rattle.std.specs.Prelude.{◌≤◌, ◌+◌, nat_eq, Ok};
-ghost use Rattle.fv_tree.specs.Releasing.{Removes};
 ghost use Rattle.fv_tree.specs.Readying.{IsReady, KeepsOthersReady};
 ghost use Rattle.fv_tree.specs.Removal.{Removal};
-ghost use Rattle.fv_tree.specs.Costs.{pending, Rises};
-ghost use Rattle.fv_tree.specs.Calls.{Removing};
+ghost use Rattle.fv_tree.specs.Costs.{pending};
 
 use crate::blocks::{Blocks, TreeFault};
 use crate::erase::erase_cell;
@@ -35,7 +33,14 @@ impl Tree {
         ensures pending { pending self.new ≤ pending self.old + 3 }
         ensures removal { Removal B.told (B.goes blocks.old blocks.new) (B.shown blocks.old) (B.shown blocks.new) self.old self.new (nat_eq index) start stamp result }
     {
-        remove_cell(self, blocks, index, start, stamp)
+        if index >= width(self.levels) {
+            return Ok(0);
+        }
+        let pointer = keep_path(self, blocks, index)?;
+        if pointer.stamp == 0 {
+            return Ok(0);
+        }
+        Ok(erase_cell(self, blocks, index, start, stamp))
     }
 
     /// Removes a cell that is in memory with the nodes over it, as `remove` does, and answers how many positions went.
@@ -50,27 +55,4 @@ impl Tree {
     {
         erase_cell(self, blocks, index, start, stamp)
     }
-}
-
-/// Removes a cell, over the blocks that there were.
-fn remove_cell<B: Blocks>(
-    tree: &mut Tree,
-    blocks: &mut B,
-    index: u32,
-    start: u8,
-    stamp: u64,
-) -> Result<u32, TreeFault>
-    requires start { start ≤ 3 }
-    requires stamp { 1 ≤ stamp }
-    ensures rises { Rises tree.old tree.new 3 0 }
-    ensures removing { Removing B.told (B.goes blocks.old blocks.new) (B.shown blocks.old) (B.shown blocks.new) tree.old tree.new (nat_eq index) start stamp result }
-{
-    if index >= width(tree.levels) {
-        return Ok(0);
-    }
-    let pointer = keep_path(tree, blocks, index)?;
-    if pointer.stamp == 0 {
-        return Ok(0);
-    }
-    Ok(erase_cell(tree, blocks, index, start, stamp))
 }

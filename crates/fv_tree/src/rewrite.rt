@@ -18,8 +18,8 @@ ghost use Rattle.fv_tree.specs.Calls.{Steady};
 use crate::blocks::{Blocks, TreeFault};
 use crate::keep::keep_path;
 use crate::kept::{KeptCell, Tree};
+use crate::read::read_pointed;
 use crate::sizes::width;
-use crate::way::read_cell;
 use crate::write::stamp_path;
 use fv_codec::Pointer;
 use std::collections::BTreeMap;
@@ -88,7 +88,7 @@ fn ready_cell<B: Blocks>(tree: &mut Tree, blocks: &mut B, index: u32) -> Result<
         return Ok(false);
     }
     let mut content = [0; 4096];
-    read_cell(tree, blocks, index, &pointer, &mut content)?;
+    read_pointed(tree, blocks, index, &pointer, &mut content)?;
     hold_cell(tree, index, &content)?;
     Ok(true)
 }

@@ -3,10 +3,9 @@
 ghost use Rattle.std.specs.Prelude.{◌≡◌, ◌≤◌, ◌<◌, ◌-◌, ◌*◌, ◌/◌, ◌^◌, ◌&&◌, not, cond, ◌==◌, IfOk, IfErr};
 ghost use Rattle.fv_model.specs.Trees.{fan};
 ghost use Rattle.fv_tree.specs.Sources.{Counts, IsUntouched};
-ghost use Rattle.fv_tree.specs.Standing.{standing, under, Fails};
+ghost use Rattle.fv_tree.specs.Standing.{standing, under, Fails, IsPlaceOf};
 ghost use Rattle.fv_tree.specs.Flushing.{changed_of, loaded};
 ghost use Rattle.fv_tree.specs.Counting.{staying_at, staying_all, staying_under};
-ghost use Rattle.fv_tree.specs.Spelled.{pointer_at};
 
 use crate::blocks::TreeFault;
 use crate::kept::Tree;
@@ -69,9 +68,7 @@ fn staying_under<B: Sharing>(
     place: u32,
     pointer: &Pointer,
 ) -> Result<u32, TreeFault>
-    requires high { level ≤ tree.now.levels }
-    requires range { place < fan ^ (3 - level) }
-    requires pointer { B.told → pointer.now ≡ pointer_at (standing (under (B.shown blocks.old)) tree.now) level place }
+    requires { IsPlaceOf B.told (B.shown blocks.old) tree.now level place pointer.now }
     ensures staying { B.told → IfOk result (λ count. count ≡ staying_under (loaded (B.shown blocks.old) tree.now) (B.shared blocks.old) level place) }
     ensures few { IfOk result (λ count. count < 2 * fan ^ level) }
     ensures untouched { IsUntouched (B.shown blocks.old) (B.shown blocks.new) }

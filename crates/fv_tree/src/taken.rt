@@ -3,11 +3,11 @@
 ghost use Rattle.std.specs.Prelude.{◌≡◌, ◌≢◌, ◌≤◌, ◌<◌, ◌+◌, ◌-◌, ◌*◌, ◌/◌, ◌^◌, ◌&&◌, ◌||◌, not, cond, ◌==◌, ℕ, true, false, nat_le, nat_eq, IfOk, IfErr};
 ghost use Rattle.fv_model.specs.Trees.{fan};
 ghost use Rattle.fv_tree.specs.Sources.{Counts, IsUntouched};
-ghost use Rattle.fv_tree.specs.Standing.{standing, under, Fails};
+ghost use Rattle.fv_tree.specs.Standing.{standing, under, Fails, IsPlaceOf};
 ghost use Rattle.fv_tree.specs.Flushing.{loaded};
 ghost use Rattle.fv_tree.specs.Erasing.{HoldsCells};
-ghost use Rattle.fv_tree.specs.Spelled.{pointer_at};
 ghost use Rattle.fv_tree.specs.Taking.{goes_by, gone_with, AreBelow, IsPart, IsTaken};
+ghost use Rattle.fv_tree.specs.Calls.{LoadsFrom};
 
 use crate::blocks::TreeFault;
 use crate::kept::Tree;
@@ -91,10 +91,7 @@ impl Tree {
 fn taken_in<B: Sharing>(tree: &Tree, blocks: &mut B, going: Going) -> Result<Taken, TreeFault>
     ensures taken { B.told → HoldsCells (standing (under (B.shown blocks.old)) tree.now) → IfOk result (IsTaken (loaded (B.shown blocks.old) tree.now) (B.shared blocks.old) (goes_by going)) }
     ensures few { IfOk result (AreBelow 4194304) }
-    ensures untouched { IsUntouched (B.shown blocks.old) (B.shown blocks.new) }
-    ensures reads { B.reads blocks.old blocks.new }
-    ensures counts { Counts (B.shown blocks.old) (B.shown blocks.new) result }
-    ensures cause { IfErr result (Fails B.told (standing (under (B.shown blocks.old)) tree.now) (B.shown blocks.old) (B.shown blocks.new)) }
+    ensures loads { LoadsFrom (B.reads blocks.old blocks.new) (Fails B.told (standing (under (B.shown blocks.old)) tree.now) (B.shown blocks.old) (B.shown blocks.new)) (B.shown blocks.old) (B.shown blocks.new) result }
 {
     let part = taken_under(tree, blocks, going, tree.levels, 0, &tree.root)?;
     Ok(part.taken)
@@ -109,9 +106,7 @@ fn taken_under<B: Sharing>(
     place: u32,
     pointer: &Pointer,
 ) -> Result<Part, TreeFault>
-    requires high { level ≤ tree.now.levels }
-    requires range { place < fan ^ (3 - level) }
-    requires pointer { B.told → pointer.now ≡ pointer_at (standing (under (B.shown blocks.old)) tree.now) level place }
+    requires { IsPlaceOf B.told (B.shown blocks.old) tree.now level place pointer.now }
     ensures part { B.told → HoldsCells (standing (under (B.shown blocks.old)) tree.now) → IfOk result (IsPart (loaded (B.shown blocks.old) tree.now) (B.shared blocks.old) (goes_by going) level place) }
     ensures few { IfOk result (λ part. AreBelow (2 * fan ^ level) part.taken) }
     ensures untouched { IsUntouched (B.shown blocks.old) (B.shown blocks.new) }

@@ -17,8 +17,8 @@ ghost use Rattle.fv_tree.specs.Calls.{Steady};
 
 use crate::blocks::{Blocks, TreeFault};
 use crate::kept::{HOLE, Tree};
-use crate::way::{find, read_cell};
-use crate::write::write_cell;
+use crate::sizes::width;
+use crate::write::{write_past, write_within};
 use fv_codec::Pointer;
 use std::alloc::Global;
 use std::collections::BTreeMap;
@@ -79,8 +79,8 @@ impl Tree {
         ensures counts { Counts (B.shown blocks.old) (B.shown blocks.new) result }
         ensures cause { IfErr result (Fails B.told (standing (under (B.shown blocks.old)) self.old) (B.shown blocks.old) (B.shown blocks.new)) }
     {
-        let pointer = find(self, blocks, index)?;
-        read_cell(self, blocks, index, &pointer, into)
+        let at = self.read(blocks, index, into)?;
+        Ok(at.is_some())
     }
 
     /// Writes the cell at `index`, which is below 2,097,152, with a stamp of at least 1. Levels grow where they
@@ -108,7 +108,11 @@ impl Tree {
         ensures marked { OnOk result (changed_of self.new 0 index ≡ true) }
         ensures steady { Steady B.told (B.reads blocks.old blocks.new) (B.shown blocks.old) (B.shown blocks.new) self.old self.new 6 1 result }
     {
-        write_cell(self, blocks, index, block, stamp)
+        if index < width(self.levels) {
+            write_within(self, blocks, index, block, stamp)
+        } else {
+            write_past(self, index, block, stamp)
+        }
     }
 }
 

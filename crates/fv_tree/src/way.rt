@@ -1,13 +1,14 @@
 //! The way from the root to a cell.
 
-ghost use Rattle.std.specs.Prelude.{◌≡◌, ◌≢◌, ◌≤◌, ◌<◌, ◌/◌, ◌%◌, ◌-◌, ◌^◌, cond, not, ◌==◌, Some, None, IfOk, IfErr, get_or, length, ◌+◌, is_some, true, OnOk, OnErr};
+ghost use Rattle.std.specs.Prelude.{◌≡◌, ◌≢◌, ◌≤◌, ◌<◌, ◌/◌, ◌%◌, ◌-◌, ◌^◌, IfOk, IfErr, get_or, length, ◌+◌, is_some, true, OnOk, OnErr};
 ghost use Rattle.fv_codec.specs.Blocks.{IsNode};
 ghost use Rattle.fv_model.specs.Trees.{fan};
-ghost use Rattle.fv_tree.specs.Spelled.{Under, hole, pointers_at, pointers_in, pointer_below, pointer_at, block_at};
+ghost use Rattle.fv_tree.specs.Spelled.{Under, hole, pointers_at, pointers_in, pointer_below, pointer_at};
 ghost use Rattle.fv_tree.specs.Sources.{Counts, IsUntouched};
-ghost use Rattle.fv_tree.specs.Standing.{standing, under, cell_in, node_in, Fails, LoadFails, PointerFails};
+ghost use Rattle.fv_tree.specs.Standing.{standing, under, node_in, Fails, LoadFails};
 ghost use Rattle.fv_tree.specs.Unlinking.{HasWay};
 ghost use Rattle.fv_tree.specs.Costs.{load_cost, place_cost, way_cost};
+ghost use Rattle.fv_tree.specs.Calls.{LoadsFrom};
 
 use crate::blocks::{Blocks, TreeFault};
 use crate::kept::{HOLE, Tree};
@@ -20,10 +21,7 @@ pub fn find<B: Blocks>(tree: &Tree, blocks: &mut B, index: u32) -> Result<Pointe
     ensures spent { B.told → OnOk result ((B.shown blocks.new).spent + place_cost (B.shown blocks.old).cost (standing (under (B.shown blocks.old)) tree.now) 0 index
         ≡ (B.shown blocks.old).spent + way_cost (B.shown blocks.old).cost (standing (under (B.shown blocks.old)) tree.now) index) }
     ensures held { HasWay tree.now index → OnErr result ⊥ }
-    ensures untouched { IsUntouched (B.shown blocks.old) (B.shown blocks.new) }
-    ensures reads { B.reads blocks.old blocks.new }
-    ensures counts { Counts (B.shown blocks.old) (B.shown blocks.new) result }
-    ensures cause { IfErr result (Fails B.told (standing (under (B.shown blocks.old)) tree.now) (B.shown blocks.old) (B.shown blocks.new)) }
+    ensures loads { LoadsFrom (B.reads blocks.old blocks.new) (Fails B.told (standing (under (B.shown blocks.old)) tree.now) (B.shown blocks.old) (B.shown blocks.new)) (B.shown blocks.old) (B.shown blocks.new) result }
 {
     let mut level = tree.levels;
     let mut pointer = top(tree, index);
@@ -122,35 +120,4 @@ pub fn load_node<B: Blocks>(blocks: &mut B, pointer: &Pointer) -> Result<Node, T
             found: shape.found,
         }),
     }
-}
-
-/// Copies a cell's content from memory, or loads it; false for a hole.
-#[tactic(auto, unfolding(crate::specs::Spelled::block_at))]
-pub fn read_cell<B: Blocks>(
-    tree: &Tree,
-    blocks: &mut B,
-    index: u32,
-    pointer: &Pointer,
-    into: &mut [u8; 4096],
-) -> Result<bool, TreeFault>
-    requires pointer { B.told → pointer.now ≡ pointer_at (standing (under (B.shown blocks.old)) tree.now) 0 index }
-    ensures there { IfOk result (λ there. there ≡ not (pointer.now.stamp == 0)) }
-    ensures held { is_some (cell_in tree.now index) ≡ true → OnErr result ⊥ }
-    ensures cell { B.told → IfOk result (λ there. block_at (standing (under (B.shown blocks.old)) tree.now) index ≡ cond there (Some into.new) None) }
-    ensures spent { OnOk result ((B.shown blocks.new).spent ≡ (B.shown blocks.old).spent + load_cost (B.shown blocks.old).cost (is_some (cell_in tree.now index)) pointer.now) }
-    ensures untouched { IsUntouched (B.shown blocks.old) (B.shown blocks.new) }
-    ensures reads { B.reads blocks.old blocks.new }
-    ensures counts { Counts (B.shown blocks.old) (B.shown blocks.new) result }
-    ensures cause { IfErr result (PointerFails (B.shown blocks.old) (B.shown blocks.new) pointer.now) }
-{
-    if pointer.stamp == 0 {
-        return Ok(false);
-    }
-    match tree.cells.get(&index) {
-        Some(cell) => *into = cell.block,
-        None => {
-            blocks.load(pointer, into)?;
-        }
-    }
-    Ok(true)
 }

@@ -9,7 +9,7 @@ ghost use Rattle.fv_tree.specs.Standing.{standing, under, children_in, cell_in, 
 ghost use Rattle.fv_tree.specs.Spelled.{Under};
 ghost use Rattle.fv_tree.specs.Flushing.{cell_changed, cell_placed, changed_in, changed_of, loaded, loaded_over, placed_in};
 ghost use Rattle.fv_tree.specs.Altering.{Alters, Leaves};
-ghost use Rattle.fv_tree.specs.Carried.{Marks};
+ghost use Rattle.fv_tree.specs.Carried.{Marks, MarksNode};
 ghost use Rattle.fv_tree.specs.Writing.{stamped, stamped_in, new_child, Stamps, IsAlike, IsWritten};
 ghost use Rattle.fv_tree.specs.Costs.{cells_changed, cells_held, changes_in};
 ghost use Rattle.fv_tree.specs.Calls.{Steady, SteadyHeld};
@@ -92,10 +92,7 @@ pub fn stamp_slot(
     requires slot { slot < fan }
     requires stamp { 1 ≤ stamp }
     ensures children { (k q : ℕ) → children_in nodes.new k q ≡ cond (nat_eq k level && nat_eq q place) (option_map (stamped_in slot stamp) (children_in nodes.old k q)) (children_in nodes.old k q) }
-    ensures placed { (k q : ℕ) → placed_in nodes.new k q ≡ placed_in nodes.old k q }
-    ensures changed { is_some (maps.get spot_cmp nodes.old (level, place)) ≡ true → changed_in nodes.new level place ≡ true }
-    ensures others { (k q : ℕ) → (k ≢ level) ⊎ (q ≢ place) → maps.get spot_cmp nodes.new (k, q) ≡ maps.get spot_cmp nodes.old (k, q) }
-    ensures count { changes_in nodes.new ≤ changes_in nodes.old + 1 }
+    ensures marked { MarksNode nodes.old nodes.new level place }
     ensures again { changed_in nodes.old level place ≡ true → changes_in nodes.new ≤ changes_in nodes.old }
     ensures ordered { maps.IsOrdered spot_cmp nodes.new }
 {
@@ -189,28 +186,4 @@ fn raise(tree: &mut Tree, levels: u8, stamp: u64)
 {
     tree.levels = levels;
     tree.root = new_mark(stamp);
-}
-
-/// Writes a cell.
-pub fn write_cell<B: Blocks>(
-    tree: &mut Tree,
-    blocks: &mut B,
-    index: u32,
-    block: &[u8; 4096],
-    stamp: u64,
-) -> Result<(), TreeFault>
-    requires index { index < 2097152 }
-    requires stamp { 1 ≤ stamp }
-    ensures done { B.told → OnOk result (IsWritten (standing (under (B.shown blocks.old)) tree.old) (standing (under (B.shown blocks.new)) tree.new) index stamp block.now) }
-    ensures failed { B.told → OnErr result (IsAlike (standing (under (B.shown blocks.old)) tree.old) (standing (under (B.shown blocks.new)) tree.new)) }
-    ensures alters { B.told → Alters stamp (loaded (B.shown blocks.old) tree.old) (loaded (B.shown blocks.new) tree.new) }
-    ensures leaves { B.told → OnErr result (Leaves (loaded (B.shown blocks.old) tree.old) (loaded (B.shown blocks.new) tree.new)) }
-    ensures marked { OnOk result (changed_of tree.new 0 index ≡ true) }
-    ensures steady { Steady B.told (B.reads blocks.old blocks.new) (B.shown blocks.old) (B.shown blocks.new) tree.old tree.new 6 1 result }
-{
-    if index < width(tree.levels) {
-        write_within(tree, blocks, index, block, stamp)
-    } else {
-        write_past(tree, index, block, stamp)
-    }
 }

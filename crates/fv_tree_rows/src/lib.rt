@@ -2,20 +2,10 @@
 //! machine, equal in full after each step.
 #![tactic(auto)]
 
-#[cfg(test)]
-mod costs;
 mod memory;
-#[cfg(test)]
-mod pair;
-#[cfg(test)]
-mod rows;
 mod silent;
 #[cfg(test)]
-mod spelled;
-#[cfg(test)]
-mod taken;
-#[cfg(test)]
-mod walk;
+mod tests;
 
 pub use memory::MemBlocks;
 pub use silent::Silent;

@@ -27,15 +27,16 @@ use Rattle.fv_files.specs.Apart.{AreLed, LeadsFrom, LeadsIn, stored_trees}
 use Rattle.fv_files.specs.Numbering.{AreNumbersIf}
 use Rattle.fv_files.specs.Tables.{AreReached}
 use Rattle.fv_charge.specs.Ledgers.{IsLedgerOf}
-use Rattle.fv_volume.specs.declared.pool.Pool.{Pool}
+use Rattle.fv_pool.specs.declared.pool.Pool.{Pool}
 use Rattle.fv_volume.specs.declared.state.VolumeState.{VolumeState}
-use Rattle.fv_volume.specs.Lending.{IsTold}
-use Rattle.fv_volume.specs.OneVolume.{blocks_in, shows, standing_by, table_for, trees_for, volume_for, AreLaidBy, AreSoundBy, IsKeptTable, IsStanding, RootStands}
+use Rattle.fv_pool.specs.Lending.{IsTold}
+use Rattle.fv_pool.specs.Tables.{standing_by, AreLaidBy, AreSoundBy, AreLedBy, AreStoredBy}
+use Rattle.fv_volume.specs.OneVolume.{blocks_in, shows, table_for, trees_for, volume_for, IsKeptTable, IsStanding, RootStands}
 use Rattle.fv_volume.specs.Sharing.{AreShared}
-use Rattle.fv_volume.specs.Placing.{AreLedBy, AreStoredBy, IsLedTo, IsStoredWell}
-use Rattle.fv_volume.proofs.OverBlocks.{over_keeps, over_reached, over_stored}
+use Rattle.fv_volume.specs.Placing.{IsLedTo, IsStoredWell}
+use Rattle.fv_pool.proofs.OverBlocks.{over_keeps, over_reached, over_stored}
 use Rattle.fv_volume.proofs.ActiveSlot.{active_has, active_uses}
-use Rattle.fv_volume.proofs.Shows.{use_none}
+use Rattle.fv_pool.proofs.Shows.{use_none}
 use Rattle.fv_volume.proofs.SnapReads.{slot_held}
 
 -- ---- what no tree leads to isn't listed

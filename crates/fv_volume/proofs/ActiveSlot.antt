@@ -5,10 +5,10 @@ use Rattle.fv_disk.specs.Shown.{Shown as Disk}
 use Rattle.fv_bits.specs.Members.{is_member}
 use Rattle.fv_bits.proofs.Laws.{is_member-replicate}
 use Rattle.fv_volmap.specs.Slots.{Slot, Volume as Maps, active_of, has, map_or_empty, slot_at}
-use Rattle.fv_volume.specs.declared.pool.Pool.{Pool}
+use Rattle.fv_pool.specs.declared.pool.Pool.{Pool}
 use Rattle.fv_volume.specs.declared.state.VolumeState.{VolumeState}
-use Rattle.fv_volume.specs.BlocksOver.{held_entry}
-use Rattle.fv_volume.specs.Lending.{use_of}
+use Rattle.fv_pool.specs.BlocksOver.{held_entry}
+use Rattle.fv_pool.specs.Lending.{use_of}
 use Rattle.fv_volume.specs.OneVolume.{shows, uses_in}
 
 -- the active map has what slot 0 has

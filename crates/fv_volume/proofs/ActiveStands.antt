@@ -29,16 +29,17 @@ use Rattle.fv_files.specs.Tables.{AreReached}
 use Rattle.fv_image.specs.Seen.{roots_of}
 use Rattle.fv_image.specs.Views.{Rooted as Table}
 use Rattle.fv_volmap.specs.Slots.{active_of, has, slot_at}
-use Rattle.fv_volume.specs.declared.pool.Pool.{Pool}
+use Rattle.fv_pool.specs.declared.pool.Pool.{Pool}
 use Rattle.fv_volume.specs.declared.state.VolumeState.{VolumeState}
-use Rattle.fv_volume.specs.BlocksOver.{held_block}
-use Rattle.fv_volume.specs.OneVolume.{blocks_in, shows, standing_by, uses_in, AreSoundBy, IsStanding, RootStands}
-use Rattle.fv_volume.specs.Placing.{AreLedBy, AreStoredBy, IsLedTo, IsStoredWell}
+use Rattle.fv_pool.specs.BlocksOver.{held_block}
+use Rattle.fv_pool.specs.Tables.{standing_by, AreSoundBy, AreLedBy, AreStoredBy}
+use Rattle.fv_volume.specs.OneVolume.{blocks_in, shows, uses_in, IsStanding, RootStands}
+use Rattle.fv_volume.specs.Placing.{IsLedTo, IsStoredWell}
 use Rattle.fv_volume.specs.States.{head_in, rooted_as}
 use Rattle.fv_volume.proofs.EachRoot.{each_root}
-use Rattle.fv_volume.proofs.OverBlocks.{over_reached, over_stored}
+use Rattle.fv_pool.proofs.OverBlocks.{over_reached, over_stored}
 use Rattle.fv_volume.proofs.ActiveSlot.{active_has, active_uses}
-use Rattle.fv_volume.proofs.Shows.{get_held, unused_member, used_member}
+use Rattle.fv_pool.proofs.Shows.{get_held, unused_member, used_member}
 
 -- what a pointer leads to is in use
 some_right : (kind : ℕ) (p : Pointer) (o : Option Use) → IsRight kind p o → is_some o ≡ true

@@ -88,14 +88,6 @@ module _ (m : Machine) (v : List ℕ) (x : Volume) (there : fin.get m.volumes v 
       ∷ (NoSnapshot, option_map_or (λ (y : Volume). is_none (table_asked y s)) (there j) false)
       ∷ [])
 
-  pub stat_accepted : refusal m (VolStat v) ≡ None
-  unfolding conditions
-  stat_accepted = λ j. first_of ((NoVolume, is_none (there j)) ∷ [])
-
-  pub stat_answer : answer m (VolStat v) ≡ Numbers (stat_of x)
-  unfolding answer
-  stat_answer = ap (λ (o : Option Volume). option_map_or (λ (y : Volume). Numbers (stat_of y)) o Done) there
-
   pub get_far : (s : Option (List ℕ)) (f : List ℕ) (i : ℕ) → is_index i ≡ false → refusal m (Get v s f i) ≡ Some Range
   get_far s f i far = get_by s f i ∙ comes _ _ (is far)
 

@@ -17,6 +17,7 @@ use Rattle.fv_model.specs.Refusals.{table_asked}
 use Rattle.fv_model.specs.Replies.{answer, stat_of}
 use Rattle.fv_laws.specs.WellFormed.{IsWellTable}
 use Rattle.fv_tables.specs.Told.{Standing, file_in, file_told, tree_of, table_told}
+use Rattle.fv_tables.proofs.Tables.{files_told}
 use Rattle.fv_inode.specs.declared.info.Info.{Info}
 use Rattle.fv_inode.specs.Files.{HasNone, IsFirst}
 use Rattle.fv_inode.specs.Listing.{names_told}
@@ -25,9 +26,9 @@ use Rattle.fv_files.specs.Tables.{IsInfoOf}
 use Rattle.fv_tables.specs.Spelled.{Rooted}
 use Rattle.fv_charge.specs.Ledgers.{IsLedgerOf}
 use Rattle.fv_charge.proofs.Admissions.{commit_is}
-use Rattle.fv_volume.specs.declared.fault.VolumeFault.{VolumeFault}
-use Rattle.fv_volume.specs.declared.fault.VolumeFault.TheVariants.{Refused}
-use Rattle.fv_volume.specs.declared.pool.Pool.{Pool}
+use Rattle.fv_pool.specs.declared.fault.VolumeFault.{VolumeFault}
+use Rattle.fv_pool.specs.declared.fault.VolumeFault.TheVariants.{Refused}
+use Rattle.fv_pool.specs.declared.pool.Pool.{Pool}
 use Rattle.fv_volume.specs.declared.state.VolumeState.{VolumeState}
 use Rattle.fv_volume.specs.Asking.{standing_asked}
 use Rattle.fv_volume.specs.Calls.{Agrees, Asks, Has}
@@ -78,6 +79,9 @@ module _ (d : Disk) (p : Pool) (x : VolumeState) (is : IsStanding d p x) (f : Li
 
   pub file_there : file_in (standing_for d p x) info.number ≡ Some file
   file_there = there_of (standing_for d p x) x.now is.table f info first
+
+  pub in_table : fin.get (table_told (standing_for d p x)).files info.number ≡ Some file
+  in_table = files_told (standing_for d p x) info.number ∙ file_there
 
   pub long : info.length ≡ file.length
   long = long_of (standing_for d p x) x.now is.table f info first

@@ -1,6 +1,6 @@
 -- What a change of a volume's files leaves that was refused, or failed while it was made.
 use Rattle.std.proofs.Common.{Option, ◌≡◌, ◌≢◌, ℕ, ◌+◌, ◌<◌, ◌≤◌, true, refl, sym, ap, subst, ◌∙◌, arith}
-use Rattle.std.specs.Prelude.{Result, Ok, Err, OnOk, IfOk}
+use Rattle.std.specs.Prelude.{Result, Ok, Err, OnOk, IfOk, IfErr}
 use Rattle.std.proofs.lemmas.Bool.{both_ways}
 use Rattle.fv_disk.specs.Shown.{Shown as Disk}
 use Rattle.fv_disk.specs.declared.fault.BlockFault.{BlockFault}
@@ -9,6 +9,7 @@ use Rattle.fv_model.specs.declared.commands.Command.{Command}
 use Rattle.fv_model.specs.Machines.{Machine}
 use Rattle.fv_model.specs.Numbers.{most_changes}
 use Rattle.fv_tree.specs.Standing.{under}
+use Rattle.fv_files.specs.declared.files.Files.{Files}
 use Rattle.fv_files.specs.declared.numbers.FileNumbers.{FileNumbers}
 use Rattle.fv_charge.specs.declared.delta.Delta.{Delta}
 use Rattle.fv_charge.specs.Changes.{IsChanged, IsDeltaOf}
@@ -16,18 +17,20 @@ use Rattle.fv_charge.specs.Ledgers.{IsLedgerOf}
 use Rattle.fv_model.specs.Volumes.{Volume}
 use Rattle.fv_volmap.specs.Slots.{Volume as Maps, slot_at}
 use Rattle.fv_tables.specs.Told.{Standing}
-use Rattle.fv_volume.specs.Lending.{IsTold}
-use Rattle.fv_volume.specs.declared.fault.VolumeFault.{VolumeFault}
-use Rattle.fv_volume.specs.declared.pool.Pool.{Pool}
+use Rattle.fv_pool.specs.Lending.{IsTold}
+use Rattle.fv_pool.specs.declared.fault.VolumeFault.{VolumeFault}
+use Rattle.fv_pool.specs.declared.pool.Pool.{Pool}
 use Rattle.fv_volume.specs.declared.state.VolumeState.{VolumeState}
-use Rattle.fv_volume.specs.Calls.{Agrees, Changes, GivesUp, KeepsHead, Reads}
-use Rattle.fv_volume.specs.Causes.{of_block}
+use Rattle.fv_pool.specs.Calls.{GivesUp, Reads}
+use Rattle.fv_volume.specs.Calls.{Agrees, Changes, KeepsHead}
+use Rattle.fv_pool.specs.Causes.{of_block}
 use Rattle.fv_volume.specs.Changing.{AltersTable, FitsLedger, KeepsButTable, KeepsTable, RefusedIn}
-use Rattle.fv_volume.specs.Placing.{pending_of, IsLedTo, IsStoredWell}
+use Rattle.fv_pool.specs.Tables.{pending_of, AreLaidBy, AreSoundBy}
+use Rattle.fv_volume.specs.Placing.{IsLedTo, IsStoredWell}
 use Rattle.fv_volume.specs.Labels.{label_said}
-use Rattle.fv_volume.specs.OneVolume.{shows, standing_for, table_for, trees_for, volume_for, AreLaidBy, AreSoundBy, IsReady, IsStanding}
+use Rattle.fv_volume.specs.OneVolume.{shows, standing_for, table_for, trees_for, volume_for, IsReady, IsStanding}
 use Rattle.fv_files.specs.Altering.{AltersTrees}
-use Rattle.fv_volume.proofs.CallCauses.{not_refused}
+use Rattle.fv_pool.proofs.CallCauses.{not_refused}
 use Rattle.fv_volume.proofs.Changed.{failed_standing, failed_volume}
 use Rattle.fv_volume.proofs.OneVolumes.{still_led, still_ready, still_standing, still_volume, still_well}
 use Rattle.fv_volume.proofs.ReadyAgain.{ready_again}
@@ -38,6 +41,10 @@ pub no_refusal : (T : Type 0) (m : Machine) (c : Command) (b : BlockFault) → A
 no_refusal T m c block.DiskFault = tt
 no_refusal T m c (block.Damaged at want found) = tt
 no_refusal T m c block.Memory = tt
+
+-- what is said of an answer's fault, by the answer
+pub if_err_is : {T : Type 0} (P : VolumeFault → Type 0) (e : VolumeFault) (r : Result T VolumeFault) → r ≡ Err e → P e → IfErr r P
+if_err_is P e r is says = subst (λ s. IfErr s P) (sym is) says
 
 -- what is said of an answer where something holds
 pub onok_with : {T E A : Type 0} (P : Type 0) (r : Result T E) → A → OnOk r (A → P) → OnOk r P
@@ -193,9 +200,6 @@ module _ (d e f : Disk) (p q r : Pool) (first : Reads d p e q) (x v y : VolumeSt
 pub counted_all : (w y : VolumeState) → y ≡ record w { now = y.now; ledger = y.ledger; changed = true } → y ≡ record w { now = y.now; ledger = y.ledger; numbers = y.numbers; changed = true }
 counted_all w y is = is ∙ sym (ap (λ (n : Option FileNumbers). record w { now = y.now; ledger = y.ledger; numbers = n; changed = true }) (ap (λ (z : VolumeState). z.numbers) is))
 
-pub renumbered : (w z : VolumeState) (n : Option FileNumbers) → z ≡ record w { now = z.now; ledger = z.ledger; changed = true } → record z { numbers = n } ≡ record w { now = z.now; ledger = z.ledger; numbers = n; changed = true }
-renumbered w z n is = ap (λ (v : VolumeState). record v { numbers = n }) is
-
 pub counted_table : (d : Disk) (p : Pool) (x : VolumeState) (f : Disk) (r : Pool) (w y : VolumeState) → y ≡ record w { now = y.now; ledger = y.ledger; numbers = y.numbers; changed = true } → KeepsTable d p x f r w → KeepsTable d p x f r y
 counted_table d p x f r w y counted kept = subst (λ (z : VolumeState). KeepsTable d p x f r z) (sym counted) (record { led = kept.led; well = kept.well; room = kept.room })
 
@@ -213,6 +217,12 @@ pub parts_of : {T : Type 0} {d e f : Disk} {p q r : Pool} {x v w y : VolumeState
     → y ≡ record w { now = y.now; ledger = y.ledger; numbers = y.numbers; changed = true } → y.now ≡ w.now + 1 → IsChanged w.ledger by y.ledger
     → ((a b : Volume) → IsLedgerOf a w.ledger → IsDeltaOf a b by → IsLedgerOf b y.ledger) → Parts d e f p q r x v w y result by
 parts_of first same alters counted next moved moves = record { first = first; same = same; alters = alters; counted = counted; next = next; moved = moved; moves = moves }
+
+-- What a change leaves of a volume's maps and trees: the slots of its snapshots, and blocks and trees that stand.
+pub record LeavesTrees (e f : Disk) (q r : Pool) (x : VolumeState) (map : Maps) (files : Option Files) : Type 0 where
+  pub slots : (k : ℕ) → k ≢ 0 → slot_at map k ≡ slot_at x.map k
+  pub told : IsTold f r map x.slot
+  pub trees : AreSoundBy (under (shows e q (record x { map = map }))) (shows e q (record x { map = map })).used x.active files
 
 module _ {T : Type 0} (d e f : Disk) (p q r : Pool) (x v w y : VolumeState) (result : Result T BlockFault) (by : Delta) (parts : Parts d e f p q r x v w y result by) where
   -- the volume once its table was changed, and once that was counted
@@ -244,7 +254,7 @@ module _ {T : Type 0} (d e f : Disk) (p q r : Pool) (x v w y : VolumeState) (res
   left_span : w.map.span ≡ x.map.span
   left_span = parts.alters.maps.span ∙ ap (λ (z : VolumeState). z.map.span) parts.same
 
-  pub left_slots : (k : ℕ) → k ≢ 0 → slot_at w.map k ≡ slot_at x.map k
+  left_slots : (k : ℕ) → k ≢ 0 → slot_at w.map k ≡ slot_at x.map k
   left_slots k other = parts.alters.maps.snapshots k other ∙ ap (λ (z : VolumeState). slot_at z.map k) parts.same
 
   pub done_ready : IsReady d p x → FitsLedger w by → IsReady f r y
@@ -276,11 +286,14 @@ module _ {T : Type 0} (d e f : Disk) (p q r : Pool) (x v w y : VolumeState) (res
     stood : IsStanding e q v
     stood = subst (λ (z : VolumeState). IsStanding e q z) (sym parts.same) (still_standing d e p q parts.first x is)
 
-    pub done_told : IsTold f r w.map x.slot
+    done_told : IsTold f r w.map x.slot
     done_told = subst (λ (z : VolumeState). IsTold f r w.map z.slot) is_left (parts.alters.told stood)
 
-    pub done_trees : AreSoundBy (under (shows e q left_so)) (shows e q left_so).used x.active w.files
+    done_trees : AreSoundBy (under (shows e q left_so)) (shows e q left_so).used x.active w.files
     done_trees = subst (λ (z : VolumeState). AreSoundBy (under (shows e q z)) (shows e q z).used z.active z.files) is_left (parts.alters.trees stood)
+
+    pub done_leaves : LeavesTrees e f q r x w.map w.files
+    done_leaves = record { slots = left_slots; told = done_told; trees = done_trees }
 
     pub done_places : PlacesAltered e q x w.map w.files
     done_places = record {

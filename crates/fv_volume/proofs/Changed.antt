@@ -29,15 +29,17 @@ use Rattle.fv_charge.specs.declared.ledger.Ledger.{Ledger}
 use Rattle.fv_charge.specs.Changes.{IsChanged, IsDeltaOf, IsLeft, admission, answer_of}
 use Rattle.fv_charge.specs.Ledgers.{IsLedgerOf, committed}
 use Rattle.fv_charge.proofs.Admissions.{changed_ledger}
-use Rattle.fv_volume.specs.declared.pool.Pool.{Pool}
+use Rattle.fv_pool.specs.declared.pool.Pool.{Pool}
 use Rattle.fv_volume.specs.declared.state.VolumeState.{VolumeState}
-use Rattle.fv_volume.specs.BlocksOver.{block_of, held_block, held_entry}
-use Rattle.fv_volume.specs.Calls.{HasBeside, Reads}
-use Rattle.fv_volume.specs.Lending.{IsTold}
-use Rattle.fv_volume.specs.OneVolume.{blocks_in, shows, standing_by, table_for, trees_for, volume_as, volume_for, AreLaidBy, AreSoundBy, IsStanding}
-use Rattle.fv_volume.specs.Sharing.{trees_by, AreShared}
+use Rattle.fv_pool.specs.BlocksOver.{block_of, held_block, held_entry}
+use Rattle.fv_pool.specs.Calls.{Reads}
+use Rattle.fv_volume.specs.Calls.{HasBeside}
+use Rattle.fv_pool.specs.Lending.{IsTold}
+use Rattle.fv_pool.specs.Tables.{standing_by, AreLaidBy, AreSoundBy, trees_by}
+use Rattle.fv_volume.specs.OneVolume.{blocks_in, shows, table_for, trees_for, volume_as, volume_for, IsStanding}
+use Rattle.fv_volume.specs.Sharing.{AreShared}
 use Rattle.fv_volume.proofs.Charging.{left_by}
-use Rattle.fv_volume.proofs.Holding.{same_entry}
+use Rattle.fv_pool.proofs.Holding.{same_entry}
 use Rattle.fv_volume.proofs.KeptTables.{kept_shared, kept_snaps, kept_tables}
 use Rattle.fv_volume.proofs.SharedChanges.{shared_altered, PlacesAltered}
 use Rattle.fv_volume.proofs.OneVolumes.{still_table, still_under, still_used}

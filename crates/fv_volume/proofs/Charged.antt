@@ -27,21 +27,22 @@ use Rattle.fv_files.proofs.TakenCells.{cut_stays}
 use Rattle.fv_files.proofs.Alike.{settles_alike}
 use Rattle.fv_files.specs.Apart.{AreAlike}
 use Rattle.fv_volmap.specs.Slots.{has, is_in_snapshot}
-use Rattle.fv_volume.specs.declared.pool.Pool.{Pool}
+use Rattle.fv_pool.specs.declared.pool.Pool.{Pool}
 use Rattle.fv_volume.specs.declared.state.VolumeState.{VolumeState}
 use Rattle.fv_charge.specs.declared.delta.Delta.{Delta}
 use Rattle.fv_disk.specs.declared.fault.BlockFault.TheVariants as block
 use Rattle.fv_model.specs.declared.commands.Command.{Command}
 use Rattle.fv_model.specs.Machines.{Machine}
 use Rattle.fv_root.specs.declared.find.Found.{Found}
-use Rattle.fv_volume.specs.declared.fault.VolumeFault.{VolumeFault}
-use Rattle.fv_volume.specs.declared.fault.VolumeFault.TheVariants.{Refused, DiskFault, Damaged, Memory}
-use Rattle.fv_volume.specs.Calls.{CallFails, HasBeside, HasWithin, Reads}
+use Rattle.fv_pool.specs.declared.fault.VolumeFault.{VolumeFault}
+use Rattle.fv_pool.specs.declared.fault.VolumeFault.TheVariants.{Refused, DiskFault, Damaged, Memory}
+use Rattle.fv_pool.specs.Calls.{CallFails, Reads}
+use Rattle.fv_volume.specs.Calls.{HasBeside, HasWithin}
 use Rattle.fv_volume.specs.Changing.{AcceptsCut, AcceptsRemoval, IsDeltaBy, MovesIn, RefusedIn}
 use Rattle.fv_volume.specs.Charging.{CutMoves, MovesBlocks, RemovalMoves, StaysByNew, StaysByPut}
-use Rattle.fv_volume.specs.Lending.{lent_for}
-use Rattle.fv_volume.specs.OneVolume.{home_in, shows, standing_by, standing_for, table_for, trees_for, volume_for, IsReady, IsStanding}
-use Rattle.fv_volume.specs.Sharing.{trees_by}
+use Rattle.fv_pool.specs.Lending.{lent_for}
+use Rattle.fv_pool.specs.Tables.{standing_by, trees_by}
+use Rattle.fv_volume.specs.OneVolume.{home_in, shows, standing_for, table_for, trees_for, volume_for, IsReady, IsStanding}
 use Rattle.fv_volume.proofs.CallCauses.{fails_later}
 use Rattle.fv_volume.proofs.FileCounts.{least_is}
 use Rattle.fv_volume.proofs.OneVolumes.{still_standing, still_table, still_volume}

@@ -58,13 +58,6 @@ module _ (x : Volume) (is : IsWellTable x.now x.active) (fresh : IsNextNew x) wh
   rm_charges n f there = less (charge x) (positions t) (charge (stamped x (rm t n))) (positions (rm t n (x.now + 1))) (taken_by_rm t n f) (staying x (rm_places t n f))
       (charge_after x (rm t n) (rm_places t n f) (rm_along x.now (x.now + 1) t is n f there) fresh) (rm_positions x.now (x.now + 1) t is (omega arith) n f there)
 
--- a volume alone has no settled id
-pub alone_none : (x : Volume) → IsAlone x → (q : Id) → set.contains (settled_ids x) q ≡ false
-alone_none x alone q = set.contains-union id_total (kept_ids x) (ids_left_out x.base) q ∙ (λ i. kept_none x alone q i || out_none x alone q i)
-
-pub alone_new : (x : Volume) → IsAlone x → IsNextNew x
-alone_new x alone p = alone_none x alone (p, x.now + 1)
-
 -- ---- as changes of a ledger
 
 module _ (x : Volume) (is : IsWellTable x.now x.active) (fresh : IsNextNew x) (none : HasNoReserve x.active) (d : Delta) where
@@ -131,8 +124,3 @@ module _ (m : Machine) (v f : List ℕ) (x : Volume) (there : fin.get m.volumes 
         ∙ ap (λ (o : Option (ℕ × File)). option_map_or (λ (e : ℕ × File). Becomes v (stamped x (rm x.active e.0))) o Stays) named
 
 -- ---- counted by a map
-
--- The members of a map are counted as the bits that they are.
-pub members_are : (map : List Bool) (bit : ℕ → Bool) (span : ℕ) → length map ≡ span → ((v : ℕ) → is_member map v ≡ bit v) → count_of map ≡ passing bit 0 span
-unfolding count_of count_between
-members_are map bit span long each = ap (λ (n : ℕ). passing (is_member map) 0 n) (let e : length map - 0 ≡ span = omega (arith, long) in e) ∙ passing_same (is_member map) bit 0 0 span (λ j lt. each (0 + j))

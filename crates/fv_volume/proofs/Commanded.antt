@@ -5,7 +5,7 @@ use Rattle.fv_model.specs.declared.commands.Command.TheVariants.{Put, Cut, Remov
 use Rattle.fv_model.specs.Machines.{Machine}
 use Rattle.fv_model.specs.Refusals.{refusal}
 use Rattle.fv_model.specs.Volumes.{Volume}
-use Rattle.fv_volume.specs.declared.fault.VolumeFault.{VolumeFault}
+use Rattle.fv_pool.specs.declared.fault.VolumeFault.{VolumeFault}
 use Rattle.fv_volume.specs.Calls.{Agrees, HasBeside, HasWithin}
 use Rattle.fv_volume.specs.Changing.{IsChangeOf, RefusedIn}
 

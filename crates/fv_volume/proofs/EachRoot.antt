@@ -9,7 +9,7 @@ use Rattle.fv_image.specs.Mapped.{root_at}
 use Rattle.fv_image.specs.Seen.{roots_of}
 use Rattle.fv_image.specs.Views.{Head, Rooted as Table, Snap}
 use Rattle.fv_image.specs.Volumes.{snap_at}
-use Rattle.fv_volume.specs.declared.state.Rooted.{Rooted}
+use Rattle.fv_pool.specs.declared.rooted.Rooted.{Rooted}
 use Rattle.fv_volume.specs.declared.state.Snap.{Snap as Kept}
 use Rattle.fv_volume.specs.declared.state.VolumeState.{VolumeState}
 use Rattle.fv_volume.specs.States.{head_in, rooted_as, snap_in}

@@ -26,11 +26,12 @@ use Rattle.fv_files.specs.declared.files.Files.{Files}
 use Rattle.fv_files.specs.Apart.{StandsIn}
 use Rattle.fv_files.specs.Tables.{file_loaded, tree_in, tree_known, IsInfoOf}
 use Rattle.fv_volmap.specs.Slots.{Volume, active_of}
-use Rattle.fv_volume.specs.declared.pool.Pool.{Pool}
+use Rattle.fv_pool.specs.declared.pool.Pool.{Pool}
 use Rattle.fv_volume.specs.declared.state.VolumeState.{VolumeState}
-use Rattle.fv_volume.specs.BlocksOver.{held_entry, steps_by}
-use Rattle.fv_volume.specs.Lending.{use_of, use_under}
-use Rattle.fv_volume.specs.OneVolume.{shows, standing_by, standing_for, AreSoundBy, IsStanding}
+use Rattle.fv_pool.specs.BlocksOver.{held_entry, steps_by}
+use Rattle.fv_pool.specs.Lending.{use_of, use_under}
+use Rattle.fv_pool.specs.Tables.{standing_by, AreSoundBy}
+use Rattle.fv_volume.specs.OneVolume.{shows, standing_for, IsStanding}
 use Rattle.fv_volume.specs.Paths.{if_unknown, unknown_over, unknown_to, StepsTo}
 
 -- ---- one pointer

@@ -14,24 +14,24 @@ use Rattle.fv_model.specs.Effects.{stamped}
 use Rattle.fv_laws.specs.Paths.{put_path}
 use Rattle.fv_laws.specs.Positions.{added_by, staying}
 use Rattle.fv_tables.specs.Told.{Standing, file_in, table_told}
-use Rattle.fv_tables.proofs.Tables.{files_told}
 use Rattle.fv_inode.specs.declared.info.Info.{Info}
 use Rattle.fv_inode.specs.Files.{HasNone, IsFirst}
 use Rattle.fv_charge.specs.declared.delta.Delta.{Delta}
 use Rattle.fv_charge.specs.declared.ledger.Ledger.{Ledger}
 use Rattle.fv_charge.specs.Changes.{CanChange, IsChanged, IsDeltaOf, IsLeft}
-use Rattle.fv_volume.specs.declared.fault.VolumeFault.{VolumeFault}
-use Rattle.fv_volume.specs.declared.fault.VolumeFault.TheVariants.{Refused, DiskFault, Damaged, Memory}
-use Rattle.fv_volume.specs.declared.pool.Pool.{Pool}
+use Rattle.fv_pool.specs.declared.fault.VolumeFault.{VolumeFault}
+use Rattle.fv_pool.specs.declared.fault.VolumeFault.TheVariants.{Refused, DiskFault, Damaged, Memory}
+use Rattle.fv_pool.specs.declared.pool.Pool.{Pool}
 use Rattle.fv_volume.specs.declared.state.VolumeState.{VolumeState}
 use Rattle.fv_root.specs.declared.find.Found.{Found}
-use Rattle.fv_volume.specs.Calls.{HasBeside, Reads}
+use Rattle.fv_pool.specs.Calls.{Reads}
+use Rattle.fv_volume.specs.Calls.{HasBeside}
 use Rattle.fv_volume.specs.Changing.{AcceptsPut, FitsLedger, RefusedIn, SpaceSays}
 use Rattle.fv_volume.specs.Charging.{CostsPut, MovesBlocks}
 use Rattle.fv_volume.specs.Labels.{label_said}
 use Rattle.fv_volume.specs.OneVolume.{greatest_charge, standing_for, volume_for, IsReady, IsStanding}
 use Rattle.fv_volume.proofs.Answered.{put_changes, put_far, put_none, put_space}
-use Rattle.fv_volume.proofs.Asked.{file, file_there, found}
+use Rattle.fv_volume.proofs.Asked.{file, file_there, found, in_table}
 use Rattle.fv_volume.proofs.Changed.{leaves_ledger}
 use Rattle.fv_volume.proofs.Charging.{put_change, put_delta}
 use Rattle.fv_volume.proofs.Lookups.{named_none}
@@ -102,10 +102,10 @@ pub size_fits : (d : Disk) (p : Pool) (x : VolumeState) → IsReady d p x → x.
 unfolding label_said
 size_fits d p x ready = let most = (ready.labelled.label 0 1 (omega arith) (omega arith) (omega arith)).size_greatest in omega (arith, most)
 
--- A ledger within the size fits the volume.
-pub more_fits : (d : Disk) (p : Pool) (x : VolumeState) (by : Delta) (count : ℕ) → IsReady d p x → x.now < most_changes → CanChange x.ledger by → by.need ≡ pos 0 → by.size ≡ x.ledger.size → by.kind ≡ x.ledger.kind
-    → ((l : Ledger) → IsChanged x.ledger by l → l.charge + l.need ≤ l.size) → FitsLedger x by
-more_fits d p x by count ready more can need size kind within = record {
+-- A ledger with no need that changes to a charge which can be counted fits the volume.
+pub charge_fits : (d : Disk) (p : Pool) (x : VolumeState) (by : Delta) → IsReady d p x → x.now < most_changes → CanChange x.ledger by → by.need ≡ pos 0 → by.size ≡ x.ledger.size → by.kind ≡ x.ledger.kind
+    → ((l : Ledger) → IsChanged x.ledger by l → l.charge ≤ greatest_charge) → FitsLedger x by
+charge_fits d p x by ready more can need size kind few = record {
   more = more;
   can = can;
   booked = λ l moved. record {
@@ -113,9 +113,18 @@ more_fits d p x by count ready more can need size kind within = record {
     kind = moved.kind ∙ kind ∙ ready.booked.kind;
     span = moved.span ∙ ready.booked.span;
     need = (let was = ready.booked.need in let now = moved.need in let e : l.need ≡ 0 = omega (arith, ints, was, now, need) in e);
-    charge = (let fits = within l moved in let same : l.size ≡ x.size = moved.size ∙ size ∙ ready.booked.size in let few = size_fits d p x ready in omega (arith, fits, same, few));
+    charge = few l moved;
   };
 }
+
+-- A ledger within the size fits the volume.
+pub more_fits : (d : Disk) (p : Pool) (x : VolumeState) (by : Delta) (count : ℕ) → IsReady d p x → x.now < most_changes → CanChange x.ledger by → by.need ≡ pos 0 → by.size ≡ x.ledger.size → by.kind ≡ x.ledger.kind
+    → ((l : Ledger) → IsChanged x.ledger by l → l.charge + l.need ≤ l.size) → FitsLedger x by
+more_fits d p x by count ready more can need size kind within = charge_fits d p x by ready more can need size kind (λ l moved.
+    let fits = within l moved in
+    let same : l.size ≡ x.size = moved.size ∙ size ∙ ready.booked.size in
+    let few = size_fits d p x ready in
+    omega (arith, fits, same, few))
 
 -- so many blocks come, and so many stay
 pub moved : (a b count : ℕ) (z : ℤ) → count ≡ a + b → z ≡ pos count → (z +ℤ pos 0) ≡ pos (a + b)
@@ -143,9 +152,6 @@ module _ (d : Disk) (p : Pool) (x : VolumeState) (others : ℕ) where
     its_name : file_named (table_told table) f ≡ Some (info.number, its)
     its_name = found d p x is f info first
 
-    its_there : fin.get (table_told table).files info.number ≡ Some its
-    its_there = files_told table info.number ∙ file_there d p x is f info first
-
     pub put_counted : (block : List ℕ) → most_changes ≤ x.now → RefusedIn beside (Put x.name f i block) (Refused TooMany)
     put_counted block all m has = put_changes m x.name (volume_for d p x) has.there f info.number its its_name i block near all
 
@@ -159,7 +165,7 @@ module _ (d : Disk) (p : Pool) (x : VolumeState) (others : ℕ) where
       }
 
       its_delta : (block : List ℕ) → IsDeltaOf (volume_for d p x) (stamped (volume_for d p x) (put (table_told table) info.number its i block)) by
-      its_delta block = put_delta (volume_for d p x) is.table (next_is_new d p x is ready.labelled) is.reserves by info.number its i block its_there (count_is its (file_there d p x is f info first))
+      its_delta block = put_delta (volume_for d p x) is.table (next_is_new d p x is ready.labelled) is.reserves by info.number its i block (in_table d p x is f info first) (count_is its (file_there d p x is f info first))
 
       abbrev its_ledger : Ledger
       its_ledger = record x.ledger { charge = x.ledger.charge + count }

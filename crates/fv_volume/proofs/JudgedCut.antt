@@ -28,20 +28,20 @@ use Rattle.fv_charge.specs.declared.delta.Delta.{Delta}
 use Rattle.fv_charge.specs.declared.ledger.Ledger.{Ledger}
 use Rattle.fv_charge.specs.Changes.{CanChange, IsChanged, IsDeltaOf}
 use Rattle.fv_tree.specs.declared.taken.Taken.{Taken}
-use Rattle.fv_volume.specs.declared.fault.VolumeFault.{VolumeFault}
-use Rattle.fv_volume.specs.declared.fault.VolumeFault.TheVariants.{Refused, DiskFault, Damaged, Memory}
-use Rattle.fv_volume.specs.declared.pool.Pool.{Pool}
+use Rattle.fv_pool.specs.declared.fault.VolumeFault.{VolumeFault}
+use Rattle.fv_pool.specs.declared.fault.VolumeFault.TheVariants.{Refused, DiskFault, Damaged, Memory}
+use Rattle.fv_pool.specs.declared.pool.Pool.{Pool}
 use Rattle.fv_volume.specs.declared.state.VolumeState.{VolumeState}
 use Rattle.fv_volume.specs.Calls.{Has, HasBeside, HasWithin}
 use Rattle.fv_volume.specs.Changing.{AcceptsCut, AcceptsRemoval, FitsLedger, IsDeltaBy, RefusedIn, SpaceSays}
 use Rattle.fv_volume.specs.Charging.{CutMoves, MovesBlocks, RemovalMoves}
 use Rattle.fv_volume.specs.OneVolume.{greatest_charge, standing_for, volume_for, IsReady, IsStanding}
 use Rattle.fv_volume.proofs.Answered.{cut_changes, cut_far, cut_none, cut_past, cut_space, rm_changes, rm_none, rm_space}
-use Rattle.fv_volume.proofs.Asked.{file, file_there, found, long}
+use Rattle.fv_volume.proofs.Asked.{file, file_there, found, long, in_table}
 use Rattle.fv_volume.proofs.Changed.{leaves_ledger}
 use Rattle.fv_volume.proofs.SettledTables.{next_is_new}
 use Rattle.fv_volume.proofs.Charging.{cut_change, cut_charges, cut_delta, rm_change, rm_charges, rm_delta}
-use Rattle.fv_volume.proofs.Judged.{IsSaid}
+use Rattle.fv_volume.proofs.Judged.{charge_fits, IsSaid}
 use Rattle.fv_volume.proofs.Lookups.{named_none}
 use Rattle.fv_volume.proofs.KeptTables.{is_alone}
 
@@ -96,9 +96,6 @@ module _ (d : Disk) (p : Pool) (x : VolumeState) where
     its_name : file_named (table_told table) f ≡ Some (info.number, its)
     its_name = found d p x is f info first
 
-    its_there : fin.get (table_told table).files info.number ≡ Some its
-    its_there = files_told table info.number ∙ file_there d p x is f info first
-
     pub cut_past_end : (most : ℕ) → is_reserve most ≡ true → info.length < most → RefusedIn (Has x.name (volume_for d p x)) (Cut x.name f most) (Refused Range)
     cut_past_end most near past m has = cut_past m x.name (volume_for d p x) has f info.number its its_name most near (let same = long d p x is f info first in omega (arith, same, past))
 
@@ -118,7 +115,7 @@ module _ (d : Disk) (p : Pool) (x : VolumeState) where
           cut_space m x.name (volume_for d p x) has.beside.there f info.number its its_name most near (let same = long d p x is f info first in omega (arith, same, low)) more
           ∙ has_room m (Cut x.name f most) x.name (volume_for d p x) (stamped (volume_for d p x) (cut (table_told table) info.number its most)) others p.found.blocks has
           (cut_change m x.name f (volume_for d p x) has.beside.there info.number its its_name most) (record { kind = refl; size = refl; span = refl })
-          (cut_uses_less (volume_for d p x) (is_alone d p x none) is.table is.reserves info.number its most its_there);
+          (cut_uses_less (volume_for d p x) (is_alone d p x none) is.table is.reserves info.number its most (in_table d p x is f info first));
     }
 
     pub rm_alone : x.snapshots ≡ [] → x.now < most_changes → (others : ℕ) → AcceptsRemoval d p x others f info None
@@ -129,7 +126,7 @@ module _ (d : Disk) (p : Pool) (x : VolumeState) where
           rm_space m x.name (volume_for d p x) has.beside.there f info.number its its_name more
           ∙ has_room m (Remove x.name f) x.name (volume_for d p x) (stamped (volume_for d p x) (rm (table_told table) info.number)) others p.found.blocks has
           (rm_change m x.name f (volume_for d p x) has.beside.there info.number its its_name) (record { kind = refl; size = refl; span = refl })
-          (rm_uses_less (volume_for d p x) (is_alone d p x none) is.table is.reserves info.number its its_there);
+          (rm_uses_less (volume_for d p x) (is_alone d p x none) is.table is.reserves info.number its (in_table d p x is f info first));
     }
 
     -- In one with snapshots it is where the ledger has no room.
@@ -156,7 +153,7 @@ module _ (d : Disk) (p : Pool) (x : VolumeState) where
             moves_by (staying (volume_for d p x) (cut_path (table_told table) info.number g most)) (taken_by_cut g most) (takes.gone g there) (takes.stays g there) (omega (arith, law))
 
         cut_its_delta : IsDeltaOf (volume_for d p x) cut_volume by
-        cut_its_delta = cut_delta (volume_for d p x) is.table (next_is_new d p x is ready.labelled) is.reserves by info.number its most its_there (cut_moves its (file_there d p x is f info first))
+        cut_its_delta = cut_delta (volume_for d p x) is.table (next_is_new d p x is ready.labelled) is.reserves by info.number its most (in_table d p x is f info first) (cut_moves its (file_there d p x is f info first))
 
         cut_said : (r : Result Unit VolumeFault) → IsSaid x.ledger others p.found.blocks by r → (m : Machine) → beside m → SpaceSays m (Cut x.name f most) x.name r
         cut_said r says m has = space_said d p x is others (Cut x.name f most) cut_volume by (λ n there. cut_change n x.name f (volume_for d p x) there info.number its its_name most) cut_its_delta r says m has
@@ -183,7 +180,7 @@ module _ (d : Disk) (p : Pool) (x : VolumeState) where
             moves_by (staying (volume_for d p x) (rm_places (table_told table) info.number g)) (taken_by_rm (table_told table) info.number g) (takes.gone g there) (takes.stays g there) (omega (arith, law))
 
         rm_its_delta : IsDeltaOf (volume_for d p x) rm_volume by
-        rm_its_delta = rm_delta (volume_for d p x) is.table (next_is_new d p x is ready.labelled) is.reserves by info.number its its_there (rm_moves its (file_there d p x is f info first))
+        rm_its_delta = rm_delta (volume_for d p x) is.table (next_is_new d p x is ready.labelled) is.reserves by info.number its (in_table d p x is f info first) (rm_moves its (file_there d p x is f info first))
 
         rm_said : (r : Result Unit VolumeFault) → IsSaid x.ledger others p.found.blocks by r → (m : Machine) → beside m → SpaceSays m (Remove x.name f) x.name r
         rm_said r says m has = space_said d p x is others (Remove x.name f) rm_volume by (λ n there. rm_change n x.name f (volume_for d p x) there info.number its its_name) rm_its_delta r says m has
@@ -202,17 +199,11 @@ module _ (d : Disk) (p : Pool) (x : VolumeState) where
 
 -- A ledger with fewer blocks fits the volume.
 pub fewer_fits : (d : Disk) (p : Pool) (x : VolumeState) (by : Delta) → IsReady d p x → x.now < most_changes → CanChange x.ledger by → by.charge ≤ℤ pos 0 → by.need ≡ pos 0 → by.size ≡ x.ledger.size → by.kind ≡ x.ledger.kind → FitsLedger x by
-fewer_fits d p x by ready more can less need size kind = record {
-  more = more;
-  can = can;
-  booked = λ l moved. record {
-    size = moved.size ∙ size ∙ ready.booked.size;
-    kind = moved.kind ∙ kind ∙ ready.booked.kind;
-    span = moved.span ∙ ready.booked.span;
-    need = (let was = ready.booked.need in let now = moved.need in let e : l.need ≡ 0 = omega (arith, ints, was, now, need) in e);
-    charge = (let was = ready.booked.charge in let now = moved.charge in let e : l.charge ≤ greatest_charge = omega (arith, ints, was, now, less) in e);
-  };
-}
+fewer_fits d p x by ready more can less need size kind = charge_fits d p x by ready more can need size kind (λ l moved.
+    let was = ready.booked.charge in
+    let now = moved.charge in
+    let e : l.charge ≤ greatest_charge = omega (arith, ints, was, now, less) in
+    e)
 
 -- A ledger that changed by a removal fits the volume.
 pub removal_fits : (d : Disk) (p : Pool) (x : VolumeState) → IsReady d p x → x.now < most_changes → (known : Option Delta) (count : ℕ) (by : Delta) → IsDeltaBy x.ledger known count by → IfSome known (FitsLedger x) → FitsLedger x by

@@ -22,9 +22,9 @@ use Rattle.fv_inode.specs.Files.{IsFreeNumber}
 use Rattle.fv_charge.specs.declared.delta.Delta.{Delta}
 use Rattle.fv_charge.specs.declared.ledger.Ledger.{Ledger}
 use Rattle.fv_charge.specs.Changes.{IsChanged, IsDeltaOf, IsLeft}
-use Rattle.fv_volume.specs.declared.fault.VolumeFault.{VolumeFault}
-use Rattle.fv_volume.specs.declared.fault.VolumeFault.TheVariants.{Refused, DiskFault, Damaged, Memory}
-use Rattle.fv_volume.specs.declared.pool.Pool.{Pool}
+use Rattle.fv_pool.specs.declared.fault.VolumeFault.{VolumeFault}
+use Rattle.fv_pool.specs.declared.fault.VolumeFault.TheVariants.{Refused, DiskFault, Damaged, Memory}
+use Rattle.fv_pool.specs.declared.pool.Pool.{Pool}
 use Rattle.fv_volume.specs.declared.state.VolumeState.{VolumeState}
 use Rattle.fv_volume.specs.Calls.{HasBeside}
 use Rattle.fv_volume.specs.Changing.{AcceptsNew, RefusedIn, SpaceSays}
@@ -124,11 +124,4 @@ module _ (d : Disk) (p : Pool) (x : VolumeState) (others : ℕ) where
             new_full Memory says m has = tt
 
             pub new_accepted : Says (Ok tt) → AcceptsNew d p x others f reserve n by
-            new_accepted says = record {
-              near = near;
-              none = missing;
-              few = few;
-              free = free;
-              moves = count_is;
-              accepted = λ m has. new_space m x.name (volume_for d p x) has.there f reserve near missing fits few more ∙ said (Ok tt) says m has;
-            }
+            new_accepted says = record { near = near; none = missing; few = few; free = free; moves = count_is; accepted = λ m has. new_space m x.name (volume_for d p x) has.there f reserve near missing fits few more ∙ said (Ok tt) says m has }

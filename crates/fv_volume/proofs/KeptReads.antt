@@ -29,18 +29,18 @@ use Rattle.fv_files.specs.Numbering.{AreNumbersIf}
 use Rattle.fv_files.specs.Tables.{tree_known, IsInfoOf}
 use Rattle.fv_files.proofs.Tables.{file_tree}
 use Rattle.fv_volmap.specs.Slots.{has, slot_at}
-use Rattle.fv_volume.specs.declared.pool.Pool.{Pool}
-use Rattle.fv_volume.specs.declared.state.Rooted.{Rooted}
+use Rattle.fv_pool.specs.declared.pool.Pool.{Pool}
+use Rattle.fv_pool.specs.declared.rooted.Rooted.{Rooted}
 use Rattle.fv_volume.specs.declared.state.Snap.{Snap}
 use Rattle.fv_volume.specs.declared.state.VolumeState.{VolumeState}
 use Rattle.fv_volume.specs.declared.tables.TableAsked.{TableAsked}
 use Rattle.fv_volume.specs.declared.tables.TableAsked.TheVariants.{Active, Kept}
 use Rattle.fv_volume.specs.Asking.{numbers_asked, root_asked, snap_named, standing_asked, standing_of, standing_read, table_named, IsTableOf}
-use Rattle.fv_volume.specs.Calls.{CallCause, Reads, TableFails}
-use Rattle.fv_volume.specs.Causes.{of_block}
-use Rattle.fv_volume.specs.declared.fault.VolumeFault.{VolumeFault}
-use Rattle.fv_volume.proofs.CallCauses.{failed_cause}
-use Rattle.fv_volume.specs.Lending.{lent_for}
+use Rattle.fv_pool.specs.Calls.{CallCause, Reads, TableFails}
+use Rattle.fv_pool.specs.Causes.{of_block}
+use Rattle.fv_pool.specs.declared.fault.VolumeFault.{VolumeFault}
+use Rattle.fv_pool.proofs.CallCauses.{failed_cause}
+use Rattle.fv_pool.specs.Lending.{lent_for}
 use Rattle.fv_volume.specs.OneVolume.{blocks_in, home_in, shows, standing_for, uses_in, IsKeptTable, IsReady, IsStanding}
 use Rattle.fv_volume.specs.Paths.{unknown_over, unknown_to}
 use Rattle.fv_volume.specs.Placing.{IsStoredWell}

@@ -14,11 +14,11 @@ use Rattle.fv_tree.specs.Sources.{Use}
 use Rattle.fv_files.specs.Apart.{Trees, stored_trees}
 use Rattle.fv_container.specs.declared.entry.Entry.{Entry}
 use Rattle.fv_volmap.specs.Slots.{Slot, has, slot_at}
-use Rattle.fv_volume.specs.declared.pool.Pool.{Pool}
+use Rattle.fv_pool.specs.declared.pool.Pool.{Pool}
 use Rattle.fv_volume.specs.declared.state.Snap.{Snap}
 use Rattle.fv_volume.specs.declared.state.VolumeState.{VolumeState}
-use Rattle.fv_volume.specs.BlocksOver.{held_block, held_entry}
-use Rattle.fv_volume.specs.Lending.{use_of}
+use Rattle.fv_pool.specs.BlocksOver.{held_block, held_entry}
+use Rattle.fv_pool.specs.Lending.{use_of}
 use Rattle.fv_volume.specs.OneVolume.{blocks_in, snap_by, snaps_by, uses_in, volume_for, IsKeptTable, IsTableIn}
 use Rattle.fv_volume.specs.Sharing.{trees_kept, AreShared, SharesWith}
 use Rattle.fv_volume.specs.States.{snap_in}

@@ -1,5 +1,5 @@
 -- The label of a volume without a base: its fields are in range, and it says what the volume is.
-use Rattle.std.proofs.Common.{◌≡◌, ℕ, ◌-◌, ◌≤◌, Bool, true, false, List, ◌++◌, length, get_or, take, replicate, Option, Some, None, refl, sym, ap, subst, ◌∙◌, arith}
+use Rattle.std.proofs.Common.{◌≡◌, ◌≢◌, ℕ, ◌-◌, ◌≤◌, Bool, true, false, List, ◌++◌, length, get_or, take, replicate, Option, Some, None, refl, sym, ap, subst, ◌∙◌, arith}
 use Rattle.std.specs.Prelude.{All, ◌%◌, ◌==◌, min}
 use Rattle.std.specs.List.{list_any}
 use Rattle.std.specs.Option.{is_none}
@@ -11,15 +11,18 @@ use Rattle.fv_model.specs.declared.commands.Kind.TheVariants.{Volume as Whole, F
 use Rattle.fv_model.specs.Spelling.{is_name}
 use Rattle.fv_image.specs.Views.{Footing, Head, head_of, kind_named}
 use Rattle.fv_model.specs.Numbers.{greatest_span}
+use Rattle.fv_files.specs.declared.files.Files.{Files}
+use Rattle.fv_files.specs.declared.numbers.FileNumbers.{FileNumbers}
 use Rattle.fv_charge.specs.declared.ledger.Ledger.{Ledger}
-use Rattle.fv_volmap.specs.Slots.{Volume as MapSlots}
-use Rattle.fv_volume.specs.declared.state.Rooted.{Rooted}
+use Rattle.fv_volmap.specs.Slots.{Volume as MapSlots, slot_at}
+use Rattle.fv_pool.specs.declared.rooted.Rooted.{Rooted}
 use Rattle.fv_volume.specs.declared.state.Snap.{Snap}
 use Rattle.fv_volume.specs.declared.state.VolumeState.{VolumeState}
 use Rattle.fv_volume.specs.Labels.{kind_number, label_said}
 use Rattle.fv_volume.specs.SnapRecords.{records_said, AreSayable}
 use Rattle.fv_volume.specs.Files.{HasSlotsOf, IsLabelled, has_form}
 use Rattle.fv_volume.specs.States.{head_in, snaps_in}
+use Rattle.fv_volume.proofs.MapSlots.{same_sayable, same_slots, slots_kept}
 use Rattle.fv_volume.proofs.Naming.{filled, parts}
 use Rattle.fv_volume.proofs.SnapRecords.{all_said, snaps_again}
 
@@ -47,31 +50,17 @@ pub record IsSayable (x : VolumeState) : Type 0 where
 
 pub label_range : (x : VolumeState) → IsSayable x → (container height : ℕ) → container ≤ last_place → 1 ≤ height → height ≤ 2 → IsLabel (label_said x container height)
 unfolding label_said
-label_range x is container height placed least greatest = record {
-  name_least = (parts x.name is.name).0;
-  name_greatest = (parts x.name is.name).1.0;
-  name = filled x.name is.name;
-  kind = kind_least x.kind;
-  size_least = is.size_least;
-  size_greatest = is.size_greatest;
-  most_least = is.most_least;
-  most_greatest = is.most_greatest;
-  span_least = is.span_least;
-  span_greatest = is.span_greatest;
-  span_step = is.span_step;
-  now = is.now;
-  parent = omega arith;
-  base_least = omega arith;
-  base_greatest = omega arith;
-  splitting = omega arith;
-  known = omega arith;
-  container = placed;
-  height_least = least;
-  height_greatest = greatest;
-  levels = is.levels;
-  root = is.root;
-  snapshots = all_said (head_in x) is.snapshots;
-}
+label_range x is container height placed least greatest =
+    let sizes = parts x.name is.name in
+    let name_least = sizes.0 in
+    let name_greatest = sizes.1.0 in
+    let name = filled x.name is.name in
+    let kind = kind_least x.kind in
+    let parent : 0 ≤ 64 = omega arith in
+    let none : 0 ≤ 0 = omega arith in
+    let known : 1 ≤ 1 = omega arith in
+    let snapshots = all_said (head_in x) is.snapshots in
+    search (is, name_least, name_greatest, name, kind, parent, none, known, placed, least, greatest, snapshots)
 
 -- ---- what the label says
 
@@ -131,46 +120,25 @@ same_label x y head container height = (λ i. record {
 pub label_turned : (x : VolumeState) (active : Rooted) (snapshots : List Snap) (container height : ℕ) → IsLabel (label_said x container height)
     → active.levels ≤ 2 → IsPointer active.root → All IsSnapRecord (records_said (snaps_in snapshots)) → IsLabel (label_said (record x { active = active; snapshots = snapshots }) container height)
 unfolding label_said
-label_turned x active snapshots container height is few fits said = record {
-  name_least = is.name_least;
-  name_greatest = is.name_greatest;
-  name = is.name;
-  kind = is.kind;
-  size_least = is.size_least;
-  size_greatest = is.size_greatest;
-  most_least = is.most_least;
-  most_greatest = is.most_greatest;
-  span_least = is.span_least;
-  span_greatest = is.span_greatest;
-  span_step = is.span_step;
-  now = is.now;
-  parent = is.parent;
-  base_least = is.base_least;
-  base_greatest = is.base_greatest;
-  splitting = is.splitting;
-  known = is.known;
-  container = is.container;
-  height_least = is.height_least;
-  height_greatest = is.height_greatest;
-  levels = few;
-  root = fits;
-  snapshots = said;
-}
+label_turned x active snapshots container height is few fits said = search (is, few, fits, said)
 
--- what holds of a volume's numbers and name holds of one with its head, its map and its ledger
-pub same_labelled : (slot : ℕ) (x y : VolumeState) → head_in y ≡ head_in x → y.slot ≡ x.slot → y.map ≡ x.map → y.ledger ≡ x.ledger → y.fresh ≡ x.fresh → IsLabelled slot x → IsLabelled slot y
-same_labelled slot x y head at map ledger fresh is =
-    let span : y.span ≡ x.span = ap (λ (h : Head). h.span) head in
-    record {
-      slot_is = at ∙ is.slot_is;
-      form = ap has_form head ∙ is.form;
-      span = subst (λ (n : ℕ). n ≤ greatest_span) (sym span) is.span;
-      map = ap (λ (m : MapSlots). m.span) map ∙ is.map ∙ sym span;
-      snapshots = subst AreSayable (sym head) is.snapshots;
-      slots = subst (HasSlotsOf (head_in y)) (sym map) (subst (λ (h : Head). HasSlotsOf h x.map) (sym head) is.slots);
-      waits = λ k on. subst (λ (h : Head). list_any (λ p. p.slot == k) h.snapshots ≡ true) (sym head) (is.waits k (sym (ap (λ (f : List Bool). get_or f k false) fresh) ∙ on));
-      counts = ap (λ (l : Ledger). l.span) ledger ∙ is.counts ∙ sym span;
-      levels = subst (λ (h : Head). h.active.levels ≤ 2) (sym head) is.levels;
-      named = ap (λ (h : Head). is_name h.name) head ∙ is.named;
-      label = λ container height placed least greatest. subst IsLabel (sym (same_label x y head container height)) (is.label container height placed least greatest);
-    }
+-- Its label can be written where it has other numbers, maps whose snapshots' slots are the same, and a ledger of its span.
+module _ (x : VolumeState) (now size : ℕ) (kind : Kind) (active : Rooted) (map : MapSlots) (files : Option Files) (ledger : Ledger) (numbers : Option FileNumbers) where
+  abbrev as_changed : VolumeState
+  as_changed = record x { now = now; size = size; kind = kind; active = active; map = map; files = files; numbers = numbers; ledger = ledger; changed = true }
+
+  pub labelled_as : map.span ≡ x.map.span → ((k : ℕ) → k ≢ 0 → slot_at map k ≡ slot_at x.map k) → ledger.span ≡ x.ledger.span → active.levels ≤ 2
+      → ((container height : ℕ) → IsLabel (label_said x container height) → IsLabel (label_said as_changed container height)) → IsLabelled x.slot x → IsLabelled x.slot as_changed
+  labelled_as span slots counts few turned is = record {
+    slot_is = is.slot_is;
+    form = is.form;
+    span = is.span;
+    map = span ∙ is.map;
+    snapshots = same_sayable (head_in as_changed) (head_in x) refl is.snapshots;
+    slots = same_slots (head_in as_changed) (head_in x) map refl (slots_kept (head_in x) x.map map slots is.slots);
+    waits = is.waits;
+    counts = counts ∙ is.counts;
+    levels = few;
+    named = is.named;
+    label = λ container height low least most. turned container height (is.label container height low least most);
+  }

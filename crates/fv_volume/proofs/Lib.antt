@@ -3,14 +3,7 @@ pub mod MapSlots
 pub mod Positions
 pub mod Labels
 pub mod Loaded
-mod Writing
-mod Lent
-pub mod Holding
 pub mod Charging
-pub mod Shows
-mod PlaceShown
-mod Going
-mod Failing
 pub mod Counted
 pub mod StayingMaps
 pub mod MapCounts
@@ -20,7 +13,6 @@ pub mod KeptTables
 pub mod Shared
 pub mod SharedRoots
 pub mod KeptStamps
-mod TakenTrees
 mod SharedChanges
 mod PlacedShared
 pub mod SnapIds
@@ -34,13 +26,12 @@ pub mod Followed
 pub mod Changed
 pub mod Charged
 mod FileCounts
+mod FoundFiles
 mod MadePut
 mod MadeNew
 mod ReadyAgain
-mod DropCauses
 pub mod EachRoot
 pub mod JudgedCut
-mod LeftTables
 mod Calling
 mod TakenTable
 pub mod Judged
@@ -48,8 +39,6 @@ pub mod JudgedNew
 mod MadeCut
 mod MadeRemoval
 pub mod Placed
-mod PlaceCauses
-pub mod OverBlocks
 mod Commanded
 pub mod Ruled
 pub mod Spending

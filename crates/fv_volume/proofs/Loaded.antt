@@ -58,18 +58,7 @@ head_bare l range is = (λ i. is_none (no_footing l is i) && is_known l range is
 
 -- the head of a volume that is made of such a label
 abbrev pub head_with : Label → List ℕ → Kind → List StateSnap → Head
-head_with l name kind snaps = record {
-  name = name;
-  kind = kind;
-  size = l.size;
-  most = l.most;
-  span = l.span;
-  now = l.now;
-  base = None;
-  known = nat_eq l.known 1;
-  active = record { levels = l.levels; root = l.root };
-  snapshots = map snap_in snaps;
-}
+head_with l name kind snaps = record { name = name; kind = kind; size = l.size; most = l.most; span = l.span; now = l.now; base = None; known = nat_eq l.known 1; active = record { levels = l.levels; root = l.root }; snapshots = map snap_in snaps }
 
 pub head_from : (l : Label) → IsBare l → (name : List ℕ) (kind : Kind) (snaps : List StateSnap) → name ≡ take l.name_length l.name → kind ≡ kind_named l.kind → map snap_in snaps ≡ snaps_from 1 l.snapshots
     → head_with l name kind snaps ≡ head_of l

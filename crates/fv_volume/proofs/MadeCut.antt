@@ -1,20 +1,17 @@
 -- A cut that was made is the machine's.
-use Rattle.std.proofs.Common.{◌≡◌, ◌≢◌, ℕ, ◌+◌, ◌≤◌, true, List, [], Option, Some, refl, sym, ap, subst, ◌∙◌, arith}
+use Rattle.std.proofs.Common.{◌≡◌, ℕ, ◌+◌, ◌≤◌, true, List, [], Option, refl, sym, ap, subst, ◌∙◌, arith}
 use Rattle.std.specs.Prelude.{Ok}
-use Rattle.std.specs.FinMap as fin
 use Rattle.fv_disk.specs.Shown.{Shown as Disk}
 use Rattle.fv_model.specs.declared.commands.Command.TheVariants.{Cut}
-use Rattle.fv_model.specs.Tables.{File, Table, file_cut, file_named, cut}
+use Rattle.fv_model.specs.Tables.{Table, file_cut, cut}
 use Rattle.fv_model.specs.Volumes.{Volume}
 use Rattle.fv_model.specs.Effects.{Becomes, stamped}
-use Rattle.fv_laws.specs.WellFormed.{IsWellTable}
 use Rattle.fv_laws.specs.Paths.{cut_path}
 use Rattle.fv_laws.specs.Positions.{staying, taken_by_cut}
 use Rattle.fv_laws.proofs.Moves.{cut_charge}
 use Rattle.fv_laws.proofs.PathCharges.{none_stay, cut_unreserved}
 use Rattle.fv_laws.proofs.Tables.{cut_well}
-use Rattle.fv_tables.specs.Told.{Standing, file_in, table_told}
-use Rattle.fv_tables.proofs.Tables.{files_told}
+use Rattle.fv_tables.specs.Told.{Standing, table_told}
 use Rattle.fv_tree.specs.Standing.{under}
 use Rattle.fv_inode.specs.declared.info.Info.{Info}
 use Rattle.fv_files.specs.declared.files.Files.{Files}
@@ -25,15 +22,16 @@ use Rattle.fv_charge.specs.declared.delta.Delta.{Delta}
 use Rattle.fv_charge.specs.declared.ledger.Ledger.{Ledger}
 use Rattle.fv_charge.specs.Changes.{IsDeltaOf}
 use Rattle.fv_charge.specs.Ledgers.{IsLedgerOf}
-use Rattle.fv_volmap.specs.Slots.{Volume as Maps, slot_at}
-use Rattle.fv_volume.specs.declared.pool.Pool.{Pool}
+use Rattle.fv_volmap.specs.Slots.{Volume as Maps}
+use Rattle.fv_pool.specs.declared.pool.Pool.{Pool}
 use Rattle.fv_volume.specs.declared.state.VolumeState.{VolumeState}
-use Rattle.fv_volume.specs.Calls.{Changes, HasWithin, Reads}
+use Rattle.fv_pool.specs.Calls.{Reads}
+use Rattle.fv_volume.specs.Calls.{Changes, HasWithin}
 use Rattle.fv_volume.specs.Changing.{AcceptsCut, IsDeltaBy}
-use Rattle.fv_volume.specs.Lending.{IsTold}
-use Rattle.fv_volume.specs.OneVolume.{shows, standing_by, standing_for, volume_for, AreSoundBy, IsReady, IsStanding}
-use Rattle.fv_volume.proofs.Asked.{file, file_there, found}
-use Rattle.fv_volume.proofs.Calling.{done_moves, done_next, done_places, done_says, done_told, done_trees, is_done, left_numbers, left_slots, Parts}
+use Rattle.fv_volume.specs.OneVolume.{shows, standing_for, volume_for, IsReady, IsStanding}
+use Rattle.fv_pool.specs.Tables.{standing_by}
+use Rattle.fv_volume.proofs.FoundFiles.{file_found, FoundFile}
+use Rattle.fv_volume.proofs.Calling.{done_leaves, done_moves, done_next, done_places, done_says, is_done, left_numbers, LeavesTrees, Parts}
 use Rattle.fv_volume.proofs.Changed.{made_standing, made_volume}
 use Rattle.fv_volume.proofs.Charging.{cut_change, cut_delta}
 use Rattle.fv_volume.proofs.Numbered.{cut_files, still_numbered}
@@ -44,48 +42,32 @@ use Rattle.fv_volume.proofs.OneVolumes.{still_table}
 use Rattle.fv_volume.proofs.SharedChanges.{PlacesAltered}
 
 module _ (d e f : Disk) (p q r : Pool) (first : Reads d p e q) (second : Reads e q f r) (x : VolumeState) (is : IsStanding d p x) (ready : IsReady d p x) (others : ℕ) (name : List ℕ) (most : ℕ) (info : Info) (known : Option Delta)
-    (accepts : AcceptsCut d p x others name most info known) (map : Maps) (slots : (k : ℕ) → k ≢ 0 → slot_at map k ≡ slot_at x.map k) (files : Option Files) (told : IsTold f r map x.slot)
-    (trees : AreSoundBy (under (shows e q (record x { map = map }))) (shows e q (record x { map = map })).used x.active files)
+    (accepts : AcceptsCut d p x others name most info known) (map : Maps) (files : Option Files) (so : LeavesTrees e f q r x map files)
     (cuts : CutsFile (standing_for e q x) (standing_by (under (shows e q (record x { map = map }))) x.active files) info.number most (x.now + 1)) (count : ℕ)
     (takes : TakesByCut (standing_for e q x) info.number most (x.now + 1) count) (by : Delta) (is_by : IsDeltaBy x.ledger known count by) where
-  abbrev its : File
-  its = file d p x is name info accepts.first
-
-  its_name : file_named (table_told (standing_for d p x)) name ≡ Some (info.number, its)
-  its_name = found d p x is name info accepts.first
-
-  its_there : file_in (standing_for d p x) info.number ≡ Some its
-  its_there = file_there d p x is name info accepts.first
-
-  in_table : fin.get (table_told (standing_for d p x)).files info.number ≡ Some its
-  in_table = files_told (standing_for d p x) info.number ∙ its_there
-
-  there_now : file_in (standing_for e q x) info.number ≡ Some its
-  there_now = ap (λ (s : Standing). file_in s info.number) (still_table d e p q first x) ∙ its_there
-
-  well_now : IsWellTable x.now (table_told (standing_for e q x))
-  well_now = subst (λ (s : Standing). IsWellTable x.now (table_told s)) (sym (still_table d e p q first x)) is.table
+  abbrev seen : FoundFile d e p q x name info.number
+  seen = file_found d e p q first x is name info accepts.first
 
   abbrev table : ℕ → Table
-  table = cut (table_told (standing_for d p x)) info.number its most
+  table = cut (table_told (standing_for d p x)) info.number seen.its most
 
   made : table_told (standing_by (under (shows e q (record x { map = map }))) x.active files) ≡ table (x.now + 1)
-  made = cuts x.now its well_now there_now ∙ ap (λ (s : Standing). cut (table_told s) info.number its most (x.now + 1)) (still_table d e p q first x)
+  made = cuts x.now seen.its seen.well seen.later ∙ ap (λ (s : Standing). cut (table_told s) info.number seen.its most (x.now + 1)) (still_table d e p q first x)
 
-  taken_is : count ≡ taken_by_cut its most
-  taken_is = takes x.now its (omega arith) well_now there_now
+  taken_is : count ≡ taken_by_cut seen.its most
+  taken_is = takes x.now seen.its (omega arith) seen.well seen.later
 
   low : x.snapshots ≡ [] → count ≤ x.ledger.charge
   low none =
-      let left = cut_charge (volume_for d p x) (is_alone d p x none) is.table info.number its most in_table in
+      let left = cut_charge (volume_for d p x) (is_alone d p x none) is.table info.number seen.its most seen.in_table in
       let same = is.ledger.charged in
       let taken = taken_is in
       omega (arith, left, same, taken)
 
   its_delta : IsDeltaOf (volume_for d p x) (stamped (volume_for d p x) table) by
-  its_delta = cut_delta (volume_for d p x) is.table (next_is_new d p x is ready.labelled) is.reserves by info.number its most in_table
-      (made_moves d p x ready known count (staying (volume_for d p x) (cut_path (table_told (standing_for d p x)) info.number its most)) (taken_by_cut its most) by (accepts.moves its its_there) is_by
-      (λ none. none_stay (volume_for d p x) (is_alone d p x none) (cut_path (table_told (standing_for d p x)) info.number its most)) taken_is low)
+  its_delta = cut_delta (volume_for d p x) is.table (next_is_new d p x is ready.labelled) is.reserves by info.number seen.its most seen.in_table
+      (made_moves d p x ready known count (staying (volume_for d p x) (cut_path (table_told (standing_for d p x)) info.number seen.its most)) (taken_by_cut seen.its most) by (accepts.moves seen.its seen.there) is_by
+      (λ none. none_stay (volume_for d p x) (is_alone d p x none) (cut_path (table_told (standing_for d p x)) info.number seen.its most)) taken_is low)
 
   module _ (now : ℕ) (ledger : Ledger) (numbers : Option FileNumbers) (same : numbers ≡ x.numbers) (next : now ≡ x.now + 1) where
     abbrev done : VolumeState
@@ -93,22 +75,22 @@ module _ (d e f : Disk) (p q r : Pool) (first : Reads d p e q) (second : Reads e
 
     -- each file has its name and its number still
     numbered : AreNumbersIf numbers (table (x.now + 1))
-    numbered = subst (λ (o : Option FileNumbers). AreNumbersIf o (table (x.now + 1))) (sym same) (still_numbered (table_told (standing_for d p x)) (table (x.now + 1)) info.number its (file_cut its most (x.now + 1)) in_table refl (cut_files (table_told (standing_for d p x)) info.number its most (x.now + 1)) x.numbers is.numbers)
+    numbered = subst (λ (o : Option FileNumbers). AreNumbersIf o (table (x.now + 1))) (sym same) (still_numbered (table_told (standing_for d p x)) (table (x.now + 1)) info.number seen.its (file_cut seen.its most (x.now + 1)) seen.in_table refl (cut_files (table_told (standing_for d p x)) info.number seen.its most (x.now + 1)) x.numbers is.numbers)
 
     pub cut_volume : volume_for f r done ≡ stamped (volume_for d p x) table
-    cut_volume = made_volume d e f p q r first second x is map slots files told trees now ledger numbers table next made
+    cut_volume = made_volume d e f p q r first second x is map so.slots files so.told so.trees now ledger numbers table next made
 
     pub cut_standing : PlacesAltered e q x map files → ((v w : Volume) → IsLedgerOf v x.ledger → IsDeltaOf v w by → IsLedgerOf w ledger) → IsStanding f r done
-    cut_standing places moves = made_standing d e f p q r first second x is map slots files told trees now ledger numbers table next made places
-        (cut_well x.now (x.now + 1) (table_told (standing_for d p x)) info.number its most accepts.near (omega arith) is.table in_table)
-        (cut_unreserved (table_told (standing_for d p x)) is.reserves info.number its most (x.now + 1) in_table)
+    cut_standing places moves = made_standing d e f p q r first second x is map so.slots files so.told so.trees now ledger numbers table next made places
+        (cut_well x.now (x.now + 1) (table_told (standing_for d p x)) info.number seen.its most accepts.near (omega arith) is.table seen.in_table)
+        (cut_unreserved (table_told (standing_for d p x)) is.reserves info.number seen.its most (x.now + 1) seen.in_table)
         (moves (volume_for d p x) (stamped (volume_for d p x) table) is.ledger its_delta)
         numbered
 
     pub cut_changes : Changes (HasWithin x.name (volume_for d p x) others p.found.blocks) (Cut x.name name most) x.name (volume_for d p x) (volume_for f r done) (Ok tt)
     cut_changes = record {
       agrees = λ m has. accepts.accepted m has;
-      becomes = λ m has. cut_change m x.name name (volume_for d p x) has info.number its its_name most ∙ ap (λ v. Becomes x.name v) (sym cut_volume);
+      becomes = λ m has. cut_change m x.name name (volume_for d p x) has info.number seen.its seen.named most ∙ ap (λ v. Becomes x.name v) (sym cut_volume);
       stays = tt;
     }
 
@@ -119,14 +101,8 @@ module _ (d e f : Disk) (p q r : Pool) (x v w y : VolumeState) (by : Delta) (cou
   same_numbers : y.numbers ≡ x.numbers
   same_numbers = kept ∙ left_numbers d e f p q r x v w y (Ok count) by parts
 
-  same_slots : (k : ℕ) → k ≢ 0 → slot_at w.map k ≡ slot_at x.map k
-  same_slots = left_slots d e f p q r x v w y (Ok count) by parts
-
-  is_told : IsTold f r w.map x.slot
-  is_told = done_told d e f p q r x v w y (Ok count) by parts is
-
-  its_trees : AreSoundBy (under (shows e q (record x { map = w.map }))) (shows e q (record x { map = w.map })).used x.active w.files
-  its_trees = done_trees d e f p q r x v w y (Ok count) by parts is
+  so : LeavesTrees e f q r x w.map w.files
+  so = done_leaves d e f p q r x v w y (Ok count) by parts is
 
   shorter : CutsFile (standing_for e q x) (standing_by (under (shows e q (record x { map = w.map }))) x.active w.files) info.number most (x.now + 1)
   shorter = done_says d e f p q r x v w y (Ok count) by parts is (λ s t n. CutsFile s t info.number most n) cuts
@@ -139,9 +115,9 @@ module _ (d e f : Disk) (p q r : Pool) (x v w y : VolumeState) (by : Delta) (cou
 
   pub cut_stands : IsStanding f r y
   cut_stands = subst (λ (z : VolumeState). IsStanding f r z) (sym (is_done d e f p q r x v w y (Ok count) by parts))
-      (cut_standing d e f p q r parts.first parts.alters.reads x is ready others name most info known accepts w.map same_slots w.files is_told its_trees shorter count fewer by is_by y.now y.ledger y.numbers same_numbers its_next
+      (cut_standing d e f p q r parts.first parts.alters.reads x is ready others name most info known accepts w.map w.files so shorter count fewer by is_by y.now y.ledger y.numbers same_numbers its_next
       (done_places d e f p q r x v w y (Ok count) by parts is) (done_moves d e f p q r x v w y (Ok count) by parts))
 
   pub cut_is : Changes (HasWithin x.name (volume_for d p x) others p.found.blocks) (Cut x.name name most) x.name (volume_for d p x) (volume_for f r y) (Ok tt)
   cut_is = subst (λ (z : VolumeState). Changes (HasWithin x.name (volume_for d p x) others p.found.blocks) (Cut x.name name most) x.name (volume_for d p x) (volume_for f r z) (Ok tt)) (sym (is_done d e f p q r x v w y (Ok count) by parts))
-      (cut_changes d e f p q r parts.first parts.alters.reads x is ready others name most info known accepts w.map same_slots w.files is_told its_trees shorter count fewer by is_by y.now y.ledger y.numbers same_numbers its_next)
+      (cut_changes d e f p q r parts.first parts.alters.reads x is ready others name most info known accepts w.map w.files so shorter count fewer by is_by y.now y.ledger y.numbers same_numbers its_next)

@@ -1,5 +1,5 @@
 -- A file that was made is the machine's.
-use Rattle.std.proofs.Common.{◌≡◌, ◌≢◌, ℕ, ◌+◌, true, List, Option, sym, ap, subst, ◌∙◌, arith}
+use Rattle.std.proofs.Common.{◌≡◌, ℕ, ◌+◌, true, List, Option, sym, ap, subst, ◌∙◌, arith}
 use Rattle.std.specs.Prelude.{Ok}
 use Rattle.fv_disk.specs.Shown.{Shown as Disk}
 use Rattle.fv_model.specs.declared.commands.Command.TheVariants.{New}
@@ -18,15 +18,16 @@ use Rattle.fv_charge.specs.declared.delta.Delta.{Delta}
 use Rattle.fv_charge.specs.declared.ledger.Ledger.{Ledger}
 use Rattle.fv_charge.specs.Changes.{IsDeltaOf}
 use Rattle.fv_charge.specs.Ledgers.{IsLedgerOf}
-use Rattle.fv_volmap.specs.Slots.{Volume as Maps, slot_at}
-use Rattle.fv_volume.specs.declared.pool.Pool.{Pool}
+use Rattle.fv_volmap.specs.Slots.{Volume as Maps}
+use Rattle.fv_pool.specs.declared.pool.Pool.{Pool}
 use Rattle.fv_volume.specs.declared.state.VolumeState.{VolumeState}
-use Rattle.fv_volume.specs.Calls.{Changes, HasBeside, Reads}
+use Rattle.fv_pool.specs.Calls.{Reads}
+use Rattle.fv_volume.specs.Calls.{Changes, HasBeside}
 use Rattle.fv_volume.specs.Changing.{AcceptsNew}
-use Rattle.fv_volume.specs.Lending.{IsTold}
 use Rattle.fv_volume.specs.Numbering.{TellsFile}
-use Rattle.fv_volume.specs.OneVolume.{shows, standing_by, standing_for, table_for, volume_for, AreSoundBy, IsReady, IsStanding}
-use Rattle.fv_volume.proofs.Calling.{done_moves, done_next, done_places, done_says, done_told, done_trees, is_done, left_numbers, left_slots, Parts}
+use Rattle.fv_volume.specs.OneVolume.{shows, standing_for, table_for, volume_for, IsReady, IsStanding}
+use Rattle.fv_pool.specs.Tables.{standing_by}
+use Rattle.fv_volume.proofs.Calling.{done_leaves, done_moves, done_next, done_places, done_says, is_done, left_numbers, LeavesTrees, Parts}
 use Rattle.fv_volume.proofs.Changed.{made_standing, made_volume}
 use Rattle.fv_volume.proofs.Charging.{new_change, new_delta}
 use Rattle.fv_volume.proofs.Numbered.{made_numbered}
@@ -35,8 +36,7 @@ use Rattle.fv_volume.proofs.OneVolumes.{still_table}
 use Rattle.fv_volume.proofs.SharedChanges.{PlacesAltered}
 
 module _ (d e f : Disk) (p q r : Pool) (first : Reads d p e q) (second : Reads e q f r) (x : VolumeState) (is : IsStanding d p x) (ready : IsReady d p x) (others : ℕ) (name : List ℕ) (reserve number : ℕ) (none : reserve ≡ 0) (by : Delta)
-    (accepts : AcceptsNew d p x others name reserve number by) (map : Maps) (slots : (k : ℕ) → k ≢ 0 → slot_at map k ≡ slot_at x.map k) (files : Option Files) (told : IsTold f r map x.slot)
-    (trees : AreSoundBy (under (shows e q (record x { map = map }))) (shows e q (record x { map = map })).used x.active files)
+    (accepts : AcceptsNew d p x others name reserve number by) (map : Maps) (files : Option Files) (so : LeavesTrees e f q r x map files)
     (written : table_told (standing_by (under (shows e q (record x { map = map }))) x.active files) ≡ new (table_for e q x) name reserve (x.now + 1)) where
   abbrev table : ℕ → Table
   table = new (table_for d p x) name reserve
@@ -57,10 +57,10 @@ module _ (d e f : Disk) (p q r : Pool) (first : Reads d p e q) (second : Reads e
     numbered = made_numbered (standing_for d p x) name reserve (x.now + 1) number accepts.free accepts.none x.numbers numbers is.numbers tells
 
     pub new_volume : volume_for f r done ≡ stamped (volume_for d p x) table
-    new_volume = made_volume d e f p q r first second x is map slots files told trees now ledger numbers table next made
+    new_volume = made_volume d e f p q r first second x is map so.slots files so.told so.trees now ledger numbers table next made
 
     pub new_standing : PlacesAltered e q x map files → ((v w : Volume) → IsLedgerOf v x.ledger → IsDeltaOf v w by → IsLedgerOf w ledger) → IsStanding f r done
-    new_standing places moves = made_standing d e f p q r first second x is map slots files told trees now ledger numbers table next made places
+    new_standing places moves = made_standing d e f p q r first second x is map so.slots files so.told so.trees now ledger numbers table next made places
         (new_well x.now (x.now + 1) (table_for d p x) name reserve accepts.near (omega arith) is.table accepts.none accepts.few)
         (subst (λ k. HasNoReserve (new (table_for d p x) name k (x.now + 1))) (sym none) (new_unreserved (table_for d p x) is.reserves name (x.now + 1)))
         (moves (volume_for d p x) (stamped (volume_for d p x) table) is.ledger its_delta)
@@ -79,14 +79,8 @@ module _ (d e f : Disk) (p q r : Pool) (x v w y : VolumeState) (by : Delta) (par
   tells_now : TellsFile x.numbers y.numbers name number
   tells_now = subst (λ (o : Option FileNumbers). TellsFile o y.numbers name number) (left_numbers d e f p q r x v w y (Ok tt) by parts) tells
 
-  same_slots : (k : ℕ) → k ≢ 0 → slot_at w.map k ≡ slot_at x.map k
-  same_slots = left_slots d e f p q r x v w y (Ok tt) by parts
-
-  told : IsTold f r w.map x.slot
-  told = done_told d e f p q r x v w y (Ok tt) by parts is
-
-  trees : AreSoundBy (under (shows e q (record x { map = w.map }))) (shows e q (record x { map = w.map })).used x.active w.files
-  trees = done_trees d e f p q r x v w y (Ok tt) by parts is
+  so : LeavesTrees e f q r x w.map w.files
+  so = done_leaves d e f p q r x v w y (Ok tt) by parts is
 
   its_table : table_told (standing_by (under (shows e q (record x { map = w.map }))) x.active w.files) ≡ new (table_for e q x) name reserve (x.now + 1)
   its_table = done_says d e f p q r x v w y (Ok tt) by parts is (λ s t n. table_told t ≡ new (table_told s) name reserve n) written
@@ -96,8 +90,8 @@ module _ (d e f : Disk) (p q r : Pool) (x v w y : VolumeState) (by : Delta) (par
 
   pub new_stands : IsStanding f r y
   new_stands = subst (λ (z : VolumeState). IsStanding f r z) (sym (is_done d e f p q r x v w y (Ok tt) by parts))
-      (new_standing d e f p q r parts.first parts.alters.reads x is ready others name reserve number none by accepts w.map same_slots w.files told trees its_table y.now y.ledger y.numbers tells_now next (done_places d e f p q r x v w y (Ok tt) by parts is) (done_moves d e f p q r x v w y (Ok tt) by parts))
+      (new_standing d e f p q r parts.first parts.alters.reads x is ready others name reserve number none by accepts w.map w.files so its_table y.now y.ledger y.numbers tells_now next (done_places d e f p q r x v w y (Ok tt) by parts is) (done_moves d e f p q r x v w y (Ok tt) by parts))
 
   pub new_is : Changes (HasBeside x.name (volume_for d p x) others p.found.blocks) (New x.name name reserve) x.name (volume_for d p x) (volume_for f r y) (Ok tt)
   new_is = subst (λ (z : VolumeState). Changes (HasBeside x.name (volume_for d p x) others p.found.blocks) (New x.name name reserve) x.name (volume_for d p x) (volume_for f r z) (Ok tt)) (sym (is_done d e f p q r x v w y (Ok tt) by parts))
-      (new_changes d e f p q r parts.first parts.alters.reads x is ready others name reserve number none by accepts w.map same_slots w.files told trees its_table y.now y.ledger y.numbers tells_now next)
+      (new_changes d e f p q r parts.first parts.alters.reads x is ready others name reserve number none by accepts w.map w.files so its_table y.now y.ledger y.numbers tells_now next)

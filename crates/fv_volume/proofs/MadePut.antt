@@ -1,16 +1,14 @@
 -- A write that was made is the machine's.
-use Rattle.std.proofs.Common.{◌≡◌, ◌≢◌, ℕ, ◌+◌, true, List, Option, Some, refl, sym, ap, subst, ◌∙◌, arith}
+use Rattle.std.proofs.Common.{◌≡◌, ℕ, ◌+◌, true, List, Option, refl, sym, ap, subst, ◌∙◌, arith}
 use Rattle.std.specs.Prelude.{Ok}
-use Rattle.std.specs.FinMap as fin
 use Rattle.fv_disk.specs.Shown.{Shown as Disk}
 use Rattle.fv_model.specs.declared.commands.Command.TheVariants.{Put}
-use Rattle.fv_model.specs.Tables.{File, Table, file_named, file_put, put}
+use Rattle.fv_model.specs.Tables.{Table, file_put, put}
 use Rattle.fv_model.specs.Volumes.{Volume}
 use Rattle.fv_model.specs.Effects.{Becomes, stamped}
 use Rattle.fv_laws.proofs.PathCharges.{put_unreserved}
 use Rattle.fv_laws.proofs.Tables.{put_well}
-use Rattle.fv_tables.specs.Told.{Standing, file_in, table_told}
-use Rattle.fv_tables.proofs.Tables.{files_told}
+use Rattle.fv_tables.specs.Told.{Standing, table_told}
 use Rattle.fv_tree.specs.Standing.{under}
 use Rattle.fv_inode.specs.declared.info.Info.{Info}
 use Rattle.fv_files.specs.declared.files.Files.{Files}
@@ -21,15 +19,16 @@ use Rattle.fv_charge.specs.declared.delta.Delta.{Delta}
 use Rattle.fv_charge.specs.declared.ledger.Ledger.{Ledger}
 use Rattle.fv_charge.specs.Changes.{IsDeltaOf}
 use Rattle.fv_charge.specs.Ledgers.{IsLedgerOf}
-use Rattle.fv_volmap.specs.Slots.{Volume as Maps, slot_at}
-use Rattle.fv_volume.specs.declared.pool.Pool.{Pool}
+use Rattle.fv_volmap.specs.Slots.{Volume as Maps}
+use Rattle.fv_pool.specs.declared.pool.Pool.{Pool}
 use Rattle.fv_volume.specs.declared.state.VolumeState.{VolumeState}
-use Rattle.fv_volume.specs.Calls.{Changes, HasBeside, Reads}
+use Rattle.fv_pool.specs.Calls.{Reads}
+use Rattle.fv_volume.specs.Calls.{Changes, HasBeside}
 use Rattle.fv_volume.specs.Changing.{AcceptsPut}
-use Rattle.fv_volume.specs.Lending.{IsTold}
-use Rattle.fv_volume.specs.OneVolume.{shows, standing_by, standing_for, volume_for, AreSoundBy, IsReady, IsStanding}
-use Rattle.fv_volume.proofs.Asked.{file, file_there, found}
-use Rattle.fv_volume.proofs.Calling.{done_moves, done_next, done_places, done_says, done_told, done_trees, is_done, left_numbers, left_slots, Parts}
+use Rattle.fv_volume.specs.OneVolume.{shows, standing_for, volume_for, IsReady, IsStanding}
+use Rattle.fv_pool.specs.Tables.{standing_by}
+use Rattle.fv_volume.proofs.FoundFiles.{file_found, FoundFile}
+use Rattle.fv_volume.proofs.Calling.{done_leaves, done_moves, done_next, done_places, done_says, is_done, left_numbers, LeavesTrees, Parts}
 use Rattle.fv_volume.proofs.Changed.{made_standing, made_volume}
 use Rattle.fv_volume.proofs.Charging.{put_change, put_delta}
 use Rattle.fv_volume.proofs.Numbered.{put_files, still_numbered}
@@ -38,31 +37,21 @@ use Rattle.fv_volume.proofs.OneVolumes.{still_table}
 use Rattle.fv_volume.proofs.SharedChanges.{PlacesAltered}
 
 module _ (d e f : Disk) (p q r : Pool) (first : Reads d p e q) (second : Reads e q f r) (x : VolumeState) (is : IsStanding d p x) (ready : IsReady d p x) (others : ℕ) (name : List ℕ) (i : ℕ) (content : List ℕ) (info : Info) (by : Delta)
-    (accepts : AcceptsPut d p x others name i info by) (map : Maps) (slots : (k : ℕ) → k ≢ 0 → slot_at map k ≡ slot_at x.map k) (files : Option Files) (told : IsTold f r map x.slot)
-    (trees : AreSoundBy (under (shows e q (record x { map = map }))) (shows e q (record x { map = map })).used x.active files)
+    (accepts : AcceptsPut d p x others name i info by) (map : Maps) (files : Option Files) (so : LeavesTrees e f q r x map files)
     (written : WritesCell (standing_for e q x) (standing_by (under (shows e q (record x { map = map }))) x.active files) info.number i (x.now + 1) content) where
-  abbrev its : File
-  its = file d p x is name info accepts.first
-
-  its_name : file_named (table_told (standing_for d p x)) name ≡ Some (info.number, its)
-  its_name = found d p x is name info accepts.first
-
-  its_there : file_in (standing_for d p x) info.number ≡ Some its
-  its_there = file_there d p x is name info accepts.first
-
-  in_table : fin.get (table_told (standing_for d p x)).files info.number ≡ Some its
-  in_table = files_told (standing_for d p x) info.number ∙ its_there
+  abbrev seen : FoundFile d e p q x name info.number
+  seen = file_found d e p q first x is name info accepts.first
 
   abbrev table : ℕ → Table
-  table = put (table_told (standing_for d p x)) info.number its i content
+  table = put (table_told (standing_for d p x)) info.number seen.its i content
 
   made : table_told (standing_by (under (shows e q (record x { map = map }))) x.active files) ≡ table (x.now + 1)
   made =
-      written its (ap (λ (s : Standing). file_in s info.number) (still_table d e p q first x) ∙ its_there)
-      ∙ ap (λ (s : Standing). put (table_told s) info.number its i content (x.now + 1)) (still_table d e p q first x)
+      written seen.its seen.later
+      ∙ ap (λ (s : Standing). put (table_told s) info.number seen.its i content (x.now + 1)) (still_table d e p q first x)
 
   its_delta : IsDeltaOf (volume_for d p x) (stamped (volume_for d p x) table) by
-  its_delta = put_delta (volume_for d p x) is.table (next_is_new d p x is ready.labelled) is.reserves by info.number its i content in_table (accepts.moves its its_there)
+  its_delta = put_delta (volume_for d p x) is.table (next_is_new d p x is ready.labelled) is.reserves by info.number seen.its i content seen.in_table (accepts.moves seen.its seen.there)
 
   module _ (now : ℕ) (ledger : Ledger) (numbers : Option FileNumbers) (same : numbers ≡ x.numbers) (next : now ≡ x.now + 1) where
     abbrev done : VolumeState
@@ -70,22 +59,22 @@ module _ (d e f : Disk) (p q r : Pool) (first : Reads d p e q) (second : Reads e
 
     -- each file has its name and its number still
     numbered : AreNumbersIf numbers (table (x.now + 1))
-    numbered = subst (λ (o : Option FileNumbers). AreNumbersIf o (table (x.now + 1))) (sym same) (still_numbered (table_told (standing_for d p x)) (table (x.now + 1)) info.number its (file_put its i content (x.now + 1)) in_table refl (put_files (table_told (standing_for d p x)) info.number its i content (x.now + 1)) x.numbers is.numbers)
+    numbered = subst (λ (o : Option FileNumbers). AreNumbersIf o (table (x.now + 1))) (sym same) (still_numbered (table_told (standing_for d p x)) (table (x.now + 1)) info.number seen.its (file_put seen.its i content (x.now + 1)) seen.in_table refl (put_files (table_told (standing_for d p x)) info.number seen.its i content (x.now + 1)) x.numbers is.numbers)
 
     pub put_volume : volume_for f r done ≡ stamped (volume_for d p x) table
-    put_volume = made_volume d e f p q r first second x is map slots files told trees now ledger numbers table next made
+    put_volume = made_volume d e f p q r first second x is map so.slots files so.told so.trees now ledger numbers table next made
 
     pub put_standing : PlacesAltered e q x map files → ((v w : Volume) → IsLedgerOf v x.ledger → IsDeltaOf v w by → IsLedgerOf w ledger) → IsStanding f r done
-    put_standing places moves = made_standing d e f p q r first second x is map slots files told trees now ledger numbers table next made places
-        (put_well x.now (x.now + 1) (table_told (standing_for d p x)) info.number its i content accepts.near (omega arith) is.table in_table)
-        (put_unreserved (table_told (standing_for d p x)) is.reserves info.number its i content (x.now + 1) in_table)
+    put_standing places moves = made_standing d e f p q r first second x is map so.slots files so.told so.trees now ledger numbers table next made places
+        (put_well x.now (x.now + 1) (table_told (standing_for d p x)) info.number seen.its i content accepts.near (omega arith) is.table seen.in_table)
+        (put_unreserved (table_told (standing_for d p x)) is.reserves info.number seen.its i content (x.now + 1) seen.in_table)
         (moves (volume_for d p x) (stamped (volume_for d p x) table) is.ledger its_delta)
         numbered
 
     pub put_changes : Changes (HasBeside x.name (volume_for d p x) others p.found.blocks) (Put x.name name i content) x.name (volume_for d p x) (volume_for f r done) (Ok tt)
     put_changes = record {
       agrees = λ m has. accepts.accepted content m has;
-      becomes = λ m has. put_change m x.name name (volume_for d p x) has info.number its its_name i content ∙ ap (λ v. Becomes x.name v) (sym put_volume);
+      becomes = λ m has. put_change m x.name name (volume_for d p x) has info.number seen.its seen.named i content ∙ ap (λ v. Becomes x.name v) (sym put_volume);
       stays = tt;
     }
 
@@ -95,14 +84,8 @@ module _ (d e f : Disk) (p q r : Pool) (x v w y : VolumeState) (by : Delta) (par
   same_numbers : y.numbers ≡ x.numbers
   same_numbers = kept ∙ left_numbers d e f p q r x v w y (Ok tt) by parts
 
-  same_slots : (k : ℕ) → k ≢ 0 → slot_at w.map k ≡ slot_at x.map k
-  same_slots = left_slots d e f p q r x v w y (Ok tt) by parts
-
-  told : IsTold f r w.map x.slot
-  told = done_told d e f p q r x v w y (Ok tt) by parts is
-
-  trees : AreSoundBy (under (shows e q (record x { map = w.map }))) (shows e q (record x { map = w.map })).used x.active w.files
-  trees = done_trees d e f p q r x v w y (Ok tt) by parts is
+  so : LeavesTrees e f q r x w.map w.files
+  so = done_leaves d e f p q r x v w y (Ok tt) by parts is
 
   cell : WritesCell (standing_for e q x) (standing_by (under (shows e q (record x { map = w.map }))) x.active w.files) info.number i (x.now + 1) content
   cell = done_says d e f p q r x v w y (Ok tt) by parts is (λ s t n. WritesCell s t info.number i n content) written
@@ -112,8 +95,8 @@ module _ (d e f : Disk) (p q r : Pool) (x v w y : VolumeState) (by : Delta) (par
 
   pub put_stands : IsStanding f r y
   put_stands = subst (λ (z : VolumeState). IsStanding f r z) (sym (is_done d e f p q r x v w y (Ok tt) by parts))
-      (put_standing d e f p q r parts.first parts.alters.reads x is ready others name i content info by accepts w.map same_slots w.files told trees cell y.now y.ledger y.numbers same_numbers next (done_places d e f p q r x v w y (Ok tt) by parts is) (done_moves d e f p q r x v w y (Ok tt) by parts))
+      (put_standing d e f p q r parts.first parts.alters.reads x is ready others name i content info by accepts w.map w.files so cell y.now y.ledger y.numbers same_numbers next (done_places d e f p q r x v w y (Ok tt) by parts is) (done_moves d e f p q r x v w y (Ok tt) by parts))
 
   pub put_is : Changes (HasBeside x.name (volume_for d p x) others p.found.blocks) (Put x.name name i content) x.name (volume_for d p x) (volume_for f r y) (Ok tt)
   put_is = subst (λ (z : VolumeState). Changes (HasBeside x.name (volume_for d p x) others p.found.blocks) (Put x.name name i content) x.name (volume_for d p x) (volume_for f r z) (Ok tt)) (sym (is_done d e f p q r x v w y (Ok tt) by parts))
-      (put_changes d e f p q r parts.first parts.alters.reads x is ready others name i content info by accepts w.map same_slots w.files told trees cell y.now y.ledger y.numbers same_numbers next)
+      (put_changes d e f p q r parts.first parts.alters.reads x is ready others name i content info by accepts w.map w.files so cell y.now y.ledger y.numbers same_numbers next)

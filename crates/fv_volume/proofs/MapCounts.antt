@@ -113,9 +113,6 @@ waiting_more x k from =
     ap (passing (is_rewritten x) 1) e ∙ passing-add (is_rewritten x) 1 (k - 1) 1
     ∙ ap (λ (n : ℕ). passing (is_rewritten x) 1 (k - 1) + n) (passing-suc (is_rewritten x) (1 + (k - 1)) 0 ∙ none ∙ ap (λ (n : ℕ). cond (is_rewritten x n) 1 0) here ∙ ap (λ (t : Bool). cond (t || get_or x.fresh k false) 1 0) other)
 
-pub waiting_few : (x : VolumeState) (n : ℕ) → passing (is_rewritten x) 1 n ≤ n
-waiting_few x n = passing_le (is_rewritten x) 1 n
-
 pub waiting_counted : (x : VolumeState) (count slot : ℕ) → 25 ≤ slot → slot ≤ 25 → count ≡ passing (is_rewritten x) 1 (slot - 1) → count ≡ map_count x.fresh - 1
 waiting_counted x count slot from to is =
     let all : slot - 1 ≡ 24 = omega (arith, from, to) in

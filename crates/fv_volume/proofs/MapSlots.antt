@@ -18,13 +18,6 @@ no_snap : (h : Head) → h.snapshots ≡ [] → (k : ℕ) → is_some (snap_at h
 unfolding snap_at
 no_snap h empty k = ap (λ (ps : List Snap). is_some (find (λ p. p.slot == k) ps)) empty
 
--- Without snapshots the active slot alone is used.
-pub one_map : (h : Head) (maps : Maps) → h.snapshots ≡ [] → HasSlotsOf h maps → IsOneMap maps
-one_map h maps empty is k other = ⊎_elim
-    (λ (base : k ≡ slot_of_base). ap (slot_at maps) base ∙ is.base)
-    (λ (not_base : k ≢ slot_of_base). is_free (slot_at maps k) (is.each k other not_base ∙ no_snap h empty k))
-    (cases_eq k slot_of_base)
-
 pub slots_of_one : (h : Head) (maps : Maps) → h.snapshots ≡ [] → IsOneMap maps → HasSlotsOf h maps
 slots_of_one h maps empty one = record {
   each = λ k other not_base. ap (λ (slot : Slot). is_some slot) (one k other) ∙ sym (no_snap h empty k);

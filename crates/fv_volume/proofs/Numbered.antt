@@ -13,7 +13,7 @@ use Rattle.fv_inode.specs.Files.{name_of, IsFirst, IsLeastFree}
 use Rattle.fv_files.specs.declared.numbers.FileNumbers.{FileNumbers}
 use Rattle.fv_files.specs.Numbering.{number_of, AreNumbersIf, AreNumbersOf}
 use Rattle.fv_files.proofs.Numbering.{numbers_kept, numbers_named, numbers_unnamed}
-use Rattle.fv_volume.specs.declared.pool.Pool.{Pool}
+use Rattle.fv_pool.specs.declared.pool.Pool.{Pool}
 use Rattle.fv_volume.specs.declared.state.VolumeState.{VolumeState}
 use Rattle.fv_volume.specs.Files.{IsLabelled}
 use Rattle.fv_volume.specs.Labels.{label_said}

@@ -19,18 +19,19 @@ use Rattle.fv_files.specs.declared.files.Files.{Files}
 use Rattle.fv_files.specs.Numbering.{AreNumbersIf}
 use Rattle.fv_charge.specs.Ledgers.{IsLedgerOf}
 use Rattle.fv_volmap.specs.Slots.{has, slot_at}
-use Rattle.fv_volume.specs.declared.pool.Pool.{Pool}
+use Rattle.fv_pool.specs.declared.pool.Pool.{Pool}
 use Rattle.fv_volume.specs.declared.state.Snap.{Snap}
 use Rattle.fv_volume.specs.declared.state.VolumeState.{VolumeState}
-use Rattle.fv_volume.specs.BlocksOver.{block_of, entries_in, held_entry}
-use Rattle.fv_volume.specs.Calls.{Reads}
+use Rattle.fv_pool.specs.BlocksOver.{block_of, entries_in, held_entry}
+use Rattle.fv_pool.specs.Calls.{Reads}
 use Rattle.fv_volume.specs.Labels.{label_said}
-use Rattle.fv_volume.specs.Lending.{IsTold, use_of, use_under}
-use Rattle.fv_volume.specs.LendingLaws.{apart_by}
-use Rattle.fv_volume.specs.OneVolume.{blocks_in, shows, snaps_by, standing_by, standing_for, trees_for, uses_in, volume_as, volume_for, AreLaidBy, AreSoundBy, IsKeptTable, IsReady, IsStanding, IsTableIn}
-use Rattle.fv_volume.specs.Placing.{AreLedBy, AreStoredBy, IsLedTo, IsStoredWell}
-use Rattle.fv_volume.specs.Sharing.{trees_by, AreShared}
-use Rattle.fv_volume.proofs.Failing.{blocks_of}
+use Rattle.fv_pool.specs.Lending.{IsTold, use_of, use_under}
+use Rattle.fv_pool.specs.LendingLaws.{apart_by}
+use Rattle.fv_pool.specs.Tables.{standing_by, AreLaidBy, AreSoundBy, AreLedBy, AreStoredBy, trees_by}
+use Rattle.fv_volume.specs.OneVolume.{blocks_in, shows, snaps_by, standing_for, trees_for, uses_in, volume_as, volume_for, IsKeptTable, IsReady, IsStanding, IsTableIn}
+use Rattle.fv_volume.specs.Placing.{IsLedTo, IsStoredWell}
+use Rattle.fv_volume.specs.Sharing.{AreShared}
+use Rattle.fv_pool.proofs.Failing.{blocks_of}
 
 -- what its label says of its table's root fits a pointer
 pub root_fits : (disk : Disk) (pool : Pool) (x : VolumeState) → IsReady disk pool x → IsPointer x.active.root

@@ -24,42 +24,33 @@ use Rattle.fv_files.specs.Tables.{loaded_trees, table_in, AreReached, AreStandin
 use Rattle.fv_files.specs.Apart.{AreLed, Trees, stored_trees}
 use Rattle.fv_charge.specs.Ledgers.{IsLedgerOf}
 use Rattle.fv_volmap.specs.Slots.{Volume as Maps, has, slot_at}
-use Rattle.fv_volume.specs.declared.pool.Pool.{Pool}
-use Rattle.fv_volume.specs.declared.state.Rooted.{Rooted}
+use Rattle.fv_pool.specs.declared.pool.Pool.{Pool}
+use Rattle.fv_pool.specs.declared.rooted.Rooted.{Rooted}
 use Rattle.fv_volume.specs.declared.state.VolumeState.{VolumeState}
-use Rattle.fv_volume.specs.BlocksOver.{held_block}
+use Rattle.fv_pool.specs.BlocksOver.{held_block}
 use Rattle.fv_volume.specs.Files.{IsLabelled}
 use Rattle.fv_volume.specs.States.{head_in}
-use Rattle.fv_volume.proofs.Labels.{label_turned}
-use Rattle.fv_volume.proofs.MapSlots.{same_sayable, same_slots, slots_kept}
+use Rattle.fv_volume.proofs.Labels.{label_turned, labelled_as}
 use Rattle.fv_volume.specs.Labels.{label_said}
-use Rattle.fv_volume.specs.Lending.{IsTold, KeepsSlots, lent_by, lent_for, sees}
-use Rattle.fv_volume.specs.OneVolume.{blocks_in, home_in, shows, snaps_by, standing_by, standing_for, table_for, volume_for, AreLaidBy, AreSoundBy, IsKeptTable, IsReady, IsStanding}
-use Rattle.fv_volume.specs.Placing.{AreLedBy, AreStoredBy, Goes, IsLedTo, IsStoredWell, IsInNoSnap, PlacesTable, pending_of}
-use Rattle.fv_volume.specs.Sharing.{trees_by, AreShared}
+use Rattle.fv_pool.specs.Lending.{IsTold, KeepsSlots, lent_by, lent_for, sees}
+use Rattle.fv_pool.specs.Tables.{standing_by, AreLaidBy, AreSoundBy, AreLedBy, AreStoredBy, pending_of, trees_by}
+use Rattle.fv_volume.specs.OneVolume.{blocks_in, home_in, shows, snaps_by, standing_for, table_for, volume_for, IsKeptTable, IsReady, IsStanding}
+use Rattle.fv_pool.specs.Placing.{Goes, IsInNoSnap, PlacesTable}
+use Rattle.fv_volume.specs.Placing.{IsLedTo, IsStoredWell}
+use Rattle.fv_volume.specs.Sharing.{AreShared}
 use Rattle.fv_volume.proofs.KeptTables.{kept_shared, kept_snaps, kept_tables}
 use Rattle.fv_volume.proofs.SnapRecords.{all_said}
 use Rattle.fv_volume.proofs.PlacedShared.{placed_shared, was_laid}
-use Rattle.fv_volume.proofs.TakenTrees.{stored_now}
+use Rattle.fv_pool.proofs.TakenTrees.{stored_now}
 
 -- ---- calls can be made on it
 
 module _ (x : VolumeState) (active : Rooted) (few : active.levels ≤ 2) (fits : IsPointer active.root) where
   labelled_placed : (map : Maps) (files : Option Files) → map.span ≡ x.map.span → ((k : ℕ) → k ≢ 0 → slot_at map k ≡ slot_at x.map k) → IsLabelled x.slot x → IsLabelled x.slot (record x { active = active; map = map; files = files; changed = true })
   unfolding label_said
-  labelled_placed map files span slots is = record {
-    slot_is = is.slot_is;
-    form = is.form;
-    span = is.span;
-    map = span ∙ is.map;
-    snapshots = same_sayable _ (head_in x) refl is.snapshots;
-    slots = same_slots _ (head_in x) map refl (slots_kept (head_in x) x.map map slots is.slots);
-    waits = is.waits;
-    counts = is.counts;
-    levels = few;
-    named = is.named;
-    label = λ container height low least most. label_turned x active x.snapshots container height (is.label container height low least most) few fits (all_said (head_in x) is.snapshots);
-  }
+  labelled_placed map files span slots is = labelled_as x x.now x.size x.kind active map files x.ledger x.numbers span slots refl few
+      (λ container height label. label_turned x active x.snapshots container height label few fits (all_said (head_in x) is.snapshots))
+      is
 
 -- Its blocks were placed, and its root is one that a label can say.
 pub ready_placed : (d e : Disk) (p q : Pool) (x : VolumeState) (active : Rooted) (map : Maps) (files : Option Files) (room left : ℕ) → IsReady d p x → active.levels ≤ 2 → IsPointer active.root

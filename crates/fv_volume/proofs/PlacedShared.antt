@@ -1,56 +1,28 @@
 -- What the active table of a volume shares with those of its snapshots, once its trees were placed.
-use Rattle.std.proofs.Common.{◌≡◌, ℕ, Bool, true, false, cond, Option, Some, None, is_some, inl, inr, refl, sym, ap, subst, ◌∙◌}
+use Rattle.std.proofs.Common.{◌≡◌, ℕ, Bool, true, false, cond, Option, Some, None, is_some, refl, ap, subst}
 use Rattle.std.specs.Prelude.{slice_index_or}
 use Rattle.std.specs.Option.{option_map}
-use Rattle.std.specs.FinMap as fin
 use Rattle.fv_disk.specs.Shown.{Shown as Disk}
 use Rattle.fv_codec.specs.declared.inode.InodeRecord.{InodeRecord}
 use Rattle.fv_codec.specs.Blocks.{greatest_word}
-use Rattle.fv_tables.specs.Spelled.{pointer_at, stored}
+use Rattle.fv_tables.specs.Spelled.{stored}
 use Rattle.fv_tables.specs.Told.{file_at}
 use Rattle.fv_tree.specs.Beside.{unread}
-use Rattle.fv_tree.specs.Flushing.{Loaded}
 use Rattle.fv_tree.specs.Standing.{under}
 use Rattle.fv_files.specs.declared.files.Files.{Files}
 use Rattle.fv_files.specs.Apart.{Trees}
 use Rattle.fv_files.specs.Tables.{loaded_trees}
 use Rattle.fv_volmap.specs.Slots.{has, slot_at}
-use Rattle.fv_files.specs.Altering.{AreLaid, PlacesIn, PlacesTrees}
-use Rattle.fv_volume.specs.declared.pool.Pool.{Pool}
+use Rattle.fv_files.specs.Altering.{AreLaid, PlacesTrees}
+use Rattle.fv_pool.specs.declared.pool.Pool.{Pool}
 use Rattle.fv_volume.specs.declared.state.Snap.{Snap}
 use Rattle.fv_volume.specs.declared.state.VolumeState.{VolumeState}
-use Rattle.fv_volume.specs.BlocksOver.{held_block, AreApart}
-use Rattle.fv_volume.specs.Lending.{blocks_held, GoesOver, Lent}
-use Rattle.fv_volume.specs.OneVolume.{blocks_in, shows, AreLaidBy, IsKeptTable, IsStanding}
-use Rattle.fv_volume.specs.Placing.{IsInNoSnap}
-use Rattle.fv_volume.specs.Sharing.{trees_by, trees_kept, AreShared, StandsInBlock}
+use Rattle.fv_pool.specs.BlocksOver.{held_block}
+use Rattle.fv_pool.specs.Tables.{AreLaidBy, trees_by}
+use Rattle.fv_volume.specs.OneVolume.{blocks_in, shows, IsKeptTable, IsStanding}
+use Rattle.fv_pool.specs.Placing.{IsInNoSnap}
+use Rattle.fv_volume.specs.Sharing.{trees_kept, AreShared, StandsInBlock}
 use Rattle.fv_volume.proofs.SharedChanges.{shared_placed}
-use Rattle.fv_volume.proofs.Shows.{get_held}
-
--- ---- what was free while blocks were placed
-
--- Where at some moment no block was held under a VVBN, no other slot had one under it.
-pub was_unkept : (old moment : Lent) → GoesOver old moment → AreApart old.pool old.map old.home.slot → (v : ℕ) → fin.get (blocks_held moment.map moment.pool moment.home.slot moment.disk.reads) v ≡ None → IsInNoSnap old.disk old.pool old.map old.home.slot v
-was_unkept old moment goes apart v free k other here =
-    sym ((goes.keeps apart).blocks k v other here old.disk.reads)
-    ∙ (λ i. held_block moment.map moment.pool (sym goes.home i).slot (sym goes.only_reads.stays.reads i) v)
-    ∙ sym (get_held moment.map moment.pool moment.home.slot moment.disk.reads v) ∙ free
-
--- what new blocks got is so, as well
-pub placed_free : (free other : ℕ → Type 0) (x y : Trees) → ((v : ℕ) → free v → other v) → PlacesTrees free x y → PlacesTrees other x y
-placed_free free other x y so places a = by (x a) (y a) (places a)
-  where
-    by : (s t : Option Loaded) → PlacesIn free s t → PlacesIn other s t
-    by None None is = is
-    by None (Some t) is = is
-    by (Some s) None is = is
-    by (Some s) (Some t) is = λ level place. elim (is level place) [
-      | inl none ↦ inl none
-      | inr (inl now) ↦ inr (inl (record { stamp = now.stamp; was = now.was; done = now.done; fresh = so (pointer_at t.tree level place).vvbn now.fresh }))
-      | inr (inr was) ↦ inr (inr was)
-    ]
-
--- ---- a volume with files in memory
 
 module _ (d : Disk) (p : Pool) (x : VolumeState) (f : Files) (held : x.files ≡ Some f) (is : IsStanding d p x) where
   -- a snapshot's table stands in blocks of its slot

@@ -1,6 +1,6 @@
 -- A volume with another size or another kind of guarantee: what the machine says of it, and that it is one of a session still.
 use Rattle.std.proofs.Common.{◌≡◌, ℕ, ◌+◌, ◌<◌, ◌≤◌, ⊎_elim, pos, ◌+ℤ◌, Bool, true, false, cond, not, ◌&&◌, nat_lt, nat_le, List, ◌∷◌, Option, Some, None, true≢false, refl, sym, ap, subst, ◌∙◌, arith}
-use Rattle.std.specs.Prelude.{Result, Ok, Err, OnOk, OnErr}
+use Rattle.std.specs.Prelude.{Result, Ok, Err, OnOk, OnErr, min}
 use Rattle.std.specs.Option.{is_none, option_map_or}
 use Rattle.std.specs.FinMap as fin
 use Rattle.std.proofs.lemmas.Int.{ints}
@@ -24,19 +24,17 @@ use Rattle.fv_charge.specs.declared.delta.Delta.{Delta}
 use Rattle.fv_charge.specs.declared.ledger.Ledger.{Ledger}
 use Rattle.fv_charge.specs.Changes.{CanChange, IsChanged, IsLeft, admission, answer_of, machine_answer}
 use Rattle.fv_charge.specs.Ledgers.{IsLedgerOf, committed}
-use Rattle.fv_volume.specs.declared.pool.Pool.{Pool}
+use Rattle.fv_pool.specs.declared.pool.Pool.{Pool}
 use Rattle.fv_volume.specs.declared.state.VolumeState.{VolumeState}
 use Rattle.fv_volume.specs.Calls.{Has, HasBeside}
 use Rattle.fv_volume.specs.Files.{IsLabelled}
 use Rattle.fv_volume.specs.Held.{IsHeldIn}
 use Rattle.fv_volume.specs.Labels.{label_said}
-use Rattle.fv_volume.specs.States.{head_in}
-use Rattle.fv_volume.proofs.MapSlots.{same_sayable, same_slots}
 use Rattle.fv_volume.specs.OneVolume.{content_for, greatest_charge, volume_as, Content, IsReady, IsStanding}
 use Rattle.fv_volume.specs.Promising.{CanHave, FitsBeside, Promises, promised, promised_ledger, refusal_of}
 use Rattle.fv_volume.proofs.Changed.{within_size}
 use Rattle.fv_volume.proofs.Charging.{left_by}
-use Rattle.fv_volume.proofs.Labels.{kind_least}
+use Rattle.fv_volume.proofs.Labels.{kind_least, labelled_as}
 
 -- ---- what a ledger is admitted for
 
@@ -162,48 +160,16 @@ module _ (x : VolumeState) (size : ℕ) (kind : Kind) where
 
   label_promised : (container height : ℕ) → IsSizeOf x size → IsLabel (label_said x container height) → IsLabel (label_said y container height)
   unfolding label_said
-  label_promised container height sized is = record {
-    name_least = is.name_least;
-    name_greatest = is.name_greatest;
-    name = is.name;
-    kind = kind_least kind;
-    size_least = sized.least;
-    size_greatest = (let greatest = sized.greatest in let most = sized.most in omega (arith, greatest, most));
-    most_least = is.most_least;
-    most_greatest = is.most_greatest;
-    span_least = is.span_least;
-    span_greatest = is.span_greatest;
-    span_step = is.span_step;
-    now = is.now;
-    parent = is.parent;
-    base_least = is.base_least;
-    base_greatest = is.base_greatest;
-    splitting = is.splitting;
-    known = is.known;
-    container = is.container;
-    height_least = is.height_least;
-    height_greatest = is.height_greatest;
-    levels = is.levels;
-    root = is.root;
-    snapshots = is.snapshots;
-  }
+  label_promised container height sized is =
+      let kind_few = kind_least kind in
+      let least = sized.least in
+      let within : size ≤ min 500000 x.most = (let greatest = sized.greatest in let most = sized.most in omega (arith, greatest, most)) in
+      search (is, kind_few, least, within)
 
   -- its label can be written
-  promised_labelled : (s : ℕ) → IsSizeOf x size → IsLabelled s x → IsLabelled s y
+  promised_labelled : IsSizeOf x size → IsLabelled x.slot x → IsLabelled x.slot y
   unfolding label_said
-  promised_labelled s sized is = record {
-    slot_is = is.slot_is;
-    form = is.form;
-    span = is.span;
-    map = is.map;
-    snapshots = same_sayable _ (head_in x) refl is.snapshots;
-    slots = same_slots _ (head_in x) x.map refl is.slots;
-    waits = is.waits;
-    counts = is.counts;
-    levels = is.levels;
-    named = is.named;
-    label = λ container height low least most. label_promised container height sized (is.label container height low least most);
-  }
+  promised_labelled sized is = labelled_as x x.now size kind x.active x.map x.files y.ledger x.numbers refl (λ k other. refl) refl is.levels (λ container height label. label_promised container height sized label) is
 
   same_charge : (v : Volume) → charge (record v { size = size; kind = kind }) ≡ charge v
   unfolding charge
@@ -247,30 +213,14 @@ module _ (x : VolumeState) (size : ℕ) (kind : Kind) where
   can_have d p is = record { reserves = is.reserves; ledger = is.ledger }
 
   pub promised_stands : (d : Disk) (p : Pool) → IsStanding d p x → IsStanding d p y
-  promised_stands d p is = record {
-    told = is.told;
-    table = is.table;
-    reserves = is.reserves;
-    kept = is.kept;
-    names = is.names;
-    shared = is.shared;
-    ledger = promised_books (content_for d p x) (can_have d p is);
-    trees = is.trees;
-    laid = is.laid;
-    numbers = is.numbers;
-  }
+  promised_stands d p is = let ledger = promised_books (content_for d p x) (can_have d p is) in search (is, ledger)
 
   -- It is a volume of a session still.
   pub promised_held : (d : Disk) (p : Pool) (s : ℕ) → IsLabelled x.slot y → x.ledger.charge ≤ size → IsHeldIn d p s x → IsHeldIn d p s y
-  promised_held d p s labelled fits is = record {
-    slot = is.slot;
-    ready = promised_ready d p labelled is.ready;
-    stands = promised_stands d p is.stands;
-    led = is.led;
-    well = is.well;
-    wide = is.wide;
-    within = fits;
-  }
+  promised_held d p s labelled fits is =
+      let ready = promised_ready d p labelled is.ready in
+      let stands = promised_stands d p is.stands in
+      search (is, ready, stands, fits)
 
 -- ---- the calls
 
@@ -286,7 +236,7 @@ module _ (x : VolumeState) (blocks others : ℕ) (was : IsLabelled x.slot x) whe
       agrees = agrees;
       becomes = on_ok r (λ is content m has. subst (λ (z : VolumeState). change_of m c ≡ Becomes x.name (volume_as z content)) (sym is) (change content m has)) done;
       done = done;
-      labelled = on_ok r (λ is. subst (IsLabelled x.slot) (sym is) (promised_labelled x size kind x.slot sized was)) done;
+      labelled = on_ok r (λ is. subst (IsLabelled x.slot) (sym is) (promised_labelled x size kind sized was)) done;
       fits = fit r done fits;
       stays = stays;
     }

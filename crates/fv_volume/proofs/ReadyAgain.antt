@@ -1,5 +1,5 @@
 -- Calls can be made on a volume whose table or whose count of changes is another.
-use Rattle.std.proofs.Common.{◌≡◌, ◌≢◌, ℕ, ◌≤◌, true, false, Option, sym, ◌∙◌, arith, refl}
+use Rattle.std.proofs.Common.{◌≡◌, ◌≢◌, ℕ, ◌≤◌, true, false, Option, sym, ◌∙◌, arith}
 use Rattle.fv_disk.specs.Shown.{Shown as Disk}
 use Rattle.fv_codec.specs.Blocks.{IsLabel}
 use Rattle.fv_model.specs.Numbers.{most_changes}
@@ -7,12 +7,11 @@ use Rattle.fv_files.specs.declared.files.Files.{Files}
 use Rattle.fv_files.specs.declared.numbers.FileNumbers.{FileNumbers}
 use Rattle.fv_charge.specs.declared.ledger.Ledger.{Ledger}
 use Rattle.fv_volmap.specs.Slots.{Volume as Maps, slot_at}
-use Rattle.fv_volume.specs.declared.pool.Pool.{Pool}
+use Rattle.fv_pool.specs.declared.pool.Pool.{Pool}
 use Rattle.fv_volume.specs.declared.state.VolumeState.{VolumeState}
 use Rattle.fv_volume.specs.Files.{IsLabelled}
 use Rattle.fv_volume.specs.Labels.{label_said}
-use Rattle.fv_volume.specs.States.{head_in}
-use Rattle.fv_volume.proofs.MapSlots.{same_sayable, same_slots, slots_kept}
+use Rattle.fv_volume.proofs.Labels.{labelled_as}
 use Rattle.fv_volume.specs.OneVolume.{IsBooked, IsReady}
 
 module _ (x : VolumeState) (now : ℕ) (few : now ≤ most_changes) where
@@ -21,47 +20,11 @@ module _ (x : VolumeState) (now : ℕ) (few : now ≤ most_changes) where
 
   label_now : (container height : ℕ) → IsLabel (label_said x container height) → IsLabel (label_said at_now container height)
   unfolding label_said
-  label_now container height is = record {
-    name_least = is.name_least;
-    name_greatest = is.name_greatest;
-    name = is.name;
-    kind = is.kind;
-    size_least = is.size_least;
-    size_greatest = is.size_greatest;
-    most_least = is.most_least;
-    most_greatest = is.most_greatest;
-    span_least = is.span_least;
-    span_greatest = is.span_greatest;
-    span_step = is.span_step;
-    now = few;
-    parent = is.parent;
-    base_least = is.base_least;
-    base_greatest = is.base_greatest;
-    splitting = is.splitting;
-    known = is.known;
-    container = is.container;
-    height_least = is.height_least;
-    height_greatest = is.height_greatest;
-    levels = is.levels;
-    root = is.root;
-    snapshots = is.snapshots;
-  }
+  label_now container height is = search (is, few)
 
   labelled_now : IsLabelled x.slot x → (map : Maps) → map.span ≡ x.map.span → ((k : ℕ) → k ≢ 0 → slot_at map k ≡ slot_at x.map k) → (files : Option Files) (ledger : Ledger) (numbers : Option FileNumbers) → ledger.span ≡ x.ledger.span → IsLabelled x.slot (record x { now = now; map = map; files = files; numbers = numbers; ledger = ledger; changed = true })
   unfolding label_said
-  labelled_now is map span slots files ledger numbers counts = record {
-    slot_is = is.slot_is;
-    form = is.form;
-    span = is.span;
-    map = span ∙ is.map;
-    snapshots = same_sayable _ (head_in x) refl is.snapshots;
-    slots = same_slots _ (head_in x) map refl (slots_kept (head_in x) x.map map slots is.slots);
-    waits = is.waits;
-    counts = counts ∙ is.counts;
-    levels = is.levels;
-    named = is.named;
-    label = λ container height low least most. label_now container height (is.label container height low least most);
-  }
+  labelled_now is map span slots files ledger numbers counts = labelled_as x now x.size x.kind x.active map files ledger numbers span slots counts is.levels label_now is
 
 -- whatever changed of it
 pub ready_again : (d : Disk) (p : Pool) (x : VolumeState) (now : ℕ) (map : Maps) (files : Option Files) (ledger : Ledger) (numbers : Option FileNumbers) → IsReady d p x → now ≤ most_changes → map.span ≡ x.map.span → ((k : ℕ) → k ≢ 0 → slot_at map k ≡ slot_at x.map k) → IsBooked (record x { ledger = ledger })

@@ -34,7 +34,7 @@ use Rattle.fv_files.specs.Sharing.{SettlesShared, owner_in}
 use Rattle.fv_image.specs.Views.{Snap as HeadSnap}
 use Rattle.fv_image.specs.Volumes.{snap_at}
 use Rattle.fv_volmap.specs.Slots.{Slot, has, is_in_snapshot, slot_at, snapshot_count, taken_in}
-use Rattle.fv_volume.specs.declared.pool.Pool.{Pool}
+use Rattle.fv_pool.specs.declared.pool.Pool.{Pool}
 use Rattle.fv_volume.specs.declared.state.Snap.{Snap}
 use Rattle.fv_volume.specs.declared.state.VolumeState.{VolumeState}
 use Rattle.fv_volume.specs.Files.{IsLabelled}

@@ -12,11 +12,12 @@ use Rattle.fv_files.specs.declared.files.Files.{Files}
 use Rattle.fv_files.specs.Apart.{Trees}
 use Rattle.fv_volmap.specs.Slots.{Volume as Maps}
 use Rattle.fv_files.specs.Altering.{AltersIn, AltersTrees, PlacesIn, PlacesTrees}
-use Rattle.fv_volume.specs.declared.pool.Pool.{Pool}
+use Rattle.fv_pool.specs.declared.pool.Pool.{Pool}
 use Rattle.fv_volume.specs.declared.state.Snap.{Snap}
 use Rattle.fv_volume.specs.declared.state.VolumeState.{VolumeState}
-use Rattle.fv_volume.specs.OneVolume.{shows, standing_kept, trees_for, AreLaidBy}
-use Rattle.fv_volume.specs.Sharing.{differs_in, pointer_in, trees_by, trees_kept, AreShared, SharesWith, StandsInBlock}
+use Rattle.fv_pool.specs.Tables.{AreLaidBy, trees_by}
+use Rattle.fv_volume.specs.OneVolume.{shows, standing_kept, trees_for}
+use Rattle.fv_volume.specs.Sharing.{differs_in, pointer_in, trees_kept, AreShared, SharesWith, StandsInBlock}
 use Rattle.fv_volume.proofs.KeptStamps.{stored_stamp}
 use Rattle.fv_volume.proofs.Shared.{changed_unshared, placed_unshared, shared_by, shares_by, IsAlike, IsUnshared}
 

@@ -8,13 +8,13 @@ use Rattle.fv_tree.specs.Sources.{Use}
 use Rattle.fv_container.specs.declared.entry.Entry.{Entry}
 use Rattle.fv_container.specs.Chains.{Slots, chain_entry}
 use Rattle.fv_volmap.specs.Slots.{Slot, Volume as Maps, has, slot_at, taken_in}
-use Rattle.fv_volume.specs.declared.pool.Pool.{Pool}
-use Rattle.fv_volume.specs.declared.state.Rooted.{Rooted}
+use Rattle.fv_pool.specs.declared.pool.Pool.{Pool}
+use Rattle.fv_pool.specs.declared.rooted.Rooted.{Rooted}
 use Rattle.fv_volume.specs.declared.state.VolumeState.{VolumeState}
-use Rattle.fv_volume.specs.BlocksOver.{AreApart, block_of, held_block, held_entry}
-use Rattle.fv_volume.specs.Lending.{IsTold, use_of}
+use Rattle.fv_pool.specs.BlocksOver.{AreApart, block_of, held_block, held_entry}
+use Rattle.fv_pool.specs.Lending.{IsTold, use_of}
 use Rattle.fv_volume.specs.OneVolume.{blocks_in, uses_in, IsTableIn, RootStands}
-use Rattle.fv_volume.proofs.Holding.{has_taken}
+use Rattle.fv_pool.proofs.Holding.{has_taken}
 use Rattle.fv_volume.proofs.KeptTables.{by_test}
 
 -- what some slot has once one is another is had by that or by some slot before

@@ -31,10 +31,11 @@ use Rattle.fv_files.specs.Sharing.{owner_in}
 use Rattle.fv_files.specs.Tables.{changed, file_loaded, tree_in}
 use Rattle.fv_files.specs.Trees.{standing_in}
 use Rattle.fv_image.specs.ReachRules.{are_distinct}
-use Rattle.fv_volume.specs.declared.state.Rooted.{Rooted}
+use Rattle.fv_pool.specs.declared.rooted.Rooted.{Rooted}
 use Rattle.fv_volume.specs.declared.state.Snap.{Snap}
-use Rattle.fv_volume.specs.OneVolume.{snap_by, snaps_by, standing_by, standing_kept}
-use Rattle.fv_volume.specs.Sharing.{pointer_in, trees_by}
+use Rattle.fv_pool.specs.Tables.{standing_by, trees_by}
+use Rattle.fv_volume.specs.OneVolume.{snap_by, snaps_by, standing_kept}
+use Rattle.fv_volume.specs.Sharing.{pointer_in}
 use Rattle.fv_volume.proofs.SharedRoots.{stored_place}
 
 -- ---- a place of a table

@@ -16,14 +16,14 @@ use Rattle.fv_tables.specs.Told.{Standing, standing_at, table_told}
 use Rattle.fv_tables.proofs.Tables.{kept_table}
 use Rattle.fv_tree.specs.Standing.{under}
 use Rattle.fv_volmap.specs.Slots.{has, slot_at}
-use Rattle.fv_volume.specs.declared.pool.Pool.{Pool}
+use Rattle.fv_pool.specs.declared.pool.Pool.{Pool}
 use Rattle.fv_volume.specs.declared.state.Snap.{Snap}
 use Rattle.fv_volume.specs.declared.state.VolumeState.{VolumeState}
 use Rattle.fv_volume.specs.declared.tables.TableAsked.TheVariants.{Kept}
 use Rattle.fv_volume.specs.Asking.{snap_named, standing_asked, standing_of}
-use Rattle.fv_volume.specs.BlocksOver.{held_block}
+use Rattle.fv_pool.specs.BlocksOver.{held_block}
 use Rattle.fv_volume.specs.OneVolume.{blocks_in, shows, snap_by, standing_for, standing_kept, volume_for, IsKeptTable, IsStanding}
-use Rattle.fv_volume.proofs.Shows.{get_held}
+use Rattle.fv_pool.proofs.Shows.{get_held}
 
 -- what holds of each snapshot holds of the one that is found
 pub found_among : (P : Snap → Type 0) (test : Snap → Bool) (snaps : List Snap) → All P snaps → (q : Snap) → find test snaps ≡ Some q → P q

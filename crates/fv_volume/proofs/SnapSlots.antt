@@ -118,21 +118,6 @@ module _ (h : Head) (a : Rooted) (m : Maps) (long : stored_count < length m.slot
         ∙ ap (λ (b : Bool). if b then Some map else slot_at m slot_of_base) (other_test slot_of_base p.slot (λ e. absurd (omega (arith, low, e)))) ∙ is.base;
   }
 
-  -- the slot of the snapshot that is removed is free
-  pub slots_fewer : (name : List ℕ) (j : ℕ) → 1 ≤ j → j < stored_count → ((q : Snap) → In q h.snapshots → is_same_name q.name name ≡ (q.slot == j)) → HasSlotsOf (turned h a (without name h.snapshots)) (with_slot m j None)
-  unfolding snap_at
-  slots_fewer name j some low same = record {
-    each = λ k other not_base. ap (λ (s : Slot). is_some s) (slot_with m j None (omega (arith, low, long)) k) ∙ ⊎_elim
-        (λ (e : k ≡ j). ap (λ (b : Bool). is_some {T = List Bool} (if b then None else slot_at m k)) (same_test k j e)
-        ∙ sym (ap (λ (b : Bool). is_some {T = Snap} (if b then None else find (λ q. q.slot == k) h.snapshots)) (same_test k j e)))
-        (λ (e : k ≢ j). ap (λ (b : Bool). is_some {T = List Bool} (if b then None else slot_at m k)) (other_test k j e) ∙ is.each k other not_base
-        ∙ sym (ap (λ (b : Bool). is_some {T = Snap} (if b then None else find (λ q. q.slot == k) h.snapshots)) (other_test k j e)))
-        (cases_eq k j)
-        ∙ ap (λ (o : Option Snap). is_some o) (sym (find_without name j h.snapshots k same));
-    base = slot_with m j None (omega (arith, low, long)) slot_of_base
-        ∙ ap (λ (b : Bool). if b then None else slot_at m slot_of_base) (other_test slot_of_base j (λ e. absurd (omega (arith, low, e)))) ∙ is.base;
-  }
-
   -- another active map changes nothing of the others
   pub slots_turned : (s : Slot) → HasSlotsOf (turned h a h.snapshots) (with_slot m 0 s)
   unfolding snap_at
@@ -151,8 +136,3 @@ stored_taken slots v long free =
     or_none : (b : Bool) → (b || false) ≡ b
     or_none true = refl
     or_none false = refl
-
--- The union of the slots of a volume without a base that is mapped has what its roots reach.
-pub united_listed : (w : View) (s : ℕ) (h : Head) (m : Maps) → IsVolume m → AreMapped w s h m → AreInSlots h → slot_at m slot_of_base ≡ None → (map : List Bool) → AreUnited m map → (v : ℕ) → is_member map v ≡ is_listed (own_items w s h) v
-united_listed w s h m is mapped slots base map united v =
-    united.members v ∙ stored_taken m.slots v (let long = is.count in omega (arith, long)) (ap (has v) base) ∙ stored_listed w s h m mapped slots v

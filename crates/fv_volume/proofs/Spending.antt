@@ -4,12 +4,13 @@ use Rattle.std.specs.Prelude.{min}
 use Rattle.fv_disk.specs.Shown.{Shown}
 use Rattle.fv_aggmap.specs.Space.{free_blocks}
 use Rattle.fv_files.specs.declared.files.Files.{Files}
-use Rattle.fv_volume.specs.declared.pool.Pool.{Pool}
+use Rattle.fv_pool.specs.declared.pool.Pool.{Pool}
 use Rattle.fv_volume.specs.declared.state.VolumeState.{VolumeState}
-use Rattle.fv_volume.specs.BlocksOver.{free_numbers}
-use Rattle.fv_volume.specs.Lending.{lent_for}
+use Rattle.fv_pool.specs.BlocksOver.{free_numbers}
+use Rattle.fv_pool.specs.Lending.{lent_for}
 use Rattle.fv_volume.specs.OneVolume.{home_in, IsStanding}
-use Rattle.fv_volume.specs.Placing.{pending_of, Goes}
+use Rattle.fv_pool.specs.Placing.{Goes}
+use Rattle.fv_pool.specs.Tables.{pending_of}
 use Rattle.fv_volume.specs.Held.{HasNumbers, HasSpent, IsPlacedAs}
 
 -- what was placed of a volume, by the room that there was for it

@@ -153,9 +153,6 @@ slot_within span v past inside =
     let near : v - span < 25 * map_blocks span = omega (arith, past, inside) in
     (div-lt_iff_lt-mul {k = map_blocks span} {x = v - span} {y = 25} (omega (arith, past, inside))).1 near
 
-pub index_within : (span v : ℕ) → span ≤ v → v < entry_count span → map_index span v < map_blocks span
-index_within span v past inside = mod-lt (v - span) {m = map_blocks span} (omega (arith, past, inside))
-
 back : (a b : ℕ) → (a + b) - a ≡ b
 back a b = omega arith
 

@@ -14,17 +14,17 @@ use Rattle.fv_tree.specs.Standing.{under}
 use Rattle.fv_files.specs.Altering.{AltersTrees}
 use Rattle.fv_files.specs.Pending.{pending_in}
 use Rattle.fv_volmap.specs.Slots.{Volume as Maps}
-use Rattle.fv_volume.specs.declared.pool.Pool.{Pool}
+use Rattle.fv_pool.specs.declared.pool.Pool.{Pool}
 use Rattle.fv_volume.specs.declared.state.VolumeState.{VolumeState}
-use Rattle.fv_volume.specs.Calls.{BlockCause, GivesUp, LeavesTable, Reads}
+use Rattle.fv_pool.specs.Calls.{BlockCause, GivesUp, LeavesTable, Reads}
 use Rattle.fv_volume.specs.Changing.{AltersTable}
-use Rattle.fv_volume.specs.Lending.{IsTold, lent_for, sees}
-use Rattle.fv_volume.specs.OneVolume.{home_in, shows, standing_by, standing_for, AreSoundBy, IsStanding}
-use Rattle.fv_volume.specs.Placing.{pending_of, AreLedBy, AreStoredBy}
-use Rattle.fv_volume.proofs.CallCauses.{cause_for}
+use Rattle.fv_pool.specs.Lending.{IsTold, lent_for, sees}
+use Rattle.fv_pool.specs.Tables.{standing_by, AreSoundBy, pending_of, AreLedBy, AreStoredBy}
+use Rattle.fv_volume.specs.OneVolume.{home_in, shows, standing_for, IsStanding}
+use Rattle.fv_pool.proofs.CallCauses.{cause_for}
 use Rattle.fv_volume.proofs.Calling.{ifok_with, onok_with, same_maps}
 use Rattle.fv_volume.proofs.OneVolumes.{still_told}
-use Rattle.fv_volume.proofs.TakenTrees.{taken_laid, taken_trees}
+use Rattle.fv_pool.proofs.TakenTrees.{taken_laid, taken_trees}
 
 module _ (d : Disk) (p : Pool) (x : VolumeState) (f : Files) (takes : (blocks : Under) → standing_in blocks (changed f) ≡ standing_by blocks x.active x.files) where
   table : table_in (shows d p x) f ≡ standing_for d p x

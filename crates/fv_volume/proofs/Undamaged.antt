@@ -19,12 +19,13 @@ use Rattle.fv_inode.specs.Files.{NamesIndexes}
 use Rattle.fv_files.specs.declared.files.Files.{Files}
 use Rattle.fv_files.specs.Apart.{StandsIn, StoredIn}
 use Rattle.fv_files.specs.Tables.{file_loaded, tree_in}
-use Rattle.fv_volume.specs.declared.pool.Pool.{Pool}
+use Rattle.fv_pool.specs.declared.pool.Pool.{Pool}
 use Rattle.fv_volume.specs.declared.state.VolumeState.{VolumeState}
-use Rattle.fv_volume.specs.Calls.{FileFails, IsBadInodes, TableFails}
-use Rattle.fv_volume.specs.Lending.{Lent, ReadFails, lent_for, shown_over}
-use Rattle.fv_volume.specs.OneVolume.{home_in, shows, standing_by, standing_for, AreSoundBy, IsStanding}
-use Rattle.fv_volume.specs.Placing.{AreStoredBy, IsStoredWell}
+use Rattle.fv_pool.specs.Calls.{FileFails, IsBadInodes, TableFails}
+use Rattle.fv_pool.specs.Lending.{Lent, ReadFails, lent_for, shown_over}
+use Rattle.fv_pool.specs.Tables.{standing_by, AreSoundBy, AreStoredBy}
+use Rattle.fv_volume.specs.OneVolume.{home_in, shows, standing_for, IsStanding}
+use Rattle.fv_volume.specs.Placing.{IsStoredWell}
 
 -- ---- one tree
 

@@ -14,7 +14,7 @@ use Rattle.fv_image.specs.Mapped.{AreInSlots}
 use Rattle.fv_charge.specs.Ledgers.{IsLedgerOf}
 use Rattle.fv_volmap.specs.Slots.{Volume as Maps, slot_at, slot_of_base}
 use Rattle.fv_volume.specs.declared.state.VolumeState.{VolumeState}
-use Rattle.fv_volume.specs.declared.pool.Pool.{Pool}
+use Rattle.fv_pool.specs.declared.pool.Pool.{Pool}
 use Rattle.fv_volume.specs.Labels.{label_said}
 use Rattle.fv_volume.specs.SnapRecords.{AreSayable}
 use Rattle.fv_volume.specs.States.{States, state_at, head_in, view_over}

@@ -16,23 +16,22 @@ use Rattle.fv_tables.specs.Told.{Standing, standing_at, table_told}
 use Rattle.fv_tree.specs.Sources.{Shown, Use}
 use Rattle.fv_tree.specs.Standing.{under}
 use Rattle.fv_files.specs.declared.files.Files.{Files}
-use Rattle.fv_files.specs.Altering.{AreLaid}
 use Rattle.fv_files.specs.Apart.{Trees as LoadedTrees}
 use Rattle.fv_files.specs.Numbering.{AreNumbersIf}
-use Rattle.fv_files.specs.Tables.{changed, AreReached, AreSound, IsStoredUnder}
-use Rattle.fv_files.specs.Trees.{standing_in}
+use Rattle.fv_files.specs.Tables.{changed, AreReached, IsStoredUnder}
 use Rattle.fv_charge.specs.Ledgers.{IsLedgerOf, committed}
 use Rattle.fv_image.specs.ReachRules.{are_distinct}
 use Rattle.fv_volmap.specs.Slots.{Slot, has, slot_at, stored_count}
-use Rattle.fv_volume.specs.declared.blocks.Home.{Home}
-use Rattle.fv_volume.specs.declared.pool.Pool.{Pool}
-use Rattle.fv_volume.specs.declared.state.Rooted.{Rooted}
+use Rattle.fv_pool.specs.declared.blocks.Home.{Home}
+use Rattle.fv_pool.specs.declared.pool.Pool.{Pool}
+use Rattle.fv_pool.specs.declared.rooted.Rooted.{Rooted}
 use Rattle.fv_volume.specs.declared.state.Snap.{Snap}
 use Rattle.fv_volume.specs.declared.state.VolumeState.{VolumeState}
-use Rattle.fv_volume.specs.BlocksOver.{held_block, held_entry}
+use Rattle.fv_pool.specs.BlocksOver.{held_block, held_entry}
 use Rattle.fv_volume.specs.Files.{IsLabelled}
-use Rattle.fv_volume.specs.Lending.{CanLend, IsTold, sees, use_of}
-use Rattle.fv_volume.specs.Sharing.{trees_by, AreShared}
+use Rattle.fv_pool.specs.Lending.{CanLend, IsTold, sees, use_of}
+use Rattle.fv_pool.specs.Tables.{trees_by, standing_by, AreSoundBy, AreLaidBy}
+use Rattle.fv_volume.specs.Sharing.{AreShared}
 use Rattle.fv_volume.specs.States.{States, state_at}
 use Rattle.fv_volume.specs.Trees.{Trees}
 
@@ -46,11 +45,6 @@ home_in x = record { slot = x.slot; label = x.label }
 abbrev pub shows : Disk → Pool → VolumeState → Shown
 shows disk pool x = sees pool x.map disk (home_in x)
 
--- a table by its trees in memory, and where there are none by its root
-abbrev pub standing_by : Under → Rooted → Option Files → Standing
-standing_by blocks root None = standing_at blocks root.levels root.root
-standing_by blocks root (Some files) = standing_in blocks (changed files)
-
 -- the active table of the volume
 abbrev pub standing_for : Disk → Pool → VolumeState → Standing
 standing_for disk pool x = standing_by (under (shows disk pool x)) x.active x.files
@@ -61,16 +55,6 @@ table_for disk pool x = table_told (standing_for disk pool x)
 -- its trees
 abbrev pub trees_for : Disk → Pool → VolumeState → LoadedTrees
 trees_for disk pool x = trees_by (under (shows disk pool x)) x.active x.files
-
--- each of its trees stands on its blocks
-abbrev pub AreSoundBy : Under → (ℕ → Option Use) → Rooted → Option Files → Type 0
-AreSoundBy blocks used root None = AreReached blocks used root.levels root.root
-AreSoundBy blocks used root (Some files) = AreSound blocks used files
-
--- where a tree in memory isn't as the record of its file says, its inode block differs from its block, too
-abbrev pub AreLaidBy : Under → Option Files → Type 0
-AreLaidBy blocks None = Unit {0}
-AreLaidBy blocks (Some files) = AreLaid blocks files
 
 -- the trees that volumes have in memory, by slot
 abbrev pub files_in : Option VolumeState → Option Files

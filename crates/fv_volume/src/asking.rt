@@ -1,12 +1,8 @@
 //! What is asked of a volume. None of it changes the volume.
 
-ghost use Rattle.std.specs.Prelude.{◌≡◌, ◌≤◌, ◌+◌, ◌/◌, None, false, true, IfOk, IfErr, OnOk, option_copied};
-ghost use Rattle.fv_inode.specs.Files.{Finds, IsInfo, IsInfoIf};
-ghost use Rattle.fv_inode.specs.Listing.{names_told};
+ghost use Rattle.std.specs.Prelude.{◌≡◌, ◌≤◌, None, false, true, IfOk, IfErr, OnOk, option_copied};
+ghost use Rattle.fv_inode.specs.Files.{Finds, IsInfoIf};
 ghost use Rattle.std.specs.FinMap as fin;
-ghost use Rattle.fv_files.specs.Calls.{GivesCell};
-ghost use Rattle.fv_files.specs.Tables.{tree_known, IsInfoOf};
-ghost use Rattle.fv_tables.specs.Told.{records_each};
 ghost use Rattle.fv_model.specs.Numbers.{greatest_span, is_index};
 ghost use Rattle.fv_model.specs.Replies.{stat_of};
 ghost use Rattle.fv_model.specs.declared.answers.Refusal.{Refusal};
@@ -14,25 +10,24 @@ ghost use Rattle.fv_model.specs.declared.answers.Refusal.TheVariants.{Range};
 ghost use Rattle.fv_model.specs.declared.answers.Reply.TheVariants as reply;
 ghost use Rattle.fv_model.specs.declared.commands.Command.TheVariants.{Get, Len, Ls};
 ghost use Rattle.fv_charge.specs.Ledgers.{IsLedgerOf};
-ghost use Rattle.fv_volume.specs.Asking.{standing_of, standing_read, IsRefusedUnread, IsTableOf, RefusesLost};
-ghost use Rattle.fv_volume.specs.Calls.{Asks, BlockCause, CallCause, Has, Reads};
-ghost use Rattle.fv_volume.specs.Lending.{lent_for};
+ghost use Rattle.fv_volume.specs.Asking.{standing_read, IsRefusedUnread, RefusesLost};
+ghost use Rattle.fv_pool.specs.Calls.{BlockCause, CallCause, Reads};
+ghost use Rattle.fv_volume.specs.Calls.{Asks, Has};
+ghost use Rattle.fv_pool.specs.Lending.{lent_for};
 ghost use Rattle.fv_volume.specs.Promising.{told_by};
-ghost use Rattle.fv_volume.specs.Paths.{unknown_over, unknown_to, StepsTo};
-ghost use Rattle.fv_volume.specs.declared.fault.VolumeFault.TheVariants.{Refused};
+ghost use Rattle.fv_volume.specs.Paths.{StepsTo};
+ghost use Rattle.fv_pool.specs.declared.fault.VolumeFault.TheVariants.{Refused};
 ghost use Rattle.fv_volume.specs.OneVolume.{home_in, standing_for, volume_as, volume_for, Content, IsReady, IsStanding};
 
-use crate::fault::VolumeFault;
-use crate::pool::Pool;
 use crate::state::VolumeState;
 use crate::tables::{TableAsked, find_in, list_in, read_in, table_asked};
 use fv_container::Steps;
 use fv_disk::{Block, BlockFault, Disk};
 use fv_inode::Info;
 use fv_model::{Name, Names, Refusal, Stat, in_index};
+use fv_pool::{Pool, VolumeFault};
 use std::alloc::Global;
-use std::marker::Brand;
-use std::sync::ledger::{Blank, Ledger};
+use std::sync::ledger::Ledger;
 
 impl VolumeState {
     /// The length of the file of a name, in blocks, in the active table or in that of a snapshot. The volume stays, and of the pool nothing

@@ -1,54 +1,35 @@
-//! Changes of the files of a volume.
+//! Changes of the files of a volume: writing a block of a file, and making a file.
 
-ghost use Rattle.std.specs.Prelude.{◌≡◌, ◌≤◌, ◌<◌, ◌+◌, ◌-◌, ◌^◌, pos, ℕ, List, true, IfOk, IfErr, OnOk};
-ghost use Rattle.fv_root.specs.Formatted.{IsSize};
-ghost use Rattle.fv_model.specs.Machines.{Machine, capacity};
-ghost use Rattle.fv_model.specs.Numbers.{greatest_span, most_changes};
+ghost use Rattle.std.specs.Prelude.{◌≡◌, ◌≤◌, ◌<◌, ◌+◌, ◌^◌, ℕ, List, true, IfOk, IfErr, OnOk};
+ghost use Rattle.fv_codec.specs.Blocks.{most_cells};
+ghost use Rattle.fv_model.specs.Numbers.{most_changes};
+ghost use Rattle.fv_model.specs.Tables.{new};
 ghost use Rattle.fv_model.specs.Volumes.{Volume};
-ghost use Rattle.fv_model.specs.declared.answers.Refusal.{Refusal};
-ghost use Rattle.fv_model.specs.declared.commands.Command.{Command};
-ghost use Rattle.fv_model.specs.declared.commands.Command.TheVariants.{Put};
-ghost use Rattle.fv_charge.specs.Changes.{CanChange, IsChanged, IsDeltaOf, IsLeft};
+ghost use Rattle.fv_model.specs.declared.commands.Command.TheVariants.{New, Put};
+ghost use Rattle.fv_model.specs.declared.commands.Kind.TheVariants as kinds;
+ghost use Rattle.fv_charge.specs.Changes.{IsChanged, IsDeltaOf};
 ghost use Rattle.fv_charge.specs.Ledgers.{IsLedgerOf};
-ghost use Rattle.fv_charge.specs.declared.ledger.Ledger as ledgers;
-ghost use Rattle.fv_inode.specs.Files.{IsInfo};
-ghost use Rattle.fv_files.specs.Calls.{AddsCell, WritesCell};
+ghost use Rattle.fv_inode.specs.Files.{IsInfo, IsLeastFree};
+ghost use Rattle.fv_files.specs.Calls.{WritesCell};
 ghost use Rattle.fv_files.specs.Tables.{IsInfoOf};
-ghost use Rattle.fv_volume.specs.declared.fault.VolumeFault.TheVariants.{Refused};
-ghost use Rattle.fv_volume.specs.Calls.{BlockCause, CallCause, Changes, HasBeside, KeepsHead, Reads};
-ghost use Rattle.fv_volume.specs.Charging.{CostsPut};
-ghost use Rattle.fv_volume.specs.Changing.{AcceptsPut, AltersTable, FitsLedger, KeepsTable, RefusedIn, SpaceSays};
-ghost use Rattle.fv_volume.specs.Lending.{lent_for};
-ghost use Rattle.fv_volume.specs.OneVolume.{greatest_charge, home_in, standing_for, volume_for, IsReady, IsStanding};
+ghost use Rattle.fv_volume.specs.Calls.{Changes, HasBeside, KeepsHead};
+ghost use Rattle.fv_pool.specs.Calls.{BlockCause, CallCause, Reads};
+ghost use Rattle.fv_volume.specs.Changing.{AcceptsNew, AcceptsPut, AltersTable, FitsLedger, KeepsTable, NamesNew, RefusedIn};
+ghost use Rattle.fv_pool.specs.Lending.{lent_for};
+ghost use Rattle.fv_volume.specs.OneVolume.{home_in, standing_for, table_for, volume_for, IsReady, IsStanding};
 
+use crate::active::change_table;
+use crate::admitting::{Admission, MOST_CHANGES, Making, admit_change, more_blocks};
 use crate::asking::find_file;
-use crate::blocks::Home;
-use crate::fault::VolumeFault;
-use crate::lent_changes::{added_told, write_told};
-use crate::lent_files::{over_table, take_table};
-use crate::moving::count_staying;
-use crate::pool::Pool;
+use crate::moving::{count_new, count_put};
+use crate::numbering::{count_made, find_number};
 use crate::state::VolumeState;
-use fv_charge::{Delta, Ledger};
+use fv_charge::Delta;
 use fv_disk::{Block, BlockFault, Disk};
 use fv_inode::Info;
-use fv_model::{Name, Refusal, in_index};
-use fv_root::capacity;
+use fv_model::{Name, Refusal, in_index, in_reserve};
+use fv_pool::{Pool, VolumeFault, create_told, write_told};
 use std::alloc::Global;
-use std::marker::Brand;
-use std::sync::ledger::Blank;
-
-/// How many changes a volume can count: the stamps that a label can say.
-pub(crate) const MOST_CHANGES: u64 = 4_611_686_018_427_387_904;
-
-/// A change that was admitted: the file that it changes, and how the ledger of the volume changes by it.
-#[derive(Clone, Copy, Debug, PartialEq, Eq)]
-pub(crate) struct Admission {
-    /// The file.
-    pub(crate) info: Info,
-    /// The change of the ledger.
-    pub(crate) delta: Delta,
-}
 
 impl VolumeState {
     /// Writes a block of a file at an index; the file reaches at least just past it. The volume counts one change more, whose
@@ -64,6 +45,7 @@ impl VolumeState {
     ///
     /// Costs what `length` does, then a block for each node over the cell and for the file's inode block with the nodes over it,
     /// as far as they aren't in memory. `docs/MACHINE.md` has the command, and `docs/SPACE.md` what it is charged for.
+    #[tactic(auto, using(crate::proofs::OneVolumes::reads_then, crate::proofs::Calling::refused_ready, crate::proofs::Calling::left_table))]
     pub fn put<D: Disk>(
         &mut self,
         alloc: Global,
@@ -96,55 +78,8 @@ impl VolumeState {
     }
 }
 
-/// A change of a ledger by so many blocks more.
-pub(crate) fn more_blocks(ledger: &Ledger, count: u32) -> Delta
-    requires charge { ledger.now.charge ≤ greatest_charge }
-    requires need { ledger.now.need ≡ 0 }
-    requires few { count ≤ 14 }
-    ensures charge { result.charge ≡ pos count }
-    ensures need { result.need ≡ pos 0 }
-    ensures size { result.size ≡ ledger.now.size }
-    ensures kind { result.kind ≡ ledger.now.kind }
-    ensures fits { CanChange ledger.now result }
-{
-    Delta {
-        charge: risen(count),
-        need: 0,
-        size: ledger.size,
-        kind: ledger.kind,
-    }
-}
-
-/// A number of blocks, as one by which a charge rises.
-fn risen(count: u32) -> i64
-    ensures { result ≡ pos count }
-{
-    i64::from(count)
-}
-
-/// Whether there is room for a change of a volume's ledger in an aggregate of so many blocks, beside what others commit.
-#[tactic(auto, using(crate::proofs::Changed::space_accepts, crate::proofs::Changed::space_refuses, crate::proofs::Changed::within_size))]
-pub(crate) fn admit_change(
-    ledger: &Ledger,
-    delta: &Delta,
-    others: u64,
-    blocks: u32,
-) -> Result<(), VolumeFault>
-    requires fits { CanChange ledger.now delta.now }
-    requires span { ledger.now.span ≤ greatest_span }
-    requires others { others ≤ 2 ^ 62 }
-    requires blocks { IsSize blocks }
-    ensures within { OnOk result ((l : ledgers.Ledger) → IsChanged ledger.now delta.now l → l.charge + l.need ≤ l.size) }
-    ensures refusal { IfErr result (λ e. (r : Refusal) × (e ≡ Refused r)) }
-    ensures machine { (m : Machine) (c : Command) (v : List ℕ) (l : ledgers.Ledger) → IsChanged ledger.now delta.now l → IsLeft m c v l others (capacity blocks) → SpaceSays m c v result }
-{
-    match ledger.admit(delta, others, capacity(blocks)) {
-        Ok(()) => Ok(()),
-        Err(refusal) => Err(VolumeFault::Refused(refusal)),
-    }
-}
-
 /// Whether a write is accepted, of which file, and how the ledger changes by it.
+#[tactic(auto, using(crate::proofs::OneVolumes::reads_then, crate::proofs::Calling::refused_ready))]
 pub(crate) fn judge_put<D: Disk>(
     volume: &mut VolumeState,
     alloc: Global,
@@ -183,69 +118,6 @@ pub(crate) fn judge_put<D: Disk>(
     Ok(Admission { info, delta })
 }
 
-/// How many blocks more a volume is charged for once a cell of the file of which this is known is written: one for each position that comes, and
-/// one for each block that is replaced though a snapshot has it.
-fn count_put<D: Disk>(
-    volume: &mut VolumeState,
-    alloc: Global,
-    pool: &mut Pool,
-    disk: &mut D,
-    info: &Info,
-    index: u32,
-) -> Result<u32, BlockFault>
-    requires ready { IsReady (D.shown disk.old) pool.old volume.old }
-    requires index { index < 2097152 }
-    requires range { IsInfo info.now }
-    requires there { IsStanding (D.shown disk.old) pool.old volume.old → IsInfoOf (standing_for (D.shown disk.old) pool.old volume.old).inode info.now }
-    ensures costs { IsStanding (D.shown disk.old) pool.old volume.old → IfOk result (CostsPut (D.shown disk.old) pool.old volume.old info.now.number index) }
-    ensures few { IfOk result (λ count. count ≤ 14) }
-    ensures same { volume.new ≡ volume.old }
-    ensures reads { Reads (D.shown disk.old) pool.old (D.shown disk.new) pool.new }
-    ensures cause { BlockCause (IsStanding (D.shown disk.old) pool.old volume.old) (standing_for (D.shown disk.old) pool.old volume.old)
-        (lent_for pool.old volume.old.map (D.shown disk.old) 0 (home_in volume.old) 0) (D.shown disk.new).faults result }
-{
-    let added = count_added(volume, alloc, pool, disk, info, index)?;
-    let staying = count_staying(volume, alloc, pool, disk, info, index)?;
-    Ok(added + staying)
-}
-
-/// How many positions a write of a cell adds to the file of which this is known.
-#[tactic(auto, using(crate::proofs::OneVolumes::root_fits, crate::proofs::OneVolumes::levels_fit))]
-fn count_added<D: Disk>(
-    volume: &mut VolumeState,
-    alloc: Global,
-    pool: &mut Pool,
-    disk: &mut D,
-    info: &Info,
-    index: u32,
-) -> Result<u32, BlockFault>
-    requires ready { IsReady (D.shown disk.old) pool.old volume.old }
-    requires index { index < 2097152 }
-    requires range { IsInfo info.now }
-    requires there { IsStanding (D.shown disk.old) pool.old volume.old → IsInfoOf (standing_for (D.shown disk.old) pool.old volume.old).inode info.now }
-    ensures added { IsStanding (D.shown disk.old) pool.old volume.old → IfOk result (AddsCell (standing_for (D.shown disk.old) pool.old volume.old) info.now.number index) }
-    ensures few { IfOk result (λ count. count ≤ 6) }
-    ensures same { volume.new ≡ volume.old }
-    ensures reads { Reads (D.shown disk.old) pool.old (D.shown disk.new) pool.new }
-    ensures cause { BlockCause (IsStanding (D.shown disk.old) pool.old volume.old) (standing_for (D.shown disk.old) pool.old volume.old)
-        (lent_for pool.old volume.old.map (D.shown disk.old) 0 (home_in volume.old) 0) (D.shown disk.new).faults result }
-{
-    over_table!(
-        volume,
-        alloc,
-        |files, home| added = added_told::<Brand, D, Brand>(
-            &mut files,
-            pool,
-            disk,
-            &mut volume.map,
-            &home,
-            Blank::new(1),
-            info,
-            index,
-        )
-    )
-}
-
 /// Writes a cell of the file of which this is known, stamped with the number of the next change.
 #[tactic(auto, using(crate::proofs::OneVolumes::root_fits, crate::proofs::OneVolumes::levels_fit))]
 fn write_block<D: Disk>(
@@ -269,27 +141,163 @@ fn write_block<D: Disk>(
     ensures cause { BlockCause (IsStanding (D.shown disk.old) pool.old volume.old) (standing_for (D.shown disk.old) pool.old volume.old)
         (lent_for pool.old volume.old.map (D.shown disk.old) 0 (home_in volume.old) 0) (D.shown disk.new).faults result }
 {
-    let home = Home {
-        slot: volume.slot,
-        label: volume.label,
-    };
     let stamp = volume.now + 1;
-    let mut files = take_table(&mut volume.files, &volume.active, alloc);
-    let written = write_told::<Brand, D, Brand>(
-        &mut files,
-        pool,
-        disk,
-        &mut volume.map,
-        &home,
-        Blank::new(1),
-        info,
-        index,
-        block,
-        stamp,
-    );
-    volume.files = Some(files);
-    volume.changed = true;
-    written
+    change_table!(
+        volume,
+        |alloc, pool, disk| write_told(info, index, block, stamp)
+    )
+}
+
+impl VolumeState {
+    /// Makes a file of length 0 with a name and a reserve, in blocks. The volume counts one change more, whose number is the stamp.
+    /// What changed is in memory. Of the pool nothing changes but its cache. In a volume of kind `file` the reserve has to be 0: one
+    /// above it isn't built yet.
+    ///
+    /// `others` is what the other volumes of the aggregate commit together, in blocks, at most 2^62.
+    ///
+    /// # Errors
+    ///
+    /// `Refused` as the machine refuses `new`, in this order: the reserve passes 2,097,152; a file has the name; there is a reserve
+    /// and the volume isn't of kind `file`; the table has 262,144 files, or the volume has counted 2^62 changes; it would use more
+    /// than its size; all volumes would commit more than the aggregate's capacity. The other errors as `put`. After each of them
+    /// the volume stands for what it stood for.
+    ///
+    /// Costs what `length` does, then a block for the file's inode block and for each node over it, as far as they aren't in memory,
+    /// and where the numbers aren't in memory a block for each inode block and each node over them. `docs/MACHINE.md` has the command.
+    #[tactic(auto, using(crate::proofs::OneVolumes::reads_then, crate::proofs::Calling::refused_ready, crate::proofs::Calling::left_table))]
+    pub fn new_file<D: Disk>(
+        &mut self,
+        alloc: Global,
+        pool: &mut Pool,
+        disk: &mut D,
+        others: u64,
+        file: &Name,
+        reserve: u32,
+    ) -> Result<(), VolumeFault>
+        requires ready { IsReady (D.shown disk.old) pool.old self.old }
+        requires others { others ≤ 2 ^ 62 }
+        requires form { self.old.kind ≡ kinds.File → reserve ≡ 0 }
+        ensures changes { IsStanding (D.shown disk.old) pool.old self.old
+            → Changes (HasBeside self.old.name (volume_for (D.shown disk.old) pool.old self.old) others pool.old.found.blocks) (New self.old.name file.now reserve) self.old.name
+            (volume_for (D.shown disk.old) pool.old self.old) (volume_for (D.shown disk.new) pool.new self.new) result }
+        ensures standing { IsStanding (D.shown disk.old) pool.old self.old → IsStanding (D.shown disk.new) pool.new self.new }
+        ensures table { IsStanding (D.shown disk.old) pool.old self.old → KeepsTable (D.shown disk.old) pool.old self.old (D.shown disk.new) pool.new self.new }
+        ensures ready { IsReady (D.shown disk.new) pool.new self.new }
+        ensures map { self.new.map ≡ self.old.map }
+        ensures head { KeepsHead self.old self.new result }
+        ensures reads { Reads (D.shown disk.old) pool.old (D.shown disk.new) pool.new }
+        ensures cause { CallCause (IsStanding (D.shown disk.old) pool.old self.old) (standing_for (D.shown disk.old) pool.old self.old)
+            (lent_for pool.old self.old.map (D.shown disk.old) 0 (home_in self.old) 0) (D.shown disk.new).faults result }
+    {
+        let making = judge_new(self, alloc, pool, disk, others, file, reserve)?;
+        create_file(self, alloc, pool, disk, making.number, file, reserve)?;
+        count_made(self, &making, file);
+        Ok(())
+    }
+}
+
+/// Whether a new file is accepted, under which number, and how the ledger changes by it.
+#[tactic(auto, using(crate::proofs::OneVolumes::reads_then, crate::proofs::Calling::refused_ready))]
+pub(crate) fn judge_new<D: Disk>(
+    volume: &mut VolumeState,
+    alloc: Global,
+    pool: &mut Pool,
+    disk: &mut D,
+    others: u64,
+    file: &Name,
+    reserve: u32,
+) -> Result<Making, VolumeFault>
+    requires ready { IsReady (D.shown disk.old) pool.old volume.old }
+    requires others { others ≤ 2 ^ 62 }
+    requires form { volume.old.kind ≡ kinds.File → reserve ≡ 0 }
+    ensures refused { IsStanding (D.shown disk.old) pool.old volume.old
+        → IfErr result (RefusedIn (HasBeside volume.old.name (volume_for (D.shown disk.old) pool.old volume.old) others pool.old.found.blocks) (New volume.old.name file.now reserve)) }
+    ensures accepted { IsStanding (D.shown disk.old) pool.old volume.old → IfOk result (λ a. AcceptsNew (D.shown disk.old) pool.old volume.old others file.now reserve a.number a.delta) }
+    ensures low { IfOk result (λ a. a.number < 262144) }
+    ensures none { OnOk result (reserve ≡ 0) }
+    ensures fits { IfOk result (λ a. FitsLedger volume.old a.delta) }
+    ensures same { volume.new ≡ volume.old }
+    ensures reads { Reads (D.shown disk.old) pool.old (D.shown disk.new) pool.new }
+    ensures cause { CallCause (IsStanding (D.shown disk.old) pool.old volume.old) (standing_for (D.shown disk.old) pool.old volume.old)
+        (lent_for pool.old volume.old.map (D.shown disk.old) 0 (home_in volume.old) 0) (D.shown disk.new).faults result }
+{
+    let number = judge_name(volume, alloc, pool, disk, file, reserve)?;
+    let count = count_new(volume, alloc, pool, disk, number)?;
+    let delta = more_blocks(&volume.ledger, count);
+    admit_change(&volume.ledger, &delta, others, pool.found.blocks)?;
+    Ok(Making { number, delta })
+}
+
+/// Whether a new file is accepted but for its space, and which number it gets.
+#[tactic(auto, using(crate::proofs::OneVolumes::reads_then, crate::proofs::Calling::refused_ready))]
+fn judge_name<D: Disk>(
+    volume: &mut VolumeState,
+    alloc: Global,
+    pool: &mut Pool,
+    disk: &mut D,
+    file: &Name,
+    reserve: u32,
+) -> Result<u32, VolumeFault>
+    requires ready { IsReady (D.shown disk.old) pool.old volume.old }
+    requires form { volume.old.kind ≡ kinds.File → reserve ≡ 0 }
+    ensures refused { IsStanding (D.shown disk.old) pool.old volume.old
+        → IfErr result (λ e. (others : ℕ) → RefusedIn (HasBeside volume.old.name (volume_for (D.shown disk.old) pool.old volume.old) others pool.old.found.blocks) (New volume.old.name file.now reserve) e) }
+    ensures accepted { IsStanding (D.shown disk.old) pool.old volume.old → IfOk result (NamesNew (standing_for (D.shown disk.old) pool.old volume.old) file.now reserve) }
+    ensures none { OnOk result (reserve ≡ 0) }
+    ensures low { IfOk result (λ number. number < 262144) }
+    ensures more { OnOk result (volume.old.now < most_changes) }
+    ensures same { volume.new ≡ volume.old }
+    ensures reads { Reads (D.shown disk.old) pool.old (D.shown disk.new) pool.new }
+    ensures cause { CallCause (IsStanding (D.shown disk.old) pool.old volume.old) (standing_for (D.shown disk.old) pool.old volume.old)
+        (lent_for pool.old volume.old.map (D.shown disk.old) 0 (home_in volume.old) 0) (D.shown disk.new).faults result }
+{
+    if !in_reserve(u64::from(reserve)) {
+        return Err(VolumeFault::Refused(Refusal::Range));
+    }
+    let found = find_file(volume, alloc, pool, disk, file)?;
+    if found.is_some() {
+        return Err(VolumeFault::Refused(Refusal::FileExists));
+    }
+    if reserve > 0 {
+        return Err(VolumeFault::Refused(Refusal::WrongKind));
+    }
+    let Some(number) = find_number(volume, alloc, pool, disk)? else {
+        return Err(VolumeFault::Refused(Refusal::TooMany));
+    };
+    if volume.now >= MOST_CHANGES {
+        return Err(VolumeFault::Refused(Refusal::TooMany));
+    }
+    Ok(number)
+}
+
+/// Makes a file, stamped with the number of the next change.
+#[tactic(auto, using(crate::proofs::OneVolumes::root_fits, crate::proofs::OneVolumes::levels_fit))]
+fn create_file<D: Disk>(
+    volume: &mut VolumeState,
+    alloc: Global,
+    pool: &mut Pool,
+    disk: &mut D,
+    number: u32,
+    file: &Name,
+    reserve: u32,
+) -> Result<(), BlockFault>
+    requires ready { IsReady (D.shown disk.old) pool.old volume.old }
+    requires more { volume.old.now < most_changes }
+    requires reserve { reserve ≤ most_cells }
+    requires number { number < 262144 }
+    requires free { IsStanding (D.shown disk.old) pool.old volume.old → IsLeastFree (standing_for (D.shown disk.old) pool.old volume.old).inode number }
+    ensures made { IsStanding (D.shown disk.old) pool.old volume.old
+        → OnOk result (table_for (D.shown disk.old) pool.old volume.new ≡ new (table_for (D.shown disk.old) pool.old volume.old) file.now reserve (volume.old.now + 1)) }
+    ensures map { volume.new.map ≡ volume.old.map }
+    ensures alters { AltersTable (D.shown disk.old) pool.old (D.shown disk.new) pool.new volume.old volume.new result }
+    ensures cause { BlockCause (IsStanding (D.shown disk.old) pool.old volume.old) (standing_for (D.shown disk.old) pool.old volume.old)
+        (lent_for pool.old volume.old.map (D.shown disk.old) 0 (home_in volume.old) 0) (D.shown disk.new).faults result }
+{
+    let stamp = volume.now + 1;
+    change_table!(
+        volume,
+        |alloc, pool, disk| create_told(number, file, reserve, stamp)
+    )
 }
 
 /// Counts a change of a volume, and changes its ledger by it.

@@ -2,20 +2,19 @@
 
 ghost use Rattle.std.specs.Prelude.{◌≡◌, ◌≤◌, ◌-◌, ◌^◌, min, true};
 ghost use Rattle.fv_model.specs.Machines.{Machine};
-ghost use Rattle.fv_volume.specs.Calls.{Agrees, CallCause, Changes, HasWithin, KeepsHead, Reads};
+ghost use Rattle.fv_pool.specs.Calls.{CallCause, Reads};
+ghost use Rattle.fv_volume.specs.Calls.{Agrees, Changes, HasWithin, KeepsHead};
 ghost use Rattle.fv_volume.specs.Changing.{IsChangeOf, KeepsTable, keeps_numbers};
-ghost use Rattle.fv_volume.specs.Lending.{lent_for};
-ghost use Rattle.fv_volume.specs.Placing.{pending_of};
+ghost use Rattle.fv_pool.specs.Lending.{lent_for};
+ghost use Rattle.fv_pool.specs.Tables.{pending_of};
 ghost use Rattle.fv_volume.specs.OneVolume.{home_in, standing_for, volume_for, IsReady, IsStanding};
 
-use crate::changing::judge_put;
-use crate::fault::VolumeFault;
-use crate::making::judge_new;
-use crate::pool::Pool;
+use crate::changing::{judge_new, judge_put};
 use crate::removing::{judge_cut, judge_removal};
 use crate::state::VolumeState;
 use fv_disk::Disk;
 use fv_model::Command;
+use fv_pool::{Pool, VolumeFault};
 use std::alloc::Global;
 
 impl VolumeState {

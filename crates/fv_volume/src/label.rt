@@ -1,12 +1,11 @@
 //! Labels as volumes.
 
-ghost use Rattle.std.specs.Prelude.{Ok, ◌≡◌, ◌≤◌, ◌-◌, ◌++◌, replicate, ◌⊎◌, ◌==◌, not, true, false, length, take, find, Some, None, IfOk, IfErr, IfNone, IsTrue, ℕ, option_copied};
-ghost use Rattle.std.specs.Option.{option_map};
+ghost use Rattle.std.specs.Prelude.{Ok, ◌≡◌, ◌≤◌, ◌-◌, ◌++◌, replicate, ◌==◌, true, length, take, find, Some, None, IfOk, IfErr, IsTrue, ℕ, option_copied};
 ghost use Rattle.fv_codec.specs.Blocks.{IsLabel, IsSnapRecord, label_at};
 ghost use Rattle.fv_codec.specs.Fields.{name_filled};
 ghost use Rattle.fv_disk.specs.DiskCalls.{OnlyReads};
 ghost use Rattle.fv_disk.specs.Faults.{HasBlockCause};
-ghost use Rattle.fv_image.specs.Views.{head_of, kind_named};
+ghost use Rattle.fv_image.specs.Views.{kind_named};
 ghost use Rattle.fv_model.specs.Spelling.{is_name};
 ghost use Rattle.fv_store.specs.Held.{StandsOn};
 ghost use Rattle.fv_volume.specs.Labels.{kind_number};
@@ -14,10 +13,11 @@ ghost use Rattle.fv_volume.specs.Loading.{IsBadLabel, form_in};
 ghost use Rattle.fv_volume.specs.SnapRecords.{record_said, records_said, snap_said};
 ghost use Rattle.fv_volume.specs.States.{snap_in, snaps_in};
 
-use crate::state::{Rooted, Snap};
+use crate::state::Snap;
 use fv_codec::{Label, Pointer, SnapRecord};
 use fv_disk::{Block, BlockFault, Disk, ZERO};
 use fv_model::{Kind, Name};
+use fv_pool::Rooted;
 use fv_store::Store;
 
 /// A pointer that leads nowhere.

@@ -4,25 +4,24 @@ ghost use Rattle.std.specs.Prelude.{◌≡◌, ◌+◌, true, is_some, IfOk, OnO
 ghost use Rattle.fv_charge.specs.Changes.{IsChanged, IsDeltaOf};
 ghost use Rattle.fv_charge.specs.Ledgers.{IsLedgerOf};
 ghost use Rattle.fv_model.specs.Volumes.{Volume};
+ghost use Rattle.fv_inode.specs.Files.{IsFreeNumber, IsNumberIf};
 ghost use Rattle.fv_files.specs.Numbering.{AreNumbersOf};
-ghost use Rattle.fv_volume.specs.Calls.{BlockCause, Reads};
+ghost use Rattle.fv_pool.specs.Calls.{BlockCause, Reads};
 ghost use Rattle.fv_volume.specs.Changing.{FitsLedger};
-ghost use Rattle.fv_volume.specs.Lending.{lent_for};
+ghost use Rattle.fv_pool.specs.Lending.{lent_for};
 ghost use Rattle.fv_volume.specs.Numbering.{LacksFile, TellsFile};
 ghost use Rattle.fv_volume.specs.OneVolume.{home_in, standing_for, table_for, IsReady, IsStanding};
 
+use crate::active::over_table;
+use crate::admitting::Making;
 use crate::changing::count_change;
-use crate::lent_files::{numbers_told, over_table};
-use crate::making::Making;
-use crate::pool::Pool;
 use crate::state::VolumeState;
 use fv_charge::Delta;
 use fv_disk::{BlockFault, Disk};
 use fv_files::FileNumbers;
 use fv_model::Name;
+use fv_pool::{Pool, number_told, numbers_told};
 use std::alloc::Global;
-use std::marker::Brand;
-use std::sync::ledger::Blank;
 
 impl VolumeState {
     /// Reads the numbers of all files by their names into memory, where they aren't there. From then on no call looks through the inode
@@ -78,18 +77,30 @@ fn count_files<D: Disk>(
     ensures cause { BlockCause (IsStanding (D.shown disk.old) pool.old volume.old) (standing_for (D.shown disk.old) pool.old volume.old)
         (lent_for pool.old volume.old.map (D.shown disk.old) 0 (home_in volume.old) 0) (D.shown disk.new).faults result }
 {
-    over_table!(
-        volume,
-        alloc,
-        |files, home| numbers = numbers_told::<Brand, D, Brand>(
-            &mut files,
-            pool,
-            disk,
-            &mut volume.map,
-            &home,
-            Blank::new(1),
-        )
-    )
+    over_table!(volume, |alloc, pool, disk| numbers_told())
+}
+
+/// The least number that no file has, by the numbers of files where these are in memory and else by the records of all files; `None` where
+/// all below 262,144 are taken.
+#[tactic(auto, using(crate::proofs::OneVolumes::root_fits, crate::proofs::OneVolumes::levels_fit))]
+pub(crate) fn find_number<D: Disk>(
+    volume: &mut VolumeState,
+    alloc: Global,
+    pool: &mut Pool,
+    disk: &mut D,
+) -> Result<Option<u32>, BlockFault>
+    requires ready { IsReady (D.shown disk.old) pool.old volume.old }
+    ensures number { IsStanding (D.shown disk.old) pool.old volume.old → IfOk result (IsFreeNumber (standing_for (D.shown disk.old) pool.old volume.old).inode) }
+    ensures range { IfOk result IsNumberIf }
+    ensures same { volume.new ≡ volume.old }
+    ensures reads { Reads (D.shown disk.old) pool.old (D.shown disk.new) pool.new }
+    ensures cause { BlockCause (IsStanding (D.shown disk.old) pool.old volume.old) (standing_for (D.shown disk.old) pool.old volume.old)
+        (lent_for pool.old volume.old.map (D.shown disk.old) 0 (home_in volume.old) 0) (D.shown disk.new).faults result }
+{
+    if let Some(numbers) = &volume.numbers {
+        return Ok(numbers.free_number());
+    }
+    over_table!(volume, |alloc, pool, disk| number_told())
 }
 
 /// Counts a new file of a volume, changes its ledger by it, and keeps the numbers.
@@ -123,10 +134,8 @@ fn with_file(numbers: Option<FileNumbers>, name: &Name, number: u32) -> Option<F
     ensures { TellsFile numbers result name.now number }
 {
     let mut numbers = numbers?;
-    match numbers.add(name, number) {
-        Ok(()) => Some(numbers),
-        Err(_) => None,
-    }
+    numbers.add(name, number).ok()?;
+    Some(numbers)
 }
 
 /// The numbers once no file has a name and its number; `None` where there are none or memory lacks.
@@ -134,8 +143,6 @@ fn without_file(numbers: Option<FileNumbers>, name: &Name, number: u32) -> Optio
     ensures { LacksFile numbers result name.now number }
 {
     let mut numbers = numbers?;
-    match numbers.remove(name, number) {
-        Ok(()) => Some(numbers),
-        Err(_) => None,
-    }
+    numbers.remove(name, number).ok()?;
+    Some(numbers)
 }

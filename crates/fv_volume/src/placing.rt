@@ -1,30 +1,20 @@
 //! Placing what changed of the files of a volume.
 
-ghost use Rattle.std.specs.Prelude.{◌≡◌, min, true, Some, None, is_some, OnOk, IfErr};
-ghost use Rattle.fv_store.specs.Held.{StandsOn};
-ghost use Rattle.fv_tree.specs.Standing.{under};
-ghost use Rattle.fv_files.specs.Altering.{AreLaid};
-ghost use Rattle.fv_files.specs.Tables.{AreStanding};
-ghost use Rattle.fv_volume.specs.BlocksOver.{HasRoom};
+ghost use Rattle.std.specs.Prelude.{◌≡◌, min, true, Some, None, OnOk, IfErr};
+ghost use Rattle.fv_pool.specs.BlocksOver.{HasRoom};
 ghost use Rattle.fv_volmap.specs.Slots.{IsVolume};
 ghost use Rattle.fv_volume.specs.Held.{IsPlaceFault, IsPlacedAs, MayFail};
-ghost use Rattle.fv_volume.specs.Lending.{CanLend, IsTold, lent_for, sees};
+ghost use Rattle.fv_pool.specs.Lending.{lent_for};
 ghost use Rattle.fv_volume.specs.OneVolume.{home_in, IsReady, IsStanding};
-ghost use Rattle.fv_volume.specs.Placing.{FlushFails, Goes, IsInNoSnap, KeepsPlaced, KeepsUnused, LeavesOthers, PlaceFails, PlacesFiles, PlacesTable, PlacesVolume, TakesRoom};
+ghost use Rattle.fv_pool.specs.Placing.{FlushFails, Goes, KeepsUnused};
+ghost use Rattle.fv_volume.specs.Placing.{KeepsPlaced, PlacesFiles, PlacesVolume};
 
-use crate::blocks::Home;
-use crate::fault::VolumeFault;
-use crate::known::known_maps;
-use crate::noted::Noted;
-use crate::pool::Pool;
-use crate::state::{Rooted, VolumeState};
-use crate::volume_blocks::Guard;
-use crate::volume_places::VolumePlaces;
+use crate::state::VolumeState;
 use fv_codec::Pointer;
-use fv_disk::{BlockFault, Disk};
+use fv_disk::Disk;
 use fv_files::Files;
-use fv_volmap::VolMap;
-use std::marker::{Brand, PhantomData};
+use fv_pool::{Home, Pool, Rooted, VolumeFault, known_maps, place_table};
+use std::marker::Brand;
 
 impl VolumeState {
     /// Places what changed of the files since the last flush: each block gets a VVBN and a PVBN, its entry is set, and it is kept in
@@ -103,44 +93,6 @@ impl VolumeState {
         known_maps(&self.map);
         flushed
     }
-}
-
-/// Places what changed of the table of a volume, over the volume's blocks. Answers the root of its inode file.
-fn place_table<K: Guard, D: Disk>(
-    files: &mut Files,
-    pool: &mut Pool,
-    disk: &D,
-    map: &mut VolMap,
-    home: &Home,
-    room: &mut u32,
-) -> Result<Pointer, BlockFault>
-    requires lent { CanLend pool.old map.old (D.shown disk.now) home.now.slot }
-    requires free { HasRoom pool.old.map map.old room.old }
-    requires told { K.told → IsTold (D.shown disk.now) pool.old map.old home.now.slot }
-    requires stands { K.told → AreStanding (sees pool.old map.old (D.shown disk.now) home.now) files.old }
-    ensures table { PlacesTable K.told (sees pool.old map.old (D.shown disk.now) home.now)
-        (under (sees pool.new map.new (D.shown disk.now) home.now)) (sees pool.new map.new (D.shown disk.now) home.now).used (IsInNoSnap (D.shown disk.now) pool.old map.old home.now.slot) files.old files.new result }
-    ensures unused { K.told → AreLaid (under (sees pool.old map.old (D.shown disk.now) home.now)) files.old → KeepsUnused pool.old.containers pool.new.containers home.now.slot map.new }
-    ensures goes { Goes (lent_for pool.old map.old (D.shown disk.now) 0 home.now room.old) pool.new map.new (D.shown disk.now) room.new }
-    ensures room { TakesRoom K.told files.old files.new room.old room.new result }
-    ensures stands { StandsOn (D.shown disk.now) pool.new.store.pairs }
-    ensures told { K.told → IsTold (D.shown disk.now) pool.new map.new home.now.slot }
-    ensures free { HasRoom pool.new.map map.new room.new }
-    ensures cause { IfErr result (PlaceFails K.told (lent_for pool.old map.old (D.shown disk.now) 0 home.now room.old) room.new) }
-{
-    let mut blocks: VolumePlaces<'_, '_, '_, K, D> = VolumePlaces {
-        pool,
-        disk,
-        map,
-        home: *home,
-        room: *room,
-        strays: 0,
-        noted: Noted::NONE,
-        of: PhantomData,
-    };
-    let placed = files.flush(&mut blocks);
-    *room = blocks.room;
-    placed
 }
 
 /// The table that a root spells. An inode file has at most two levels.

@@ -8,39 +8,26 @@ ghost use Rattle.fv_model.specs.declared.commands.Command.TheVariants.{Cut, Remo
 ghost use Rattle.fv_inode.specs.Files.{IsFirst, IsInfo};
 ghost use Rattle.fv_files.specs.Calls.{CutsFile, RemovesFile, TakesByCut, TakesByRemoval};
 ghost use Rattle.fv_files.specs.Tables.{IsInfoOf};
-ghost use Rattle.fv_volume.specs.Calls.{BlockCause, CallCause, Changes, HasBeside, HasWithin, KeepsHead, Reads};
+ghost use Rattle.fv_pool.specs.Calls.{BlockCause, CallCause, Reads};
+ghost use Rattle.fv_volume.specs.Calls.{Changes, HasBeside, HasWithin, KeepsHead};
 ghost use Rattle.fv_volume.specs.Changing.{AcceptsCut, AcceptsRemoval, AltersTable, CutsWithin, FitsLedger, IsDeltaBy, KeepsTable, RefusedIn};
-ghost use Rattle.fv_volume.specs.Lending.{lent_for};
+ghost use Rattle.fv_pool.specs.Lending.{lent_for};
 ghost use Rattle.fv_volume.specs.OneVolume.{greatest_charge, home_in, standing_for, volume_for, IsReady, IsStanding};
 
+use crate::active::change_table;
+use crate::admitting::{MOST_CHANGES, Removing, admit_change};
 use crate::asking::find_file;
-use crate::blocks::Home;
-use crate::changing::{MOST_CHANGES, admit_change, count_change};
-use crate::fault::VolumeFault;
-use crate::lent_files::take_table;
-use crate::lent_removals::{cut_told, remove_told};
+use crate::changing::count_change;
 use crate::moving::{count_cut, count_removal};
 use crate::numbering::count_removed;
-use crate::pool::Pool;
 use crate::state::VolumeState;
 use fv_charge::{Delta, Ledger};
 use fv_disk::{BlockFault, Disk};
 use fv_inode::Info;
 use fv_model::{Name, Refusal, in_reserve};
+use fv_pool::{Pool, VolumeFault, cut_told, remove_told};
 use fv_tree::Taken;
 use std::alloc::Global;
-use std::marker::Brand;
-use std::sync::ledger::Blank;
-
-/// A removal that was admitted: the file that it changes, and how the ledger of the volume changes by it, where that is told before. It is told in a
-/// volume with snapshots. In one without nothing stays charged and no removal needs blocks, so nothing is read to tell it.
-#[derive(Clone, Copy, Debug, PartialEq, Eq)]
-pub(crate) struct Removing {
-    /// The file.
-    pub(crate) info: Info,
-    /// The change of the ledger, where it is told before.
-    pub(crate) delta: Option<Delta>,
-}
 
 impl VolumeState {
     /// Cuts a file to a length, in blocks: its cells from there on go. The volume counts one change more, whose number is the
@@ -59,6 +46,7 @@ impl VolumeState {
     ///
     /// Costs what `length` does, then a block for each node and cell that goes and for the file's inode block with the nodes over
     /// it, as far as they aren't in memory; in a volume with snapshots the nodes once more. `docs/MACHINE.md` has the command.
+    #[tactic(auto, using(crate::proofs::OneVolumes::reads_then, crate::proofs::Calling::refused_ready, crate::proofs::Calling::left_table))]
     pub fn cut<D: Disk>(
         &mut self,
         alloc: Global,
@@ -103,6 +91,7 @@ impl VolumeState {
     ///
     /// Costs what `length` does, then a block for each node and cell of the file and for its inode block with the nodes over it, as
     /// far as they aren't in memory; in a volume with snapshots the nodes once more. `docs/MACHINE.md` has the command.
+    #[tactic(auto, using(crate::proofs::OneVolumes::reads_then, crate::proofs::Calling::refused_ready, crate::proofs::Calling::left_table))]
     pub fn remove<D: Disk>(
         &mut self,
         alloc: Global,
@@ -135,6 +124,7 @@ impl VolumeState {
 }
 
 /// Whether a cut is accepted, and of which file.
+#[tactic(auto, using(crate::proofs::OneVolumes::reads_then, crate::proofs::Calling::refused_ready))]
 pub(crate) fn judge_cut<D: Disk>(
     volume: &mut VolumeState,
     alloc: Global,
@@ -175,6 +165,7 @@ pub(crate) fn judge_cut<D: Disk>(
 }
 
 /// Whether the removal of a file is accepted, and of which file.
+#[tactic(auto, using(crate::proofs::OneVolumes::reads_then, crate::proofs::Calling::refused_ready))]
 pub(crate) fn judge_removal<D: Disk>(
     volume: &mut VolumeState,
     alloc: Global,
@@ -370,26 +361,8 @@ fn cut_blocks<D: Disk>(
     ensures cause { BlockCause (IsStanding (D.shown disk.old) pool.old volume.old) (standing_for (D.shown disk.old) pool.old volume.old)
         (lent_for pool.old volume.old.map (D.shown disk.old) 0 (home_in volume.old) 0) (D.shown disk.new).faults result }
 {
-    let home = Home {
-        slot: volume.slot,
-        label: volume.label,
-    };
     let stamp = volume.now + 1;
-    let mut files = take_table(&mut volume.files, &volume.active, alloc);
-    let gone = cut_told::<Brand, D, Brand>(
-        &mut files,
-        pool,
-        disk,
-        &mut volume.map,
-        &home,
-        Blank::new(1),
-        info,
-        length,
-        stamp,
-    );
-    volume.files = Some(files);
-    volume.changed = true;
-    gone
+    change_table!(volume, |alloc, pool, disk| cut_told(info, length, stamp))
 }
 
 /// Removes the file of which this is known, stamped with the number of the next change; answers how many positions went.
@@ -412,23 +385,6 @@ fn drop_file<D: Disk>(
     ensures cause { BlockCause (IsStanding (D.shown disk.old) pool.old volume.old) (standing_for (D.shown disk.old) pool.old volume.old)
         (lent_for pool.old volume.old.map (D.shown disk.old) 0 (home_in volume.old) 0) (D.shown disk.new).faults result }
 {
-    let home = Home {
-        slot: volume.slot,
-        label: volume.label,
-    };
     let stamp = volume.now + 1;
-    let mut files = take_table(&mut volume.files, &volume.active, alloc);
-    let gone = remove_told::<Brand, D, Brand>(
-        &mut files,
-        pool,
-        disk,
-        &mut volume.map,
-        &home,
-        Blank::new(1),
-        info,
-        stamp,
-    );
-    volume.files = Some(files);
-    volume.changed = true;
-    gone
+    change_table!(volume, |alloc, pool, disk| remove_told(info, stamp))
 }

@@ -1,14 +1,13 @@
 //! How much room there is for the flush of a volume.
 
-ghost use Rattle.std.specs.Prelude.{◌≡◌, ◌≤◌, ◌+◌, ◌-◌, ◌^◌, true, is_some, min, not, cond};
+ghost use Rattle.std.specs.Prelude.{◌≡◌, ◌≤◌, ◌+◌, ◌-◌, true, is_some, min, not, cond};
 ghost use Rattle.fv_aggmap.specs.Space.{free_blocks};
 ghost use Rattle.fv_volmap.specs.Slots.{taken_in};
-ghost use Rattle.fv_volume.specs.BlocksOver.{HasRoom, free_numbers};
-ghost use Rattle.fv_volume.specs.Placing.{pending_of};
+ghost use Rattle.fv_pool.specs.BlocksOver.{HasRoom, free_numbers};
+ghost use Rattle.fv_pool.specs.Tables.{pending_of};
 
-use crate::blocks::is_taken;
-use crate::pool::Pool;
 use crate::state::VolumeState;
+use fv_pool::{Pool, is_taken};
 use fv_volmap::VolMap;
 
 impl VolumeState {
@@ -54,7 +53,7 @@ fn least(blocks: u32, wanted: u64) -> u32
 }
 
 /// How many numbers below the span no slot has, or `most` where that is less.
-#[tactic(auto, unfolding(crate::specs::BlocksOver::free_numbers))]
+#[tactic(auto, unfolding(fv_pool::specs::BlocksOver::free_numbers))]
 fn count_free(map: &VolMap, span: u32, most: u32) -> u32
     requires span { map.now.span ≡ span }
     ensures { result ≡ min most (free_numbers map.now) }

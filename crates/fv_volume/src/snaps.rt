@@ -2,9 +2,8 @@
 //!
 //! Nothing is judged here, and no block is placed: `fv_snapshot` has the commands.
 
-ghost use Rattle.std.specs.Prelude.{◌≡◌, ◌<◌, ◌≤◌, ◌-◌, ℕ, [], false, true, get_or, None, length, drop, IfOk, OnOk, OnErr};
+ghost use Rattle.std.specs.Prelude.{◌≡◌, ◌<◌, ◌≤◌, ◌-◌, ℕ, [], false, true, get_or, None, length, IfOk, OnOk, OnErr};
 ghost use Rattle.std.specs.FinMap as fin;
-ghost use Rattle.fv_charge.specs.Counted.{charge_counted};
 ghost use Rattle.fv_model.specs.Numbers.{greatest_span, most_snapshots};
 ghost use Rattle.std.specs.BTreeSet.{insert_key};
 ghost use Rattle.fv_model.specs.Spelling.{is_name, name_cmp};
@@ -15,8 +14,9 @@ ghost use Rattle.fv_volume.specs.OneVolume.{greatest_charge, snaps_by};
 ghost use Rattle.fv_volume.specs.Snaps.{names_kept, turned_to, with_snapshot, without_snapshot};
 
 use crate::known::known_name;
-use crate::state::{Rooted, Snap, VolumeState, count_ledger};
+use crate::state::{Snap, VolumeState, count_ledger};
 use fv_model::{Name, Names, map_blocks};
+use fv_pool::Rooted;
 use std::alloc::{AllocError, Global};
 use std::collections::BTreeSet;
 

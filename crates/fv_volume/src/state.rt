@@ -1,6 +1,6 @@
 //! One volume, as it is kept in memory.
 
-ghost use Rattle.std.specs.Prelude.{◌≡◌, ◌<◌, ◌≤◌, ◌+◌, ◌*◌, ◌-◌, ◌∷◌, ◌++◌, [], Bool, false, true, nat_lt, length, position, take, drop, All, None, IfSome, IfNone, IfOk, OnOk, OnErr, option_copied, replicate};
+ghost use Rattle.std.specs.Prelude.{◌≡◌, ◌<◌, ◌≤◌, ◌+◌, ◌*◌, ◌-◌, ◌∷◌, ◌++◌, [], false, true, nat_lt, length, position, take, drop, All, None, IfSome, IfNone, IfOk, OnOk, OnErr, option_copied, replicate};
 ghost use Rattle.std.specs.List.{position_or_len};
 ghost use Rattle.fv_model.specs.Numbers.{greatest_span, most_snapshots, most_asked};
 ghost use Rattle.fv_codec.specs.Blocks.{IsLabel, IsSnapRecord};
@@ -20,21 +20,13 @@ ghost use Rattle.fv_volume.specs.Writing.{asked, map_count};
 use crate::known::known_name;
 use crate::label::{HOLE, kind_number, kind_of, name_field, name_of, records_of, snap_of};
 use fv_charge::{Ledger, overhead};
-use fv_codec::{Label, Pointer, SnapRecord};
+use fv_codec::{Label, SnapRecord};
 use fv_files::{FileNumbers, Files};
 use fv_model::{Kind, Name, map_blocks};
+use fv_pool::Rooted;
 use fv_volmap::VolMap;
 use std::alloc::{AllocError, Global};
 use std::marker::Model;
-
-/// A table as a label names it.
-#[derive(Clone, Copy, Debug, PartialEq, Eq)]
-pub struct Rooted {
-    /// How many levels of nodes the inode file has, 0 to 2.
-    pub levels: u8,
-    /// The pointer to the root of the inode file; a hole where there are no files.
-    pub root: Pointer,
-}
 
 /// What a clone stands on.
 #[derive(Clone, Copy, Debug, PartialEq, Eq)]

@@ -12,23 +12,22 @@ ghost use Rattle.fv_files.specs.Trees.{standing_in};
 ghost use Rattle.fv_codec.specs.Blocks.{IsPointer};
 ghost use Rattle.fv_tables.specs.Spelled.{Under};
 ghost use Rattle.fv_volume.specs.Asking.{closed, numbers_asked, root_asked, standing_of, standing_opened, table_named, IsTableOf};
-ghost use Rattle.fv_volume.specs.Calls.{BlockCause, Reads};
-ghost use Rattle.fv_volume.specs.Lending.{lent_for};
+ghost use Rattle.fv_pool.specs.Calls.{BlockCause, Reads};
+ghost use Rattle.fv_pool.specs.Lending.{lent_for};
 ghost use Rattle.fv_volume.specs.OneVolume.{home_in, IsReady, IsStanding};
 ghost use Rattle.fv_volume.specs.Paths.{unknown_over};
 
-use crate::blocks::Home;
-use crate::lent_files::{cell_told, find_told, kept_table, list_told, take_table};
-use crate::pool::Pool;
-use crate::state::{Rooted, VolumeState};
+use crate::active::lend_table;
+use crate::state::VolumeState;
 use fv_container::Steps;
 use fv_disk::{Block, BlockFault, Disk};
 use fv_files::{FileNumbers, Files};
 use fv_inode::Info;
 use fv_model::{Name, Names};
+use fv_pool::{Home, Pool, Rooted, cell_told, find_told, kept_table, list_told, take_table};
 use std::alloc::Global;
 use std::marker::Brand;
-use std::sync::ledger::{Blank, Ledger};
+use std::sync::ledger::Ledger;
 
 /// A table of a volume that a command asks.
 #[derive(Clone, Copy, Debug)]
@@ -99,20 +98,17 @@ fn numbers_for<'a>(
 
 /// What a call of the table that a command asks answers over the volume's blocks: opens the table, makes the call, and closes it.
 macro_rules! over_asked {
-    ($volume:ident, $alloc:ident, $table:ident, |$files:ident, $home:ident| $answer:ident = $call:expr) => {{
+    ($volume:ident, $alloc:ident, $table:ident, |$files:ident| $call:expr) => {{
         let held = $volume.files.is_some();
-        let $home = Home {
-            slot: $volume.slot,
-            label: $volume.label,
-        };
         let mut $files = open_table(&mut $volume.files, &$volume.active, $table, $alloc);
-        let $answer = $call;
+        let answer = $call;
         close_table(&mut $volume.files, held, $table, $files);
-        $answer
+        answer
     }};
 }
 
 /// What is known of the file of a name in a table; `None` exactly where no file of it has the name.
+#[tactic(auto, using(crate::proofs::KeptReads::asked_levels_fit, crate::proofs::KeptReads::asked_root_fits))]
 pub(crate) fn find_in<D: Disk>(
     volume: &mut VolumeState,
     alloc: Global,
@@ -135,20 +131,16 @@ pub(crate) fn find_in<D: Disk>(
         volume,
         alloc,
         table,
-        |files, home| found = find_told::<Brand, D, Brand>(
-            &mut files,
-            pool,
-            disk,
-            &mut volume.map,
-            &home,
-            Blank::new(1),
-            numbers_for(table, &volume.numbers, &none),
-            name,
+        |files| lend_table!(
+            files,
+            volume,
+            |pool, disk| find_told(numbers_for(table, &volume.numbers, &none), name)
         )
     )
 }
 
 /// The names of all files of a table.
+#[tactic(auto, using(crate::proofs::KeptReads::asked_levels_fit, crate::proofs::KeptReads::asked_root_fits))]
 pub(crate) fn list_in<D: Disk>(
     volume: &mut VolumeState,
     alloc: Global,
@@ -168,18 +160,12 @@ pub(crate) fn list_in<D: Disk>(
         volume,
         alloc,
         table,
-        |files, home| names = list_told::<Brand, D, Brand>(
-            &mut files,
-            pool,
-            disk,
-            &mut volume.map,
-            &home,
-            Blank::new(1),
-        )
+        |files| lend_table!(files, volume, |pool, disk| list_told())
     )
 }
 
 /// A block of the file of which this is known in a table, or zeros, with the steps of the whole path to it.
+#[tactic(auto, using(crate::proofs::KeptReads::asked_levels_fit, crate::proofs::KeptReads::asked_root_fits))]
 pub(crate) fn read_in<D: Disk, L: Ledger>(
     volume: &mut VolumeState,
     alloc: Global,
@@ -202,11 +188,15 @@ pub(crate) fn read_in<D: Disk, L: Ledger>(
     ensures cause { BlockCause (IsStanding (D.shown disk.old) pool.old volume.old) (standing_of (D.shown disk.old) pool.old volume.old table.now)
         (lent_for pool.old volume.old.map (D.shown disk.old) steps.old (home_in volume.old) 0) (D.shown disk.new).faults result }
 {
+    let home = Home {
+        slot: volume.slot,
+        label: volume.label,
+    };
     over_asked!(
         volume,
         alloc,
         table,
-        |files, home| read = cell_told::<Brand, D, L>(
+        |files| cell_told::<Brand, D, L>(
             &mut files,
             pool,
             disk,

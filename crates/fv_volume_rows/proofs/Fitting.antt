@@ -17,19 +17,20 @@ use Rattle.fv_image.specs.Views.{entry_count}
 use Rattle.fv_aggmap.specs.Space.{Space}
 use Rattle.fv_container.specs.Mapped.{Mapped}
 use Rattle.fv_container.specs.Chains.{Slots, container_at, parent_at, slot_count}
-use Rattle.fv_volume.specs.declared.pool.Pool.{Pool}
+use Rattle.fv_pool.specs.declared.pool.Pool.{Pool}
 use Rattle.fv_volume.specs.declared.state.Base.{Base}
 use Rattle.fv_volume.specs.declared.state.VolumeState.{VolumeState}
-use Rattle.fv_volume.specs.BlocksOver.{entries_in}
-use Rattle.fv_volume.specs.Calls.{Reads}
+use Rattle.fv_pool.specs.BlocksOver.{entries_in}
+use Rattle.fv_pool.specs.Calls.{Reads}
 use Rattle.fv_volumes.specs.Creating.{IsMade, IsNew, with_holes}
 use Rattle.fv_volumes.proofs.Housing.{housed_with}
 use Rattle.fv_volume.specs.Files.{IsLabelled}
-use Rattle.fv_volume.specs.Keeping.{Blocks, IsUnkept}
-use Rattle.fv_volume.specs.Lending.{GoesOver, MayTake, lent_by, lent_for}
+use Rattle.fv_pool.specs.Keeping.{Blocks, IsUnkept}
+use Rattle.fv_pool.specs.Lending.{GoesOver, MayTake, lent_by, lent_for}
 use Rattle.fv_volume.specs.Loading.{Houses}
 use Rattle.fv_volume.specs.OneVolume.{home_in, IsReady}
-use Rattle.fv_volume.specs.Placing.{Goes, KeepsPlaced}
+use Rattle.fv_pool.specs.Placing.{Goes}
+use Rattle.fv_volume.specs.Placing.{KeepsPlaced}
 use Rattle.fv_volume.specs.States.{States, parent_in, state_at, with_state}
 use Rattle.fv_volume.specs.Writing.{IsTaken, on_disk}
 use Rattle.fv_cp.specs.Placing.{AreReady, IsReadyIn}

@@ -1,16 +1,13 @@
 -- Calls on the snapshots of a volume leave it where it was, and the root.
-use Rattle.std.proofs.Common.{◌≡◌, ℕ, List, None, Result, Ok, Err, refl, sym, subst, ◌∙◌, inl}
-use Rattle.fv_model.specs.declared.answers.Refusal.{Refusal}
+use Rattle.std.proofs.Common.{◌≡◌, ℕ, List, Result, Ok, Err, refl, sym, subst, ◌∙◌, inl}
 use Rattle.std.specs.Prelude.{OnErr, OnOk}
 use Rattle.fv_disk.specs.Shown.{Shown as Disk}
-use Rattle.fv_volume.specs.declared.fault.VolumeFault.{VolumeFault}
-use Rattle.fv_volume.specs.declared.pool.Pool.{Pool}
+use Rattle.fv_pool.specs.declared.fault.VolumeFault.{VolumeFault}
+use Rattle.fv_pool.specs.declared.pool.Pool.{Pool}
 use Rattle.fv_volume.specs.declared.state.VolumeState.{VolumeState}
 use Rattle.fv_volume.specs.Held.{IsPlacedAs}
 use Rattle.fv_volumes.proofs.Staying.{only_itself}
-use Rattle.fv_snapshot.specs.declared.creating.Granted.{Granted}
-use Rattle.fv_snapshot.specs.Creating.{IsGranted, IsSnapped, JudgesCreation, creation_refusal}
-use Rattle.fv_snapshot.specs.Granting.{slot_granted}
+use Rattle.fv_snapshot.specs.Creating.{IsSnapped}
 use Rattle.fv_snapshot.specs.Deleting.{IsUnsnapped}
 use Rattle.fv_snapshot.specs.Restoring.{IsTurned}
 use Rattle.fv_volume_rows.specs.Held.{KeepsPlace, LeavesPlace, LeavesRoot}
@@ -50,17 +47,6 @@ placed_then d p q x mid y placed then =
 pub created_leaves : (d : Disk) (p q : Pool) (x y : VolumeState) (name : List ℕ) (r : Result Unit VolumeFault) → OnOk r (IsSnapped d p x q name y) → OnErr r (IsPlacedAs d p x d q y) → LeavesPlace d d p q x y
 created_leaves d p q x y name (Ok done) is failed = placed_then d p q x is.mid y is.placed (subst (KeepsPlace is.mid) (sym is.now) (record { slot = refl; span = refl; base = refl }))
 created_leaves d p q x y name (Err e) is failed = placed_then d p q x y y failed (place_itself y)
-
--- What was judged is granted, and isn't refused.
-module _ (x : VolumeState) (blocks others : ℕ) (name : List ℕ) (r : Result Granted Refusal) (granted : Granted) (judged : JudgesCreation x blocks others name (slot_granted r)) (is : r ≡ Ok granted) where
-  its : JudgesCreation x blocks others name (Ok granted.slot)
-  its = subst (λ (q : Result Granted Refusal). JudgesCreation x blocks others name (slot_granted q)) is judged
-
-  pub is_granted : IsGranted x name granted.slot
-  is_granted = record { free = its.slot; none = its.none; fits = its.fits }
-
-  pub not_refused : creation_refusal x.snapshots x.ledger blocks others name ≡ None
-  not_refused = sym its.same
 
 -- One was removed, or not.
 pub deleted_leaves : (d : Disk) (p q : Pool) (x y : VolumeState) (name : List ℕ) (r : Result Unit VolumeFault) → OnOk r (IsUnsnapped d p x q name y) → OnErr r (IsPlacedAs d p x d q y) → LeavesPlace d d p q x y

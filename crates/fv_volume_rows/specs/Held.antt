@@ -7,9 +7,9 @@ use Rattle.fv_root.specs.Commits.{IsFoundOn}
 use Rattle.fv_root.specs.Formatted.{IsSize}
 use Rattle.fv_container.specs.Chains.{container_at, slot_count}
 use Rattle.fv_store.specs.Held.{StandsOn}
-use Rattle.fv_volume.specs.declared.pool.Pool.{Pool}
+use Rattle.fv_pool.specs.declared.pool.Pool.{Pool}
 use Rattle.fv_volume.specs.declared.state.VolumeState.{VolumeState}
-use Rattle.fv_volume.specs.BlocksOver.{entries_in}
+use Rattle.fv_pool.specs.BlocksOver.{entries_in}
 use Rattle.fv_volume.specs.Files.{IsLabelled}
 use Rattle.fv_volume.specs.OneVolume.{IsReady}
 use Rattle.fv_volume.specs.States.{States, state_at}

@@ -3,7 +3,7 @@
 ghost use Rattle.std.specs.Prelude.{◌≡◌, ◌<◌, ◌≤◌, ◌^◌, ℕ, IfSome};
 ghost use Rattle.fv_container.specs.Chains.{slot_count};
 ghost use Rattle.fv_model.specs.Numbers.{greatest_span};
-ghost use Rattle.fv_volume.specs.Calls.{Reads};
+ghost use Rattle.fv_pool.specs.Calls.{Reads};
 ghost use Rattle.fv_volume.specs.OneVolume.{IsReady};
 ghost use Rattle.fv_volume.specs.States.{state_at};
 ghost use Rattle.fv_volume_rows.specs.Held.{AreFit, AreHeld, LeavesPlace};
@@ -12,7 +12,7 @@ use crate::opened::Opened;
 use fv_container::Steps;
 use fv_disk::{Block, Disk};
 use fv_model::{Command, Kind, Name, Refusal, Reply};
-use fv_snapshot::{create as make_snapshot, delete, judge_create, restore};
+use fv_snapshot::{create as create_snapshot, delete, restore};
 use fv_volume::{Pool, VolumeFault, VolumeState};
 use fv_volumes::Volumes;
 use std::alloc::Global;
@@ -78,25 +78,6 @@ fn on_snapshots<D: Disk>(
     match volumes.get_mut(slot) {
         None => Err(VolumeFault::Refused(Refusal::NoVolume)),
         Some(volume) => done(change_snapshots(volume, pool, disk, others, command)),
-    }
-}
-
-/// Makes a snapshot of a volume where it is granted.
-fn create_snapshot<D: Disk>(
-    volume: &mut VolumeState,
-    pool: &mut Pool,
-    disk: &mut D,
-    others: u64,
-    name: &Name,
-) -> Result<(), VolumeFault>
-    requires ready { IsReady (D.shown disk.old) pool.old volume.old }
-    requires others { others ≤ 2 ^ 62 }
-    ensures ready { IsReady (D.shown disk.new) pool.new volume.new }
-    ensures leaves { LeavesPlace (D.shown disk.old) (D.shown disk.new) pool.old pool.new volume.old volume.new }
-{
-    match judge_create(volume, pool.found.blocks, others, name) {
-        Ok(granted) => make_snapshot(volume, pool, disk, granted, name),
-        Err(refusal) => Err(VolumeFault::Refused(refusal)),
     }
 }
 

@@ -7,7 +7,7 @@ use Rattle.std.proofs.lemmas.Bool.{and_parts, cases_eq, cases_lt}
 use Rattle.std.proofs.lemmas.Bool.Decides.{nat_tests}
 use Rattle.std.proofs.lemmas.List.{get_or_past}
 use Rattle.std.proofs.lemmas.List.Elements.{All-get_or}
-use Rattle.std.proofs.lemmas.List.Sums.{sum_by-cons, sum_by-append}
+use Rattle.std.proofs.lemmas.List.Sums.{sum_by-append}
 use Rattle.fv_disk.specs.Shown.{Image, Shown}
 use Rattle.fv_bits.specs.Members.{is_member}
 use Rattle.fv_codec.specs.declared.label.Label.{Label}
@@ -28,7 +28,7 @@ use Rattle.fv_image.proofs.InRange.{of_listed}
 use Rattle.fv_image.proofs.SameLayout.{slot_inside}
 use Rattle.fv_image.proofs.HeldPlaces.{block_is_held, entry_blocks, held_list, node_blocks}
 use Rattle.fv_image.proofs.Replaced.{counted_parts, listed_tells, some_times}
-use Rattle.fv_image.proofs.Spaced.{AreSpaced, spaced_from}
+use Rattle.fv_image.proofs.Spaced.{AreSpaced, spaced_from, two_in_sum}
 use Rattle.fv_image.proofs.SoundTests.{machine_under, tells_from}
 use Rattle.fv_aggmap.specs.Space.{Space}
 use Rattle.fv_aggmap.specs.Loading.{IsLoaded as IsMapLoaded}
@@ -39,11 +39,12 @@ use Rattle.fv_container.specs.Chains.{Slots, along, chain_entry, container_at, o
 use Rattle.fv_container.specs.Mapped.{IsHeld, Mapped, entry_under}
 use Rattle.fv_container.specs.Spelled.{pair_of}
 use Rattle.fv_volmap.specs.Slots.{Volume, taken_in}
-use Rattle.fv_volume.specs.declared.pool.Pool.{Pool}
+use Rattle.fv_pool.specs.declared.pool.Pool.{Pool}
 use Rattle.fv_volume.specs.Loading.{IsContainerOf, KeptTo, LoadedTo}
-use Rattle.fv_volume.specs.Opening.{OpensPool, OpensVolumes}
+use Rattle.fv_pool.specs.Opening.{OpensPool}
+use Rattle.fv_volume.specs.Opening.{OpensVolumes}
 use Rattle.fv_volume.specs.States.{States}
-use Rattle.fv_volume.specs.BlocksOver.{AreApart, held_entry}
+use Rattle.fv_pool.specs.BlocksOver.{AreApart, held_entry}
 
 -- ---- what is asked of an image
 
@@ -78,22 +79,6 @@ spaced y is = spaced_from y is.once is.map (λ b there.
     below b n test = grind (arith, nat_tests, test)
 
 -- ---- two entries of one container
-
-part_in_sum : (part : ℕ → ℕ) (k from count : ℕ) → from ≤ k → k < from + count → part k ≤ sum_by part (range_with_len from count)
-part_in_sum part k from zero low high = absurd (omega arith)
-part_in_sum part k from (suc count) low high =
-    let cons : sum_by part (range_with_len from (suc count)) ≡ part from + sum_by part (range_with_len (from + 1) count) = sum_by-cons part from (range_with_len (from + 1) count) in ⊎_elim
-    (λ (e : from ≡ k). let same : part from ≡ part k = ap part e in omega (arith, cons, same))
-    (λ ne. let rest = part_in_sum part k (from + 1) count (omega arith) (omega arith) in omega (arith, cons, rest))
-    (cases_eq from k)
-
-two_in_sum : (part : ℕ → ℕ) (k j from count : ℕ) → from ≤ k → k < j → j < from + count → part k + part j ≤ sum_by part (range_with_len from count)
-two_in_sum part k j from zero low order high = absurd (omega arith)
-two_in_sum part k j from (suc count) low order high =
-    let cons : sum_by part (range_with_len from (suc count)) ≡ part from + sum_by part (range_with_len (from + 1) count) = sum_by-cons part from (range_with_len (from + 1) count) in ⊎_elim
-    (λ (e : from ≡ k). let same : part from ≡ part k = ap part e in let rest = part_in_sum part j (from + 1) count (omega (arith, order, e)) (omega (arith, high)) in omega (arith, cons, same, rest))
-    (λ ne. let rest = two_in_sum part k j (from + 1) count (omega arith) order (omega (arith, high)) in omega (arith, cons, rest))
-    (cases_eq from k)
 
 module _ (t : Taken) (i : Image) (s : ℕ) (l : Label) (there : label_in (label_lying t i s) ≡ Some l) where
   entry_listed : (v : ℕ) (e : Entry) → entry_at i l v ≡ (e.pvbn, e.kind) → 1 ≤ e.kind → is_in e.pvbn (entry_blocks i l v) ≡ true
@@ -249,23 +234,3 @@ loaded_apart pool i states sound loaded kept volumes = entries_apart (root_found
     (sound_holds (layout_at (root_found pool.found) i) sound)
     (record { few = kept.few; each = λ s inside. (volumes.each s inside).tree })
     (λ b bit. ap (λ (m : List Bool). is_member m b) loaded.same ∙ (loaded.bits b ∙ bit))
-
--- So do those of what was loaded from an image that stands for a machine.
-pub machine_apart : (pool : Pool) (i : Image) (states : States) (m : Machine) → root_of i ≡ Some (root_found pool.found) → machine_of i ≡ Some m → IsMapLoaded i pool.found pool.map
-    → KeptTo slot_count states pool.containers → LoadedTo i pool.found slot_count states pool.containers → (map : Volume) (slot : ℕ) → AreApart pool map slot
-machine_apart pool i states m counts stands = loaded_apart pool i states
-    (tells_from (layout_at (root_found pool.found) i) m (sym (machine_under i (root_found pool.found) counts) ∙ stands)).sound
-
--- And those of what `Pool::open` and `Volumes::open` leave, one after the other, where the disk tells a sound image.
-pub opened_apart : (first second last : Shown) (found : Found) (opened left : Pool) (states : States) → IsTrue first.tells → IsSound (layout_at (root_found found) first.reads)
-    → OpensPool first found second (Ok opened) → OpensVolumes second opened last left (Ok states) → (map : Volume) (slot : ℕ) → AreApart left map slot
-opened_apart first second last found opened left states told sound pool volumes =
-    let same : left.found ≡ found = volumes.found ∙ pool.found in
-    let told_then : IsTrue second.tells = subst IsTrue (sym pool.only_reads.stays.tells) told in
-    let map_loaded : IsMapLoaded first.reads found left.map = subst (λ (m : Space). IsMapLoaded first.reads found m) (sym volumes.map) (pool.map told) in
-    let loaded : LoadedTo second.reads left.found slot_count states left.containers = subst (λ (f : Found). LoadedTo second.reads f slot_count states left.containers) (sym volumes.found) (volumes.loaded told_then) in
-    loaded_apart left first.reads states
-    (subst (λ (f : Found). IsSound (layout_at (root_found f) first.reads)) (sym same) sound)
-    (subst (λ (f : Found). IsMapLoaded first.reads f left.map) (sym same) map_loaded)
-    volumes.states
-    (subst (λ (i : Image). LoadedTo i left.found slot_count states left.containers) pool.only_reads.stays.reads loaded)

@@ -8,6 +8,7 @@ use Rattle.std.specs.Ordering.{nat_cmp, eq_by_cmp}
 use Rattle.std.specs.Cmp.{nat_cmp_total}
 use Rattle.std.proofs.Math.Seq.{take-length}
 use Rattle.std.proofs.lemmas.Bool.{cases_Bool, cases_eq}
+use Rattle.std.proofs.Math.Bool.{or_comm}
 use Rattle.std.proofs.lemmas.Bool.Decides.{nat_tests}
 use Rattle.fv_bits.specs.Members.{is_member}
 use Rattle.fv_model.specs.declared.answers.Refusal.TheVariants.{NoVolume, VolumeInUse}
@@ -29,12 +30,12 @@ use Rattle.fv_container.specs.Mapped.{Mapped}
 use Rattle.fv_container.specs.Spelled.{is_at, names}
 use Rattle.fv_container.specs.Written.{HasReleased}
 use Rattle.fv_image.specs.Views.{entry_count}
-use Rattle.fv_volume.specs.declared.pool.Pool.{Pool}
+use Rattle.fv_pool.specs.declared.pool.Pool.{Pool}
 use Rattle.fv_volume.specs.declared.state.VolumeState.{VolumeState}
 use Rattle.fv_volume.specs.Calls.{Has}
 use Rattle.fv_volumes.specs.Destroying.{Destroys, EmptiesAt, GivesBackAt, HasForgotten}
 use Rattle.fv_volumes.specs.Housed.{AreHoused}
-use Rattle.fv_volume.specs.Keeping.{Blocks}
+use Rattle.fv_pool.specs.Keeping.{Blocks}
 use Rattle.fv_volume.specs.Loading.{Houses}
 use Rattle.fv_volume.specs.OneVolume.{volume_as, Content}
 use Rattle.fv_volume.specs.Promising.{HasVolumes}
@@ -106,14 +107,7 @@ volume_given x map count old mid later new same entries nodes label =
     (given_then old mid later (leads map count) (names map.tree) (λ b. leads map count b || names map.tree b) (λ b. refl) entries nodes) label
   where
     turned : (s t u : Bool) → (s || (t || u)) ≡ ((u || t) || s)
-    turned true true true = refl
-    turned true true false = refl
-    turned true false true = refl
-    turned true false false = refl
-    turned false true true = refl
-    turned false true false = refl
-    turned false false true = refl
-    turned false false false = refl
+    turned s t u = or_comm s (t || u) ∙ ap (λ b. b || s) (or_comm t u)
 
 -- ---- the slot
 

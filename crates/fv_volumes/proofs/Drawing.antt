@@ -3,6 +3,7 @@ use Rattle.std.proofs.Common.{◌≡◌, ◌≢◌, ℕ, zero, suc, ◌+◌, ◌
 use Rattle.std.specs.Prelude.{slice_set, IfSome, IfNone, IsSome}
 use Rattle.std.specs.List.{list_any, range_with_len}
 use Rattle.std.proofs.lemmas.Bool.{cases_eq, or_cases, or_left, or_right, true≢false}
+use Rattle.std.proofs.Math.Bool.{or_assoc, or_comm}
 use Rattle.std.proofs.lemmas.Bool.Decides.{nat_tests}
 use Rattle.fv_bits.specs.Members.{is_member}
 use Rattle.fv_bits.proofs.Laws.{is_member-set}
@@ -187,7 +188,4 @@ drawn_then old mid new f g both m n same first second = record {
 }
   where
     turned : (g f m : Bool) → (g || (f || m)) ≡ ((f || g) || m)
-    turned true true m = refl
-    turned true false m = refl
-    turned false true m = refl
-    turned false false m = refl
+    turned g f m = sym (or_assoc g f m) ∙ ap (λ t. t || m) (or_comm g f)

@@ -42,12 +42,12 @@ use Rattle.fv_container.specs.declared.entry.Entry.{Entry}
 use Rattle.fv_container.specs.Chains.{container_at, own_entry, parent_at}
 use Rattle.fv_container.specs.Chains.{Slots}
 use Rattle.fv_volmap.specs.Slots.{Volume as Maps, has, slot_at}
-use Rattle.fv_volume.specs.declared.pool.Pool.{Pool}
-use Rattle.fv_volume.specs.declared.state.Rooted.{Rooted}
+use Rattle.fv_pool.specs.declared.pool.Pool.{Pool}
+use Rattle.fv_pool.specs.declared.rooted.Rooted.{Rooted}
 use Rattle.fv_volume.specs.declared.state.VolumeState.{VolumeState}
-use Rattle.fv_volume.specs.BlocksOver.{held_entry}
-use Rattle.fv_volume.specs.Keeping.{seen}
-use Rattle.fv_volume.specs.Lending.{use_of}
+use Rattle.fv_pool.specs.BlocksOver.{held_entry}
+use Rattle.fv_pool.specs.Keeping.{seen}
+use Rattle.fv_pool.specs.Lending.{use_of}
 use Rattle.fv_volume.specs.OneVolume.{blocks_in, uses_in, RootStands}
 use Rattle.fv_volume.specs.States.{States, head_in, placed_in, state_at, table_in, view_over}
 use Rattle.fv_volumes.proofs.Standings.{held_own, root_agrees}

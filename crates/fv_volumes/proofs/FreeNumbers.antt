@@ -32,22 +32,23 @@ use Rattle.fv_files.specs.Apart.{Trees, LeadsFrom, LeadsIn, AreLed}
 use Rattle.fv_files.specs.Sharing.{owner_in}
 use Rattle.fv_image.proofs.Counts.{listed_within, none_between, others, within_two}
 use Rattle.fv_volmap.specs.Slots.{active_of, has, slot_at, slot_of_base, taken_in}
-use Rattle.fv_volume.specs.declared.pool.Pool.{Pool}
-use Rattle.fv_volume.specs.declared.state.Rooted.{Rooted}
+use Rattle.fv_pool.specs.declared.pool.Pool.{Pool}
+use Rattle.fv_pool.specs.declared.rooted.Rooted.{Rooted}
 use Rattle.fv_volume.specs.declared.state.Snap.{Snap}
 use Rattle.fv_volume.specs.declared.state.VolumeState.{VolumeState}
-use Rattle.fv_volume.specs.BlocksOver.{free_numbers}
+use Rattle.fv_pool.specs.BlocksOver.{free_numbers}
 use Rattle.fv_volume.specs.Files.{IsLabelled}
 use Rattle.fv_volume.specs.Held.{pending_by, HasNumbers, IsHeldIn}
 use Rattle.fv_volume.specs.Labels.{label_said}
-use Rattle.fv_volume.specs.OneVolume.{blocks_in, shows, standing_by, standing_kept, trees_for, volume_for, IsKeptTable, IsStanding}
-use Rattle.fv_volume.specs.Placing.{AreLedBy, IsLedTo}
-use Rattle.fv_volume.specs.Sharing.{pointer_in, trees_by, trees_kept, SharesWith}
+use Rattle.fv_pool.specs.Tables.{standing_by, AreLedBy, trees_by}
+use Rattle.fv_volume.specs.OneVolume.{blocks_in, shows, standing_kept, trees_for, volume_for, IsKeptTable, IsStanding}
+use Rattle.fv_volume.specs.Placing.{IsLedTo}
+use Rattle.fv_volume.specs.Sharing.{pointer_in, trees_kept, SharesWith}
 use Rattle.fv_volume.proofs.EachRoot.{all_in}
 use Rattle.fv_volume.proofs.KeptStamps.{stamp_some}
 use Rattle.fv_volume.proofs.ActiveSlot.{active_has}
 use Rattle.fv_volume.proofs.SettledTables.{LeadsHere, few_levels, has_used, listed_at, number_of, slot_found, taken_some}
-use Rattle.fv_volume.proofs.Shows.{unused_member}
+use Rattle.fv_pool.proofs.Shows.{unused_member}
 use Rattle.fv_volume.proofs.SnapIds.{by_stamp, has_id, in_kept}
 
 -- ---- sets of ids as lists

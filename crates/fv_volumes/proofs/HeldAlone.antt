@@ -44,26 +44,27 @@ use Rattle.fv_root.specs.Finding.{root_found}
 use Rattle.fv_container.specs.declared.entry.Entry.{Entry}
 use Rattle.fv_container.specs.Chains.{container_at, own_entry, parent_at}
 use Rattle.fv_volmap.specs.Slots.{IsVolume, has, slot_at}
-use Rattle.fv_volume.specs.declared.pool.Pool.{Pool}
+use Rattle.fv_pool.specs.declared.pool.Pool.{Pool}
 use Rattle.fv_volume.specs.declared.state.Snap.{Snap}
 use Rattle.fv_volume.specs.declared.state.VolumeState.{VolumeState}
 use Rattle.fv_volume.specs.Files.{AreStates, IsState, has_form}
 use Rattle.fv_volume.specs.Numbering.{AreNumbersSeen}
 use Rattle.fv_volume.specs.OneVolume.{blocks_in, shows, table_for, volume_for, IsReady, IsStanding, RootStands}
 use Rattle.fv_volume.specs.Placing.{IsLedTo, IsStoredWell}
-use Rattle.fv_volume.specs.Sharing.{differs_in, pointer_in, trees_by, trees_kept, AreShared, SharesWith}
+use Rattle.fv_pool.specs.Tables.{trees_by}
+use Rattle.fv_volume.specs.Sharing.{differs_in, pointer_in, trees_kept, AreShared, SharesWith}
 use Rattle.fv_volume.specs.Slots.{sum_of}
 use Rattle.fv_volume.specs.States.{States, head_in, parent_in, rooted_as, state_at, view_over}
 use Rattle.fv_volume.specs.Trees.{active_in, no_trees}
 use Rattle.fv_volumes.proofs.Distinct.{same_names}
 use Rattle.fv_volumes.proofs.Made.{commits_are}
 use Rattle.fv_volume.proofs.EachRoot.{each_root}
-use Rattle.fv_volume.proofs.OverBlocks.{same_place}
+use Rattle.fv_pool.proofs.OverBlocks.{same_place}
 use Rattle.fv_volume.proofs.ActiveStands.{agrees, roots_stand}
 use Rattle.fv_volumes.proofs.Reached.{standing_reach}
 use Rattle.fv_volume.proofs.Shared.{shares_back}
 use Rattle.fv_volume.proofs.SharedRoots.{alike_shares, stored_place, stored_same}
-use Rattle.fv_volume.proofs.Shows.{slot_below}
+use Rattle.fv_pool.proofs.Shows.{slot_below}
 use Rattle.fv_volume.proofs.SnapNames.{names_in}
 use Rattle.fv_volumes.proofs.Standings.{root_agrees, standing_state, standing_table, standing_volume}
 use Rattle.fv_volumes.proofs.Told.{head_there, is_inside}

@@ -10,9 +10,9 @@ use Rattle.fv_container.specs.Chains.{container_at}
 use Rattle.fv_volmap.specs.Slots.{stored_count, IsVolume}
 use Rattle.fv_files.specs.declared.numbers.FileNumbers.{FileNumbers}
 use Rattle.fv_files.specs.Numbering.{AreNumbersIf}
-use Rattle.fv_volume.specs.declared.pool.Pool.{Pool}
+use Rattle.fv_pool.specs.declared.pool.Pool.{Pool}
 use Rattle.fv_volume.specs.declared.state.VolumeState.{VolumeState}
-use Rattle.fv_volume.specs.BlocksOver.{entries_in}
+use Rattle.fv_pool.specs.BlocksOver.{entries_in}
 use Rattle.fv_volume.specs.Files.{IsLabelled}
 use Rattle.fv_volume.specs.Held.{core_of, HasNoFiles, HasWholeMap, IsReadyIn}
 use Rattle.fv_volumes.specs.Housed.{as_written, settled_as}

@@ -9,7 +9,7 @@ use Rattle.fv_model.specs.Space.{span_of}
 use Rattle.fv_image.specs.Views.{Head, entry_count}
 use Rattle.fv_container.specs.Mapped.{Mapped, empty_map}
 use Rattle.fv_container.specs.Chains.{Slots, container_at, parent_at, with_container}
-use Rattle.fv_volume.specs.declared.pool.Pool.{Pool}
+use Rattle.fv_pool.specs.declared.pool.Pool.{Pool}
 use Rattle.fv_volume.specs.declared.state.Base.{Base}
 use Rattle.fv_volume.specs.declared.state.VolumeState.{VolumeState}
 use Rattle.fv_volumes.specs.Creating.{IsMade, IsNew, with_holes}

@@ -29,7 +29,7 @@ use Rattle.fv_tree.specs.Standing.{under, IsUnread}
 use Rattle.fv_inode.specs.declared.info.Info.{Info}
 use Rattle.fv_inode.specs.Files.{has_name, info_of, name_of, IsFirst}
 use Rattle.fv_files.specs.Tables.{tree_known}
-use Rattle.fv_volume.specs.declared.pool.Pool.{Pool}
+use Rattle.fv_pool.specs.declared.pool.Pool.{Pool}
 use Rattle.fv_volume.specs.declared.state.VolumeState.{VolumeState}
 use Rattle.fv_volume.specs.Calls.{Has}
 use Rattle.fv_volume.specs.Asking.{standing_asked, standing_read}

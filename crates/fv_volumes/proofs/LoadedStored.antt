@@ -26,12 +26,12 @@ use Rattle.fv_image.specs.HintRules.{has_known_places, is_unknown}
 use Rattle.fv_image.specs.ReachRules.{block_is, has_reached_positions, has_reached_shapes, inodes_are, is_of_position, node_is, shape_for}
 use Rattle.fv_image.specs.Seen.{roots_of, volume_seen}
 use Rattle.fv_image.specs.BlockRules.{is_fine}
-use Rattle.fv_image.specs.Views.{Head, Placed, Rooted, View}
+use Rattle.fv_image.specs.Views.{Placed, Rooted, View}
 use Rattle.fv_image.specs.Volumes.{standing_of}
 use Rattle.fv_tables.proofs.TablePlaces.{at_place, number}
 use Rattle.fv_image.proofs.RootTables.{led_entry, of_root}
 use Rattle.fv_image.proofs.SameSeen.{of_volume}
-use Rattle.fv_volume.specs.declared.pool.Pool.{Pool}
+use Rattle.fv_pool.specs.declared.pool.Pool.{Pool}
 use Rattle.fv_volume.specs.declared.state.VolumeState.{VolumeState}
 use Rattle.fv_volume.specs.States.{States, head_in, view_over}
 use Rattle.fv_volumes.proofs.LoadedTables.{StandsInView, at, blocks, here, led, led_is, low_at, member_at, same_block, some_at}
@@ -101,10 +101,7 @@ module _ (disk : Disk) (pool : Pool) (states : States) (x : VolumeState) (is : S
   abbrev s : ℕ
   s = x.slot
 
-  abbrev h : Head
-  h = head_in x
-
-  abbrev there : w.head s ≡ Some h
+  abbrev there : w.head s ≡ Some (head_in x)
   there = here disk pool states x is
 
   abbrev reached_items : List Item
@@ -112,18 +109,18 @@ module _ (disk : Disk) (pool : Pool) (states : States) (x : VolumeState) (is : S
 
   all_shapes : list_all (λ e. block_is (λ block. is_fine (shape_for e block)) (place w s e.pointer.vvbn)) reached_items ≡ true
   unfolding has_reached_shapes
-  all_shapes = of_root w s h is.small there is.tables k r one (λ y r e. block_is (λ block. is_fine (shape_for e.item block)) e.at)
-      (of_volume w (λ s y. list_all (λ r. list_all (λ e. block_is (λ block. is_fine (shape_for e.item block)) e.at) r.reached) y.roots) s h is.tables.shapes is.small there)
+  all_shapes = of_root w s (head_in x) is.small there is.tables k r one (λ y r e. block_is (λ block. is_fine (shape_for e.item block)) e.at)
+      (of_volume w (λ s y. list_all (λ r. list_all (λ e. block_is (λ block. is_fine (shape_for e.item block)) e.at) r.reached) y.roots) s (head_in x) is.tables.shapes is.small there)
 
   all_positions : list_all (λ e. block_is (is_of_position e) (place w s e.pointer.vvbn)) reached_items ≡ true
   unfolding has_reached_positions
-  all_positions = of_root w s h is.small there is.tables k r one (λ y r e. block_is (is_of_position e.item) e.at)
-      (of_volume w (λ s y. list_all (λ r. list_all (λ e. block_is (is_of_position e.item) e.at) r.reached) y.roots) s h is.tables.positions is.small there)
+  all_positions = of_root w s (head_in x) is.small there is.tables k r one (λ y r e. block_is (is_of_position e.item) e.at)
+      (of_volume w (λ s y. list_all (λ r. list_all (λ e. block_is (is_of_position e.item) e.at) r.reached) y.roots) s (head_in x) is.tables.positions is.small there)
 
-  all_known : list_all (λ e. not h.known || not (is_unknown e.pointer)) reached_items ≡ true
+  all_known : list_all (λ e. not x.known || not (is_unknown e.pointer)) reached_items ≡ true
   unfolding has_known_places volume_seen
-  all_known = of_root w s h is.small there is.tables k r one (λ y r e. not y.head.known || not (is_unknown e.item.pointer))
-      (of_volume w (λ s y. list_all (λ r. list_all (λ e. not y.head.known || not (is_unknown e.item.pointer)) r.reached) y.roots) s h is.tables.known is.small there)
+  all_known = of_root w s (head_in x) is.small there is.tables k r one (λ y r e. not y.head.known || not (is_unknown e.item.pointer))
+      (of_volume w (λ s y. list_all (λ r. list_all (λ e. not y.head.known || not (is_unknown e.item.pointer)) r.reached) y.roots) s (head_in x) is.tables.known is.small there)
 
   module _ (o : Owner) (level index : ℕ) (some : (at disk pool states x is k r one o level index).stamp ≢ 0) where
     abbrev p : Pointer
@@ -153,7 +150,7 @@ module _ (disk : Disk) (pool : Pool) (states : States) (x : VolumeState) (is : S
 
     -- the block that it leads to
     entry : (e : Placed) × (place w s p.vvbn ≡ Some e)
-    entry = let led_to = led_entry w s h is.small there is.tables k r one o level index some in (led_to.0, led_to.1.0)
+    entry = let led_to = led_entry w s (head_in x) is.small there is.tables k r one o level index some in (led_to.0, led_to.1.0)
 
     lies : place w s p.vvbn ≡ Some entry.0
     lies = entry.1
@@ -188,7 +185,7 @@ module _ (disk : Disk) (pool : Pool) (states : States) (x : VolumeState) (is : S
 
     known_here : p.pvbn ≢ 0
     known_here =
-        let told = passes_here (λ e. not h.known || not (is_unknown e.pointer)) all_known in
+        let told = passes_here (λ e. not x.known || not (is_unknown e.pointer)) all_known in
         known_one p (sym (ap (λ (b : Bool). not b || not (is_unknown p)) is.known) ∙ told.passes) some
 
   -- ---- its trees

@@ -46,17 +46,17 @@ use Rattle.fv_root.specs.Finding.{root_found}
 use Rattle.fv_container.specs.declared.entry.Entry.{Entry}
 use Rattle.fv_container.specs.Chains.{Slots, along, chain_entry, container_at, or_else, own_entry, parent_at, slot_count}
 use Rattle.fv_volmap.specs.Slots.{has, slot_at}
-use Rattle.fv_volume.specs.declared.pool.Pool.{Pool}
+use Rattle.fv_pool.specs.declared.pool.Pool.{Pool}
 use Rattle.fv_volume.specs.declared.state.VolumeState.{VolumeState}
-use Rattle.fv_volume.specs.BlocksOver.{block_of, held_block, held_entry}
+use Rattle.fv_pool.specs.BlocksOver.{block_of, held_block, held_entry}
 use Rattle.fv_volume.specs.Files.{HasOwnSlots, IsLabelled}
-use Rattle.fv_volume.specs.Lending.{use_of}
+use Rattle.fv_pool.specs.Lending.{use_of}
 use Rattle.fv_volume.specs.Loading.{HaveBits, KeptTo, LoadedTo}
 use Rattle.fv_volume.specs.OneVolume.{blocks_in, uses_in}
 use Rattle.fv_volume.specs.States.{States, head_in, parent_in, placed_in, state_at, view_over}
-use Rattle.fv_volume.proofs.Holding.{has_taken, held_some}
+use Rattle.fv_pool.proofs.Holding.{has_taken, held_some}
 use Rattle.fv_volume.proofs.KeptSlots.{root_bits, root_few}
-use Rattle.fv_volume.proofs.OverBlocks.{same_place}
+use Rattle.fv_pool.proofs.OverBlocks.{same_place}
 use Rattle.fv_volumes.proofs.Alone.{alone_by}
 use Rattle.fv_volumes.proofs.Told.{head_there, is_inside}
 use Rattle.fv_volumes.proofs.Viewed.{viewed}

@@ -11,7 +11,7 @@ use Rattle.std.proofs.lemmas.List.Elements.{All-nil}
 use Rattle.std.proofs.lemmas.List.{get_or-set_same, get_or-set_other}
 use Rattle.fv_disk.specs.Shown.{Image}
 use Rattle.fv_model.specs.declared.answers.Refusal.{Refusal}
-use Rattle.fv_model.specs.declared.answers.Refusal.TheVariants.{Syntax, NoVolume, VolumeExists, NoFile, FileExists, NoSnapshot, SnapshotExists, VolumeFull, AggregateFull, Range, TooMany, SnapshotInUse, VolumeInUse, NotClone, ParentNotClean, WrongKind}
+use Rattle.fv_model.specs.declared.answers.Refusal.TheVariants.{VolumeExists, AggregateFull, Range, TooMany}
 use Rattle.fv_model.specs.declared.commands.Command.TheVariants.{VolCreate}
 use Rattle.fv_model.specs.declared.commands.Kind.{Kind}
 use Rattle.fv_model.specs.Numbers.{greatest_span, is_size}
@@ -40,7 +40,7 @@ use Rattle.fv_image.specs.Chains.{parent_in, under}
 use Rattle.fv_image.specs.Views.{Head, Placed, View, entry_count}
 use Rattle.fv_image.proofs.LoneTables.{form_base, no_parent, place_own}
 use Rattle.fv_volmap.specs.Slots.{Volume as MapSlots, empty_volume as no_numbers, stored_count}
-use Rattle.fv_volume.specs.declared.pool.Pool.{Pool}
+use Rattle.fv_pool.specs.declared.pool.Pool.{Pool}
 use Rattle.fv_volume.specs.declared.state.VolumeState.{VolumeState}
 use Rattle.fv_volumes.specs.Creating.{Admits, IsNew, Refuses, new_ledger_of}
 use Rattle.fv_volume.specs.SnapRecords.{hole, AreSayable, IsSayableSnap}
@@ -188,18 +188,7 @@ module _ (pool : Pool) (states : States) (trees : Trees) (i : Image) (long : len
     refused_as name size kind AggregateFull is =
         let full : is_aggregate_full (effect m (VolCreate name size kind)) ≡ true = grind (arith, nat_tests, after name size kind is.name_is, size_after name size kind, is.full) in
         tried name size kind ∙ (λ j. chain (not (is.size_is j)) (is_free name is.name_is j) (some_more is.slot is.free j) (full j))
-    refused_as name size kind Syntax is = absurd is
-    refused_as name size kind NoVolume is = absurd is
-    refused_as name size kind NoFile is = absurd is
-    refused_as name size kind FileExists is = absurd is
-    refused_as name size kind NoSnapshot is = absurd is
-    refused_as name size kind SnapshotExists is = absurd is
-    refused_as name size kind VolumeFull is = absurd is
-    refused_as name size kind SnapshotInUse is = absurd is
-    refused_as name size kind VolumeInUse is = absurd is
-    refused_as name size kind NotClone is = absurd is
-    refused_as name size kind ParentNotClean is = absurd is
-    refused_as name size kind WrongKind is = absurd is
+    refused_as name size kind r is = absurd is
 
     pub accepted : (name : List ℕ) (size : ℕ) (kind : Kind) (slot span : ℕ) → Admits states pool.found.blocks name size kind slot span → refusal m (VolCreate name size kind) ≡ None
     unfolding chain

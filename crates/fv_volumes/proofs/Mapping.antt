@@ -10,7 +10,7 @@ use Rattle.fv_container.specs.declared.entry.Entry.{Entry}
 use Rattle.fv_container.specs.Mapped.{IsMapped, Mapped, entry_under}
 use Rattle.fv_container.specs.Spelled.{Spelled}
 use Rattle.fv_root.specs.declared.find.Found.{Found}
-use Rattle.fv_volume.specs.Keeping.{Blocks, kept_or}
+use Rattle.fv_pool.specs.Keeping.{Blocks, kept_or}
 use Rattle.fv_volume.specs.Loading.{entry_block, label_of}
 use Rattle.fv_volume.specs.States.{placed_in}
 use Rattle.fv_volumes.proofs.Viewed.{entry_of}

@@ -34,10 +34,11 @@ use Rattle.fv_container.specs.Mapped.{Mapped, empty_map}
 use Rattle.fv_container.specs.Chains.{container_at, own_entry, parent_at}
 use Rattle.fv_files.specs.declared.numbers.FileNumbers.{FileNumbers}
 use Rattle.fv_files.specs.Numbering.{AreNumbersIf}
-use Rattle.fv_volume.specs.declared.pool.Pool.{Pool}
+use Rattle.fv_pool.specs.declared.pool.Pool.{Pool}
 use Rattle.fv_volume.specs.declared.state.VolumeState.{VolumeState}
-use Rattle.fv_volume.specs.OneVolume.{blocks_in, shows, standing_by, table_for, trees_for, volume_as, volume_for, AreLaidBy, AreSoundBy, IsKeptTable, IsStanding}
-use Rattle.fv_volume.specs.Placing.{AreStoredBy, IsStoredWell}
+use Rattle.fv_pool.specs.Tables.{standing_by, AreLaidBy, AreSoundBy, AreStoredBy}
+use Rattle.fv_volume.specs.OneVolume.{blocks_in, shows, table_for, trees_for, volume_as, volume_for, IsKeptTable, IsStanding}
+use Rattle.fv_volume.specs.Placing.{IsStoredWell}
 use Rattle.fv_volume.specs.States.{empty_head, head_in, ledger_of_empty}
 use Rattle.fv_volume.proofs.KeptTables.{none_kept, none_told, snaps_none}
 use Rattle.fv_volume.proofs.Shared.{none_named, none_shared}

@@ -16,10 +16,10 @@ use Rattle.fv_container.specs.Mapped.{Mapped}
 use Rattle.fv_store.specs.Held.{StandsOn}
 use Rattle.fv_files.specs.declared.numbers.FileNumbers.{FileNumbers}
 use Rattle.fv_files.specs.Numbering.{AreNumbersIf}
-use Rattle.fv_volume.specs.declared.pool.Pool.{Pool}
+use Rattle.fv_pool.specs.declared.pool.Pool.{Pool}
 use Rattle.fv_volume.specs.declared.state.VolumeState.{VolumeState}
-use Rattle.fv_volume.specs.BlocksOver.{entries_in}
-use Rattle.fv_volume.specs.Calls.{Reads}
+use Rattle.fv_pool.specs.BlocksOver.{entries_in}
+use Rattle.fv_pool.specs.Calls.{Reads}
 use Rattle.fv_volume.specs.Files.{IsLabelled, IsState}
 use Rattle.fv_volume.specs.Loading.{Houses, IsCounted, KeptTo, LoadedTo}
 use Rattle.fv_volume.specs.OneVolume.{table_for, IsReady, IsStanding}

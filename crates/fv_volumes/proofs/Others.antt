@@ -18,16 +18,18 @@ use Rattle.fv_container.specs.Mapped.{Mapped}
 use Rattle.fv_container.specs.Chains.{Slots, container_at, own_entry, parent_at}
 use Rattle.fv_volmap.specs.Slots.{Volume as Maps, active_of, has, slot_at}
 use Rattle.fv_files.specs.Numbering.{AreNumbersIf}
-use Rattle.fv_volume.specs.declared.pool.Pool.{Pool}
+use Rattle.fv_pool.specs.declared.pool.Pool.{Pool}
 use Rattle.fv_volume.specs.declared.state.Snap.{Snap}
 use Rattle.fv_volume.specs.declared.state.VolumeState.{VolumeState}
-use Rattle.fv_volume.specs.BlocksOver.{block_of, held_block, held_entry}
-use Rattle.fv_volume.specs.Keeping.{kept_or}
-use Rattle.fv_volume.specs.Lending.{GoesOver, Lent, MayTake, lent_by, lent_for, use_of}
-use Rattle.fv_volume.specs.OneVolume.{blocks_in, home_in, shows, snaps_by, standing_by, standing_for, trees_for, uses_in, volume_as, volume_for, AreLaidBy, AreSoundBy, IsKeptTable, IsStanding, IsTableIn}
-use Rattle.fv_volume.specs.Placing.{AreLedBy, AreStoredBy, Goes, IsLedTo, IsStoredWell, LeavesOthers, LiesApart, StaysBeside}
-use Rattle.fv_volume.specs.Sharing.{trees_by, AreShared}
-use Rattle.fv_volume.proofs.Shows.{get_held}
+use Rattle.fv_pool.specs.BlocksOver.{block_of, held_block, held_entry}
+use Rattle.fv_pool.specs.Keeping.{kept_or}
+use Rattle.fv_pool.specs.Lending.{GoesOver, Lent, MayTake, lent_by, lent_for, use_of}
+use Rattle.fv_pool.specs.Tables.{standing_by, AreLaidBy, AreSoundBy, AreLedBy, AreStoredBy, trees_by}
+use Rattle.fv_volume.specs.OneVolume.{blocks_in, home_in, shows, snaps_by, standing_for, trees_for, uses_in, volume_as, volume_for, IsKeptTable, IsStanding, IsTableIn}
+use Rattle.fv_pool.specs.Placing.{Goes}
+use Rattle.fv_volume.specs.Placing.{IsLedTo, IsStoredWell, LeavesOthers, LiesApart, StaysBeside}
+use Rattle.fv_volume.specs.Sharing.{AreShared}
+use Rattle.fv_pool.proofs.Shows.{get_held}
 use Rattle.fv_volumes.proofs.Standings.{apart_alone, held_alone, held_own}
 
 -- A volume without a base has the same entries, the same blocks are kept under them, the next root will hold those, and the disk reads the same.

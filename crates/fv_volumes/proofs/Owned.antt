@@ -14,12 +14,12 @@ use Rattle.fv_container.specs.Mapped.{Mapped, entry_under}
 use Rattle.fv_container.specs.Spelled.{is_at, names}
 use Rattle.fv_files.specs.declared.files.Files.{Files}
 use Rattle.fv_volmap.specs.Slots.{Volume as Maps}
-use Rattle.fv_volume.specs.declared.noted.Noted.{Noted}
-use Rattle.fv_volume.specs.declared.pool.Pool.{Pool}
-use Rattle.fv_volume.specs.declared.state.Rooted.{Rooted}
+use Rattle.fv_pool.specs.declared.noted.Noted.{Noted}
+use Rattle.fv_pool.specs.declared.pool.Pool.{Pool}
+use Rattle.fv_pool.specs.declared.rooted.Rooted.{Rooted}
 use Rattle.fv_volume.specs.declared.state.VolumeState.{VolumeState}
-use Rattle.fv_volume.specs.BlocksOver.{AreApart, entries_in}
-use Rattle.fv_volume.specs.Lending.{GoesOver, IsNewEntry, IsOwn, MayTake, lent_by, lent_for, tree_in}
+use Rattle.fv_pool.specs.BlocksOver.{AreApart, entries_in}
+use Rattle.fv_pool.specs.Lending.{GoesOver, IsNewEntry, IsOwn, MayTake, lent_by, lent_for, tree_in}
 use Rattle.fv_volume.specs.OneVolume.{home_in}
 use Rattle.fv_volume.specs.Stored.{AreApartIn, is_of, leads, place_at, place_in}
 use Rattle.fv_volumes.proofs.Drawing.{at_itself, at_means, leads_at, leads_where, or_neither}

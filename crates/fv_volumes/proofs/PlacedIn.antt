@@ -25,12 +25,12 @@ use Rattle.fv_container.specs.Chains.{container_at, own_entry, parent_at}
 use Rattle.fv_container.specs.Clean.{IsCleanOn}
 use Rattle.fv_container.specs.Mapped.{Mapped, entry_under}
 use Rattle.fv_container.specs.Spelled.{is_at, names}
-use Rattle.fv_volume.specs.declared.pool.Pool.{Pool}
+use Rattle.fv_pool.specs.declared.pool.Pool.{Pool}
 use Rattle.fv_volume.specs.declared.state.VolumeState.{VolumeState}
-use Rattle.fv_volume.specs.BlocksOver.{AreApart, entries_in}
-use Rattle.fv_volume.specs.Keeping.{IsUnkept}
+use Rattle.fv_pool.specs.BlocksOver.{AreApart, entries_in}
+use Rattle.fv_pool.specs.Keeping.{IsUnkept}
 use Rattle.fv_volume.specs.Files.{AreNamed, IsLabelled}
-use Rattle.fv_volume.specs.Lending.{GoesOver, IsOwn, MayTake, lent_by, lent_for}
+use Rattle.fv_pool.specs.Lending.{GoesOver, IsOwn, MayTake, lent_by, lent_for}
 use Rattle.fv_volume.specs.Loading.{Houses, IsLoaded}
 use Rattle.fv_volume.specs.OneVolume.{home_in, IsReady, IsStanding}
 use Rattle.fv_volume.specs.Placing.{LiesApart, StaysBeside}

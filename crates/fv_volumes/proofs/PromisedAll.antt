@@ -10,7 +10,7 @@ use Rattle.fv_model.specs.declared.commands.Kind.{Kind}
 use Rattle.fv_root.specs.declared.find.Found.{Found}
 use Rattle.fv_container.specs.Mapped.{Mapped}
 use Rattle.fv_container.specs.Chains.{Slots, container_at, slot_count}
-use Rattle.fv_volume.specs.declared.pool.Pool.{Pool}
+use Rattle.fv_pool.specs.declared.pool.Pool.{Pool}
 use Rattle.fv_volume.specs.declared.state.VolumeState.{VolumeState}
 use Rattle.fv_volume.specs.Files.{AreNamed, IsLabelled}
 use Rattle.fv_volume.specs.Held.{IsHeldIn, IsReadyIn}

@@ -143,19 +143,15 @@ module _ (old : States) (blocks : ℕ) (c : List ℕ → Command) (size : Volume
           omega (arith, sum, was, now, own, fit)
 
       is_promised : IsPromised old blocks (c name) name size kind new
-      is_promised = record {
-        slot = slot;
-        within = small;
-        state = x;
-        there = there;
-        named = named;
-        row = row ∙ ap (λ (z : VolumeState). with_state old slot (Some z)) done;
-        labelled = subst (λ (n : ℕ). IsLabelled n (promised x (size x) (kind x))) at (subst (IsLabelled x.slot) done labelled);
-        uses = (subst (λ (z : VolumeState). FitsBeside blocks others z.ledger) done fits).size;
-        sum = its_sum;
-        becomes = λ content m has. subst (λ (n : List ℕ). change_of m (c n) ≡ Becomes n (volume_as (promised x (size x) (kind x)) content)) named
-            (subst (λ (z : VolumeState). change_of m (c x.name) ≡ Becomes x.name (volume_as z content)) done (becomes content m (subst (λ (n : List ℕ). Has n (volume_as x content) m) (sym named) has)));
-      }
+      is_promised =
+          let row_is : new ≡ with_state old slot (Some (promised x (size x) (kind x))) = row ∙ ap (λ (z : VolumeState). with_state old slot (Some z)) done in
+          let labelled_is : IsLabelled slot (promised x (size x) (kind x)) = subst (λ (n : ℕ). IsLabelled n (promised x (size x) (kind x))) at (subst (IsLabelled x.slot) done labelled) in
+          let fits_is = subst (λ (z : VolumeState). FitsBeside blocks others z.ledger) done fits in
+          record { slot = slot; within = small; state = x; there = there; named = named; row = row_is; labelled = labelled_is; uses = fits_is.size; sum = its_sum; becomes = becomes_is }
+        where
+          becomes_is : (content : Content) (m : Machine) → Has name (volume_as x content) m → change_of m (c name) ≡ Becomes name (volume_as (promised x (size x) (kind x)) content)
+          becomes_is content m has = subst (λ (n : List ℕ). change_of m (c n) ≡ Becomes n (volume_as (promised x (size x) (kind x)) content)) named
+              (subst (λ (z : VolumeState). change_of m (c x.name) ≡ Becomes x.name (volume_as z content)) done (becomes content m (subst (λ (n : List ℕ). Has n (volume_as x content) m) (sym named) has)))
 
     found : PromisesOne old blocks (c name) name size kind new r
     found = record {

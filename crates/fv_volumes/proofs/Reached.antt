@@ -12,8 +12,8 @@ use Rattle.fv_image.specs.Volumes.{standing_of}
 use Rattle.fv_image.proofs.LoneTables.{form_base}
 use Rattle.fv_container.specs.Chains.{parent_at}
 use Rattle.fv_volmap.specs.Slots.{has, slot_at}
-use Rattle.fv_volume.specs.declared.pool.Pool.{Pool}
-use Rattle.fv_volume.specs.declared.state.Rooted.{Rooted}
+use Rattle.fv_pool.specs.declared.pool.Pool.{Pool}
+use Rattle.fv_pool.specs.declared.rooted.Rooted.{Rooted}
 use Rattle.fv_volume.specs.declared.state.Snap.{Snap}
 use Rattle.fv_volume.specs.declared.state.VolumeState.{VolumeState}
 use Rattle.fv_volume.specs.Files.{IsLabelled}
@@ -49,13 +49,3 @@ module _ (disk : Disk) (pool : Pool) (states : States) (x : VolumeState) (there 
       (root_reaches 0 x.active (active_reached disk pool x is none) (active_reach disk pool x is none led))
       (λ n q lt. kept_reaches (slice_index_or x.snapshots n q) (is.kept n q lt))
       k r (root_there (head_in x) k r at)
-
--- So its view alone tells it.
-pub standing_seen : (disk : Disk) (pool : Pool) (x : VolumeState) → IsStanding disk pool x → x.files ≡ None → IsLabelled x.slot x → IsSeen disk pool x
-standing_seen disk pool x is none labelled = λ states there alone.
-    let base = form_base (head_in x) labelled.form in
-    record {
-      table = standing_table disk pool states x there alone base is none;
-      state = standing_state disk pool states x there alone base is none labelled;
-      reach = standing_reach disk pool states x there alone base is none;
-    }

@@ -12,14 +12,14 @@ use Rattle.fv_store.specs.Held.{StandsOn}
 use Rattle.fv_container.specs.Chains.{Slots, container_at, parent_at, slot_count}
 use Rattle.fv_container.specs.Mapped.{Mapped}
 use Rattle.fv_aggmap.specs.Space.{Space}
-use Rattle.fv_volume.specs.declared.pool.Pool.{Pool}
+use Rattle.fv_pool.specs.declared.pool.Pool.{Pool}
 use Rattle.fv_volume.specs.declared.state.VolumeState.{VolumeState}
-use Rattle.fv_volume.specs.BlocksOver.{entries_in}
+use Rattle.fv_pool.specs.BlocksOver.{entries_in}
 use Rattle.fv_volumes.specs.Destroying.{HasForgotten, IsDestroyed}
 use Rattle.fv_volume.specs.Files.{AreNamed, IsLabelled}
 use Rattle.fv_volume.specs.Held.{IsReadyIn}
 use Rattle.fv_volumes.specs.Housed.{AreHoused}
-use Rattle.fv_volume.specs.Keeping.{Blocks, IsUnkept}
+use Rattle.fv_pool.specs.Keeping.{Blocks, IsUnkept}
 use Rattle.fv_volume.specs.Loading.{Houses}
 use Rattle.fv_volume.specs.OneVolume.{IsReady}
 use Rattle.fv_volume.specs.Slots.{committed_by, sum_of}

@@ -9,11 +9,12 @@ use Rattle.fv_tree.specs.Standing.{under}
 use Rattle.fv_charge.specs.Ledgers.{IsLedgerOf}
 use Rattle.fv_store.specs.Held.{StandsOn}
 use Rattle.fv_files.specs.Numbering.{AreNumbersIf}
-use Rattle.fv_volume.specs.declared.pool.Pool.{Pool}
+use Rattle.fv_pool.specs.declared.pool.Pool.{Pool}
 use Rattle.fv_volume.specs.declared.state.VolumeState.{VolumeState}
 use Rattle.fv_volume.specs.Held.{named_held, IsHeldIn, IsReadyIn}
-use Rattle.fv_volume.specs.OneVolume.{blocks_in, shows, table_for, trees_for, volume_for, AreLaidBy, AreSoundBy, IsKeptTable, IsReady, IsStanding}
-use Rattle.fv_volume.specs.Placing.{AreLedBy, AreStoredBy, IsLedTo, IsStoredWell}
+use Rattle.fv_pool.specs.Tables.{AreLaidBy, AreSoundBy, AreLedBy, AreStoredBy}
+use Rattle.fv_volume.specs.OneVolume.{blocks_in, shows, table_for, trees_for, volume_for, IsKeptTable, IsReady, IsStanding}
+use Rattle.fv_volume.specs.Placing.{IsLedTo, IsStoredWell}
 use Rattle.fv_volume.specs.Sharing.{AreShared}
 
 module _ (d e : Shown) (stays : Stays d e) (pool : Pool) where

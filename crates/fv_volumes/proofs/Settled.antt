@@ -1,6 +1,7 @@
 -- Volumes that are settled: what each keeps, and that they stay in order.
-use Rattle.std.proofs.Common.{◌≡◌, ℕ, Bool, true, false, cond, List, length, get_or, refl, sym, ap, subst, ◌∙◌}
+use Rattle.std.proofs.Common.{◌≡◌, ◌==◌, ℕ, Bool, true, false, cond, List, length, get_or, refl, sym, ap, subst, ◌∙◌}
 use Rattle.std.specs.Prelude.{Option, Some, None, IfSome}
+use Rattle.std.specs.List.{list_any}
 use Rattle.std.specs.Option.{option_map}
 use Rattle.fv_container.specs.Mapped.{Mapped}
 use Rattle.fv_container.specs.Chains.{Slots, container_at}
@@ -53,22 +54,14 @@ pub same_head : (o : Option VolumeState) (label : ℕ) → option_map head_in (o
 same_head None label = refl
 same_head (Some x) label = ap Some (settled_keeps head_in x label refl)
 
--- its label can be written as before
-pub still_labelled : (s : ℕ) (x : VolumeState) (label : ℕ) → IsLabelled s x → IsLabelled s (as_written x label)
+-- its label can be written as before, at another place, whether or not it changed, and whichever maps of its snapshots wait
+pub relabelled : (s : ℕ) (x : VolumeState) (label : ℕ) (changed : Bool) (fresh : List Bool) → ((k : ℕ) → get_or fresh k false ≡ true → list_any (λ p. p.slot == k) (head_in x).snapshots ≡ true)
+    → IsLabelled s x → IsLabelled s (record x { label = label; changed = changed; fresh = fresh })
 unfolding label_said
-still_labelled s x label is = record {
-  slot_is = is.slot_is;
-  form = is.form;
-  span = is.span;
-  map = is.map;
-  snapshots = is.snapshots;
-  slots = is.slots;
-  waits = no_waits (as_written x label) refl;
-  counts = is.counts;
-  levels = is.levels;
-  named = is.named;
-  label = is.label;
-}
+relabelled s x label changed fresh waits is = record { slot_is = is.slot_is; form = is.form; span = is.span; map = is.map; snapshots = is.snapshots; slots = is.slots; waits = waits; counts = is.counts; levels = is.levels; named = is.named; label = is.label }
+
+pub still_labelled : (s : ℕ) (x : VolumeState) (label : ℕ) → IsLabelled s x → IsLabelled s (as_written x label)
+still_labelled s x label is = relabelled s x label false (as_written x label).fresh (no_waits (as_written x label) refl) is
 
 settled_labelled : (s : ℕ) (o : Option VolumeState) (label : ℕ) → IfSome o (IsLabelled s) → IfSome (option_map (settled_as label) o) (IsLabelled s)
 settled_labelled s None label is = tt

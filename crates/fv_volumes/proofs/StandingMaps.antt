@@ -37,7 +37,7 @@ use Rattle.fv_root.specs.Finding.{root_found}
 use Rattle.fv_volmap.specs.Slots.{map_or_empty, slot_at, stored_count}
 use Rattle.fv_volume.specs.declared.state.VolumeState.{VolumeState}
 use Rattle.fv_volume.specs.Files.{HasOwnSlots, HasSlotsOf}
-use Rattle.fv_volume.specs.Keeping.{kept_or}
+use Rattle.fv_pool.specs.Keeping.{kept_or}
 use Rattle.fv_delay.specs.Delay.{is_used_slot}
 use Rattle.fv_volume.specs.Loading.{HaveBits, IsContainerOf, IsLoaded, label_of}
 use Rattle.fv_volume.specs.States.{head_in, placed_in}

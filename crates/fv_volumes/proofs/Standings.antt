@@ -43,26 +43,27 @@ use Rattle.fv_container.specs.declared.entry.Entry.{Entry}
 use Rattle.fv_container.specs.Chains.{Slots, chain_entry, container_at, own_entry, parent_at}
 use Rattle.fv_volmap.specs.Slots.{Volume as Maps, active_of, has, slot_at, taken_in}
 use Rattle.fv_files.specs.Numbering.{AreNumbersIf}
-use Rattle.fv_volume.specs.declared.pool.Pool.{Pool}
-use Rattle.fv_volume.specs.declared.state.Rooted.{Rooted}
+use Rattle.fv_pool.specs.declared.pool.Pool.{Pool}
+use Rattle.fv_pool.specs.declared.rooted.Rooted.{Rooted}
 use Rattle.fv_volume.specs.declared.state.Snap.{Snap as Kept}
 use Rattle.fv_volume.specs.declared.state.VolumeState.{VolumeState}
-use Rattle.fv_volume.specs.BlocksOver.{AreApart, IsKeptBack, OtherPlace, block_of, held_entry}
+use Rattle.fv_pool.specs.BlocksOver.{AreApart, IsKeptBack, OtherPlace, block_of, held_entry}
 use Rattle.fv_volume.specs.Files.{IsLabelled, IsState}
-use Rattle.fv_volume.specs.OneVolume.{blocks_in, shows, snap_by, snaps_by, standing_by, table_for, uses_in, volume_as, volume_for, AreLaidBy, AreSoundBy, IsKeptTable, IsStanding, RootStands}
-use Rattle.fv_volume.specs.Placing.{AreLedBy, AreStoredBy, IsLedTo, IsStoredWell}
-use Rattle.fv_volume.specs.Sharing.{pointer_in, trees_by, AreShared, SharesWith}
+use Rattle.fv_pool.specs.Tables.{standing_by, AreLaidBy, AreSoundBy, AreLedBy, AreStoredBy, trees_by}
+use Rattle.fv_volume.specs.OneVolume.{blocks_in, shows, snap_by, snaps_by, table_for, uses_in, volume_as, volume_for, IsKeptTable, IsStanding, RootStands}
+use Rattle.fv_volume.specs.Placing.{IsLedTo, IsStoredWell}
+use Rattle.fv_volume.specs.Sharing.{pointer_in, AreShared, SharesWith}
 use Rattle.fv_volume.specs.States.{States, head_in, placed_in, rooted_as, snap_in, state_at, table_in, view_over}
 use Rattle.fv_volume.specs.Trees.{active_in, no_trees}
 use Rattle.fv_volume.proofs.EachRoot.{all_among}
 use Rattle.fv_volumes.proofs.LoadedStored.{stands_indexes, stands_stored}
 use Rattle.fv_volumes.proofs.LoadedTables.{StandsInView, at as view_at, chain_own, here as view_here, led, led_is, stands_file, stands_inode, stands_led, stands_once, stands_reach, stands_reserves, stands_told, stands_well}
-use Rattle.fv_volume.proofs.OverBlocks.{same_place, over_keeps, over_reached, over_stored}
+use Rattle.fv_pool.proofs.OverBlocks.{same_place, over_keeps, over_reached, over_stored}
 use Rattle.fv_volume.proofs.KeptSlots.{root_few}
 use Rattle.fv_volume.proofs.ActiveSlot.{active_has, active_uses}
 use Rattle.fv_volume.proofs.Ruled.{AreOneToOne}
 use Rattle.fv_volume.proofs.SharedRoots.{Places, roots_one, same_number, shares_alike, stored_place, stored_same}
-use Rattle.fv_volume.proofs.Shows.{get_held, use_none}
+use Rattle.fv_pool.proofs.Shows.{get_held, use_none}
 use Rattle.fv_volume.proofs.SnapNames.{names_in}
 use Rattle.fv_volume.proofs.SnapReads.{kept_by, slot_held}
 use Rattle.fv_volumes.proofs.Told.{head_there}

@@ -18,7 +18,7 @@ use Rattle.fv_root.specs.Finding.{root_found}
 use Rattle.fv_container.specs.declared.entry.Entry.{Entry}
 use Rattle.fv_container.specs.Chains.{Slots, container_at, with_container}
 use Rattle.fv_container.specs.Mapped.{Mapped, entry_under}
-use Rattle.fv_volume.specs.Keeping.{Blocks, kept_or, seen}
+use Rattle.fv_pool.specs.Keeping.{Blocks, kept_or, seen}
 use Rattle.fv_volume.specs.States.{placed_in}
 use Rattle.fv_volume.specs.Stored.{place_at, place_in}
 
@@ -50,11 +50,4 @@ slot_again slots = λ i. record { containers = set-get_or slots.containers 0 Non
 
 -- a disk that wasn't called
 pub only_itself : (disk : Shown) → OnlyReads disk disk
-only_itself disk = record {
-  stays = stays_itself disk;
-  time = record { later = omega arith; nothing_else = λ t c g le left. inl left; keeps = λ t c g le left. left };
-  given = refl;
-  ends = refl;
-  faults = omega arith;
-  write_faults = refl;
-}
+only_itself disk = record { stays = stays_itself disk; time = record { later = omega arith; nothing_else = λ t c g le left. inl left; keeps = λ t c g le left. left }; given = refl; ends = refl; faults = omega arith; write_faults = refl }

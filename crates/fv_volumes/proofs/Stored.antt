@@ -18,9 +18,10 @@ use Rattle.fv_container.specs.Spelled.{is_at, names}
 use Rattle.fv_aggmap.specs.Space.{Space, IsFree, blocks_of}
 use Rattle.fv_volume.specs.declared.state.VolumeState.{VolumeState}
 use Rattle.fv_volume.specs.Writing.{HasOwnBlocks, IsTaken, IsWritten, has_maps_at}
-use Rattle.fv_volume.specs.Stored.{IsStored, is_map_written, is_of, leads}
+use Rattle.fv_volume.specs.Stored.{AreApartIn, IsStored, is_map_written, is_of, leads}
 use Rattle.fv_volumes.proofs.Drawing.{LeadsAt, StandsAt, at_itself, at_means, leads_at, leads_where, maps_where, not_so, or_neither}
 use Rattle.fv_volumes.proofs.Spelling.{flushed_still}
+use Rattle.fv_volumes.specs.Housed.{as_written}
 use Rattle.fv_volume.proofs.StayingMaps.{written_within}
 
 -- an entry of a written volume: one that isn't written, as it was, or one of a map that is written
@@ -116,31 +117,19 @@ module _ (x : VolumeState) (old : Mapped) (before : Image) (space : Space) (labe
       so true e = inl e
       so false e = inr (is.fresh_nodes b named e)
 
+  lies_apart : AreApartIn (as_written x label) new
+  lies_apart = record {
+    some = λ v. kept_some v;
+    entries = differ;
+    nodes = λ b named. ⊎_elim (λ (was : names old.tree b ≡ true). node_not_led b was)
+        (λ (free : IsFree is.given b). not_led b free (λ v at same. true≢false (sym named ∙ sym (ap (names new.tree) same) ∙ (is.apart v at).1)))
+        (node_cases b named);
+    label = not_led label is.fresh_label (λ v at same. (is.apart v at).0 same);
+  }
+
   -- The volume stands in the image.
   pub stored : IsStored x old label new after
-  stored = record {
-    root = is.root;
-    root_least = is.root_least;
-    root_greatest = is.root_greatest;
-    some = is.some;
-    said = is.said;
-    tree = is.tree;
-    over = is.over;
-    long = is.long;
-    kept = is.kept;
-    maps = is.maps;
-    placed = is.placed;
-    bits = is.bits;
-    alone = is.alone;
-    apart = record {
-      some = λ v. kept_some v;
-      entries = differ;
-      nodes = λ b named. ⊎_elim (λ (was : names old.tree b ≡ true). node_not_led b was)
-          (λ (free : IsFree is.given b). not_led b free (λ v at same. true≢false (sym named ∙ sym (ap (names new.tree) same) ∙ (is.apart v at).1)))
-          (node_cases b named);
-      label = not_led label is.fresh_label (λ v at same. (is.apart v at).0 same);
-    };
-  }
+  stored = record { root = is.root; root_least = is.root_least; root_greatest = is.root_greatest; some = is.some; said = is.said; tree = is.tree; over = is.over; long = is.long; kept = is.kept; maps = is.maps; placed = is.placed; bits = is.bits; alone = is.alone; apart = lies_apart }
 
   -- a block that it has now it had before, or it was free
   pub from_before : (b : ℕ) → is_of x label new b ≡ true → (is_of x x.label old b ≡ true) ⊎ (IsFree is.given b)

@@ -44,7 +44,7 @@ use Rattle.fv_root.specs.declared.find.Found.{Found}
 use Rattle.fv_root.specs.Finding.{root_found}
 use Rattle.fv_root.specs.Formatted.{IsSize}
 use Rattle.fv_volmap.specs.Slots.{stored_count, taken_in}
-use Rattle.fv_volume.specs.declared.pool.Pool.{Pool}
+use Rattle.fv_pool.specs.declared.pool.Pool.{Pool}
 use Rattle.fv_volume.specs.declared.state.VolumeState.{VolumeState}
 use Rattle.fv_volume.specs.Files.{AreNamed, IsLabelled}
 use Rattle.fv_volumes.specs.Housed.{AreHoused, HaveReaches, ReachesAll, settled_as, settled_at}

@@ -26,7 +26,7 @@ use Rattle.fv_image.specs.Volumes.{named_with, volume_with, volumes_with}
 use Rattle.fv_charge.specs.declared.ledger.Ledger.{Ledger}
 use Rattle.fv_charge.specs.Ledgers.{IsLedgerOf, committed, promised_to}
 use Rattle.fv_volume.specs.declared.state.VolumeState.{VolumeState}
-use Rattle.fv_volume.specs.declared.pool.Pool.{Pool}
+use Rattle.fv_pool.specs.declared.pool.Pool.{Pool}
 use Rattle.fv_volume.specs.States.{States, head_in, state_at, view_over, with_state}
 use Rattle.fv_volume.specs.Slots.{committed_by, is_named, sum_of}
 

@@ -10,7 +10,7 @@ use Rattle.fv_tables.specs.Told.{standing_at, table_told}
 use Rattle.fv_image.specs.Chains.{under}
 use Rattle.fv_image.specs.Views.{Rooted, Snap, Head, View}
 use Rattle.fv_image.specs.Volumes.{snap_told, base_from, volume_with, told_with, told}
-use Rattle.fv_volume.specs.declared.pool.Pool.{Pool}
+use Rattle.fv_pool.specs.declared.pool.Pool.{Pool}
 use Rattle.fv_volume.specs.States.{States, view_over}
 use Rattle.fv_volume.specs.Trees.{Changed, Trees, active_by, machine_in, standing_in}
 
@@ -27,17 +27,7 @@ same_snaps w u s snaps same = ap (λ (blocks : Under). map (λ (p : Snap). (p.na
 pub told_alike : (w u : View) (s : ℕ) (h : Head) (root : Rooted) (a b : Table) → h.base ≡ None → map (snap_told u s) h.snapshots ≡ map (snap_told w s) h.snapshots → b ≡ a
     → volume_with u s (record h { active = root }) b ≡ volume_with w s h a
 unfolding volume_with
-told_alike w u s h root a b base snaps same = λ i. record {
-  kind = h.kind;
-  size = h.size;
-  most = h.most;
-  span = h.span;
-  now = h.now;
-  active = same i;
-  snapshots = fin.from_entries {R = name_cmp} (snaps i);
-  base = (ap (base_from u) base ∙ sym (ap (base_from w) base)) i;
-  known = h.known;
-}
+told_alike w u s h root a b base snaps same = λ i. record { kind = h.kind; size = h.size; most = h.most; span = h.span; now = h.now; active = same i; snapshots = fin.from_entries {R = name_cmp} (snaps i); base = (ap (base_from u) base ∙ sym (ap (base_from w) base)) i; known = h.known }
 
 -- A slot with the same head, over the same blocks, has the same active table.
 pub same_active : (w u : View) (k : ℕ) → under u k ≡ under w k → u.head k ≡ w.head k → (o : Option Changed) → active_by u k o ≡ active_by w k o

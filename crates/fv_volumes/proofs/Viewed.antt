@@ -34,10 +34,10 @@ use Rattle.fv_container.specs.Mapped.{IsHeld, IsMapped, Mapped, entry_under}
 use Rattle.fv_container.specs.Spelled.{pair_of}
 use Rattle.fv_root.specs.declared.find.Found.{Found}
 use Rattle.fv_root.specs.Finding.{root_found}
-use Rattle.fv_volume.specs.declared.pool.Pool.{Pool}
+use Rattle.fv_pool.specs.declared.pool.Pool.{Pool}
 use Rattle.fv_volume.specs.declared.state.VolumeState.{VolumeState}
 use Rattle.fv_volume.specs.Files.{AreNamed, AreStates, IsLabelled, IsState}
-use Rattle.fv_volume.specs.Keeping.{Blocks, kept_or}
+use Rattle.fv_pool.specs.Keeping.{Blocks, kept_or}
 use Rattle.fv_volume.specs.Loading.{HasCounted, HaveBits, IsContainerOf, IsCounted, KeptTo, LoadedTo, label_of}
 use Rattle.fv_volume.specs.States.{States, head_in, snap_in, placed_in, state_at, view_over}
 use Rattle.fv_volume.specs.Trees.{active_in, machine_in, no_trees}

@@ -8,7 +8,7 @@ use Rattle.fv_image.specs.Views.{Rooted, View}
 use Rattle.fv_image.specs.Volumes.{standing_of}
 use Rattle.fv_container.specs.Chains.{Slots, slot_count, container_at, parent_at}
 use Rattle.fv_volmap.specs.Slots.{has, slot_at, stored_count}
-use Rattle.fv_volume.specs.declared.pool.Pool.{Pool}
+use Rattle.fv_pool.specs.declared.pool.Pool.{Pool}
 use Rattle.fv_volume.specs.declared.state.VolumeState.{VolumeState}
 use Rattle.fv_volume.specs.Files.{IsLabelled, IsState}
 use Rattle.fv_volume.specs.Loading.{Houses}

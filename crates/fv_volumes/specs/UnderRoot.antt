@@ -19,7 +19,7 @@ use Rattle.fv_container.specs.Mapped.{Mapped, entry_under}
 use Rattle.fv_container.specs.Spelled.{names}
 use Rattle.fv_container.specs.Chains.{container_at, own_entry, slot_count}
 use Rattle.fv_aggmap.specs.Space.{Space}
-use Rattle.fv_volume.specs.declared.pool.Pool.{Pool}
+use Rattle.fv_pool.specs.declared.pool.Pool.{Pool}
 use Rattle.fv_volume.specs.declared.state.VolumeState.{VolumeState}
 use Rattle.fv_volumes.specs.Housed.{settled_at}
 use Rattle.fv_volume.specs.Loading.{IsLoaded, label_of}

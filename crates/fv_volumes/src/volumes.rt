@@ -12,9 +12,10 @@ ghost use Rattle.fv_model.specs.Refusals.{refusal, next};
 ghost use Rattle.fv_model.specs.Space.{commits, overhead, span_of};
 ghost use Rattle.fv_model.specs.Machines.{capacity};
 ghost use Rattle.fv_root.specs.Formatted.{IsSize};
-ghost use Rattle.fv_volume.specs.declared.pool.Pool.{Pool};
+ghost use Rattle.fv_pool.specs.declared.pool.Pool.{Pool};
 ghost use Rattle.fv_store.specs.Held.{StandsOn};
 ghost use Rattle.fv_volumes.specs.Creating.{Admits, IsMade, IsNew, with_holes, Refuses};
+ghost use Rattle.fv_pool.specs.Causes.{WithBlockFault};
 ghost use Rattle.fv_volume.specs.Opening.{OpensVolumes};
 ghost use Rattle.fv_volume.specs.States.{view_over, state_at, with_state};
 ghost use Rattle.fv_volume.specs.Trees.{Trees, machine_in};
@@ -27,7 +28,7 @@ use crate::search::{find_name, sum_commits};
 use fv_container::{Container, Containers};
 use fv_disk::{BlockFault, Disk};
 use fv_model::{Kind, Name, Refusal};
-use fv_volume::{Pool, VolumeState, entry_count};
+use fv_volume::{Pool, VolumeFault, VolumeState, entry_count};
 use std::alloc::{AllocError, Global};
 use std::marker::Model;
 
@@ -84,6 +85,18 @@ impl Volumes {
         let states = load_states(alloc, &mut pool.store, disk, &pool.found, &mut containers)?;
         pool.containers = containers;
         Ok(Volumes { alloc, states })
+    }
+
+    /// As `open`, with its fault as one of volumes; nothing is `Refused`.
+    pub fn load<D: Disk>(
+        alloc: Global,
+        pool: &mut Pool,
+        disk: &mut D,
+    ) -> Result<Volumes, VolumeFault>
+        requires { StandsOn (D.shown disk.old) pool.old.store.pairs }
+        ensures { WithBlockFault (OpensVolumes (D.shown disk.old) pool.old (D.shown disk.new) pool.new) result }
+    {
+        Ok(Volumes::open(alloc, pool, disk)?)
     }
 
     /// The volume of a slot below 64, `None` exactly for a free one. Costs one step.

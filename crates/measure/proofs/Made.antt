@@ -11,9 +11,9 @@ use Rattle.fv_charge.specs.declared.ledger.Ledger.{Ledger}
 use Rattle.fv_container.specs.Mapped.{Mapped, empty_map}
 use Rattle.fv_container.specs.Chains.{Slots, container_at, slot_count}
 use Rattle.fv_store.specs.Held.{StandsOn}
-use Rattle.fv_volume.specs.declared.pool.Pool.{Pool}
+use Rattle.fv_pool.specs.declared.pool.Pool.{Pool}
 use Rattle.fv_volume.specs.declared.state.VolumeState.{VolumeState}
-use Rattle.fv_volume.specs.BlocksOver.{entries_in}
+use Rattle.fv_pool.specs.BlocksOver.{entries_in}
 use Rattle.fv_volumes.specs.Creating.{IsNew, with_holes}
 use Rattle.fv_volume.specs.Files.{IsLabelled}
 use Rattle.fv_volume.specs.OneVolume.{IsReady}

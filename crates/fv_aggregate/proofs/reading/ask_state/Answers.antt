@@ -49,16 +49,14 @@ returns-in-Err-length-clause-asks g c =
 
 pub returns-in-Ok-list-clause-asks : goal.returns-in-Ok-list-clause-asks
 returns-in-Ok-list-clause-asks g c =
-    let x = c.args.state.now in
-    let snapshot = option_copied c.as_ref-in-Ls.result in
+    let x = c.args.state.now in let snapshot = option_copied c.as_ref-in-Ls.result in
     let of = of_ls c.args.command.now x.name c.in-Ls.volume snapshot (c.in-Ls.is ∙ ap (λ s. Ls c.in-Ls.volume s) (sym c.as_ref-in-Ls.ensures.value)) c.requires.asks in
     state_answered (g.D.Disk.shown c.args.disk.now) (g.D.Disk.shown c.list.new.disk) c.args.pool.now c.list.new.pool x c.list.ensures.reads (Ls x.name snapshot) c.args.command.now of c.args.steps.now c.args.steps.now
     (λ names. Names names) c.in-Ok-list.names c.in-Ok-list.ensures.asked c.in-Ok-list.ensures.cause (λ is well m there accepted. refl)
 
 pub returns-in-Err-list-clause-asks : goal.returns-in-Err-list-clause-asks
 returns-in-Err-list-clause-asks g c =
-    let x = c.args.state.now in
-    let snapshot = option_copied c.as_ref-in-Ls.result in
+    let x = c.args.state.now in let snapshot = option_copied c.as_ref-in-Ls.result in
     let of = of_ls c.args.command.now x.name c.in-Ls.volume snapshot (c.in-Ls.is ∙ ap (λ s. Ls c.in-Ls.volume s) (sym c.as_ref-in-Ls.ensures.value)) c.requires.asks in
     state_failed (g.D.Disk.shown c.args.disk.now) (g.D.Disk.shown c.list.new.disk) c.args.pool.now c.list.new.pool x c.list.ensures.reads (Ls x.name snapshot) c.args.command.now of c.args.steps.now c.args.steps.now
     _ (λ names. Names names) c.in-Err-list.fault c.in-Err-list.ensures.asked c.in-Err-list.ensures.cause (λ r is. refl)

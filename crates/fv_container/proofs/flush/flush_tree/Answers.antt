@@ -4,10 +4,14 @@ use Rattle.fv_container.proofs.Flushed.{root_placed, tree_flushed}
 use Rattle.fv_container.proofs.Moving.{all_bounded, all_moved, all_written}
 use Rattle.fv_container.proofs.flush.flush_tree.Goals as goal
 
-pub write_tree-requires-clause-bounded : goal.write_tree-requires-clause-bounded
-write_tree-requires-clause-bounded g c =
-    all_bounded c.args.entries.now c.args.tree.now c.args.dirty.now c.take_places.new.fresh c.take_places.new.places c.args.next.now c.args.fresh.now c.requires.rows
-    c.take_places.ensures.len c.take_places.ensures.anew c.take_places.ensures.placed (g.F.Free.room c.args.map.now) (g.F.Free.room c.take_places.new.map) c.take_places.ensures.taken
+pub write_tree-requires-clause-rows : goal.write_tree-requires-clause-rows
+write_tree-requires-clause-rows g c = record {
+  few = c.requires.rows.few;
+  held = c.requires.rows.held;
+  nodes = c.take_places.ensures.len ∙ c.requires.rows.nodes;
+  bounded = all_bounded c.args.entries.now c.args.tree.now c.args.dirty.now c.take_places.new.fresh c.take_places.new.places c.args.next.now c.args.fresh.now c.requires.rows
+      c.take_places.ensures.len c.take_places.ensures.anew c.take_places.ensures.placed (g.F.Free.room c.args.map.now) (g.F.Free.room c.take_places.new.map) c.take_places.ensures.taken;
+}
 
 pub returns-clause-written : goal.returns-clause-written
 returns-clause-written g c = λ tells apart clean.

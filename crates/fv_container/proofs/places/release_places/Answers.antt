@@ -5,12 +5,9 @@ use Rattle.fv_container.proofs.places.release_places.Goals as goal
 
 pub loop-n-preserved : goal.loop-n-preserved
 loop-n-preserved g c =
-    let old = g.F.Free.room c.args.map.now in
-    let mid = g.F.Free.room c.loop-n.map in
-    let new = g.F.Free.room c.release_place.new.map in
-    let ps = c.args.places.now in
-    let b = get_or ps c.loop-n.n 0 in
+    let b = get_or c.args.places.now c.loop-n.n 0 in
+    let was = c.loop-n.invariant in
     ⊎_elim
-    (λ (none : b ≡ 0). rw (c.release_place.ensures.none none) (released_skip old mid ps c.loop-n.n c.loop-n-test.true none c.loop-n.invariant))
-    (λ (some : b ≢ 0). released_more old mid new ps c.loop-n.n b c.loop-n-test.true refl some c.loop-n.invariant (c.release_place.ensures.some some))
+    (λ (none : b ≡ 0). rw (c.release_place.ensures.none none) (released_skip (g.F.Free.room c.args.map.now) (g.F.Free.room c.loop-n.map) c.args.places.now c.loop-n.n c.loop-n-test.true none was))
+    (λ (some : b ≢ 0). released_more (g.F.Free.room c.args.map.now) (g.F.Free.room c.loop-n.map) (g.F.Free.room c.release_place.new.map) c.args.places.now c.loop-n.n b c.loop-n-test.true refl some was (c.release_place.ensures.some some))
     (cases_eq b 0)

@@ -1,6 +1,6 @@
 use Rattle.std.proofs.Common.{length, ap, ◌∙◌}
 use Rattle.std.specs.Prelude.{is_some}
-use Rattle.fv_volume.specs.BlocksOver.{entries_in}
+use Rattle.fv_pool.specs.BlocksOver.{entries_in}
 use Rattle.fv_core_rows.proofs.trees.pool_of.Goals as goal
 
 pub returns-clause-there : goal.returns-clause-there

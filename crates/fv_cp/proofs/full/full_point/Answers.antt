@@ -1,9 +1,9 @@
 use Rattle.std.proofs.Common.{◌≡◌, ℕ, length, Err, Result, rules, refl, sym, ap, subst, ◌∙◌, arith}
 use Rattle.std.specs.Prelude.{IsTrue, IfErr}
 use Rattle.fv_container.specs.Chains.{Slots}
-use Rattle.fv_volume.specs.declared.fault.VolumeFault.{VolumeFault}
-use Rattle.fv_volume.specs.declared.pool.Pool.{Pool}
-use Rattle.fv_volume.specs.Causes.{of_block}
+use Rattle.fv_pool.specs.declared.fault.VolumeFault.{VolumeFault}
+use Rattle.fv_pool.specs.declared.pool.Pool.{Pool}
+use Rattle.fv_pool.specs.Causes.{of_block}
 use Rattle.fv_volumes.proofs.Staying.{slot_again}
 use Rattle.fv_cp.specs.Settling.{GoesOnWhole, IsHeldPoint, IsNoDamage, IsStill, WholeCounts, WholeFails}
 use Rattle.fv_cp.proofs.Whole.{counts_done, counts_failed, counts_placed, enough_left, fails_left, fails_placed, found_mid, goes_whole, no_damage, placing, point_held, pointing, some_room, still_after, still_placing}

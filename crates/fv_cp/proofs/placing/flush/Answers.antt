@@ -1,7 +1,7 @@
 use Rattle.std.proofs.Common.{◌≡◌, Err, Result, rules, refl, sym, subst, arith}
 use Rattle.std.specs.Prelude.{IfErr}
-use Rattle.fv_volume.specs.declared.fault.VolumeFault.{VolumeFault}
-use Rattle.fv_volume.specs.declared.fault.VolumeFault.TheVariants.{Memory}
+use Rattle.fv_pool.specs.declared.fault.VolumeFault.{VolumeFault}
+use Rattle.fv_pool.specs.declared.fault.VolumeFault.TheVariants.{Memory}
 use Rattle.fv_cp.specs.Placing.{HaveNoFiles}
 use Rattle.fv_cp.proofs.Flushing.{come_more, enough_more, filed_more, passed_more}
 use Rattle.fv_cp.proofs.placing.flush.Goals as goal

@@ -2,7 +2,7 @@ use Rattle.std.proofs.Common.{◌≡◌, ℕ, ◌+◌, suc, ap, subst, arith}
 use Rattle.std.specs.Prelude.{Ok, Err, Option}
 use Rattle.fv_delay.specs.Holding.{Holding}
 use Rattle.fv_volume.specs.States.{state_at}
-use Rattle.fv_volume.specs.Keeping.{IsUnkept}
+use Rattle.fv_pool.specs.Keeping.{IsUnkept}
 use Rattle.fv_cp.specs.Choosing.{holding_with, holdings}
 use Rattle.fv_cp.specs.Planning.{taken, takes_of}
 use Rattle.fv_cp.proofs.Plans.{delays_begin, delays_more}

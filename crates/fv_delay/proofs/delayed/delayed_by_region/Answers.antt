@@ -1,12 +1,8 @@
-use Rattle.std.proofs.Common.{◌≡◌, ◌+◌, ◌-◌, ◌*◌, ◌≤◌, ℕ, Bool, cond, length, min, sym, ap, ap₂, ◌∙◌, arith}
+use Rattle.std.proofs.Common.{◌≡◌, ◌+◌, ◌≤◌, ℕ, Bool, cond, length, sym, ap, ap₂, ◌∙◌, arith}
 use Rattle.std.specs.Int.{from_bool}
-use Rattle.fv_bits.proofs.Counts.{passing}
 use Rattle.fv_image.proofs.Counts.{one_or_none}
-use Rattle.fv_image.specs.Containers.{fan}
-use Rattle.fv_container.specs.Mapped.{Mapped}
-use Rattle.fv_volmap.specs.Slots.{Volume}
 use Rattle.fv_delay.specs.Delay.{delayed_in, is_delayed}
-use Rattle.fv_delay.proofs.Parts.{byte_is, count_more, none_past, region_passing, the_end}
+use Rattle.fv_delay.proofs.Parts.{byte_is, count_more, none_past, region_walked}
 use Rattle.fv_delay.proofs.delayed.delayed_by_region.Goals as goal
 
 pub loop-vvbn-preserved : goal.loop-vvbn-preserved
@@ -23,14 +19,5 @@ loop-vvbn-preserved c =
 pub returns : goal.returns
 unfolding delayed_in
 returns c =
-    let map : Volume = c.args.map.now in
-    let container : Mapped = c.args.container.now in
-    let p : ℕ → Bool = is_delayed map container in
-    let first : ℕ = c.first_of-first.result in
-    let end : ℕ = c.end_of-end.result in
-    let long : c.entry_count-entries.result ≡ length container.entries = c.entry_count-entries.ensures.value ∙ sym c.requires.entries in
-    let start = c.first_of-first.ensures ∙ ap (λ (n : ℕ). min (fan * c.args.region) n) long in
-    let stop = c.end_of-end.ensures ∙ ap (λ (n : ℕ). first + min (n - first) fan) long in
-    let at_end : c.loop-vvbn.vvbn ≡ end = the_end (length container.entries) first end c.loop-vvbn.vvbn stop c.loop-vvbn.auto.vvbn-end c.loop-vvbn-test.false in
-    c.loop-vvbn.invariant.0 ∙ ap (λ (n : ℕ). passing p first (n - first)) at_end
-    ∙ region_passing p c.args.region (length container.entries) first end (none_past map container) start stop
+    region_walked (is_delayed c.args.map.now c.args.container.now) c.args.region c.entry_count-entries.result (length c.args.container.now.entries) c.first_of-first.result c.end_of-end.result c.loop-vvbn.vvbn c.loop-vvbn.count
+    (c.entry_count-entries.ensures.value ∙ sym c.requires.entries) (none_past c.args.map.now c.args.container.now) c.first_of-first.ensures c.end_of-end.ensures c.loop-vvbn.auto.vvbn-end c.loop-vvbn-test.false c.loop-vvbn.invariant.0

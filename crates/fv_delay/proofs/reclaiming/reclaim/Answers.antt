@@ -1,7 +1,6 @@
 use Rattle.std.proofs.Common.{◌≡◌, ◌+◌, ◌-◌, ◌*◌, ◌<◌, ◌≤◌, ℕ, Bool, cond, not, ◌&&◌, length, min, sym, ap, ap₂, subst, ◌∙◌, arith}
 use Rattle.std.specs.Int.{from_bool}
 use Rattle.std.specs.Option.{is_some}
-use Rattle.fv_bits.proofs.Counts.{passing}
 use Rattle.fv_image.proofs.Counts.{one_or_none}
 use Rattle.fv_image.specs.Containers.{fan}
 use Rattle.fv_aggmap.specs.Space.{Space}
@@ -12,7 +11,7 @@ use Rattle.fv_volmap.specs.Slots.{Volume}
 use Rattle.fv_delay.specs.Delay.{delayed_in, is_delayed, is_held}
 use Rattle.fv_delay.specs.Reclaims.{HasEmptied, HasGiven, lead_to}
 use Rattle.fv_delay.proofs.Giving.{given_more}
-use Rattle.fv_delay.proofs.Parts.{byte_is, count_more, end_within, none_past, region_passing, the_end}
+use Rattle.fv_delay.proofs.Parts.{byte_is, count_more, end_within, none_past, region_walked, the_end}
 use Rattle.fv_delay.proofs.Reclaimed.{between, emptied_more, region_reclaimed, still_there}
 use Rattle.fv_delay.proofs.reclaiming.reclaim.Goals as goal
 
@@ -46,17 +45,8 @@ loop-vvbn-preserved c =
 pub returns-clause-count : goal.returns-clause-count
 unfolding delayed_in
 returns-clause-count c =
-    let map : Volume = c.args.map.now in
-    let old : Mapped = c.args.container.now in
-    let p : ℕ → Bool = is_delayed map old in
-    let first : ℕ = c.first_of-first.result in
-    let end : ℕ = c.end_of-end.result in
-    let long : c.entry_count-entries.result ≡ length old.entries = c.entry_count-entries.ensures.value ∙ sym c.requires.entries in
-    let start = c.first_of-first.ensures ∙ ap (λ (n : ℕ). min (fan * c.args.region) n) long in
-    let stop = c.end_of-end.ensures ∙ ap (λ (n : ℕ). first + min (n - first) fan) long in
-    let at_end : c.loop-vvbn.vvbn ≡ end = the_end (length old.entries) first end c.loop-vvbn.vvbn stop c.loop-vvbn.auto.vvbn-end c.loop-vvbn-test.false in
-    c.loop-vvbn.invariant.count ∙ ap (λ (n : ℕ). passing p first (n - first)) at_end
-    ∙ region_passing p c.args.region (length old.entries) first end (none_past map old) start stop
+    region_walked (is_delayed c.args.map.now c.args.container.now) c.args.region c.entry_count-entries.result (length c.args.container.now.entries) c.first_of-first.result c.end_of-end.result c.loop-vvbn.vvbn c.loop-vvbn.count
+    (c.entry_count-entries.ensures.value ∙ sym c.requires.entries) (none_past c.args.map.now c.args.container.now) c.first_of-first.ensures c.end_of-end.ensures c.loop-vvbn.auto.vvbn-end c.loop-vvbn-test.false c.loop-vvbn.invariant.count
 
 pub returns-clause-reclaimed : goal.returns-clause-reclaimed
 returns-clause-reclaimed c =

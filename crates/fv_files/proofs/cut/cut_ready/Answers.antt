@@ -1,37 +1,30 @@
-use Rattle.std.proofs.Common.{ap, subst, arith, ◌/◌, sym, ◌∙◌}
+use Rattle.std.proofs.Common.{ap, subst, arith}
 use Rattle.fv_tree.specs.Beside.{LeadsTo, Spares}
-use Rattle.fv_tables.specs.Told.{records_each}
-use Rattle.fv_tree.specs.Flushing.{changed_of, Stands, loaded}
-use Rattle.fv_inode.specs.declared.info.Info.{Info}
+use Rattle.fv_tree.specs.Flushing.{Stands, loaded}
 use Rattle.std.specs.Option.{option_map}
-use Rattle.std.proofs.lemmas.Result.{err_from_is_err_and}
 use Rattle.fv_tables.specs.Spelled.{stored}
 use Rattle.fv_tables.specs.Told.{tree_or}
 use Rattle.fv_tree.specs.Erasing.{HoldsCells}
 use Rattle.fv_tree.specs.Standing.{standing, under}
 use Rattle.fv_tree.proofs.Causes.{at_err}
 use Rattle.fv_inode.specs.Files.{with_info}
+use Rattle.fv_files.specs.Altering.{AltersPlaces}
 use Rattle.fv_files.specs.Tables.{table_in, AreStanding}
+use Rattle.fv_files.proofs.Looked.{handed_on}
 use Rattle.fv_files.proofs.Counted.{tree_holds}
-use Rattle.fv_files.specs.Calls.{shortened}
+use Rattle.fv_files.specs.Calls.{shortened, Changes}
 use Rattle.fv_files.proofs.Steps.{cut_failed, cut_done, cut_led, cut_led_failed, cut_pending, cut_pending_done, cut_spares, cut_stood, cut_table_done, cut_table_failed, Restates}
-use Rattle.fv_files.proofs.Wrote.{rewrites_as, cut_table, cut_takes}
+use Rattle.fv_files.proofs.Wrote.{cut_table, cut_takes, restates_as}
 use Rattle.fv_files.proofs.cut.cut_ready.Given as given
 use Rattle.fv_files.proofs.cut.cut_ready.Goals as goal
 
 pub returns-in_err-count-clause-changes : goal.returns-in_err-count-clause-changes
 returns-in_err-count-clause-changes g c =
-    let p = err_from_is_err_and c.from_residual.result c.from_residual.ensures.1 in
-    rw (p.1, p.2) (cut_failed g.B.Blocks.told (g.B.Blocks.goes c.args.blocks.now c.cut_kept.new.blocks) (Unit {0}) (g.B.Blocks.shown c.args.blocks.now) (g.B.Blocks.shown c.cut_kept.new.blocks) c.args.files.now c.cut_kept.new.trees c.args.info.now.number c.args.length
-    c.least_levels-start.result c.args.stamp c.in_err-count.field-0.0 c.in_err-count.ensures)
+    handed_on (Changes _ _ _ _ _ _ _) _ c.from_residual.result c.from_residual.ensures.1 (cut_failed _ _ _ _ _ _ _ _ _ _ _ _ c.in_err-count.ensures)
 
 -- the record that the file gets
 restated : (g : given.Over) (c : goal.After-rewrite g) → Restates c.args.files.now c.rewrite.new.self c.args.info.now.number c.args.stamp (with_info (shortened c.args.info.now c.args.length))
-restated g c = record {
-  rewrites = rewrites_as c.args.files.now.inode c.rewrite.new.self c.args.stamp c.shortened.result (shortened c.args.info.now c.args.length) c.shortened.ensures.is c.rewrite.ensures.rewrites;
-  alters = c.rewrite.ensures.alters;
-  marked = ap (λ (v : Info). changed_of c.rewrite.new.self.tree 0 (v.number / records_each)) (sym c.shortened.ensures.is) ∙ c.rewrite.ensures.marked;
-}
+restated g c = restates_as c.args.files.now c.rewrite.new.self c.args.stamp c.shortened.result (shortened c.args.info.now c.args.length) c.shortened.ensures.is c.rewrite.ensures.rewrites c.rewrite.ensures.alters c.rewrite.ensures.marked
 
 -- the tree stood, and its cut spares the others
 stood : (g : given.Over) (c : goal.After-rewrite g) → g.B.Blocks.told → AreStanding (g.B.Blocks.shown c.args.blocks.now) c.args.files.now → Stands (g.B.Blocks.shown c.args.blocks.now) c.in_ok-count.ensures.tree
@@ -54,10 +47,8 @@ returns-clause-counted g c = λ told sound.
 
 pub returns-clause-changes : goal.returns-clause-changes
 returns-clause-changes g c =
-    let f = c.args.files.now in
-    let info = c.args.info.now in
-    cut_done g.B.Blocks.told (g.B.Blocks.goes c.args.blocks.now c.cut_kept.new.blocks) (Unit {0}) (g.B.Blocks.shown c.args.blocks.now) (g.B.Blocks.shown c.cut_kept.new.blocks) f c.cut_kept.new.trees info.number c.args.length
-    c.least_levels-start.result c.args.stamp c.rewrite.new.self (with_info (shortened info c.args.length)) c.in_ok-count.count c.in_ok-count.ensures (restated g c)
+    cut_done g.B.Blocks.told (g.B.Blocks.goes c.args.blocks.now c.cut_kept.new.blocks) (Unit {0}) (g.B.Blocks.shown c.args.blocks.now) (g.B.Blocks.shown c.cut_kept.new.blocks) c.args.files.now c.cut_kept.new.trees c.args.info.now.number c.args.length
+    c.least_levels-start.result c.args.stamp c.rewrite.new.self (with_info (shortened c.args.info.now c.args.length)) c.in_ok-count.count c.in_ok-count.ensures (restated g c)
 
 pub returns-in_err-count-clause-led : goal.returns-in_err-count-clause-led
 returns-in_err-count-clause-led g c =
@@ -65,9 +56,7 @@ returns-in_err-count-clause-led g c =
 
 pub returns-clause-led : goal.returns-clause-led
 returns-clause-led g c =
-    let f = c.args.files.now in
-    let info = c.args.info.now in
-    cut_led g.B.Blocks.told (g.B.Blocks.goes c.args.blocks.now c.cut_kept.new.blocks) (Unit {0}) (g.B.Blocks.shown c.args.blocks.now) (g.B.Blocks.shown c.cut_kept.new.blocks) c.args.files.now c.cut_kept.new.trees c.args.info.now.number c.args.length c.least_levels-start.result c.args.stamp c.rewrite.new.self (with_info (shortened info c.args.length)) c.in_ok-count.count c.in_ok-count.ensures (restated g c)
+    cut_led g.B.Blocks.told (g.B.Blocks.goes c.args.blocks.now c.cut_kept.new.blocks) (Unit {0}) (g.B.Blocks.shown c.args.blocks.now) (g.B.Blocks.shown c.cut_kept.new.blocks) c.args.files.now c.cut_kept.new.trees c.args.info.now.number c.args.length c.least_levels-start.result c.args.stamp c.rewrite.new.self (with_info (shortened c.args.info.now c.args.length)) c.in_ok-count.count c.in_ok-count.ensures (restated g c)
 
 pub returns-in_err-count-clause-pending : goal.returns-in_err-count-clause-pending
 returns-in_err-count-clause-pending g c =
@@ -87,13 +76,9 @@ returns-clause-pending_done g c = λ told sound now well.
 
 pub returns-in_err-count-clause-alters : goal.returns-in_err-count-clause-alters
 returns-in_err-count-clause-alters g c =
-    let p = err_from_is_err_and c.from_residual.result c.from_residual.ensures.1 in
-    rw (p.1, p.2) (cut_table_failed g.B.Blocks.told (g.B.Blocks.goes c.args.blocks.now c.cut_kept.new.blocks) (Unit {0}) (g.B.Blocks.shown c.args.blocks.now) (g.B.Blocks.shown c.cut_kept.new.blocks) c.args.files.now c.cut_kept.new.trees c.args.info.now.number c.args.length
-    c.least_levels-start.result c.args.stamp c.in_err-count.field-0.0 c.in_err-count.ensures)
+    handed_on (AltersPlaces _ _ _ _ _ _ _) _ c.from_residual.result c.from_residual.ensures.1 (cut_table_failed _ _ _ _ _ _ _ _ _ _ _ _ c.in_err-count.ensures)
 
 pub returns-clause-alters : goal.returns-clause-alters
 returns-clause-alters g c =
-    let f = c.args.files.now in
-    let info = c.args.info.now in
-    cut_table_done g.B.Blocks.told (g.B.Blocks.goes c.args.blocks.now c.cut_kept.new.blocks) (Unit {0}) (g.B.Blocks.shown c.args.blocks.now) (g.B.Blocks.shown c.cut_kept.new.blocks) f c.cut_kept.new.trees info.number c.args.length
-    c.least_levels-start.result c.args.stamp c.rewrite.new.self (with_info (shortened info c.args.length)) c.in_ok-count.count c.in_ok-count.ensures (restated g c)
+    cut_table_done g.B.Blocks.told (g.B.Blocks.goes c.args.blocks.now c.cut_kept.new.blocks) (Unit {0}) (g.B.Blocks.shown c.args.blocks.now) (g.B.Blocks.shown c.cut_kept.new.blocks) c.args.files.now c.cut_kept.new.trees c.args.info.now.number c.args.length
+    c.least_levels-start.result c.args.stamp c.rewrite.new.self (with_info (shortened c.args.info.now c.args.length)) c.in_ok-count.count c.in_ok-count.ensures (restated g c)

@@ -3,29 +3,30 @@ use Rattle.fv_tree.specs.declared.kept.Tree.{Tree}
 use Rattle.fv_tree.specs.Sources.{WasFree}
 use Rattle.fv_tree.specs.Flushing.{IsPlaced, Stands, loaded}
 use Rattle.fv_tree.specs.Altering.{PlacesAnew}
-use Rattle.fv_files.proofs.Tables.{some_same}
+use Rattle.fv_tree.proofs.Brought.{some_same}
 use Rattle.fv_files.proofs.Sums.{becomes_set}
 use Rattle.fv_files.proofs.flush.flush_kept.Goals as goal
 
 pub returns-in-Some-clause-flushes : goal.returns-in-Some-clause-flushes
 returns-in-Some-clause-flushes g c =
+    let is = c.flush.ensures in
     let written = (c.get_mut.follows.holds c.flush.new.self).3 (subst IsSome c.in-Some.ensures.value refl) in
     record {
       tree = c.in-Some.tree.now;
       next = c.flush.new.self;
       becomes = becomes_set c.args.trees.now (c.get_mut.follows.lender c.flush.new.self) c.args.number c.in-Some.tree.now c.flush.new.self c.in-Some.ensures.value (c.get_mut.follows.holds c.flush.new.self).0 written.1 written.2;
-      flushes = c.flush.ensures.flushing.flushes;
-      stored_well = c.flush.ensures.stored_well;
-      strays = c.flush.ensures.flushing.strays;
-      fits = c.flush.ensures.flushing.fits;
-      enough = c.flush.ensures.flushing.enough;
-      nothing = c.flush.ensures.pending;
-      left = c.flush.ensures.flushing.left;
-      pointer = c.flush.ensures.pointer;
-      spelled = c.flush.ensures.stored;
-      reaches = c.flush.ensures.reaches;
-      counts = c.flush.ensures.flushing.counts;
-      cause = c.flush.ensures.flushing.cause;
+      flushes = is.flushing.flushes;
+      stored_well = is.stored_well;
+      strays = is.flushing.strays;
+      fits = is.flushing.fits;
+      enough = is.flushing.enough;
+      nothing = is.pending;
+      left = is.flushing.left;
+      pointer = is.pointer;
+      spelled = is.stored;
+      reaches = is.reaches;
+      counts = is.flushing.counts;
+      cause = is.flushing.cause;
     }
 
 pub returns-in-Some-clause-anew : goal.returns-in-Some-clause-anew

@@ -6,7 +6,7 @@ use Rattle.fv_tree.proofs.Anew.{free_sooner}
 use Rattle.std.proofs.lemmas.Result.{err_from_is_err_and}
 use Rattle.fv_tables.specs.Told.{file_at}
 use Rattle.fv_inode.specs.Files.{rooted}
-use Rattle.fv_files.proofs.Tables.{some_same}
+use Rattle.fv_tree.proofs.Brought.{some_same}
 use Rattle.fv_files.proofs.Changed.{with_trees}
 use Rattle.fv_files.proofs.Flushed.{kept_keeps, kept_lays, kept_places, kept_stores, lay_done, lay_keeps, lay_places, lay_stores, lays_failed}
 use Rattle.fv_files.proofs.Passed.{pass_done, pass_keeps, pass_places, pass_stores, same_root, unset_lays, unset_stores, unset_places, unset_keeps}
@@ -31,12 +31,9 @@ sooner g c = free_sooner g.B.Blocks.shown g.B.Blocks.goes g.met.B.Blocks.goes_on
 
 pub returns-in_err-root-clause-lays : goal.returns-in_err-root-clause-lays
 returns-in_err-root-clause-lays g c =
-    let old = g.B.Blocks.shown c.args.blocks.now in
-    let new = g.B.Blocks.shown c.flush_kept.new.blocks in
     let f = c.args.files.now in
-    let e = c.in_err-root.field-0.0 in
     let p = err_from_is_err_and c.from_residual.result c.from_residual.ensures.1 in
-    rw (p.1, p.2) (lays_failed g.B.Blocks.told old new f (with_trees f c.flush_kept.new.trees) e (kept_lays g.B.Blocks.told old new f c.flush_kept.new.trees c.args.number (Err e) c.in_err-root.ensures.flushes))
+    rw (p.1, p.2) (lays_failed g.B.Blocks.told _ _ f (with_trees f c.flush_kept.new.trees) _ (kept_lays g.B.Blocks.told _ _ f c.flush_kept.new.trees c.args.number (Err c.in_err-root.field-0.0) c.in_err-root.ensures.flushes))
 
 pub returns-in_err-set_root-clause-lays : goal.returns-in_err-set_root-clause-lays
 returns-in_err-set_root-clause-lays g c =
@@ -88,17 +85,10 @@ returns-in_err-set_root-clause-places g c =
     (free_sooner g.B.Blocks.shown g.B.Blocks.goes g.met.B.Blocks.goes_on c.args.blocks.now c.flush_kept.new.blocks c.set_root.new.blocks (g.met.B.Blocks.reads_go c.flush_kept.new.blocks c.set_root.new.blocks c.in_err-set_root.ensures.reads)) c.in_ok-root.ensures.anew
 
 pub returns-clause-places : goal.returns-clause-places
-returns-clause-places g c =
-    let old = g.B.Blocks.shown c.args.blocks.now in
-    let mid = g.B.Blocks.shown c.flush_kept.new.blocks in
-    let new = g.B.Blocks.shown c.set_root.new.blocks in
-    let did = c.in_ok-set_root.ensures in
-    lay_places g.B.Blocks.told old mid new c.args.files.now c.flush_kept.new.trees c.forget-2.new.trees c.set_root.new.self c.args.number c.kept_levels-levels.result c.in_ok-root.root
+returns-clause-places g c = let did = c.in_ok-set_root.ensures in
+    lay_places g.B.Blocks.told _ _ _ c.args.files.now c.flush_kept.new.trees c.forget-2.new.trees c.set_root.new.self c.args.number c.kept_levels-levels.result c.in_ok-root.root
     c.in_ok-root.ensures.flushes c.kept_levels-levels.ensures.levels did.loads did.set did.rises.pending c.forget-2.ensures.gone c.forget-2.ensures.cost
-    (WasFree g.B.Blocks.shown g.B.Blocks.goes c.args.blocks.now c.flush_kept.new.blocks) (WasFree g.B.Blocks.shown g.B.Blocks.goes c.args.blocks.now c.set_root.new.blocks) c.in_ok-root.ensures.anew
-    (sooner g c)
-    (other_root g c)
-    did.leaves
+    (WasFree g.B.Blocks.shown g.B.Blocks.goes c.args.blocks.now c.flush_kept.new.blocks) (WasFree g.B.Blocks.shown g.B.Blocks.goes c.args.blocks.now c.set_root.new.blocks) c.in_ok-root.ensures.anew (sooner g c) (other_root g c) did.leaves
 
 pub returns-then-has_root-clause-places : goal.returns-then-has_root-clause-places
 returns-then-has_root-clause-places g c =
@@ -120,17 +110,10 @@ returns-in_err-set_root-clause-keeps g c =
     (λ v. g.met.B.Blocks.keeps_on v c.args.blocks.now c.flush_kept.new.blocks c.set_root.new.blocks) c.in_ok-root.ensures.anew c.in_ok-root.ensures.keeps (λ v. g.met.B.Blocks.reads_keep v c.flush_kept.new.blocks c.set_root.new.blocks c.in_err-set_root.ensures.reads)
 
 pub returns-clause-keeps : goal.returns-clause-keeps
-returns-clause-keeps g c =
-    let old = g.B.Blocks.shown c.args.blocks.now in
-    let mid = g.B.Blocks.shown c.flush_kept.new.blocks in
-    let new = g.B.Blocks.shown c.set_root.new.blocks in
-    let did = c.in_ok-set_root.ensures in
-    lay_keeps g.B.Blocks.told old mid new c.args.files.now c.flush_kept.new.trees c.forget-2.new.trees c.set_root.new.self c.args.number c.kept_levels-levels.result c.in_ok-root.root
+returns-clause-keeps g c = let did = c.in_ok-set_root.ensures in
+    lay_keeps g.B.Blocks.told _ _ _ c.args.files.now c.flush_kept.new.trees c.forget-2.new.trees c.set_root.new.self c.args.number c.kept_levels-levels.result c.in_ok-root.root
     c.in_ok-root.ensures.flushes c.kept_levels-levels.ensures.levels did.loads did.set did.rises.pending c.forget-2.ensures.gone c.forget-2.ensures.cost
-    (WasFree g.B.Blocks.shown g.B.Blocks.goes c.args.blocks.now c.flush_kept.new.blocks) (WasFree g.B.Blocks.shown g.B.Blocks.goes c.args.blocks.now c.set_root.new.blocks) c.in_ok-root.ensures.anew
-    (sooner g c)
-    (other_root g c)
-    did.leaves
+    (WasFree g.B.Blocks.shown g.B.Blocks.goes c.args.blocks.now c.flush_kept.new.blocks) (WasFree g.B.Blocks.shown g.B.Blocks.goes c.args.blocks.now c.set_root.new.blocks) c.in_ok-root.ensures.anew (sooner g c) (other_root g c) did.leaves
     (λ v. g.B.Blocks.keeps v c.args.blocks.now c.flush_kept.new.blocks) (λ v. g.B.Blocks.keeps v c.flush_kept.new.blocks c.set_root.new.blocks) (λ v. g.B.Blocks.keeps v c.args.blocks.now c.set_root.new.blocks)
     (λ v. g.met.B.Blocks.keeps_on v c.args.blocks.now c.flush_kept.new.blocks c.set_root.new.blocks) c.in_ok-root.ensures.keeps (λ v. g.met.B.Blocks.reads_keep v c.flush_kept.new.blocks c.set_root.new.blocks did.reads)
 

@@ -1,8 +1,8 @@
 use Rattle.std.proofs.Common.{◌+◌, ap, arith}
 use Rattle.std.specs.Prelude.{is_some}
-use Rattle.std.proofs.lemmas.Result.{err_from_is_err_and}
-use Rattle.fv_tree.specs.Erasing.{HoldsCells}
-use Rattle.fv_inode.specs.Files.{rooted}
+use Rattle.fv_files.specs.Altering.{AltersPlaces}
+use Rattle.fv_files.specs.Calls.{Changes}
+use Rattle.fv_files.proofs.Looked.{handed_on}
 use Rattle.fv_files.proofs.Steps.{cut_failed, cut_led_failed, cut_pending, cut_table_failed}
 use Rattle.fv_files.specs.Tables.{table_in}
 use Rattle.fv_files.proofs.Counted.{as_many}
@@ -11,9 +11,7 @@ use Rattle.fv_files.proofs.remove.remove_ready.Goals as goal
 
 pub returns-in_err-own-clause-changes : goal.returns-in_err-own-clause-changes
 returns-in_err-own-clause-changes g c =
-    let p = err_from_is_err_and c.from_residual.result c.from_residual.ensures.1 in
-    rw (p.1, p.2) (cut_failed g.B.Blocks.told (g.B.Blocks.goes c.args.blocks.now c.cut_kept.new.blocks) (HoldsCells (rooted (g.B.Blocks.shown c.args.blocks.now) c.args.files.now.inode)) (g.B.Blocks.shown c.args.blocks.now) (g.B.Blocks.shown c.cut_kept.new.blocks)
-    c.args.files.now c.cut_kept.new.trees c.args.info.now.number 0 c.least_levels-start.result c.args.stamp c.in_err-own.field-0.0 c.in_err-own.ensures)
+    handed_on (Changes _ _ _ _ _ _ _) _ c.from_residual.result c.from_residual.ensures.1 (cut_failed _ _ _ _ _ _ _ _ _ _ _ _ c.in_err-own.ensures)
 
 pub returns-clause-removed : goal.returns-clause-removed
 returns-clause-removed g c = λ told sound.
@@ -58,9 +56,7 @@ returns-clause-pending g c =
 
 pub returns-in_err-own-clause-alters : goal.returns-in_err-own-clause-alters
 returns-in_err-own-clause-alters g c =
-    let p = err_from_is_err_and c.from_residual.result c.from_residual.ensures.1 in
-    rw (p.1, p.2) (cut_table_failed g.B.Blocks.told (g.B.Blocks.goes c.args.blocks.now c.cut_kept.new.blocks) (HoldsCells (rooted (g.B.Blocks.shown c.args.blocks.now) c.args.files.now.inode)) (g.B.Blocks.shown c.args.blocks.now) (g.B.Blocks.shown c.cut_kept.new.blocks)
-    c.args.files.now c.cut_kept.new.trees c.args.info.now.number 0 c.least_levels-start.result c.args.stamp c.in_err-own.field-0.0 c.in_err-own.ensures)
+    handed_on (AltersPlaces _ _ _ _ _ _ _) _ c.from_residual.result c.from_residual.ensures.1 (cut_table_failed _ _ _ _ _ _ _ _ _ _ _ _ c.in_err-own.ensures)
 
 pub returns-clause-alters : goal.returns-clause-alters
 returns-clause-alters g c =

@@ -2,7 +2,7 @@ use Rattle.std.proofs.Common.{sym}
 use Rattle.std.proofs.lemmas.Result.{IfOk-weaker}
 use Rattle.fv_tree.specs.Standing.{under, standing}
 use Rattle.fv_files.proofs.Stays.{stored_staying}
-use Rattle.fv_files.proofs.Tables.{stored_cause}
+use Rattle.fv_files.proofs.Tables.{stored_loads}
 use Rattle.fv_files.proofs.staying.staying_cell.Goals as goal
 
 pub returns-in-None-clause-staying : goal.returns-in-None-clause-staying
@@ -10,7 +10,7 @@ returns-in-None-clause-staying g c = λ told.
     IfOk-weaker c.staying-in-None.result _ _ (λ count is. stored_staying (under (g.B.Blocks.shown c.args.blocks.now)) c.args.files.now c.args.info.now c.stored_tree-tree.result (g.B.Sharing.shared c.args.blocks.now) c.args.index count (c.requires.there told) (sym c.in-None.ensures.value)
     (c.stored_tree-tree.ensures.stored (under (g.B.Blocks.shown c.args.blocks.now))) c.stored_tree-tree.ensures.pending is) (c.staying-in-None.ensures.staying told)
 
-pub returns-in-None-clause-cause : goal.returns-in-None-clause-cause
-returns-in-None-clause-cause g c =
-    stored_cause g.B.Blocks.told (g.B.Blocks.shown c.args.blocks.now) (g.B.Blocks.shown c.staying-in-None.new.blocks) c.args.files.now c.args.info.now (standing (under (g.B.Blocks.shown c.args.blocks.now)) c.stored_tree-tree.result) c.staying-in-None.result
-    (c.stored_tree-tree.ensures.stored (under (g.B.Blocks.shown c.args.blocks.now))) (sym c.in-None.ensures.value) c.staying-in-None.ensures.cause
+pub returns-in-None-clause-loads : goal.returns-in-None-clause-loads
+returns-in-None-clause-loads g c =
+    stored_loads g.B.Blocks.told (g.B.Blocks.shown c.args.blocks.now) (g.B.Blocks.shown c.staying-in-None.new.blocks) c.args.files.now c.args.info.now (standing (under (g.B.Blocks.shown c.args.blocks.now)) c.stored_tree-tree.result) c.staying-in-None.result
+    (c.stored_tree-tree.ensures.stored (under (g.B.Blocks.shown c.args.blocks.now))) (sym c.in-None.ensures.value) c.staying-in-None.ensures.untouched c.staying-in-None.ensures.reads c.staying-in-None.ensures.counts c.staying-in-None.ensures.cause

@@ -5,7 +5,7 @@ use Rattle.fv_tree.specs.Standing.{under, standing}
 use Rattle.fv_tree.specs.Taking.{gone_with}
 use Rattle.fv_files.specs.Taking.{staying_where}
 use Rattle.fv_files.proofs.Stays.{known_is}
-use Rattle.fv_files.proofs.Tables.{kept_known, stored_known, stored_cause}
+use Rattle.fv_files.proofs.Tables.{kept_known, stored_known, stored_loads}
 use Rattle.fv_files.proofs.TakenCells.{stored_with}
 use Rattle.fv_files.proofs.taking.taken_tree.Goals as goal
 
@@ -35,7 +35,7 @@ returns-in-None-clause-staying g c = λ told holds.
     IfOk-weaker c.taken-in-None.result _ _ (λ taken is. stored_with (under old) c.args.files.now c.args.info.now c.stored_tree-tree.result (g.B.Sharing.shared c.args.blocks.now) (nat_le c.args.length) taken.staying (c.requires.there told) (sym c.in-None.ensures.value)
     (c.stored_tree-tree.ensures.stored (under old)) c.stored_tree-tree.ensures.pending is.staying) (c.taken-in-None.ensures.taken told (subst HoldsCells (sym same) holds))
 
-pub returns-in-None-clause-cause : goal.returns-in-None-clause-cause
-returns-in-None-clause-cause g c =
-    stored_cause g.B.Blocks.told (g.B.Blocks.shown c.args.blocks.now) (g.B.Blocks.shown c.taken-in-None.new.blocks) c.args.files.now c.args.info.now (standing (under (g.B.Blocks.shown c.args.blocks.now)) c.stored_tree-tree.result) c.taken-in-None.result
-    (c.stored_tree-tree.ensures.stored (under (g.B.Blocks.shown c.args.blocks.now))) (sym c.in-None.ensures.value) c.taken-in-None.ensures.cause
+pub returns-in-None-clause-loads : goal.returns-in-None-clause-loads
+returns-in-None-clause-loads g c =
+    stored_loads g.B.Blocks.told (g.B.Blocks.shown c.args.blocks.now) (g.B.Blocks.shown c.taken-in-None.new.blocks) c.args.files.now c.args.info.now (standing (under (g.B.Blocks.shown c.args.blocks.now)) c.stored_tree-tree.result) c.taken-in-None.result
+    (c.stored_tree-tree.ensures.stored (under (g.B.Blocks.shown c.args.blocks.now))) (sym c.in-None.ensures.value) c.taken-in-None.ensures.untouched c.taken-in-None.ensures.reads c.taken-in-None.ensures.counts c.taken-in-None.ensures.cause

@@ -1,8 +1,8 @@
-use Rattle.std.proofs.Common.{Err, refl, arith}
+use Rattle.std.proofs.Common.{refl, arith}
 use Rattle.std.proofs.lemmas.Result.{err_from_is_err_and}
 use Rattle.fv_tree.specs.Standing.{standing, under}
 use Rattle.fv_inode.specs.Files.{AreRecords}
-use Rattle.fv_inode.proofs.Looked.{earlier, looks_then, looks_failed, looks_done, looks_failed_then}
+use Rattle.fv_inode.proofs.Looked.{earlier, looks_then, looks_done, looks_failed_then}
 use Rattle.fv_inode.proofs.Numbered.{used_below, least_in, least_searched}
 use Rattle.fv_inode.proofs.create.find_free.Goals as goal
 
@@ -29,14 +29,13 @@ pub loop-cell-preserved : goal.loop-cell-preserved
 loop-cell-preserved g c =
     let old = g.B.Blocks.shown c.args.blocks.now in
     let mid = g.B.Blocks.shown c.loop-cell.blocks in
-    let new = g.B.Blocks.shown c.read_files.new.blocks in
     let was = c.loop-cell.invariant in
     let are : g.B.Blocks.told → AreRecords (standing (under old) c.args.tree.now) c.loop-cell.cell c.in_ok-files.files = λ told.
     earlier (λ t. AreRecords t c.loop-cell.cell c.in_ok-files.files) c.args.tree.now old mid was.looks.untouched.held (c.in_ok-files.ensures.files told) in
     let none = c.in_default.ensures.none refl in
     record {
       least = λ told k lt. used_below (standing (under old) c.args.tree.now) c.loop-cell.cell c.in_ok-files.files 16 (are told) (omega arith) (was.least told) none k (omega (arith, lt));
-      looks = looks_then g.B.Blocks.told c.args.tree.now old mid new (tt {0}) _ was.looks (looks_done g.B.Blocks.told (standing (under mid) c.args.tree.now) mid new c.in_ok-files.files (tt {0}) c.in_ok-files.ensures.looks);
+      looks = looks_then g.B.Blocks.told c.args.tree.now old mid _ (tt {0}) _ was.looks (looks_done g.B.Blocks.told (standing (under mid) c.args.tree.now) mid _ c.in_ok-files.files (tt {0}) c.in_ok-files.ensures.looks);
       reads = g.met.B.Blocks.reads_on c.args.blocks.now c.loop-cell.blocks c.read_files.new.blocks was.reads c.in_ok-files.ensures.reads;
     }
 

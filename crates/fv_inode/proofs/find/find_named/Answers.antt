@@ -1,9 +1,9 @@
-use Rattle.std.proofs.Common.{Err, ◌*◌, ◌+◌, sym, ◌∙◌, arith}
+use Rattle.std.proofs.Common.{◌*◌, ◌+◌, sym, ◌∙◌, arith}
 use Rattle.std.proofs.lemmas.Result.{err_from_is_err_and}
 use Rattle.fv_tables.specs.Told.{records_each}
 use Rattle.fv_tree.specs.Standing.{standing, under}
 use Rattle.fv_inode.specs.Files.{HasNoneBelow, FindsBelow}
-use Rattle.fv_inode.proofs.Looked.{earlier, looks_then, looks_failed, looks_done, looks_failed_then}
+use Rattle.fv_inode.proofs.Looked.{earlier, looks_then, looks_done, looks_failed_then}
 use Rattle.fv_inode.proofs.Named.{none_at_all, found_some, found_none}
 use Rattle.fv_inode.proofs.find.find_named.Goals as goal
 
@@ -25,7 +25,6 @@ pub loop-cell-preserved : goal.loop-cell-preserved
 loop-cell-preserved g c =
     let old = g.B.Blocks.shown c.args.blocks.now in
     let mid = g.B.Blocks.shown c.loop-cell.blocks in
-    let new = g.B.Blocks.shown c.find_at.new.blocks in
     let was = c.loop-cell.invariant in
     let bound = records_each * c.loop-cell.cell in
     let none : g.B.Blocks.told → HasNoneBelow (standing (under old) c.args.tree.now) c.args.name.now (bound + records_each) = λ told.
@@ -33,7 +32,7 @@ loop-cell-preserved g c =
     (earlier (λ t. HasNoneBelow t c.args.name.now bound → FindsBelow t c.args.name.now (bound + records_each) c.in_ok-found.found) c.args.tree.now old mid was.looks.untouched.held (c.in_ok-found.ensures.found told) (was.none told)) in
     record {
       none = λ told n lt. none told n (omega (arith, lt));
-      looks = looks_then g.B.Blocks.told c.args.tree.now old mid new (tt {0}) _ was.looks (looks_done g.B.Blocks.told (standing (under mid) c.args.tree.now) mid new c.in_ok-found.found (tt {0}) c.in_ok-found.ensures.looks);
+      looks = looks_then g.B.Blocks.told c.args.tree.now old mid _ (tt {0}) _ was.looks (looks_done g.B.Blocks.told (standing (under mid) c.args.tree.now) mid _ c.in_ok-found.found (tt {0}) c.in_ok-found.ensures.looks);
       reads = g.met.B.Blocks.reads_on c.args.blocks.now c.loop-cell.blocks c.find_at.new.blocks was.reads c.in_ok-found.ensures.reads;
     }
 

@@ -1,10 +1,10 @@
-use Rattle.std.proofs.Common.{◌≡◌, ◌*◌, ◌+◌, ◌-◌, ◌^◌, Err, ap, ◌∙◌, arith}
+use Rattle.std.proofs.Common.{◌≡◌, ◌*◌, ◌+◌, ◌-◌, ◌^◌, ap, ◌∙◌, arith}
 use Rattle.std.proofs.lemmas.Result.{err_from_is_err_and}
 use Rattle.fv_model.specs.Trees.{fan}
 use Rattle.fv_tree.specs.Standing.{standing, under}
 use Rattle.fv_inode.specs.Files.{AreRecords}
 use Rattle.fv_inode.specs.Listing.{numbers_in, names_from}
-use Rattle.fv_inode.proofs.Looked.{earlier, looks_self, looks_then, looks_failed, looks_done, looks_failed_then}
+use Rattle.fv_inode.proofs.Looked.{earlier, looks_self, looks_then, looks_done, looks_failed_then}
 use Rattle.fv_inode.proofs.Views.{nothing}
 use Rattle.fv_inode.proofs.list.numbers_by_name.Goals as goal
 

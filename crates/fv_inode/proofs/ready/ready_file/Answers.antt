@@ -7,7 +7,7 @@ use Rattle.fv_tree.specs.Standing.{standing, under}
 use Rattle.fv_tree.specs.Altering.{Leaves}
 use Rattle.fv_tree.specs.Flushing.{loaded}
 use Rattle.fv_tree.specs.Writing.{IsAlike}
-use Rattle.fv_inode.proofs.Looked.{earlier, later, loaded_as, loads_leaves, looks_failed, looks_done, loads_none, loads_then, loads_none_failed}
+use Rattle.fv_inode.proofs.Looked.{earlier, later, loaded_as, loads_leaves, looks_done, loads_none, loads_then, loads_none_failed}
 use Rattle.fv_inode.proofs.Slots.{own_record}
 use Rattle.fv_inode.proofs.Readied.{in_use}
 use Rattle.fv_inode.proofs.Alike.{alike_itself}

@@ -5,21 +5,15 @@ use Rattle.fv_root.proofs.next.commit.Goals as goal
 
 pub returns-in_err-stage-clause-any_moment : goal.returns-in_err-stage-clause-any_moment
 returns-in_err-stage-clause-any_moment g c = λ tells.
-    let old = g.D.Disk.shown c.args.disk.now in
-    let mid = g.D.Disk.shown c.close_older.new.disk in
-    let new = g.D.Disk.shown c.stage.new.disk in
     let closed = c.in_ok-close_older.ensures in
-    old_moment old c.args.found.now c.args.root.now c.args.map.now new
-    (staged_moment old c.args.found.now c.args.root.now c.args.map.now mid new _ (closed.any_moment tells) closed.counted.given (closed.shut tells) c.in_err-stage.ensures.spares)
+    let staged = staged_moment (g.D.Disk.shown c.args.disk.now) c.args.found.now c.args.root.now c.args.map.now (g.D.Disk.shown c.close_older.new.disk) (g.D.Disk.shown c.stage.new.disk) _ (closed.any_moment tells) closed.counted.given (closed.shut tells) c.in_err-stage.ensures.spares in
+    old_moment (g.D.Disk.shown c.args.disk.now) c.args.found.now c.args.root.now c.args.map.now (g.D.Disk.shown c.stage.new.disk) staged
 
 pub returns-in_err-stage-clause-volumes : goal.returns-in_err-stage-clause-volumes
 returns-in_err-stage-clause-volumes g c = λ tells.
-    let old = g.D.Disk.shown c.args.disk.now in
-    let mid = g.D.Disk.shown c.close_older.new.disk in
-    let new = g.D.Disk.shown c.stage.new.disk in
     let closed = c.in_ok-close_older.ensures in
-    let told : IsTrue mid.tells = rw closed.counted.tells tells in
-    staged_volumes old c.args.found.now c.args.root.now c.args.map.now mid new _ (c.requires.stands tells) told (closed.volumes tells) c.in_err-stage.ensures.spares
+    let told : IsTrue (g.D.Disk.shown c.close_older.new.disk).tells = rw closed.counted.tells tells in
+    staged_volumes (g.D.Disk.shown c.args.disk.now) c.args.found.now c.args.root.now c.args.map.now (g.D.Disk.shown c.close_older.new.disk) (g.D.Disk.shown c.stage.new.disk) _ (c.requires.stands tells) told (closed.volumes tells) c.in_err-stage.ensures.spares
 
 ready : (g : given.Over) (c : goal.After-open_older g) → IsTrue (g.D.Disk.shown c.args.disk.now).tells
     → IsReady (g.D.Disk.shown c.args.disk.now) c.args.found.now c.args.root.now c.args.map.now (g.D.Disk.shown c.stage.new.disk)

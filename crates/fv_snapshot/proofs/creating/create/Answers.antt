@@ -1,42 +1,19 @@
-use Rattle.std.proofs.Common.{rules, ◌≡◌, Result, Err, sym, subst}
-use Rattle.fv_volume.specs.declared.fault.VolumeFault.{VolumeFault}
-use Rattle.fv_snapshot.specs.Creating.{Creates, TellsCreation}
-use Rattle.fv_snapshot.proofs.Created.{failed_creates, failed_tells, kept_creates, kept_ready, kept_tells, slot_free}
-use Rattle.fv_snapshot.proofs.Judging.{judged_granted}
+use Rattle.fv_snapshot.proofs.Created.{refused_creates, refused_tells}
+use Rattle.fv_snapshot.proofs.Judging.{is_granted, not_refused}
 use Rattle.fv_snapshot.proofs.creating.create.Goals as goal
 
-pub returns-in_err-place_files-clause-creates : goal.returns-in_err-place_files-clause-creates
-returns-in_err-place_files-clause-creates g c = λ others accepted.
-    let failed : c.from_residual.result ≡ Err c.in_err-place_files.field-0.0 = search rules in
-    let did = c.in_err-place_files.ensures in
-    subst (λ (r : Result Unit VolumeFault). Creates (g.D.Disk.shown c.args.disk.now) c.args.pool.now c.args.volume.now others c.args.name.now c.place_files.new.pool c.place_files.new.self r) (sym failed)
-    (failed_creates (g.D.Disk.shown c.args.disk.now) c.args.pool.now c.args.volume.now others c.args.name.now c.requires.ready c.place_files.new.pool c.place_files.new.self did.placed c.in_err-place_files.field-0.0 did.cause did.fails)
+pub make-requires-clause-granted : goal.make-requires-clause-granted
+make-requires-clause-granted g c = is_granted c.args.volume.now c.args.pool.now.found.blocks c.args.others c.args.name.now c.judge_create.result c.in-Ok.granted c.in-Ok.is c.judge_create.ensures.judges
 
-pub keep-requires-clause-free : goal.keep-requires-clause-free
-keep-requires-clause-free g c =
-    slot_free (g.D.Disk.shown c.args.disk.now) c.args.pool.now c.args.volume.now 0 c.args.name.now c.requires.ready c.place_files.new.pool c.place_files.new.self c.in_ok-place_files.ensures.placed
-    c.in_ok-place_files.ensures.none c.in_ok-place_files.ensures.whole c.args.granted.slot c.requires.granted
+pub returns-in-Ok-clause-creates : goal.returns-in-Ok-clause-creates
+returns-in-Ok-clause-creates g c =
+    c.make.ensures.creates c.args.others (not_refused c.args.volume.now c.args.pool.now.found.blocks c.args.others c.args.name.now c.judge_create.result c.in-Ok.granted c.in-Ok.is c.judge_create.ensures.judges)
 
-pub returns-clause-creates : goal.returns-clause-creates
-returns-clause-creates g c = λ others accepted.
-    let ready = c.requires.ready in
-    kept_creates (g.D.Disk.shown c.args.disk.now) c.args.pool.now c.args.volume.now others c.args.name.now ready c.place_files.new.pool c.place_files.new.self c.in_ok-place_files.ensures.placed
-    c.in_ok-place_files.ensures.none c.in_ok-place_files.ensures.whole c.args.granted.slot c.requires.granted c.keep.ensures.named
-    (judged_granted c.args.volume.now c.args.name.now ready.labelled c.args.pool.now.found.blocks others ready.booked c.args.granted.slot c.requires.granted accepted)
-    c.keep.new.volume c.keep.result c.keep.ensures.kept c.keep.ensures.failed c.keep.ensures.fault
+pub returns-in-Err-clause-creates : goal.returns-in-Err-clause-creates
+returns-in-Err-clause-creates g c = refused_creates (g.D.Disk.shown c.args.disk.now) c.args.pool.now c.args.volume.now c.args.others c.args.name.now c.requires.ready c.in-Err.refusal c.in-Err.ensures.judges
 
-pub returns-clause-ready : goal.returns-clause-ready
-returns-clause-ready g c =
-    kept_ready (g.D.Disk.shown c.args.disk.now) c.args.pool.now c.args.volume.now 0 c.args.name.now c.requires.ready c.place_files.new.pool c.place_files.new.self c.in_ok-place_files.ensures.placed
-    c.in_ok-place_files.ensures.none c.in_ok-place_files.ensures.whole c.args.granted.slot c.requires.granted c.keep.ensures.named c.keep.new.volume c.keep.result c.keep.ensures.kept c.keep.ensures.failed
+pub returns-in-Ok-clause-tells : goal.returns-in-Ok-clause-tells
+returns-in-Ok-clause-tells g c = c.make.ensures.tells c.args.others
 
-pub returns-in_err-place_files-clause-tells : goal.returns-in_err-place_files-clause-tells
-returns-in_err-place_files-clause-tells g c = λ others.
-    let failed : c.from_residual.result ≡ Err c.in_err-place_files.field-0.0 = search rules in
-    let did = c.in_err-place_files.ensures in
-    subst (λ (r : Result Unit VolumeFault). TellsCreation c.args.pool.now c.args.volume.now others c.args.name.now c.place_files.new.self r) (sym failed)
-    (failed_tells c.args.pool.now c.args.volume.now others c.args.name.now c.place_files.new.self c.in_err-place_files.field-0.0 did.cause)
-
-pub returns-clause-tells : goal.returns-clause-tells
-returns-clause-tells g c = λ others.
-    kept_tells c.args.pool.now c.args.volume.now others c.args.name.now c.args.granted.slot c.requires.granted.free c.keep.new.volume c.keep.result c.keep.ensures.waits c.keep.ensures.fault
+pub returns-in-Err-clause-tells : goal.returns-in-Err-clause-tells
+returns-in-Err-clause-tells g c = refused_tells c.args.pool.now c.args.volume.now c.args.others c.args.name.now c.in-Err.refusal c.in-Err.ensures.judges

@@ -1,8 +1,10 @@
-use Rattle.std.proofs.Common.{rules, ◌≡◌, List, Result, Err, slice_index_or, sym, ap, subst}
-use Rattle.fv_volume.specs.declared.fault.VolumeFault.{VolumeFault}
+use Rattle.std.proofs.Common.{rules, ◌≡◌, List, Result, Ok, Err, slice_index_or, sym, ap, subst}
+use Rattle.fv_pool.specs.declared.fault.VolumeFault.{VolumeFault}
 use Rattle.fv_volume.specs.declared.state.Snap.{Snap}
+use Rattle.fv_volume.specs.OneVolume.{IsReady}
 use Rattle.fv_snapshot.specs.Deleting.{Deletes}
 use Rattle.fv_snapshot.proofs.Deleted.{failed_deletes, few_left, index_slot, refused_deletes, removed_deletes}
+use Rattle.fv_snapshot.proofs.deleting.delete.Given as given
 use Rattle.fv_snapshot.proofs.deleting.delete.Goals as goal
 
 pub returns-in_default-clause-deletes : goal.returns-in_default-clause-deletes
@@ -24,16 +26,17 @@ remove_snapshot-requires-clause-stored g c = (index_slot (g.D.Disk.shown c.args.
 pub recount-requires-clause-few : goal.recount-requires-clause-few
 recount-requires-clause-few g c = few_left c.place_files.new.self c.remove_snapshot.new.self c.in-Some.at _ c.place_files.ensures.placed.ready.labelled c.remove_snapshot.ensures
 
-pub returns-clause-deletes : goal.returns-clause-deletes
-returns-clause-deletes g c =
-    (removed_deletes (g.D.Disk.shown c.args.disk.now) c.args.pool.now c.args.volume.now c.args.name.now c.requires.ready c.place_files.new.pool c.place_files.new.self c.in_ok-place_files.ensures.placed
+-- it was removed, and calls can be made on what is left
+removed : (g : given.Over) (c : goal.After-recount g)
+    → Deletes (g.D.Disk.shown c.args.disk.now) c.args.pool.now c.args.volume.now c.args.name.now c.place_files.new.pool c.recount.new.self (Ok tt) × IsReady (g.D.Disk.shown c.args.disk.now) c.place_files.new.pool c.recount.new.self
+removed g c =
+    removed_deletes (g.D.Disk.shown c.args.disk.now) c.args.pool.now c.args.volume.now c.args.name.now c.requires.ready c.place_files.new.pool c.place_files.new.self c.in_ok-place_files.ensures.placed
     c.in_ok-place_files.ensures.none c.in_ok-place_files.ensures.whole c.in-Some.at c.in-Some.ensures c.index-as_slice-at.result (slice_index_or c.as_slice.result.now c.in-Some.at c.index-as_slice-at.result).slot
     (ap (λ (l : List Snap). (slice_index_or l c.in-Some.at c.index-as_slice-at.result).slot) c.as_slice.ensures)
-    c.remove_snapshot.new.self c.recount.new.self c.remove_snapshot.ensures c.recount.ensures.valid c.recount.ensures.counted c.recount.ensures.others).0
+    c.remove_snapshot.new.self c.recount.new.self c.remove_snapshot.ensures c.recount.ensures.valid c.recount.ensures.counted c.recount.ensures.others
+
+pub returns-clause-deletes : goal.returns-clause-deletes
+returns-clause-deletes g c = (removed g c).0
 
 pub returns-clause-ready : goal.returns-clause-ready
-returns-clause-ready g c =
-    (removed_deletes (g.D.Disk.shown c.args.disk.now) c.args.pool.now c.args.volume.now c.args.name.now c.requires.ready c.place_files.new.pool c.place_files.new.self c.in_ok-place_files.ensures.placed
-    c.in_ok-place_files.ensures.none c.in_ok-place_files.ensures.whole c.in-Some.at c.in-Some.ensures c.index-as_slice-at.result (slice_index_or c.as_slice.result.now c.in-Some.at c.index-as_slice-at.result).slot
-    (ap (λ (l : List Snap). (slice_index_or l c.in-Some.at c.index-as_slice-at.result).slot) c.as_slice.ensures)
-    c.remove_snapshot.new.self c.recount.new.self c.remove_snapshot.ensures c.recount.ensures.valid c.recount.ensures.counted c.recount.ensures.others).1
+returns-clause-ready g c = (removed g c).1

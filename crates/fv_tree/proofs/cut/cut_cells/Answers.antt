@@ -25,18 +25,17 @@ pub loop-index-init : goal.loop-index-init
 loop-index-init g c =
     let a = g.B.Blocks.shown c.args.blocks.now in
     let b = g.B.Blocks.shown c.keep_past.new.blocks in
-    let t = c.args.tree.now in
     let u = c.keep_past.new.tree in
-    let s = standing (under a) t in
+    let s = standing (under a) c.args.tree.now in
     let cells = c.as_slice-index-items.result.now in
     let now = c.in_ok-cells.ensures in
     let are : g.B.Blocks.told → Collects s 0 c.args.most cells = λ told. subst (Collects s 0 c.args.most) (sym c.as_slice-index-items.ensures.value) (now.cells told) in record {
-      removes = λ told. removes_nothing a b t u (listed cells 0) c.args.start c.args.stamp now.loading.untouched now.loading.counts.calm (now.loading.same told) (now.loading.blocks told) (now.loading.stands told) (now.loading.leaves told) (λ i _. none_listed cells i);
-      count = λ told. let same = alike_count (standing (under a) t) (standing (under a) u) (same_alike (standing (under a) t) (standing (under a) u) (same_over (under a) (under b) t u (ap (λ h v. fin.get h v) now.loading.untouched.held) (now.loading.same told))) in omega (arith, same);
+      removes = λ told. removes_nothing a b _ u (listed cells 0) c.args.start c.args.stamp now.loading.untouched now.loading.counts.calm (now.loading.same told) (now.loading.blocks told) (now.loading.stands told) (now.loading.leaves told) (λ i _. none_listed cells i);
+      count = λ told. let same = alike_count s (standing (under a) u) (same_alike s (standing (under a) u) (same_over (under a) (under b) c.args.tree.now u (ap (λ h v. fin.get h v) now.loading.untouched.held) (now.loading.same told))) in omega (arith, same);
       few = omega arith;
       marks = λ told level place changed. inl (now.loading.marks told level place changed);
       cells = (let same = ap cells_changed now.loading.fields.cells in omega (arith, same));
-      held = (let same : cells_held u ≡ cells_held t = ap (λ (m : maps.BTreeMap ℕ KeptCell). maps.btree_map_len m) now.loading.fields.cells in omega (arith, same));
+      held = (let same : cells_held u ≡ cells_held c.args.tree.now = ap (λ (m : maps.BTreeMap ℕ KeptCell). maps.btree_map_len m) now.loading.fields.cells in omega (arith, same));
       none = λ _. now.loading.changes;
       ordered = inl refl;
       calm = now.loading.counts.calm;

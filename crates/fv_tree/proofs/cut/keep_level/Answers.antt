@@ -63,12 +63,4 @@ pub returns-clause-loading : goal.returns-clause-loading
 returns-clause-loading g c = loading_ok _ c.loop-place.invariant.loading
 
 pub loop-place-init : goal.loop-place-init
-loop-place-init g c = record {
-  added = search rules;
-  rising = search rules;
-  below = search rules;
-  bound = search rules;
-  nodes = search rules;
-  still = search rules;
-  loading = loading_none g.B.Blocks.told (g.B.Blocks.shown c.args.blocks.now) c.args.tree.now (Ok 0) (g.met.B.Blocks.reads_nothing c.args.blocks.now) tt;
-}
+loop-place-init g c = record { added = search rules; rising = search rules; below = search rules; bound = search rules; nodes = search rules; still = search rules; loading = loading_none g.B.Blocks.told (g.B.Blocks.shown c.args.blocks.now) c.args.tree.now (Ok 0) (g.met.B.Blocks.reads_nothing c.args.blocks.now) tt }

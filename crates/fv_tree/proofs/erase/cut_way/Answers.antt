@@ -13,7 +13,7 @@ returns-clause-differs c =
     let some = c.requires.some in
     let same = c.forget_way.ensures.levels in
     let kept = ap cells_changed c.stamp_above.ensures.stamps.cells in record {
-      marks = way_marks t v c.stamp_above.new.tree c.clear_slot.new.nodes c.args.index (c.args.lost + 1) c.width.result c.forget_way.ensures.marks (omega arith) (omega (arith, some, few)) c.width.ensures.is c.clear_slot.ensures.others (c.stamp_above.ensures.marks (omega (arith, some, same)));
+      marks = way_marks t v c.stamp_above.new.tree c.clear_slot.new.nodes c.args.index (c.args.lost + 1) c.width.result c.forget_way.ensures.marks (omega arith) (omega (arith, some, few)) c.width.ensures.is c.clear_slot.ensures.marked.others (c.stamp_above.ensures.marks (omega (arith, some, same)));
       cells = omega (arith, kept, c.forget_way.ensures.fewer);
       held = (let same : cells_held c.stamp_above.new.tree ≡ cells_held v = ap (λ (m : tree.BTreeMap ℕ KeptCell). tree.btree_map_len m) c.stamp_above.ensures.stamps.cells in omega (arith, same, c.forget_way.ensures.held));
       ordered = c.stamp_above.ensures.ordered c.clear_slot.ensures.ordered;

@@ -1,6 +1,5 @@
 use Rattle.std.proofs.Common.{arith}
-use Rattle.std.proofs.lemmas.Result.{err_from_is_err_and}
-use Rattle.fv_tree.proofs.Calls.{flushes_none, flushes_ok, flushes_on}
+use Rattle.fv_tree.proofs.Calls.{flushes_none, flushes_ok, flushes_failing, flushes_on}
 use Rattle.fv_tree.proofs.flush.flush_cells.Goals as goal
 
 pub loop-preserved : goal.loop-preserved
@@ -17,10 +16,8 @@ loop-init g c = record {
 }
 
 pub returns-in_err-flush_first_cell-clause-flushing : goal.returns-in_err-flush_first_cell-clause-flushing
-returns-in_err-flush_first_cell-clause-flushing g c = let was = c.loop.invariant in
-    let now = c.in_err-flush_first_cell.ensures in
-    let p = err_from_is_err_and c.from_residual.result c.from_residual.ensures.1 in
-    rw (p.1, p.2) (flushes_on g.met.B.Blocks.goes_on g.met.B.Blocks.keeps_on was.flushing now.flushing)
+returns-in_err-flush_first_cell-clause-flushing g c =
+    flushes_failing c.from_residual.result c.from_residual.ensures.1 (flushes_on g.met.B.Blocks.goes_on g.met.B.Blocks.keeps_on c.loop.invariant.flushing c.in_err-flush_first_cell.ensures.flushing)
 
 pub returns-clause-flushing : goal.returns-clause-flushing
 returns-clause-flushing g c = flushes_ok _ c.loop.invariant.flushing

@@ -1,13 +1,12 @@
 use Rattle.std.proofs.Common.{◌≡◌, ◌≤◌, ℕ, ◌+◌, ◌-◌, ◌*◌, ◌/◌, ◌^◌, inl, inr, sym, ap, subst, ◌∙◌, arith}
 use Rattle.std.specs.FinMap as fin
 use Rattle.std.proofs.Math.Nat.{pow-le-pow_right}
-use Rattle.std.proofs.lemmas.Result.{err_from_is_err_and}
 use Rattle.fv_model.specs.Trees.{fan}
 use Rattle.fv_tree.specs.Spelled.{Rooted, pointer_at}
 use Rattle.fv_tree.specs.Standing.{standing, under}
 use Rattle.fv_tree.specs.Seeking.{AreHoles, IsFirstChild}
 use Rattle.fv_tree.proofs.Below.{range_above}
-use Rattle.fv_tree.proofs.Causes.{calm_itself, calm_then, fails_then, untouched_itself, untouched_then}
+use Rattle.fv_tree.proofs.Causes.{calm_itself, calm_then, fails_on, untouched_itself, untouched_then}
 use Rattle.fv_tree.proofs.Held.{at_root}
 use Rattle.fv_tree.proofs.Seeking.{at_none, at_some, child_fits, child_there, holes_then, holes_to, past_fits}
 use Rattle.fv_tree.proofs.Writes.{none_at}
@@ -42,8 +41,7 @@ first_child-requires-clause-pointer g c = λ told.
 
 pub returns-in_err-first_child-clause-cause : goal.returns-in_err-first_child-clause-cause
 returns-in_err-first_child-clause-cause g c =
-    let p = err_from_is_err_and c.from_residual.result c.from_residual.ensures.1 in
-    rw (p.1, p.2) (fails_then g.B.Blocks.told c.args.tree.now (g.B.Blocks.shown c.args.blocks.now) (g.B.Blocks.shown c.loop-level.blocks) (g.B.Blocks.shown c.first_child.new.blocks) c.in_err-first_child.field-0.0 c.loop-level.invariant.calm c.loop-level.invariant.untouched c.in_err-first_child.ensures.cause)
+    fails_on g.B.Blocks.told c.args.tree.now _ _ _ c.from_residual.result _ c.from_residual.ensures.1 c.loop-level.invariant.calm c.loop-level.invariant.untouched c.in_err-first_child.ensures.cause
 
 pub overflow_mul-result-in-None : goal.overflow_mul-result-in-None
 overflow_mul-result-in-None g c =
@@ -76,9 +74,6 @@ overflow_mul-child g c =
 
 pub loop-level-preserved : goal.loop-level-preserved
 loop-level-preserved g c =
-    let old = g.B.Blocks.shown c.args.blocks.now in
-    let mid = g.B.Blocks.shown c.loop-level.blocks in
-    let new = g.B.Blocks.shown c.first_child.new.blocks in
     let was = c.loop-level.invariant in
     let now = c.in_ok-first_child.ensures in
     let at : ℕ = c.loop-level.at in
@@ -87,8 +82,8 @@ loop-level-preserved g c =
     let w : ℕ = c.width-in-Some.result in
     let child : ℕ = c.in-Some.child in
     let one = c.later-at.ensures.one in
-    let t = standing (under old) c.args.tree.now in
-    let s = standing (under mid) c.args.tree.now in
+    let t = standing (under (g.B.Blocks.shown c.args.blocks.now)) c.args.tree.now in
+    let s = standing (under (g.B.Blocks.shown c.loop-level.blocks)) c.args.tree.now in
     let same : t ≡ s = λ j. standing (λ u. fin.get (sym was.untouched.held j) u) c.args.tree.now in
     let le : k ≤ 2 = omega (arith, was.high, c.args.tree.now.few) in
     let high : k ≤ t.levels = omega (arith, was.high) in
@@ -107,7 +102,7 @@ loop-level-preserved g c =
         | inr starts ↦ subst (AreHoles t c.args.from) (sym starts) (holes_then t c.args.from at (child * w) (was.holes told)
             (holes_to k at v w le is also t child high (λ r low lt. ap (λ (u : Rooted). (pointer_at u k r).stamp) same ∙ (first told).before r low lt)))
       ];
-      untouched = untouched_then old mid new was.untouched now.untouched;
-      calm = calm_then old mid new was.calm now.counts.calm;
+      untouched = untouched_then _ _ _ was.untouched now.untouched;
+      calm = calm_then _ _ _ was.calm now.counts.calm;
       reads = g.met.B.Blocks.reads_on c.args.blocks.now c.loop-level.blocks c.first_child.new.blocks was.reads now.reads;
     }

@@ -1,11 +1,11 @@
 use Rattle.std.proofs.Common.{◌≡◌, ◌<◌, ◌+◌, ◌^◌}
-use Rattle.fv_tree.specs.Costs.{changes_in}
-use Rattle.fv_tree.proofs.Differing.{node_mark}
+use Rattle.std.specs.Prelude.{count_by}
+use Rattle.std.specs.BTreeMap as maps
 use Rattle.fv_tree.proofs.MapMarks.{counted_in}
 use Rattle.fv_tree.proofs.pending.count_changed.Given as goal
 
-abbrev pub invariant-loop-spot : goal.invariant-loop-spot
-invariant-loop-spot l = record {
-  sum : l.count + counted_in node_mark l.spot-iterator ≡ changes_in l.nodes;
-  few : changes_in l.nodes < 2 ^ 63;
+abbrev pub invariant-loop-place : goal.invariant-loop-place
+invariant-loop-place g l = record {
+  sum : l.count + counted_in g.V.InMemory.changed l.place-iterator ≡ count_by g.V.InMemory.changed (maps.values l.kept);
+  few : count_by g.V.InMemory.changed (maps.values l.kept) < 2 ^ 63;
 }

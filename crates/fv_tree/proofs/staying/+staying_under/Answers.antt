@@ -5,7 +5,7 @@ use Rattle.fv_model.specs.Trees.{fan}
 use Rattle.fv_tree.specs.Standing.{standing, under}
 use Rattle.fv_tree.specs.Flushing.{loaded, loaded_over}
 use Rattle.fv_tree.specs.Counting.{staying_under}
-use Rattle.fv_tree.proofs.Causes.{calm_then, fails_then, node_fails, untouched_then}
+use Rattle.fv_tree.proofs.Causes.{calm_then, fails_on, node_fails, untouched_then}
 use Rattle.fv_tree.proofs.Stays.{child_meets, range_low, few_all, few_end, few_fit, few_more, some_all, some_more, some_none, under_end}
 use Rattle.fv_tree.proofs.staying.+staying_under.Goals.{then-level-eq0-via-then-level-eq0, then-level-eq0-via-else-level-eq0+then-pointer-eq0}
 use Rattle.fv_tree.proofs.staying.+staying_under.Goals as goal
@@ -38,15 +38,8 @@ pub overflow_add-place : goal.overflow_add-place
 overflow_add-place g t c = let small = range_low c.args.tree.now c.args.level c.args.place c.if-level-eq0.false c.requires.high c.requires.range in omega (arith, small, c.loop-slot-test.true)
 
 pub staying_under-requires : goal.staying_under-requires
-staying_under-requires g t c κs within =
-    let low : 1 ≤ c.args.level = omega (arith, c.if-level-eq0.false) in (
-      (let measure = c.decreases in omega (arith, measure, low)),
-      (
-        within,
-        child_meets g.B.Blocks.told (g.B.Blocks.shown c.args.blocks.now) (g.B.Blocks.shown c.loop-slot.blocks) c.args.tree.now c.args.level c.args.place c.loop-slot.slot c.args.pointer.now
-            c.in_ok-children.children c.loop-slot.invariant.untouched c.if-level-eq0.false c.requires.high c.requires.range c.requires.pointer c.in_ok-children.ensures.children c.loop-slot-test.true,
-      ),
-    )
+staying_under-requires g t c κs within = let measure = c.decreases in
+    (omega (arith, measure, c.if-level-eq0.false), (within, child_meets g.B.Blocks.told (g.B.Blocks.shown c.args.blocks.now) (g.B.Blocks.shown c.loop-slot.blocks) c.args.tree.now c.args.level c.args.place c.loop-slot.slot c.args.pointer.now c.in_ok-children.children c.loop-slot.invariant.untouched c.if-level-eq0.false c.requires.high c.requires.range c.requires.pointer c.in_ok-children.ensures.children c.loop-slot-test.true))
 
 pub returns-in_err-children-clause-cause : goal.returns-in_err-children-clause-cause
 returns-in_err-children-clause-cause g t c =
@@ -65,8 +58,7 @@ returns-in_err-count-clause-reads g t c = g.met.B.Blocks.reads_on c.args.blocks.
 
 pub returns-in_err-count-clause-cause : goal.returns-in_err-count-clause-cause
 returns-in_err-count-clause-cause g t c =
-    let p = err_from_is_err_and c.from_residual-in_err-count.result c.from_residual-in_err-count.ensures.1 in
-    rw (p.1, p.2) (fails_then g.B.Blocks.told c.args.tree.now (g.B.Blocks.shown c.args.blocks.now) (g.B.Blocks.shown c.loop-slot.blocks) (g.B.Blocks.shown c.staying_under.new.blocks) c.in_err-count.field-0.0 c.loop-slot.invariant.calm c.loop-slot.invariant.untouched c.in_err-count.ensures.cause)
+    fails_on g.B.Blocks.told c.args.tree.now _ _ _ c.from_residual-in_err-count.result _ c.from_residual-in_err-count.ensures.1 c.loop-slot.invariant.calm c.loop-slot.invariant.untouched c.in_err-count.ensures.cause
 
 pub overflow_add-count : goal.overflow_add-count
 overflow_add-count g t c =
@@ -76,10 +68,8 @@ overflow_add-count g t c =
 
 pub loop-slot-preserved : goal.loop-slot-preserved
 loop-slot-preserved g t c =
-    let a = g.B.Blocks.shown c.args.blocks.now in
     let b = g.B.Blocks.shown c.loop-slot.blocks in
-    let d = g.B.Blocks.shown c.staying_under.new.blocks in
-    let s = loaded a c.args.tree.now in
+    let s = loaded (g.B.Blocks.shown c.args.blocks.now) c.args.tree.now in
     let level = c.args.level in
     let place = c.args.place in
     let slot = c.loop-slot.slot in
@@ -89,8 +79,8 @@ loop-slot-preserved g t c =
     λ j. staying_under (loaded_over (λ v. fin.get (was.untouched.held j) v) c.args.tree.now) (λ v. g.met.B.Sharing.reads_share c.args.blocks.now c.loop-slot.blocks was.reads v j) (level - 1) (place * fan + slot) in record {
       count = λ told. some_more s (g.B.Sharing.shared c.args.blocks.now) level place slot c.loop-slot.count c.in_ok-count.field-0 (was.count told) (now.staying told ∙ same);
       few = few_more c.loop-slot.count c.in_ok-count.field-0 slot (2 * fan ^ (level - 1)) was.few now.few;
-      untouched = untouched_then a b d was.untouched now.untouched;
-      calm = calm_then a b d was.calm now.counts.calm;
+      untouched = untouched_then _ _ _ was.untouched now.untouched;
+      calm = calm_then _ _ _ was.calm now.counts.calm;
       reads = g.met.B.Blocks.reads_on c.args.blocks.now c.loop-slot.blocks c.staying_under.new.blocks was.reads now.reads;
     }
 

@@ -1,13 +1,12 @@
 use Rattle.std.proofs.Common.{◌≡◌, ◌≤◌, ◌+◌, ◌-◌, ◌*◌, ◌^◌, ℕ, Bool, not, ◌&&◌, List, sym, ap, ◌∙◌, subst, arith}
 use Rattle.std.specs.Ordering.{nat_cmp}
 use Rattle.std.specs.FinMap as fin
-use Rattle.std.proofs.lemmas.Result.{err_from_is_err_and}
 use Rattle.fv_model.specs.Trees.{fan}
 use Rattle.fv_tree.specs.Standing.{standing}
 use Rattle.fv_tree.specs.Flushing.{loaded, loaded_over}
 use Rattle.fv_tree.specs.Erasing.{HoldsCells}
 use Rattle.fv_tree.specs.Taking.{goes_by, IsPart}
-use Rattle.fv_tree.proofs.Causes.{calm_then, fails_then, untouched_then}
+use Rattle.fv_tree.proofs.Causes.{calm_then, fails_on, untouched_then}
 use Rattle.fv_tree.proofs.Stays.{child_meets, range_low, few_all, few_end, few_fit, few_more, few_whole}
 use Rattle.fv_tree.proofs.Taking.{hole_part, kept_part, cell_part, whole_part, own_stays, more_sum, at_most_one}
 use Rattle.fv_tree.proofs.taken.+taken_under.Goals as goal
@@ -45,27 +44,19 @@ returns-then-level-eq0-clause-part g t c = λ told holds.
     (own_stays s shared goes c.args.level c.args.place c.stays_at-staying.result c.args.pointer.now (c.requires.pointer told) c.stays_at-staying.ensures.exact)
     c.part_of-then-level-eq0.ensures is.gone is.staying is.some is.left
 
+pub taken_under-requires : goal.taken_under-requires
+taken_under-requires g t c κs within = let measure = c.decreases in
+    (omega (arith, measure, c.if-level-eq0.false), (within, child_meets g.B.Blocks.told (g.B.Blocks.shown c.args.blocks.now) (g.B.Blocks.shown c.loop-slot.blocks) c.args.tree.now c.args.level c.args.place c.loop-slot.slot c.args.pointer.now c.in_ok-children.children c.loop-slot.invariant.untouched c.if-level-eq0.false c.requires.high c.requires.range c.requires.pointer c.in_ok-children.ensures.children c.loop-slot-test.true))
+
 pub overflow_mul-place : goal.overflow_mul-place
 overflow_mul-place g t c = let small = range_low c.args.tree.now c.args.level c.args.place c.if-level-eq0.false c.requires.high c.requires.range in omega (arith, small)
 
 pub overflow_add-place : goal.overflow_add-place
 overflow_add-place g t c = let small = range_low c.args.tree.now c.args.level c.args.place c.if-level-eq0.false c.requires.high c.requires.range in omega (arith, small, c.loop-slot-test.true)
 
-pub taken_under-requires : goal.taken_under-requires
-taken_under-requires g t c κs within =
-    let low : 1 ≤ c.args.level = omega (arith, c.if-level-eq0.false) in (
-      (let measure = c.decreases in omega (arith, measure, low)),
-      (
-        within,
-        child_meets g.B.Blocks.told (g.B.Blocks.shown c.args.blocks.now) (g.B.Blocks.shown c.loop-slot.blocks) c.args.tree.now c.args.level c.args.place c.loop-slot.slot c.args.pointer.now
-            c.in_ok-children.children c.loop-slot.invariant.untouched c.if-level-eq0.false c.requires.high c.requires.range c.requires.pointer c.in_ok-children.ensures.children c.loop-slot-test.true,
-      ),
-    )
-
 pub returns-in_err-child-clause-cause : goal.returns-in_err-child-clause-cause
 returns-in_err-child-clause-cause g t c =
-    let p = err_from_is_err_and c.from_residual-in_err-child.result c.from_residual-in_err-child.ensures.1 in
-    rw (p.1, p.2) (fails_then g.B.Blocks.told c.args.tree.now (g.B.Blocks.shown c.args.blocks.now) (g.B.Blocks.shown c.loop-slot.blocks) (g.B.Blocks.shown c.taken_under.new.blocks) c.in_err-child.field-0.0 c.loop-slot.invariant.calm c.loop-slot.invariant.untouched c.in_err-child.ensures.cause)
+    fails_on g.B.Blocks.told c.args.tree.now _ _ _ c.from_residual-in_err-child.result _ c.from_residual-in_err-child.ensures.1 c.loop-slot.invariant.calm c.loop-slot.invariant.untouched c.in_err-child.ensures.cause
 
 pub sum_of-sum-requires-clause-gone : goal.sum_of-sum-requires-clause-gone
 sum_of-sum-requires-clause-gone g t c =
@@ -82,8 +73,6 @@ sum_of-sum-requires-clause-staying g t c =
 pub loop-slot-preserved : goal.loop-slot-preserved
 loop-slot-preserved g t c =
     let a = g.B.Blocks.shown c.args.blocks.now in
-    let b = g.B.Blocks.shown c.loop-slot.blocks in
-    let d = g.B.Blocks.shown c.taken_under.new.blocks in
     let tree = c.args.tree.now in
     let goes = goes_by c.args.going in
     let level = c.args.level in
@@ -106,8 +95,8 @@ loop-slot-preserved g t c =
       few_staying =
           let more = few_more (1 + c.loop-slot.sum.taken.staying) child.taken.staying slot (2 * fan ^ (level - 1)) was.few_staying now.few.staying in
           omega (arith, more, sums.staying);
-      untouched = untouched_then a b d was.untouched now.untouched;
-      calm = calm_then a b d was.calm now.counts.calm;
+      untouched = untouched_then _ _ _ was.untouched now.untouched;
+      calm = calm_then _ _ _ was.calm now.counts.calm;
       reads = g.met.B.Blocks.reads_on c.args.blocks.now c.loop-slot.blocks c.taken_under.new.blocks was.reads now.reads;
     }
 

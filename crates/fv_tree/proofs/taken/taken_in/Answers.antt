@@ -6,11 +6,9 @@ use Rattle.fv_tree.proofs.Stays.{few_whole}
 use Rattle.fv_tree.proofs.Ways.{own_way}
 use Rattle.fv_tree.proofs.taken.taken_in.Goals as goal
 
-pub taken_under-requires-clause-range : goal.taken_under-requires-clause-range
-taken_under-requires-clause-range g c = let wide : 1 ≤ fan ^ (3 - c.args.tree.now.levels) = one-le-pow (3 - c.args.tree.now.levels) fan (omega arith) in omega (arith, wide)
-
-pub taken_under-requires-clause-pointer : goal.taken_under-requires-clause-pointer
-taken_under-requires-clause-pointer g c = λ told. sym ((own_way (standing (under (g.B.Blocks.shown c.args.blocks.now)) c.args.tree.now)).top 0)
+pub taken_under-requires : goal.taken_under-requires
+taken_under-requires g c = let wide : 1 ≤ fan ^ (3 - c.args.tree.now.levels) = one-le-pow (3 - c.args.tree.now.levels) fan (omega arith) in
+    record { high = omega arith; range = omega (arith, wide); pointer = λ told. sym ((own_way (standing (under (g.B.Blocks.shown c.args.blocks.now)) c.args.tree.now)).top 0) }
 
 pub returns-clause-few : goal.returns-clause-few
 returns-clause-few g c = record {

@@ -4,16 +4,15 @@ use Rattle.fv_tree.specs.Costs.{place_cost}
 use Rattle.fv_tree.specs.Standing.{standing, under}
 use Rattle.fv_tree.specs.Sources.{Shown}
 use Rattle.std.specs.FinMap as fin
-use Rattle.std.proofs.lemmas.Result.{err_from_is_err_and}
 use Rattle.fv_tree.proofs.Below.{at_the_cell}
-use Rattle.fv_tree.proofs.Causes.{calm_itself, calm_then, fails_then, untouched_itself, untouched_then}
+use Rattle.fv_tree.proofs.Causes.{calm_itself, calm_then, untouched_itself, untouched_then}
 use Rattle.fv_tree.proofs.Costly.{cost_last, cost_step}
+use Rattle.fv_tree.proofs.Calls.{loads_on}
 use Rattle.fv_tree.proofs.way.find.Goals as goal
 
-pub returns-in_err-pointer-clause-cause : goal.returns-in_err-pointer-clause-cause
-returns-in_err-pointer-clause-cause g c =
-    let p = err_from_is_err_and c.from_residual.result c.from_residual.ensures.1 in
-    rw (p.1, p.2) (fails_then g.B.Blocks.told c.args.tree.now (g.B.Blocks.shown c.args.blocks.now) (g.B.Blocks.shown c.loop-level.blocks) (g.B.Blocks.shown c.step.new.blocks) c.in_err-pointer.field-0.0 c.loop-level.invariant.calm c.loop-level.invariant.untouched c.in_err-pointer.ensures.cause)
+pub returns-in_err-pointer-clause-loads : goal.returns-in_err-pointer-clause-loads
+returns-in_err-pointer-clause-loads g c =
+    loads_on g.B.Blocks.told c.args.tree.now _ _ _ c.from_residual.result _ c.from_residual.ensures.1 c.loop-level.invariant.untouched c.loop-level.invariant.calm (g.met.B.Blocks.reads_on c.args.blocks.now c.loop-level.blocks c.step.new.blocks c.loop-level.invariant.reads c.in_err-pointer.ensures.reads) c.in_err-pointer.ensures.untouched c.in_err-pointer.ensures.counts c.in_err-pointer.ensures.cause
 
 pub returns-clause-pointer : goal.returns-clause-pointer
 returns-clause-pointer g c = λ told.
@@ -34,7 +33,6 @@ pub loop-level-preserved : goal.loop-level-preserved
 loop-level-preserved g c =
     let old : Shown = g.B.Blocks.shown c.args.blocks.now in
     let mid : Shown = g.B.Blocks.shown c.loop-level.blocks in
-    let new : Shown = g.B.Blocks.shown c.step.new.blocks in
     let t = c.args.tree.now in
     let level = c.loop-level.level in
     let was = c.loop-level.invariant in
@@ -48,8 +46,8 @@ loop-level-preserved g c =
           let more = now.spent told in
           let step = cost_step old.cost (standing (under old) t) c.args.index level (omega arith) in
           omega (arith, first, more, same, step);
-      untouched = untouched_then old mid new was.untouched now.untouched;
-      calm = calm_then old mid new was.calm now.counts.calm;
+      untouched = untouched_then _ _ _ was.untouched now.untouched;
+      calm = calm_then _ _ _ was.calm now.counts.calm;
       reads = g.met.B.Blocks.reads_on c.args.blocks.now c.loop-level.blocks c.step.new.blocks was.reads now.reads;
     }
 

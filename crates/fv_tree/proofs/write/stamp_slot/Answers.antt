@@ -1,11 +1,7 @@
 use Rattle.std.proofs.Common.{subst, IsSome, refl}
 use Rattle.fv_tree.specs.Writing.{stamped_in}
-use Rattle.fv_tree.specs.Flushing.{node_placed}
-use Rattle.fv_tree.proofs.Observed.{elsewhere_same, observed}
 use Rattle.fv_tree.proofs.Bordered.{still_ordered}
-use Rattle.fv_model.specs.Trees.{spot_cmp}
-use Rattle.fv_tree.proofs.Differing.{node_again, node_mark}
-use Rattle.fv_tree.proofs.MapMarks.{set_one}
+use Rattle.fv_tree.proofs.Differing.{marks_node, node_again}
 use Rattle.fv_tree.proofs.Written.{changed}
 use Rattle.fv_tree.proofs.write.stamp_slot.Goals as goal
 
@@ -13,16 +9,10 @@ pub returns-in-Some-clause-children : goal.returns-in-Some-clause-children
 returns-in-Some-clause-children c =
     changed c.args.nodes.now (c.get_mut.follows.lender c.stamp_child.new.node) c.args.level c.args.place c.in-Some.node.now c.stamp_child.new.node (stamped_in c.args.slot c.args.stamp) ((c.get_mut.follows.holds c.stamp_child.new.node).3 (subst IsSome c.in-Some.ensures.value refl)).0 c.in-Some.ensures.value c.stamp_child.ensures.children
 
-pub returns-in-Some-clause-placed : goal.returns-in-Some-clause-placed
-returns-in-Some-clause-placed c =
-    observed c.args.nodes.now (c.get_mut.follows.lender c.stamp_child.new.node) c.args.level c.args.place c.in-Some.node.now c.stamp_child.new.node ((c.get_mut.follows.holds c.stamp_child.new.node).3 (subst IsSome c.in-Some.ensures.value refl)).0 c.in-Some.ensures.value node_placed c.stamp_child.ensures.placed
-
-pub returns-in-Some-clause-others : goal.returns-in-Some-clause-others
-returns-in-Some-clause-others c =
-    elsewhere_same c.args.nodes.now (c.get_mut.follows.lender c.stamp_child.new.node) c.args.level c.args.place c.in-Some.node.now c.stamp_child.new.node ((c.get_mut.follows.holds c.stamp_child.new.node).3 (subst IsSome c.in-Some.ensures.value refl)).0 c.in-Some.ensures.value
-
-pub returns-in-Some-clause-count : goal.returns-in-Some-clause-count
-returns-in-Some-clause-count c = set_one spot_cmp node_mark c.args.nodes.now (c.get_mut.follows.lender c.stamp_child.new.node) (c.args.level, c.args.place) c.in-Some.node.now c.stamp_child.new.node c.in-Some.ensures.value (c.get_mut.follows.holds c.stamp_child.new.node).0
+pub returns-in-Some-clause-marked : goal.returns-in-Some-clause-marked
+returns-in-Some-clause-marked c =
+    marks_node c.args.nodes.now (c.get_mut.follows.lender c.stamp_child.new.node) c.args.level c.args.place c.in-Some.node.now c.stamp_child.new.node ((c.get_mut.follows.holds c.stamp_child.new.node).3 (subst IsSome c.in-Some.ensures.value refl)).0 c.in-Some.ensures.value
+    (c.get_mut.follows.holds c.stamp_child.new.node).0 c.stamp_child.ensures.changed c.stamp_child.ensures.placed
 
 pub returns-in-Some-clause-again : goal.returns-in-Some-clause-again
 returns-in-Some-clause-again c = node_again c.args.nodes.now (c.get_mut.follows.lender c.stamp_child.new.node) (c.args.level, c.args.place) c.in-Some.node.now c.stamp_child.new.node c.in-Some.ensures.value (c.get_mut.follows.holds c.stamp_child.new.node).0

@@ -1,4 +1,4 @@
-use Rattle.fv_volume.specs.Calls.{TellsInfo}
+use Rattle.fv_pool.specs.Calls.{TellsInfo}
 use Rattle.fv_volume.proofs.changing.write_block.Given as goal
 
 abbrev pub ghosts-write_told-K-Guard : goal.ghosts-write_told-K-Guard

@@ -1,4 +1,4 @@
-use Rattle.fv_volume.specs.Calls.{TellsInfo}
+use Rattle.fv_pool.specs.Calls.{TellsInfo}
 use Rattle.fv_volume.proofs.moving.count_cut.Given as goal
 
 abbrev pub ghosts-taken_cut_told-K-Guard : goal.ghosts-taken_cut_told-K-Guard

@@ -1,4 +1,4 @@
-use Rattle.fv_volume.specs.Calls.{TellsInfo}
+use Rattle.fv_pool.specs.Calls.{TellsInfo}
 use Rattle.fv_volume.proofs.moving.count_removal.Given as goal
 
 abbrev pub ghosts-taken_removal_told-K-Guard : goal.ghosts-taken_removal_told-K-Guard

@@ -1,4 +1,4 @@
-use Rattle.fv_volume.specs.Calls.{TellsInfo}
+use Rattle.fv_pool.specs.Calls.{TellsInfo}
 use Rattle.fv_volume.proofs.moving.count_staying.Given as goal
 
 abbrev pub ghosts-staying_told-K-Guard : goal.ghosts-staying_told-K-Guard

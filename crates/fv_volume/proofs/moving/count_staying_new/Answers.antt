@@ -9,16 +9,10 @@ pub take_table-files-requires-clause-root : goal.take_table-files-requires-claus
 take_table-files-requires-clause-root g c = root_fits (g.D.Disk.shown c.args.disk.now) c.args.pool.now c.args.volume.now c.requires.ready
 
 pub returns-clause-staying : goal.returns-clause-staying
-returns-clause-staying g c = λ is.
-    let taken = c.take_table-files.ensures in
-    IfOk-weaker c.staying_new_told-counted.result _ _ (λ count counted. counts_new (g.D.Disk.shown c.args.disk.now) c.args.pool.now c.args.volume.now c.requires.ready is c.take_table-files.result taken.table taken.alike c.args.number count counted)
-    (c.staying_new_told-counted.ensures.staying is.told)
+returns-clause-staying g c = λ is. let taken = c.take_table-files.ensures in IfOk-weaker c.staying_new_told-answer.result _ _ (λ count counted. counts_new (g.D.Disk.shown c.args.disk.now) c.args.pool.now c.args.volume.now c.requires.ready is c.take_table-files.result taken.table taken.alike c.args.number count counted) (c.staying_new_told-answer.ensures.staying is.told)
 
 pub returns-clause-cause : goal.returns-clause-cause
-returns-clause-cause g c = told_cause (g.D.Disk.shown c.args.disk.now) c.args.pool.now c.args.volume.now c.take_table-files.result c.take_table-files.ensures.table
-    (g.D.Disk.shown c.staying_new_told-counted.new.disk).faults c.staying_new_told-counted.result c.staying_new_told-counted.ensures.cause
+returns-clause-cause g c = told_cause (g.D.Disk.shown c.args.disk.now) c.args.pool.now c.args.volume.now c.take_table-files.result c.take_table-files.ensures.table (g.D.Disk.shown c.staying_new_told-answer.new.disk).faults c.staying_new_told-answer.result c.staying_new_told-answer.ensures.cause
 
 pub returns-then-len-eq0-clause-staying : goal.returns-then-len-eq0-clause-staying
-returns-then-len-eq0-clause-staying g c = λ is.
-    let none : length c.args.volume.now.snapshots ≡ 0 = search rules in
-    none_by_new (g.D.Disk.shown c.args.disk.now) c.args.pool.now c.args.volume.now (no_length c.args.volume.now.snapshots none) c.args.number
+returns-then-len-eq0-clause-staying g c = λ is. let none : length c.args.volume.now.snapshots ≡ 0 = search rules in none_by_new (g.D.Disk.shown c.args.disk.now) c.args.pool.now c.args.volume.now (no_length c.args.volume.now.snapshots none) c.args.number

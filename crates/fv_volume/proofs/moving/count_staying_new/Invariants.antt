@@ -1,4 +1,4 @@
-use Rattle.fv_volume.specs.Lending.{IsTold}
+use Rattle.fv_pool.specs.Lending.{IsTold}
 use Rattle.fv_volume.proofs.moving.count_staying_new.Given as goal
 
 abbrev pub ghosts-staying_new_told-K-Guard : goal.ghosts-staying_new_told-K-Guard

@@ -1,4 +1,4 @@
-use Rattle.fv_volume.specs.Lending.{IsTold}
+use Rattle.fv_pool.specs.Lending.{IsTold}
 use Rattle.fv_volume.proofs.numbering.count_files.Given as goal
 
 abbrev pub ghosts-numbers_told-K-Guard : goal.ghosts-numbers_told-K-Guard

@@ -1,4 +1,4 @@
-use Rattle.fv_volume.specs.Calls.{TellsWell}
+use Rattle.fv_pool.specs.Calls.{TellsWell}
 use Rattle.fv_volume.proofs.removing.cut_blocks.Given as goal
 
 abbrev pub ghosts-cut_told-K-Guard : goal.ghosts-cut_told-K-Guard

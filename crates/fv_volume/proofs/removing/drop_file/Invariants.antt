@@ -1,4 +1,4 @@
-use Rattle.fv_volume.specs.Calls.{TellsWell}
+use Rattle.fv_pool.specs.Calls.{TellsWell}
 use Rattle.fv_volume.proofs.removing.drop_file.Given as goal
 
 abbrev pub ghosts-remove_told-K-Guard : goal.ghosts-remove_told-K-Guard

@@ -5,18 +5,12 @@ use Rattle.fv_tree.specs.Standing.{under}
 use Rattle.fv_files.specs.Numbering.{AreNumbersIf}
 use Rattle.fv_files.specs.Tables.{table_in}
 use Rattle.fv_volume.specs.Asking.{numbers_asked, standing_of}
-use Rattle.fv_volume.specs.Lending.{IsTold, lent_for}
+use Rattle.fv_pool.specs.Lending.{IsTold, lent_for}
 use Rattle.fv_volume.specs.OneVolume.{home_in, shows, IsStanding}
-use Rattle.fv_volume.proofs.CallCauses.{cause_for}
-use Rattle.fv_volume.proofs.KeptReads.{asked_levels_fit, asked_numbers, asked_root_fits}
+use Rattle.fv_pool.proofs.CallCauses.{cause_for}
+use Rattle.fv_volume.proofs.KeptReads.{asked_numbers}
 use Rattle.fv_volume.proofs.tables.find_in.Given as given
 use Rattle.fv_volume.proofs.tables.find_in.Goals as goal
-
-pub open_table-files-requires-clause-levels : goal.open_table-files-requires-clause-levels
-open_table-files-requires-clause-levels g c = asked_levels_fit (g.D.Disk.shown c.args.disk.now) c.args.pool.now c.args.volume.now c.requires.ready c.args.table.now c.requires.of
-
-pub open_table-files-requires-clause-root : goal.open_table-files-requires-clause-root
-open_table-files-requires-clause-root g c = asked_root_fits (g.D.Disk.shown c.args.disk.now) c.args.pool.now c.args.volume.now c.requires.ready c.args.table.now c.requires.of
 
 -- the table that was opened is the one that is asked
 same : (g : given.Over) (c : goal.Joined-none g) → table_in (shows (g.D.Disk.shown c.args.disk.now) c.args.pool.now c.args.volume.now) c.open_table-files.result ≡ standing_of (g.D.Disk.shown c.args.disk.now) c.args.pool.now c.args.volume.now c.args.table.now
@@ -28,8 +22,8 @@ numbered g c is = subst (λ n. AreNumbersIf n (table_told (table_in (shows (g.D.
     (subst (λ (s : Standing). AreNumbersIf (numbers_asked c.args.table.now c.args.volume.now.numbers) (table_told s)) (sym (c.open_table-files.ensures.table (under (shows (g.D.Disk.shown c.args.disk.now) c.args.pool.now c.args.volume.now)))) (asked_numbers (g.D.Disk.shown c.args.disk.now) c.args.pool.now c.args.volume.now is c.args.table.now))
 
 pub returns-clause-found : goal.returns-clause-found
-returns-clause-found g c = λ is. subst (λ (s : Standing). IfOk c.find_told-found.result (Finds s.inode c.args.name.now)) (same g c) (c.find_told-found.ensures.found (is.told, numbered g c is))
+returns-clause-found g c = λ is. subst (λ (s : Standing). IfOk c.find_told-answer.result (Finds s.inode c.args.name.now)) (same g c) (c.find_told-answer.ensures.found (is.told, numbered g c is))
 
 pub returns-clause-cause : goal.returns-clause-cause
-returns-clause-cause g c = cause_for (IsStanding (g.D.Disk.shown c.args.disk.now) c.args.pool.now c.args.volume.now) (IsTold (g.D.Disk.shown c.args.disk.now) c.args.pool.now c.args.volume.now.map c.args.volume.now.slot × AreNumbersIf c.numbers_for.result.now (table_told (table_in (shows (g.D.Disk.shown c.args.disk.now) c.args.pool.now c.args.volume.now) c.open_table-files.result))) (λ is. (is.told, numbered g c is)) (lent_for c.args.pool.now c.args.volume.now.map (g.D.Disk.shown c.args.disk.now) 0 (home_in c.args.volume.now) 0) (g.D.Disk.shown c.find_told-found.new.disk).faults
-    (table_in (shows (g.D.Disk.shown c.args.disk.now) c.args.pool.now c.args.volume.now) c.open_table-files.result) (standing_of (g.D.Disk.shown c.args.disk.now) c.args.pool.now c.args.volume.now c.args.table.now) c.find_told-found.result (same g c) c.find_told-found.ensures.cause
+returns-clause-cause g c = cause_for (IsStanding (g.D.Disk.shown c.args.disk.now) c.args.pool.now c.args.volume.now) (IsTold (g.D.Disk.shown c.args.disk.now) c.args.pool.now c.args.volume.now.map c.args.volume.now.slot × AreNumbersIf c.numbers_for.result.now (table_told (table_in (shows (g.D.Disk.shown c.args.disk.now) c.args.pool.now c.args.volume.now) c.open_table-files.result))) (λ is. (is.told, numbered g c is)) (lent_for c.args.pool.now c.args.volume.now.map (g.D.Disk.shown c.args.disk.now) 0 (home_in c.args.volume.now) 0) (g.D.Disk.shown c.find_told-answer.new.disk).faults
+    (table_in (shows (g.D.Disk.shown c.args.disk.now) c.args.pool.now c.args.volume.now) c.open_table-files.result) (standing_of (g.D.Disk.shown c.args.disk.now) c.args.pool.now c.args.volume.now c.args.table.now) c.find_told-answer.result (same g c) c.find_told-answer.ensures.cause

@@ -1,7 +1,7 @@
 use Rattle.fv_files.specs.Numbering.{AreNumbersIf}
 use Rattle.fv_files.specs.Tables.{table_in}
 use Rattle.fv_tables.specs.Told.{table_told}
-use Rattle.fv_volume.specs.Lending.{IsTold, sees}
+use Rattle.fv_pool.specs.Lending.{IsTold, sees}
 use Rattle.fv_volume.proofs.tables.find_in.Given as goal
 
 -- the numbers are those of the table where content is told

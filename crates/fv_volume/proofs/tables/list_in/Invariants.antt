@@ -1,4 +1,4 @@
-use Rattle.fv_volume.specs.Lending.{IsTold}
+use Rattle.fv_pool.specs.Lending.{IsTold}
 use Rattle.fv_volume.proofs.tables.list_in.Given as goal
 
 abbrev pub ghosts-list_told-K-Guard : goal.ghosts-list_told-K-Guard

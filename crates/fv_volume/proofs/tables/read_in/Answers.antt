@@ -5,18 +5,12 @@ use Rattle.fv_inode.specs.Files.{rooted}
 use Rattle.fv_files.specs.Calls.{path_cost, GivesCell}
 use Rattle.fv_files.specs.Tables.{table_in, IsInfoOf}
 use Rattle.fv_volume.specs.Asking.{standing_of}
-use Rattle.fv_volume.specs.Lending.{IsTold, lent_for}
+use Rattle.fv_pool.specs.Lending.{IsTold, lent_for}
 use Rattle.fv_volume.specs.OneVolume.{home_in, shows, IsStanding}
-use Rattle.fv_volume.proofs.CallCauses.{cause_for}
-use Rattle.fv_volume.proofs.KeptReads.{asked_levels_fit, asked_path, asked_root_fits}
+use Rattle.fv_pool.proofs.CallCauses.{cause_for}
+use Rattle.fv_volume.proofs.KeptReads.{asked_path}
 use Rattle.fv_volume.proofs.tables.read_in.Given as given
 use Rattle.fv_volume.proofs.tables.read_in.Goals as goal
-
-pub open_table-files-requires-clause-levels : goal.open_table-files-requires-clause-levels
-open_table-files-requires-clause-levels g c = asked_levels_fit (g.D.Disk.shown c.args.disk.now) c.args.pool.now c.args.volume.now c.requires.ready c.args.table.now c.requires.of
-
-pub open_table-files-requires-clause-root : goal.open_table-files-requires-clause-root
-open_table-files-requires-clause-root g c = asked_root_fits (g.D.Disk.shown c.args.disk.now) c.args.pool.now c.args.volume.now c.requires.ready c.args.table.now c.requires.of
 
 -- the table that was opened is the one that is asked
 same : (g : given.Over) (c : goal.After-close_table g) → table_in (shows (g.D.Disk.shown c.args.disk.now) c.args.pool.now c.args.volume.now) c.open_table-files.result ≡ standing_of (g.D.Disk.shown c.args.disk.now) c.args.pool.now c.args.volume.now c.args.table.now
@@ -28,14 +22,14 @@ known : (g : given.Over) (c : goal.After-close_table g) → (IsStanding (g.D.Dis
 known g c there is = subst (λ (s : Standing). IsInfoOf s.inode c.args.info.now) (sym (same g c)) (there is)
 
 pub returns-clause-block : goal.returns-clause-block
-returns-clause-block g c = λ is. subst (λ (s : Standing). OnOk c.cell_told-read.result (GivesCell s c.args.info.now.number c.args.index c.cell_told-read.new.into)) (same g c)
-    (c.cell_told-read.ensures.block (is.told, known g c c.requires.there is))
+returns-clause-block g c = λ is. subst (λ (s : Standing). OnOk c.cell_told-answer.result (GivesCell s c.args.info.now.number c.args.index c.cell_told-answer.new.into)) (same g c)
+    (c.cell_told-answer.ensures.block (is.told, known g c c.requires.there is))
 
 pub returns-clause-steps : goal.returns-clause-steps
-returns-clause-steps g c = λ is. subst (λ n. OnOk c.cell_told-read.result (c.cell_told-read.new.steps ≡ c.args.steps.now + n)) (asked_path (g.D.Disk.shown c.args.disk.now) c.args.pool.now c.args.volume.now is c.args.table.now c.requires.of c.args.info.now (c.requires.there is) c.args.index)
-    (subst (λ (s : Standing). OnOk c.cell_told-read.result (c.cell_told-read.new.steps ≡ c.args.steps.now + path_cost (shows (g.D.Disk.shown c.args.disk.now) c.args.pool.now c.args.volume.now).cost s c.args.info.now c.args.index)) (same g c)
-    (c.cell_told-read.ensures.steps (is.told, known g c c.requires.there is)))
+returns-clause-steps g c = λ is. subst (λ n. OnOk c.cell_told-answer.result (c.cell_told-answer.new.steps ≡ c.args.steps.now + n)) (asked_path (g.D.Disk.shown c.args.disk.now) c.args.pool.now c.args.volume.now is c.args.table.now c.requires.of c.args.info.now (c.requires.there is) c.args.index)
+    (subst (λ (s : Standing). OnOk c.cell_told-answer.result (c.cell_told-answer.new.steps ≡ c.args.steps.now + path_cost (shows (g.D.Disk.shown c.args.disk.now) c.args.pool.now c.args.volume.now).cost s c.args.info.now c.args.index)) (same g c)
+    (c.cell_told-answer.ensures.steps (is.told, known g c c.requires.there is)))
 
 pub returns-clause-cause : goal.returns-clause-cause
-returns-clause-cause g c = cause_for (IsStanding (g.D.Disk.shown c.args.disk.now) c.args.pool.now c.args.volume.now) (IsTold (g.D.Disk.shown c.args.disk.now) c.args.pool.now c.args.volume.now.map c.args.volume.now.slot × IsInfoOf (rooted (shows (g.D.Disk.shown c.args.disk.now) c.args.pool.now c.args.volume.now) c.open_table-files.result.inode) c.args.info.now) (λ is. (is.told, known g c c.requires.there is)) (lent_for c.args.pool.now c.args.volume.now.map (g.D.Disk.shown c.args.disk.now) c.args.steps.now (home_in c.args.volume.now) 0) (g.D.Disk.shown c.cell_told-read.new.disk).faults
-    (table_in (shows (g.D.Disk.shown c.args.disk.now) c.args.pool.now c.args.volume.now) c.open_table-files.result) (standing_of (g.D.Disk.shown c.args.disk.now) c.args.pool.now c.args.volume.now c.args.table.now) c.cell_told-read.result (same g c) c.cell_told-read.ensures.cause
+returns-clause-cause g c = cause_for (IsStanding (g.D.Disk.shown c.args.disk.now) c.args.pool.now c.args.volume.now) (IsTold (g.D.Disk.shown c.args.disk.now) c.args.pool.now c.args.volume.now.map c.args.volume.now.slot × IsInfoOf (rooted (shows (g.D.Disk.shown c.args.disk.now) c.args.pool.now c.args.volume.now) c.open_table-files.result.inode) c.args.info.now) (λ is. (is.told, known g c c.requires.there is)) (lent_for c.args.pool.now c.args.volume.now.map (g.D.Disk.shown c.args.disk.now) c.args.steps.now (home_in c.args.volume.now) 0) (g.D.Disk.shown c.cell_told-answer.new.disk).faults
+    (table_in (shows (g.D.Disk.shown c.args.disk.now) c.args.pool.now c.args.volume.now) c.open_table-files.result) (standing_of (g.D.Disk.shown c.args.disk.now) c.args.pool.now c.args.volume.now c.args.table.now) c.cell_told-answer.result (same g c) c.cell_told-answer.ensures.cause

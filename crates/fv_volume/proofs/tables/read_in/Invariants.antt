@@ -1,4 +1,4 @@
-use Rattle.fv_volume.specs.Calls.{TellsInfo}
+use Rattle.fv_pool.specs.Calls.{TellsInfo}
 use Rattle.fv_volume.proofs.tables.read_in.Given as goal
 
 -- what is known of the file is known where content is told

@@ -7,7 +7,7 @@ use Rattle.fv_root.specs.declared.find.Found.{Found}
 use Rattle.fv_root.specs.Commits.{IsFoundOn}
 use Rattle.fv_root.specs.Finding.{IsInRange}
 use Rattle.fv_aggmap.specs.Space.{blocks_of}
-use Rattle.fv_volume.specs.Keeping.{Blocks}
+use Rattle.fv_pool.specs.Keeping.{Blocks}
 use Rattle.fv_volume_rows.proofs.Fitting.{root_on}
 use Rattle.fv_volume_rows.proofs.opened.read.Goals as goal
 

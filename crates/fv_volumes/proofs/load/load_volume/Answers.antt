@@ -30,15 +30,13 @@ returns-in_err-label-clause-fault g c = λ tells.
 
 pub returns-in_err-container-clause-fault : goal.returns-in_err-container-clause-fault
 returns-in_err-container-clause-fault g c = λ tells.
-    let found = c.args.found.now in
     let i = (g.D.Disk.shown c.args.disk.now).reads in
     let l = c.in_ok-label.label in
-    let e = c.in_err-container.field-0.0 in
-    let first = c.read_label.ensures.only_reads.stays in
-    let told = subst IsTrue (sym first.tells) tells in
-    let lies = is_label found i c.args.slot c.requires.slot (get_or found.root.labels c.args.slot 0) l refl c.if-place-eq0.false (c.in_ok-label.ensures.label tells) in
-    handed (IsLoadFault i found) e c.from_residual-in_err-container.result c.from_residual-in_err-container.ensures.1
-    (bad_tree found i c.args.slot c.requires.slot l e lies (subst (λ (j : Image). IsFault j l.container l.height (entry_count l.span) e) first.reads (c.in_err-container.ensures.fault told)))
+    let told = subst IsTrue (sym c.read_label.ensures.only_reads.stays.tells) tells in
+    let lies = is_label c.args.found.now i c.args.slot c.requires.slot (get_or c.args.found.now.root.labels c.args.slot 0) l refl c.if-place-eq0.false (c.in_ok-label.ensures.label tells) in
+    handed (IsLoadFault i c.args.found.now) c.in_err-container.field-0.0 c.from_residual-in_err-container.result c.from_residual-in_err-container.ensures.1
+    (bad_tree c.args.found.now i c.args.slot c.requires.slot l c.in_err-container.field-0.0 lies
+    (subst (λ (j : Image). IsFault j l.container l.height (entry_count l.span) c.in_err-container.field-0.0) c.read_label.ensures.only_reads.stays.reads (c.in_err-container.ensures.fault told)))
 
 pub returns-in_err-map-clause-fault : goal.returns-in_err-map-clause-fault
 returns-in_err-map-clause-fault g c = λ tells.

@@ -2,7 +2,7 @@ use Rattle.std.proofs.Common.{◌≡◌, ◌≤◌, ◌+◌, refl, sym, ap, subs
 use Rattle.std.specs.Prelude.{IsNone}
 use Rattle.fv_model.specs.Space.{overhead, span_of}
 use Rattle.fv_container.specs.Chains.{container_at}
-use Rattle.fv_volume.specs.declared.pool.Pool.{Pool}
+use Rattle.fv_pool.specs.declared.pool.Pool.{Pool}
 use Rattle.fv_volumes.specs.Creating.{Admits, IsNew}
 use Rattle.fv_volume.specs.States.{state_at}
 use Rattle.fv_cp.specs.Lent.{FitTogether, blocks_asked}
@@ -36,13 +36,13 @@ returns-clause-added c =
     added_as _ c.args.self.now _ c.args.name.now c.args.size c.args.kind c.args.room c.self.view_is (record {
       slot = slot;
       free = e.slot;
+      place = c.args.admitted.slot;
+      span = c.args.admitted.span;
+      admits = subst (λ (x : Session). Admits x.volumes x.pool.found.blocks c.args.name.now c.args.size c.args.kind c.args.admitted.slot c.args.admitted.span) (sym c.self.view_is) c.requires.admitted;
       made = e.made;
       new_there = e.new;
       holes = e.holes;
       each = e.each;
-      place = c.args.admitted.slot;
-      span = c.args.admitted.span;
-      admits = subst (λ (x : Session). Admits x.volumes x.pool.found.blocks c.args.name.now c.args.size c.args.kind c.args.admitted.slot c.args.admitted.span) (sym c.self.view_is) c.requires.admitted;
       fit = c.self.invariant (subst (λ (s : Session). IsNone s.failed) (sym c.self.view_is) c.requires.fresh);
       long = long;
       asked = asked;

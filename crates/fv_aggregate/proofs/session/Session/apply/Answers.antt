@@ -5,7 +5,7 @@ use Rattle.fv_aggregate.specs.Telling.{names_from}
 use Rattle.fv_aggregate.specs.declared.session.Session.{Session}
 use Rattle.fv_model.specs.declared.answers.Reply.TheVariants.{Names}
 use Rattle.fv_model.specs.declared.commands.Command.TheVariants.{VolDestroy, VolGuarantee, VolResize, VolStat}
-use Rattle.fv_aggregate.specs.Commands.{changed_by, dirty_limit, room_of, volume_asked}
+use Rattle.fv_aggregate.specs.Commands.{changed_by, dirty_limit, room_by, volume_asked}
 use Rattle.fv_aggregate.proofs.Added.{not_refused}
 use Rattle.fv_aggregate.proofs.Applied.{cp_asks, cp_built, cp_goes, cp_goes_for, cp_no_files, cp_no_list, cp_no_names, cp_no_snap, cp_no_whole, cp_replies, list_no_point, create_asks, create_built, create_goes, create_goes_for, create_no_files, create_no_list, create_no_names, create_no_point, create_no_snap, create_no_whole, create_replies, create_room, list_after, list_done, list_fails, list_replies, no_files, some_room}
 use Rattle.fv_aggregate.proofs.Applying.{booked_each, no_step, not_dead, pointed_same, rests_as}
@@ -21,16 +21,12 @@ returns-in-Some g c =
 
 pub returns-in-VolCreate : goal.returns-in-VolCreate
 returns-in-VolCreate g c =
-    let d = g.D.Disk.shown c.args.disk.now in
-    let e = g.D.Disk.shown c.create.new.disk in
-    let s = c.args.self.now in
-    let n = c.create.new.self in
-    let command = c.args.command.now in
-    let size = c.in-VolCreate.size in
-    let room : room_of command ≡ overhead (span_of size 0 0) = create_room command _ size _ c.in-VolCreate.is in
+    let d = g.D.Disk.shown c.args.disk.now in let e = g.D.Disk.shown c.create.new.disk in let s = c.args.self.now in
+    let n = c.create.new.self in let command = c.args.command.now in let size = c.in-VolCreate.size in
+    let room : room_by s.volumes command ≡ overhead (span_of size 0 0) = create_room command _ size _ c.in-VolCreate.is s in
     let fresh : IsNone s.failed = subst (λ (k : Session). IsNone k.failed) c.self.view_is (subst IsNone (sym c.in_default.is) refl) in
-    let low : (room_of command ≡ 0) ⊎ (s.pending + room_of command ≤ dirty_limit) → s.pending + overhead (span_of size 0 0) ≤ dirty_limit =
-    λ few. ⊎_elim (λ (none : room_of command ≡ 0). absurd (some_room size (sym room ∙ none))) (λ (few : s.pending + room_of command ≤ dirty_limit). subst (λ (k : ℕ). s.pending + k ≤ dirty_limit) room few) few in
+    let low : (room_by s.volumes command ≡ 0) ⊎ (s.pending + room_by s.volumes command ≤ dirty_limit) → s.pending + overhead (span_of size 0 0) ≤ dirty_limit =
+    λ few. ⊎_elim (λ (none : room_by s.volumes command ≡ 0). absurd (some_room size (sym room ∙ none))) (λ (few : s.pending + room_by s.volumes command ≤ dirty_limit). subst (λ (k : ℕ). s.pending + k ≤ dirty_limit) room few) few in
     record {
       goes = create_goes command _ _ _ c.in-VolCreate.is d s e n c.create.result c.create.ensures.runs.goes;
       asks = λ none. create_asks command _ _ _ c.in-VolCreate.is d s e n c.create.ensures.runs.asks;
@@ -65,11 +61,8 @@ returns-in-VolCreate g c =
 
 pub returns-in-Cp : goal.returns-in-Cp
 returns-in-Cp g c =
-    let d = g.D.Disk.shown c.args.disk.now in
-    let e = g.D.Disk.shown c.reclaim.new.disk in
-    let s = c.args.self.now in
-    let n = c.reclaim.new.self in
-    let command = c.args.command.now in
+    let d = g.D.Disk.shown c.args.disk.now in let e = g.D.Disk.shown c.reclaim.new.disk in let s = c.args.self.now in
+    let n = c.reclaim.new.self in let command = c.args.command.now in
     let fresh : IsNone s.failed = subst (λ (k : Session). IsNone k.failed) c.self.view_is (subst IsNone (sym c.in_default.is) refl) in
     record {
       goes = cp_goes command c.in-Cp.is d s e n c.reclaim.result c.reclaim.ensures.runs.goes;

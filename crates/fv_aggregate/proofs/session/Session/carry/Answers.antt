@@ -1,7 +1,6 @@
-use Rattle.std.proofs.Common.{◌≡◌, Some, true≢false, sym, subst, ◌∙◌}
-use Rattle.fv_aggregate.specs.declared.aiming.Task.{Task}
-use Rattle.fv_aggregate.specs.Aiming.{Suits}
+use Rattle.std.proofs.Common.{◌≡◌, Some, true≢false, sym, ◌∙◌}
 use Rattle.fv_aggregate.specs.Commands.{changed_by}
+use Rattle.fv_aggregate.proofs.Aimed.{suits_as}
 use Rattle.fv_aggregate.proofs.Asked.{asked_at}
 use Rattle.fv_aggregate.proofs.Carried.{aimed_at}
 use Rattle.fv_aggregate.proofs.Changing.{change_of_volume}
@@ -11,18 +10,19 @@ use Rattle.fv_aggregate.proofs.SnapApplied.{snap_aimed_at}
 use Rattle.fv_aggregate.proofs.session.Session.carry.Goals as goal
 
 pub look_at-requires-clause-asked : goal.look_at-requires-clause-asked
-look_at-requires-clause-asked g c =
-    let aimed = c.requires.aimed in
-    asked_at c.args.self.now.volumes c.args.aim.slot aimed.name c.args.command.now aimed.within aimed.named.named (subst (λ (t : Task). Suits t aimed.name c.args.command.now) c.in-Look.is aimed.suits)
+look_at-requires-clause-asked g c = asked_at c.args.self.now.volumes c.args.aim.slot c.requires.aimed.name c.args.command.now c.requires.aimed.within c.requires.aimed.named.named (suits_as _ _ _ _ _ c.in-Look.is c.requires.aimed)
+
+pub change_at-requires-clause-aimed : goal.change_at-requires-clause-aimed
+change_at-requires-clause-aimed g c = aimed_at c.args.self.now.volumes c.args.aim.slot c.requires.aimed.name c.args.command.now c.requires.aimed.within c.requires.aimed.named.named (suits_as _ _ _ _ _ c.in-Change.is c.requires.aimed)
+
+pub snap_at-requires-clause-aimed : goal.snap_at-requires-clause-aimed
+snap_at-requires-clause-aimed g c = snap_aimed_at c.args.self.now.volumes c.args.aim.slot c.requires.aimed.name c.args.command.now c.requires.aimed.within c.requires.aimed.named (suits_as _ _ _ _ _ c.in-Snap.is c.requires.aimed)
 
 pub returns-in-Look : goal.returns-in-Look
 returns-in-Look g c =
-    let s = c.args.self.now in
-    let slot = c.args.aim.slot in
-    let command = c.args.command.now in
-    let aimed = c.requires.aimed in
+    let s = c.args.self.now in let slot = c.args.aim.slot in let command = c.args.command.now in let aimed = c.requires.aimed in
     let did = c.look_at.ensures in
-    look_applied command aimed.name (subst (λ (t : Task). Suits t aimed.name command) c.in-Look.is aimed.suits) (g.D.Disk.shown c.args.disk.now) c.args.disk.now s c.args.steps.now (g.D.Disk.shown c.look_at.new.disk) c.look_at.new.disk c.look_at.new.self c.look_at.new.steps c.look_at.result
+    look_applied command aimed.name (suits_as _ _ _ _ _ c.in-Look.is aimed) (g.D.Disk.shown c.args.disk.now) c.args.disk.now s c.args.steps.now (g.D.Disk.shown c.look_at.new.disk) c.look_at.new.disk c.look_at.new.self c.look_at.new.steps c.look_at.result
     c.requires.fresh did.looks (record {
       range = λ far. absurd (true≢false (sym aimed.near ∙ far));
       missing = λ near none. not_none _ s.volumes slot aimed.name aimed.within aimed.named none;
@@ -34,19 +34,11 @@ returns-in-Look g c =
       finds = λ finds near. knows_on s.volumes aimed.name slot c.look_at.new.self.volumes aimed.named c.look_at.result (did.finds finds);
     })
 
-pub change_at-requires-clause-aimed : goal.change_at-requires-clause-aimed
-change_at-requires-clause-aimed g c =
-    let aimed = c.requires.aimed in
-    aimed_at c.args.self.now.volumes c.args.aim.slot aimed.name c.args.command.now aimed.within aimed.named.named (subst (λ (t : Task). Suits t aimed.name c.args.command.now) c.in-Change.is aimed.suits)
-
 pub returns-in-Change : goal.returns-in-Change
 returns-in-Change g c =
-    let s = c.args.self.now in
-    let slot = c.args.aim.slot in
-    let command = c.args.command.now in
-    let aimed = c.requires.aimed in
+    let s = c.args.self.now in let slot = c.args.aim.slot in let command = c.args.command.now in let aimed = c.requires.aimed in
     let did = c.change_at.ensures in
-    let change : changed_by command ≡ Some aimed.name = subst (λ (t : Task). Suits t aimed.name command) c.in-Change.is aimed.suits in
+    let change : changed_by command ≡ Some aimed.name = suits_as _ _ _ _ _ c.in-Change.is aimed in
     make_applied command aimed.name change (g.D.Disk.shown c.args.disk.now) c.args.disk.now s (g.D.Disk.shown c.change_at.new.disk) c.change_at.new.disk c.change_at.new.self c.args.steps.now c.change_at.result
     c.requires.fresh did.makes (record {
       range = λ far. absurd (true≢false (sym aimed.near ∙ far));
@@ -55,13 +47,8 @@ returns-in-Change g c =
       finds = λ finds near. knows_on s.volumes aimed.name slot c.change_at.new.self.volumes aimed.named c.change_at.result (did.finds finds);
     })
 
-pub snap_at-requires-clause-aimed : goal.snap_at-requires-clause-aimed
-snap_at-requires-clause-aimed g c =
-    let aimed = c.requires.aimed in
-    snap_aimed_at c.args.self.now.volumes c.args.aim.slot aimed.name c.args.command.now aimed.within aimed.named.named (subst (λ (t : Task). Suits t aimed.name c.args.command.now) c.in-Snap.is aimed.suits)
-
 pub returns-in-Snap : goal.returns-in-Snap
 returns-in-Snap g c =
     let aimed = c.requires.aimed in
-    snap_applied c.args.command.now aimed.name (subst (λ (t : Task). Suits t aimed.name c.args.command.now) c.in-Snap.is aimed.suits) g.D.Disk.shown c.args.disk.now c.args.self.now c.snap_at.new.disk c.snap_at.new.self c.args.steps.now c.snap_at.result
+    snap_applied c.args.command.now aimed.name (suits_as _ _ _ _ _ c.in-Snap.is aimed) g.D.Disk.shown c.args.disk.now c.args.self.now c.snap_at.new.disk c.snap_at.new.self c.args.steps.now c.snap_at.result
     c.requires.fresh c.snap_at.ensures.snapped (λ none. not_none _ c.args.self.now.volumes c.args.aim.slot aimed.name aimed.within aimed.named none)

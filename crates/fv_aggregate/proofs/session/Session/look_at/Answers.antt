@@ -4,7 +4,6 @@ use Rattle.fv_volume.specs.declared.state.VolumeState.{VolumeState}
 use Rattle.fv_volume.specs.Asking.{table_named}
 use Rattle.fv_volume.specs.States.{state_at}
 use Rattle.fv_aggregate.specs.Commands.{finds_file, snapshot_asked}
-use Rattle.fv_aggregate.specs.Looking.{Looks}
 use Rattle.fv_aggregate.proofs.Asked.{asked_read, damaged_at}
 use Rattle.fv_aggregate.proofs.Lost.{active_there, finds_active, no_refusal, none_lost}
 use Rattle.fv_aggregate.proofs.Numbered.{known_numbered, look_numbered, look_unnumbered}
@@ -12,11 +11,8 @@ use Rattle.fv_aggregate.proofs.session.Session.look_at.Goals as goal
 
 pub returns-in_err-read_numbers-clause-looks : goal.returns-in_err-read_numbers-clause-looks
 returns-in_err-read_numbers-clause-looks g c =
-    let d = g.D.Disk.shown c.args.disk.now in
-    let e = g.D.Disk.shown c.read_numbers.new.disk in
-    let failed : c.from_residual.result ≡ Err c.in_err-read_numbers.field-0.0 = search rules in
-    subst (Looks d c.args.self.now c.args.command.now e c.read_numbers.new.self) (sym failed)
-    (look_unnumbered d c.args.self.now c.args.command.now e c.read_numbers.new.self c.in_err-read_numbers.field-0.0 c.in_err-read_numbers.ensures.numbered)
+    look_unnumbered (g.D.Disk.shown c.args.disk.now) c.args.self.now c.args.command.now (g.D.Disk.shown c.read_numbers.new.disk) c.read_numbers.new.self c.in_err-read_numbers.field-0.0
+    c.in_err-read_numbers.ensures.numbered c.from_residual.result (search rules)
 
 pub ask-requires-2-clause-asked : goal.ask-requires-2-clause-asked
 ask-requires-2-clause-asked g c =
@@ -24,17 +20,13 @@ ask-requires-2-clause-asked g c =
 
 pub returns-clause-looks : goal.returns-clause-looks
 returns-clause-looks g c =
-    let d = g.D.Disk.shown c.args.disk.now in
-    let e = g.D.Disk.shown c.read_numbers.new.disk in
-    let of = c.requires.asked in
+    let d = g.D.Disk.shown c.args.disk.now in let e = g.D.Disk.shown c.read_numbers.new.disk in let of = c.requires.asked in
     look_numbered d c.args.self.now c.args.command.now (damaged_at d c.args.self.now c.args.slot of.state of.there c.requires.fresh) e c.read_numbers.new.self tt c.in_ok-read_numbers.ensures.numbered
     (g.D.Disk.shown c.ask-2.new.disk) c.ask-2.new.self c.ask-2.result c.ask-2.ensures.looks
 
 pub returns-clause-known : goal.returns-clause-known
 returns-clause-known g c =
-    let d = g.D.Disk.shown c.args.disk.now in
-    let e = g.D.Disk.shown c.read_numbers.new.disk in
-    let of = c.requires.asked in
+    let d = g.D.Disk.shown c.args.disk.now in let e = g.D.Disk.shown c.read_numbers.new.disk in let of = c.requires.asked in
     known_numbered d c.args.self.now c.args.command.now (damaged_at d c.args.self.now c.args.slot of.state of.there c.requires.fresh) e c.read_numbers.new.self tt c.in_ok-read_numbers.ensures.numbered
     (g.D.Disk.shown c.ask-2.new.disk) c.ask-2.new.self c.ask-2.result c.args.steps.now c.ask-2.new.steps c.ask-2.ensures.known
 

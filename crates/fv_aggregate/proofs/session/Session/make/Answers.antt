@@ -19,9 +19,7 @@ use Rattle.fv_aggregate.proofs.session.Session.make.Goals as goal
 
 pub returns-in_err-make_room-clause-runs : goal.returns-in_err-make_room-clause-runs
 returns-in_err-make_room-clause-runs g c =
-    let old = g.D.Disk.shown c.args.disk.now in
-    let mid = g.D.Disk.shown c.make_room.new.disk in
-    let s = c.args.self.now in
+    let old = g.D.Disk.shown c.args.disk.now in let mid = g.D.Disk.shown c.make_room.new.disk in let s = c.args.self.now in
     let n = c.make_room.new.self in
     let f = c.in_err-make_room.field-0.0 in
     let made = c.in_err-make_room.ensures.runs in
@@ -46,11 +44,8 @@ add-requires-clause-admitted g c = c.in_ok-make_room.ensures.admits c.args.name.
 
 pub returns-in_err-add-clause-runs : goal.returns-in_err-add-clause-runs
 returns-in_err-add-clause-runs g c =
-    let old = g.D.Disk.shown c.args.disk.now in
-    let mid = g.D.Disk.shown c.make_room.new.disk in
-    let s = c.args.self.now in
-    let n = c.make_room.new.self in
-    let made = c.in_ok-make_room.ensures.runs in
+    let old = g.D.Disk.shown c.args.disk.now in let mid = g.D.Disk.shown c.make_room.new.disk in let s = c.args.self.now in
+    let n = c.make_room.new.self in let made = c.in_ok-make_room.ensures.runs in
     let failed : c.from_residual-in_err-add.result ≡ Err Memory = search rules in
     let room : c.from-room.result ≡ overhead c.args.admitted.span = search rules in
     subst (λ (k : ℕ). Runs {T = Reply} k (λ m. next m (VolCreate c.args.name.now c.args.size c.args.kind)) old s mid c.add.new.self c.from_residual-in_err-add.result) room
@@ -70,13 +65,8 @@ returns-in_err-add-clause-holding g c =
 
 pub returns-clause-runs : goal.returns-clause-runs
 returns-clause-runs g c =
-    let old = g.D.Disk.shown c.args.disk.now in
-    let mid = g.D.Disk.shown c.make_room.new.disk in
-    let s = c.args.self.now in
-    let n = c.make_room.new.self in
-    let made = c.in_ok-make_room.ensures in
-    let runs = made.runs in
-    let added = c.in_ok-add.ensures.added in
+    let old = g.D.Disk.shown c.args.disk.now in let mid = g.D.Disk.shown c.make_room.new.disk in let s = c.args.self.now in
+    let n = c.make_room.new.self in let made = c.in_ok-make_room.ensures in let runs = made.runs in let added = c.in_ok-add.ensures.added in
     let room : c.from-room.result ≡ overhead c.args.admitted.span = search rules in
     subst (λ (k : ℕ). Runs k (λ m. next m (VolCreate c.args.name.now c.args.size c.args.kind)) old s mid c.add.new.self (Ok Done)) room (record {
       goes = added_goes old s mid n c.args.name.now c.args.size c.args.kind c.from-room.result runs.goes made.pending made.few c.add.new.self added c.in_ok-add.ensures.pending;

@@ -9,12 +9,8 @@ use Rattle.fv_aggregate.proofs.session.Session.reclaim.Goals as goal
 
 pub returns-in_err-point-clause-runs : goal.returns-in_err-point-clause-runs
 returns-in_err-point-clause-runs g c =
-    let old = g.D.Disk.shown c.args.disk.now in
-    let new = g.D.Disk.shown c.point.new.disk in
-    let s = c.args.self.now in
-    let n = c.point.new.self in
-    let f = c.in_err-point.field-0.0 in
-    let did = c.in_err-point.ensures in
+    let old = g.D.Disk.shown c.args.disk.now in let new = g.D.Disk.shown c.point.new.disk in let s = c.args.self.now in
+    let n = c.point.new.self in let f = c.in_err-point.field-0.0 in let did = c.in_err-point.ensures in
     let failed : c.from_residual.result ≡ Err f = search rules in
     subst (λ (r : Result Reply Fault). Runs 0 (λ m. m) old s new n r) (sym failed) (record {
       goes = fails_alike f 0 old s new n did.goes;
@@ -33,9 +29,7 @@ returns-in_err-point-clause-points g c =
 
 pub returns-clause-runs : goal.returns-clause-runs
 returns-clause-runs g c =
-    let old = g.D.Disk.shown c.args.disk.now in
-    let new = g.D.Disk.shown c.point.new.disk in
-    let did = c.in_ok-point.ensures in
+    let old = g.D.Disk.shown c.args.disk.now in let new = g.D.Disk.shown c.point.new.disk in let did = c.in_ok-point.ensures in
     record {
       goes = replies_done Done 0 old c.args.self.now new c.point.new.self did.goes;
       asks = did.asks;

@@ -1,31 +1,25 @@
-use Rattle.std.proofs.Common.{◌≡◌, ◌<◌, ◌+◌, Option, Some, rules, inr, Err, false, sym, ap, subst, ◌∙◌, arith}
-use Rattle.std.specs.Prelude.{nat_le}
-use Rattle.std.proofs.lemmas.Bool.Decides.{nat_tests}
+use Rattle.std.proofs.Common.{◌≡◌, Option, Some, rules, inr, Err, sym, ap, subst, ◌∙◌, arith}
 use Rattle.fv_volume.specs.declared.state.VolumeState.{VolumeState}
-use Rattle.fv_aggregate.specs.Commands.{dirty_limit}
 use Rattle.fv_aggregate.specs.Looking.{HasSnapped}
 use Rattle.fv_aggregate.specs.Snapping.{snap_blocks}
 use Rattle.fv_aggregate.proofs.Asked.{damaged_at}
-use Rattle.fv_aggregate.proofs.SnapCommands.{snap_low}
-use Rattle.fv_aggregate.proofs.SnapNow.{room_most}
-use Rattle.fv_aggregate.proofs.SnapRoom.{room_places, snap_roomless, snap_roomy, still_beside, still_granted, still_snap_aimed}
+use Rattle.fv_aggregate.proofs.Holes.{passes_limit}
+use Rattle.fv_aggregate.proofs.Rooms.{room_most}
+use Rattle.fv_aggregate.proofs.SnapCommands.{aimed_room, snap_low}
+use Rattle.fv_aggregate.proofs.SnapRoom.{room_places, snap_roomless, snap_roomy, still_beside, still_granted, still_room_by, still_snap_aimed}
 use Rattle.fv_aggregate.proofs.session.Session.snap_with.Goals as goal
 
 pub returns-in_err-make_room : goal.returns-in_err-make_room
 returns-in_err-make_room g c =
-    let room = c.args.granted.room in
-    let d = g.D.Disk.shown c.args.disk.now in
-    let e = g.D.Disk.shown c.make_room.new.disk in
-    let s = c.args.self.now in
-    let aimed = c.requires.aimed in
-    let command = c.args.command.now in
-    let past : dirty_limit < s.pending + room = (let full : nat_le (s.pending + room) 256 ≡ false = sym c.has_room.ensures ∙ c.if-has_room.false in grind (arith, nat_tests, full)) in
-    let same : room ≡ snap_blocks (Some aimed.state) command = c.requires.granted.room ∙ ap (λ (o : Option VolumeState). snap_blocks o command) aimed.there in
+    let room = c.args.granted.room in let aimed = c.requires.aimed in let command = c.args.command.now in
+    let d = g.D.Disk.shown c.args.disk.now in let e = g.D.Disk.shown c.make_room.new.disk in let s = c.args.self.now in
+    let past = passes_limit s.pending room _ c.has_room.ensures c.if-has_room.false in
     let failed : c.from_residual.result ≡ Err c.in_err-make_room.field-0.0 = search rules in
     let made = c.in_err-make_room.ensures in
+    let same : room ≡ snap_blocks (Some aimed.state) command = c.requires.granted.room ∙ ap (λ (o : Option VolumeState). snap_blocks o command) aimed.there in
     record {
       snapped = subst (HasSnapped d c.args.disk.now s command e c.make_room.new.disk c.make_room.new.self) (sym failed)
-          (snap_roomless d c.args.disk.now s command room past c.if-granted-eq0.false (room_most d s c.requires.stands c.args.slot command aimed room c.requires.granted.room)
+          (snap_roomless d c.args.disk.now s command room past c.if-granted-eq0.false (c.requires.granted.room ∙ aimed_room s.volumes c.args.slot command aimed)
           (room_places aimed.state aimed.state.name command aimed.snaps (λ none. c.if-granted-eq0.false (same ∙ none))) (damaged_at d s c.args.slot aimed.state aimed.there c.requires.fresh) e c.make_room.new.disk c.make_room.new.self c.in_err-make_room.field-0.0
           made.runs.goes made.runs.goes_for made.runs.damage made.runs.numbers);
     }
@@ -38,8 +32,9 @@ snap_now-requires-2 g c =
     let aimed = c.requires.aimed in
     let command = c.args.command.now in
     let made = c.in_ok-make_room.ensures in
-    let past : dirty_limit < s.pending + room = (let full : nat_le (s.pending + room) 256 ≡ false = sym c.has_room.ensures ∙ c.if-has_room.false in grind (arith, nat_tests, full)) in
-    let most = room_most (g.D.Disk.shown c.args.disk.now) s c.requires.stands c.args.slot command aimed room c.requires.granted.room in
+    let past = passes_limit s.pending room _ c.has_room.ensures c.if-has_room.false in
+    let exact = c.requires.granted.room ∙ aimed_room s.volumes c.args.slot command aimed in
+    let most = room_most (g.D.Disk.shown c.args.disk.now) s c.requires.stands command in
     let low = snap_low aimed.state.name command aimed.snaps in
     let few = made.few in
     record {
@@ -48,24 +43,20 @@ snap_now-requires-2 g c =
       aimed = still_snap_aimed s.volumes n.volumes made.cores c.args.slot command aimed;
       others = c.requires.others ∙ sym (still_beside s.volumes n.volumes made.cores c.args.slot);
       most = c.requires.most;
-      few = inr (omega (arith, most, low, few));
+      few = inr (omega (arith, exact, most, low, few));
       granted = still_granted s.volumes n.volumes made.cores c.args.slot s.pool.found.blocks n.pool.found.blocks c.args.others (made.pointed past).blocks command aimed c.args.granted c.requires.granted;
     }
 
 pub returns : goal.returns
 returns g c =
-    let room = c.args.granted.room in
-    let d = g.D.Disk.shown c.args.disk.now in
-    let e = g.D.Disk.shown c.make_room.new.disk in
-    let s = c.args.self.now in
-    let aimed = c.requires.aimed in
-    let command = c.args.command.now in
-    let past : dirty_limit < s.pending + room = (let full : nat_le (s.pending + room) 256 ≡ false = sym c.has_room.ensures ∙ c.if-has_room.false in grind (arith, nat_tests, full)) in
-    let same : room ≡ snap_blocks (Some aimed.state) command = c.requires.granted.room ∙ ap (λ (o : Option VolumeState). snap_blocks o command) aimed.there in
+    let room = c.args.granted.room in let aimed = c.requires.aimed in let command = c.args.command.now in
+    let d = g.D.Disk.shown c.args.disk.now in let e = g.D.Disk.shown c.make_room.new.disk in let s = c.args.self.now in
+    let past = passes_limit s.pending room _ c.has_room.ensures c.if-has_room.false in
     let made = c.in_ok-make_room.ensures in
     let did = c.snap_now-2.ensures in
+    let same : room ≡ snap_blocks (Some aimed.state) command = c.requires.granted.room ∙ ap (λ (o : Option VolumeState). snap_blocks o command) aimed.there in
     record {
-      snapped = snap_roomy d c.args.disk.now s command room past c.if-granted-eq0.false (room_most d s c.requires.stands c.args.slot command aimed room c.requires.granted.room)
+      snapped = snap_roomy d c.args.disk.now s command room past c.if-granted-eq0.false (c.requires.granted.room ∙ aimed_room s.volumes c.args.slot command aimed)
           (room_places aimed.state aimed.state.name command aimed.snaps (λ none. c.if-granted-eq0.false (same ∙ none))) (damaged_at d s c.args.slot aimed.state aimed.there c.requires.fresh) e c.make_room.new.disk c.make_room.new.self c.in_ok-make_room.field-0
-          made.runs.goes made.pending made.runs.goes_for (made.pointed past) made.runs.numbers c.snap_now-2.new.self c.snap_now-2.result (record { snapped = did.snapped; placed = did.placed; accepted = did.accepted });
+          (still_room_by s.volumes c.make_room.new.self.volumes made.cores c.args.slot command aimed) made.runs.goes made.pending made.runs.goes_for (made.pointed past) made.runs.numbers c.snap_now-2.new.self c.snap_now-2.result (record { snapped = did.snapped; placed = did.placed; accepted = did.accepted });
     }

@@ -10,5 +10,5 @@ returns-clause-added g c = λ told.
 
 pub returns-clause-looks : goal.returns-clause-looks
 returns-clause-looks g c =
-    let is = c.added_cell.ensures in
+    let is = c.added_cell.ensures.loads in
     looks_tree g.B.Blocks.told (table_in (g.B.Blocks.shown c.args.blocks.now) c.args.self.now) c.args.info.now (g.B.Blocks.shown c.args.blocks.now) (g.B.Blocks.shown c.added_cell.new.blocks) c.added_cell.result c.requires.there is.untouched is.counts is.cause

@@ -2,8 +2,6 @@ use Rattle.std.proofs.Common.{refl, inl, arith}
 use Rattle.fv_files.proofs.Tables.{alike}
 use Rattle.fv_inode.specs.Files.{rooted}
 use Rattle.std.specs.Prelude.{None}
-use Rattle.fv_tree.specs.Standing.{under}
-use Rattle.fv_files.specs.Tables.{loaded_trees}
 use Rattle.fv_files.proofs.Altered.{only_leaves_trees}
 use Rattle.fv_files.proofs.Changed.{with_inode}
 use Rattle.fv_files.proofs.Looked.{counts_done, counts_failed}
@@ -91,12 +89,10 @@ returns-in-Ok-clause-alters g c =
 pub returns-in-Err-clause-alters : goal.returns-in-Err-clause-alters
 returns-in-Err-clause-alters g c =
     let f = c.args.self.now in
-    let old = g.B.Blocks.shown c.args.blocks.now in
-    let new = g.B.Blocks.shown c.create.new.blocks in
     let h = with_inode f c.create.new.self in
     let loads = c.in-Err.ensures.loads in
     record {
-      alters = λ told asked sound. only_leaves_trees c.args.stamp (loaded_trees (under old) f) (loaded_trees (under new) h) (readied_leave old new f h loads.looks.untouched (alike (rooted old f.inode) (rooted new h.inode) (loads.failed told)) (λ k. refl) (loads.leaves told) (loads.leads told) sound);
-      leaves = λ told sound. readied_leave old new f h loads.looks.untouched (alike (rooted old f.inode) (rooted new h.inode) (loads.failed told)) (λ k. refl) (loads.leaves told) (loads.leads told) sound;
-      laid = λ told asked sound. readied_laid old new f h loads.looks.untouched (alike (rooted old f.inode) (rooted new h.inode) (loads.failed told)) (λ k. refl) (loads.leaves told) (loads.leads told) sound;
+      alters = λ told asked sound. only_leaves_trees c.args.stamp _ _ (readied_leave _ _ f h loads.looks.untouched (alike _ _ (loads.failed told)) (λ k. refl) (loads.leaves told) (loads.leads told) sound);
+      leaves = λ told sound. readied_leave _ _ f h loads.looks.untouched (alike _ _ (loads.failed told)) (λ k. refl) (loads.leaves told) (loads.leads told) sound;
+      laid = λ told asked sound. readied_laid _ _ f h loads.looks.untouched (alike _ _ (loads.failed told)) (λ k. refl) (loads.leaves told) (loads.leads told) sound;
     }

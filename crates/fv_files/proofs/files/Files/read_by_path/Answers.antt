@@ -37,12 +37,11 @@ returns-clause-looks g c =
 
 pub returns-in_err-look-clause-looks : goal.returns-in_err-look-clause-looks
 returns-in_err-look-clause-looks g c =
-    let told = g.B.Blocks.told in
     let old = g.B.Blocks.shown c.args.blocks.now in
     let mid = g.B.Blocks.shown c.look.new.blocks in
     let x = table_in old c.args.self.now in
     let failed : c.from_residual.result ≡ Err c.in_err-look.field-0.0 = search rules in
-    subst (Looks told x old mid) (sym failed) (looks_failed told x old mid c.in_err-look.field-0.0 (looks_inode told x old mid (Err c.in_err-look.field-0.0) c.in_err-look.ensures.looks))
+    subst (Looks g.B.Blocks.told x old mid) (sym failed) (looks_failed g.B.Blocks.told x old mid c.in_err-look.field-0.0 (looks_inode g.B.Blocks.told x old mid (Err c.in_err-look.field-0.0) c.in_err-look.ensures.looks))
 
 pub returns-in_err-read-clause-looks : goal.returns-in_err-read-clause-looks
 returns-in_err-read-clause-looks g c =

@@ -1,9 +1,7 @@
-use Rattle.std.proofs.lemmas.Result.{err_from_is_err_and}
-use Rattle.fv_files.proofs.Looked.{looks_past}
+use Rattle.fv_files.specs.Failing.{Looks}
+use Rattle.fv_files.proofs.Looked.{handed_on, looks_past}
 use Rattle.fv_files.proofs.files.Files.staying.Goals as goal
 
 pub returns-in_err-inode-clause-looks : goal.returns-in_err-inode-clause-looks
 returns-in_err-inode-clause-looks g c =
-    let p = err_from_is_err_and c.from_residual-in_err-inode.result c.from_residual-in_err-inode.ensures.1 in
-    rw (p.1, p.2) (looks_past g.B.Blocks.told c.args.self.now c.args.info.now (g.B.Blocks.shown c.args.blocks.now) (g.B.Blocks.shown c.staying_cell.new.blocks) (g.B.Blocks.shown c.staying.new.blocks) c.in_ok-cell.cell c.in_err-inode.field-0.0 c.requires.there
-    c.in_ok-cell.ensures.untouched c.in_ok-cell.ensures.counts c.in_err-inode.ensures.looks)
+    handed_on (Looks _ _ _ _) _ c.from_residual-in_err-inode.result c.from_residual-in_err-inode.ensures.1 (looks_past g.B.Blocks.told c.args.self.now c.args.info.now _ _ _ c.in_ok-cell.cell _ c.requires.there c.in_ok-cell.ensures.loads.untouched c.in_ok-cell.ensures.loads.counts c.in_err-inode.ensures.looks)

@@ -8,7 +8,7 @@ use Rattle.fv_tree.specs.Altering.{Alters}
 use Rattle.fv_tree.specs.Flushing.{loaded}
 use Rattle.fv_tree.proofs.Altered.{only_leaves}
 use Rattle.fv_inode.specs.Changing.{WritesFiles, Makes}
-use Rattle.fv_inode.proofs.Looked.{earlier, loaded_as, loads_leaves, looks_failed, loads_none, loads_then, loads_failed, loads_done, loads_none_failed}
+use Rattle.fv_inode.proofs.Looked.{earlier, loaded_as, loads_leaves, loads_then, loads_failed, loads_done, loads_none_failed}
 use Rattle.fv_inode.proofs.Slots.{put_used}
 use Rattle.fv_inode.proofs.Rewritten.{rewrites}
 use Rattle.fv_inode.proofs.Numbered.{new_is, makes}

@@ -7,7 +7,7 @@ use Rattle.fv_tree.specs.Altering.{Leaves}
 use Rattle.fv_tree.specs.Flushing.{loaded}
 use Rattle.fv_inode.specs.Files.{with_root}
 use Rattle.fv_inode.specs.Changing.{FillsFiles}
-use Rattle.fv_inode.proofs.Looked.{earlier, later, loaded_as, loads_leaves, stands_on, looks_failed, looks_done, loads_none, loads_then, loads_none_failed}
+use Rattle.fv_inode.proofs.Looked.{earlier, later, loaded_as, loads_leaves, stands_on, looks_done, loads_none, loads_then, loads_none_failed}
 use Rattle.fv_inode.proofs.Slots.{block_there, still_used, no_such, such}
 use Rattle.fv_inode.proofs.Rewritten.{sets_root}
 use Rattle.fv_inode.proofs.file.InodeFile.set_root.Goals as goal
@@ -29,15 +29,13 @@ refill_files-requires-clause-some g c =
 
 pub returns-clause-set : goal.returns-clause-set
 returns-clause-set g c = λ told there.
-    let old = g.B.Blocks.shown c.args.blocks.now in
-    let mid = g.B.Blocks.shown c.read_files.new.blocks in
-    let t = standing (under old) c.args.self.now.tree in
+    let t = standing (under (g.B.Blocks.shown c.args.blocks.now)) c.args.self.now.tree in
     let u = standing (under (g.B.Blocks.shown c.refill_files.new.blocks)) c.refill_files.new.tree in
     let n = c.args.number in
     let files = c.in_ok-files.files in
     let was = c.in_ok-files.ensures in
     on_ok_weaker c.refill_files.result (λ fills. sets_root t u n c.args.levels c.args.root files c.with_root.result _ was.long (was.files told) c.with_root.ensures
-    (earlier (λ v. FillsFiles v u (n / 16) (slice_set files (n % 16) c.with_root.result)) c.args.self.now.tree old mid was.looks.untouched.held fills))
+    (earlier (λ v. FillsFiles v u (n / 16) (slice_set files (n % 16) c.with_root.result)) c.args.self.now.tree (g.B.Blocks.shown c.args.blocks.now) (g.B.Blocks.shown c.read_files.new.blocks) was.looks.untouched.held fills))
     (c.refill_files.ensures.filled told)
 
 pub returns-clause-loads : goal.returns-clause-loads

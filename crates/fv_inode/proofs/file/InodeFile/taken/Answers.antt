@@ -1,9 +1,8 @@
-use Rattle.std.proofs.Common.{ℕ, Err}
+use Rattle.std.proofs.Common.{ℕ}
 use Rattle.std.proofs.lemmas.Result.{err_from_is_err_and}
 use Rattle.fv_tree.specs.Erasing.{HoldsCells}
-use Rattle.fv_tree.specs.Standing.{standing, under}
 use Rattle.fv_inode.specs.Losing.{IsLost}
-use Rattle.fv_inode.proofs.Looked.{earlier, later, looks_failed, looks_then, looks_failed_then}
+use Rattle.fv_inode.proofs.Looked.{earlier, later, looks_failed_then}
 use Rattle.fv_inode.proofs.file.InodeFile.taken.Goals as goal
 
 pub returns-in_err-gone-clause-looks : goal.returns-in_err-gone-clause-looks

@@ -21,11 +21,8 @@ returns-then-self-clause-fills g c =
 
 pub returns-in_err-count-clause-fills : goal.returns-in_err-count-clause-fills
 returns-in_err-count-clause-fills g c =
-    let host = g.H.Disk.shown c.args.host.now in
-    let new = g.H.Disk.shown c.take_behind.new.host in
-    let s = c.self.inside in
-    let from = c.make_room-from.result.0 in
-    let to = c.make_room-from.result.1 in
+    let host = g.H.Disk.shown c.args.host.now in let new = g.H.Disk.shown c.take_behind.new.host in
+    let s = c.self.inside in let from = c.make_room-from.result.0 in let to = c.make_room-from.result.1 in
     let none : between s.start s.end s.bytes ≡ [] = none_between s.start s.end s.bytes (omega (arith, c.if-self.false)) in
     let failed : c.from_residual.result ≡ Err c.in_err-count.field-0.0 = search rules in
     subst (λ (r : Result Unit Failed). Fills c.args.self.now host (held_of from to to to c.take_behind.new.bytes s.closed s.room s.ended) new r) (sym failed)
@@ -35,11 +32,8 @@ returns-in_err-count-clause-fills g c =
 
 pub returns-clause-fills : goal.returns-clause-fills
 returns-clause-fills g c =
-    let host = g.H.Disk.shown c.args.host.now in
-    let new = g.H.Disk.shown c.take_behind.new.host in
-    let s = c.self.inside in
-    let from = c.make_room-from.result.0 in
-    let to = c.make_room-from.result.1 in
+    let host = g.H.Disk.shown c.args.host.now in let new = g.H.Disk.shown c.take_behind.new.host in
+    let s = c.self.inside in let from = c.make_room-from.result.0 in let to = c.make_room-from.result.1 in
     let none : between s.start s.end s.bytes ≡ [] = none_between s.start s.end s.bytes (omega (arith, c.if-self.false)) in
     subst (λ (held : Held). Fills held host (held_of from to to (to + c.in_ok-count.count) c.take_behind.new.bytes s.closed s.room (nat_eq c.in_ok-count.count 0)) new (Ok tt)) c.self.view_is
     (filled (held_of s.from s.to s.start s.end s.bytes s.closed s.room s.ended) from to c.make_room-from.new.bytes c.take_behind.new.bytes host new (g.met.H.Disk.laws c.args.host.now) none c.if-self-2.false

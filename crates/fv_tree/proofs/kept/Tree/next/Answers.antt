@@ -1,11 +1,10 @@
 use Rattle.std.proofs.Common.{◌≡◌, ◌<◌, inl, inr, subst, arith}
 use Rattle.std.specs.FinMap as fin
 use Rattle.std.proofs.lemmas.Bool.{cases_lt}
-use Rattle.std.proofs.lemmas.Result.{err_from_is_err_and}
 use Rattle.fv_tree.specs.Spelled.{Rooted}
 use Rattle.fv_tree.specs.Standing.{standing, under}
 use Rattle.fv_tree.specs.Seeking.{Lands, IsFurther}
-use Rattle.fv_tree.proofs.Causes.{calm_then, fails_then, untouched_then}
+use Rattle.fv_tree.proofs.Causes.{calm_then, fails_on, untouched_then}
 use Rattle.fv_tree.proofs.Removing.{none_past}
 use Rattle.fv_tree.proofs.Seeking.{holes_then}
 use Rattle.fv_tree.proofs.kept.Tree.next.Goals as goal
@@ -22,24 +21,20 @@ returns-in-Cell-clause-next g c = λ told.
 
 pub returns-in_err-index-clause-cause : goal.returns-in_err-index-clause-cause
 returns-in_err-index-clause-cause g c =
-    let p = err_from_is_err_and c.from_residual.result c.from_residual.ensures.1 in
-    rw (p.1, p.2) (fails_then g.B.Blocks.told c.args.self.now (g.B.Blocks.shown c.args.blocks.now) (g.B.Blocks.shown c.loop-at.blocks) (g.B.Blocks.shown c.walk.new.blocks) c.in_err-index.field-0.0 c.loop-at.invariant.calm c.loop-at.invariant.untouched c.in_err-index.ensures.cause)
+    fails_on g.B.Blocks.told c.args.self.now _ _ _ c.from_residual.result _ c.from_residual.ensures.1 c.loop-at.invariant.calm c.loop-at.invariant.untouched c.in_err-index.ensures.cause
 
 pub loop-at-preserved : goal.loop-at-preserved
 loop-at-preserved g c =
-    let old = g.B.Blocks.shown c.args.blocks.now in
-    let mid = g.B.Blocks.shown c.loop-at.blocks in
-    let new = g.B.Blocks.shown c.walk.new.blocks in
     let was = c.loop-at.invariant in
     let now = c.in_ok-index.ensures in
-    let t = standing (under old) c.args.self.now in
-    let s = standing (under mid) c.args.self.now in
+    let t = standing (under (g.B.Blocks.shown c.args.blocks.now)) c.args.self.now in
+    let s = standing (under (g.B.Blocks.shown c.loop-at.blocks)) c.args.self.now in
     let same : s ≡ t = λ j. standing (λ u. fin.get (was.untouched.held j) u) c.args.self.now in
     let further : c.loop-at.at < c.in-Past.next = subst (IsFurther c.loop-at.at) c.in-Past.is now.further in record {
       low = omega (arith, was.low, further);
       holes = λ told. holes_then t c.args.from c.loop-at.at c.in-Past.next (was.holes told) (subst (Lands t c.loop-at.at) c.in-Past.is (subst (λ (r : Rooted). Lands r c.loop-at.at c.in_ok-index.field-0) same (now.lands told)));
-      untouched = untouched_then old mid new was.untouched now.untouched;
-      calm = calm_then old mid new was.calm now.counts.calm;
+      untouched = untouched_then _ _ _ was.untouched now.untouched;
+      calm = calm_then _ _ _ was.calm now.counts.calm;
       reads = g.met.B.Blocks.reads_on c.args.blocks.now c.loop-at.blocks c.walk.new.blocks was.reads now.reads;
     }
 

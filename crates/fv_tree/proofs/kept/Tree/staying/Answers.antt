@@ -1,12 +1,11 @@
 use Rattle.std.proofs.Common.{◌≡◌, ◌≤◌, ◌-◌, ◌/◌, ◌^◌, ◌==◌, ◌&&◌, not, cond, Bool, ℕ, List, sym, ap, ◌∙◌, arith}
 use Rattle.std.specs.Ordering.{nat_cmp}
 use Rattle.std.specs.FinMap as fin
-use Rattle.std.proofs.lemmas.Result.{err_from_is_err_and}
 use Rattle.fv_model.specs.Trees.{fan}
 use Rattle.fv_tree.specs.Spelled.{pointer_below}
 use Rattle.fv_tree.specs.Standing.{standing, under}
 use Rattle.fv_tree.specs.Flushing.{changed_of, loaded}
-use Rattle.fv_tree.proofs.Causes.{calm_itself, calm_then, fails_then, untouched_itself, untouched_then}
+use Rattle.fv_tree.proofs.Causes.{calm_itself, calm_then, fails_on, untouched_itself, untouched_then}
 use Rattle.fv_tree.proofs.Stays.{staying_end, staying_next, staying_top}
 use Rattle.fv_tree.proofs.kept.Tree.staying.Goals as goal
 
@@ -42,15 +41,11 @@ returns-in_err-pointer-clause-reads g c = g.met.B.Blocks.reads_on c.args.blocks.
 
 pub returns-in_err-pointer-clause-cause : goal.returns-in_err-pointer-clause-cause
 returns-in_err-pointer-clause-cause g c =
-    let p = err_from_is_err_and c.from_residual.result c.from_residual.ensures.1 in
-    rw (p.1, p.2) (fails_then g.B.Blocks.told c.args.self.now (g.B.Blocks.shown c.args.blocks.now) (g.B.Blocks.shown c.loop-level.blocks) (g.B.Blocks.shown c.step.new.blocks) c.in_err-pointer.field-0.0 c.loop-level.invariant.calm c.loop-level.invariant.untouched c.in_err-pointer.ensures.cause)
+    fails_on g.B.Blocks.told c.args.self.now _ _ _ c.from_residual.result _ c.from_residual.ensures.1 c.loop-level.invariant.calm c.loop-level.invariant.untouched c.in_err-pointer.ensures.cause
 
 pub loop-level-preserved : goal.loop-level-preserved
 loop-level-preserved g c =
-    let a = g.B.Blocks.shown c.args.blocks.now in
-    let b = g.B.Blocks.shown c.loop-level.blocks in
-    let d = g.B.Blocks.shown c.step.new.blocks in
-    let s = loaded a c.args.self.now in
+    let s = loaded (g.B.Blocks.shown c.args.blocks.now) c.args.self.now in
     let i = c.args.index in
     let level = c.loop-level.level in
     let was = c.loop-level.invariant in
@@ -67,8 +62,8 @@ loop-level-preserved g c =
       pointer = below;
       count = λ told. staying_next s (g.B.Sharing.shared c.args.blocks.now) i level c.stays-count-in-loop-level.result c.loop-level.count p low high (below told) exact (was.count told);
       few = (let before = was.few in let few = one.few in omega (arith, before, few, low));
-      untouched = untouched_then a b d was.untouched now.untouched;
-      calm = calm_then a b d was.calm now.counts.calm;
+      untouched = untouched_then _ _ _ was.untouched now.untouched;
+      calm = calm_then _ _ _ was.calm now.counts.calm;
       reads = reads;
     }
 

@@ -7,11 +7,9 @@ use Rattle.fv_tree.proofs.Stays.{few_whole}
 use Rattle.fv_tree.proofs.Ways.{own_way}
 use Rattle.fv_tree.proofs.kept.Tree.staying_all.Goals as goal
 
-pub staying_under-requires-clause-range : goal.staying_under-requires-clause-range
-staying_under-requires-clause-range g c = let wide : 1 ≤ fan ^ (3 - c.args.self.now.levels) = one-le-pow (3 - c.args.self.now.levels) fan (omega arith) in omega (arith, wide)
-
-pub staying_under-requires-clause-pointer : goal.staying_under-requires-clause-pointer
-staying_under-requires-clause-pointer g c = λ told. sym ((own_way (standing (under (g.B.Blocks.shown c.args.blocks.now)) c.args.self.now)).top 0)
+pub staying_under-requires : goal.staying_under-requires
+staying_under-requires g c = let wide : 1 ≤ fan ^ (3 - c.args.self.now.levels) = one-le-pow (3 - c.args.self.now.levels) fan (omega arith) in
+    record { high = omega arith; range = omega (arith, wide); pointer = λ told. sym ((own_way (standing (under (g.B.Blocks.shown c.args.blocks.now)) c.args.self.now)).top 0) }
 
 pub returns-clause-few : goal.returns-clause-few
 returns-clause-few g c = IfOk-weaker c.staying_under.result _ _ (λ count few. few_whole count c.args.self.now.levels c.args.self.now.few few) c.staying_under.ensures.few

@@ -2,13 +2,14 @@ use native.Mathlib.Omega.{arith}
 use Rattle.std.proofs.Common.{rules, ◌≡◌, ◌∙◌, Option, Some, None, Ok, true, refl, sym, ap, subst}
 use Rattle.fv_files.specs.declared.files.Files.{Files}
 use Rattle.fv_volume.specs.declared.state.VolumeState.{VolumeState}
-use Rattle.fv_volume.specs.Causes.{of_block}
-use Rattle.fv_volume.specs.Lending.{lent_for, no_damage, sees}
-use Rattle.fv_volume.specs.LendingLaws.{goes_itself}
+use Rattle.fv_pool.specs.Causes.{of_block}
+use Rattle.fv_pool.specs.Lending.{lent_for, no_damage, sees}
+use Rattle.fv_pool.specs.LendingLaws.{goes_itself}
 use Rattle.fv_volume.specs.OneVolume.{home_in, IsStanding}
-use Rattle.fv_volume.specs.Placing.{FlushFails, PlacesVolume}
+use Rattle.fv_pool.specs.Placing.{FlushFails}
+use Rattle.fv_volume.specs.Placing.{PlacesVolume}
 use Rattle.fv_volume.proofs.OneVolumes.{root_fits}
-use Rattle.fv_volume.proofs.PlaceCauses.{fault_cause, place_narrow}
+use Rattle.fv_pool.proofs.PlaceCauses.{fault_cause, place_narrow}
 use Rattle.fv_volume.proofs.Placed.{done_led, done_standing, done_volume, done_well, failed_led, failed_standing, failed_volume, failed_well, few_rooted, fits_done, fits_failed, fits_rooted, pending_held, ready_placed, was_told}
 use Rattle.fv_volume.proofs.PlacedShared.{was_laid}
 use Rattle.fv_volume.proofs.state.VolumeState.flush.Goals as goal
@@ -37,9 +38,7 @@ returns-in-Err-clause-ready g c =
 
 pub returns-in_default-clause-places : goal.returns-in_default-clause-places
 returns-in_default-clause-places g c = λ is.
-    let d = g.D.Disk.shown c.args.disk.now in
-    let p = c.args.pool.now in
-    let x = c.args.self.now in
+    let d = g.D.Disk.shown c.args.disk.now in let p = c.args.pool.now in let x = c.args.self.now in
     let room = c.args.room.now in
     let none : x.files ≡ None = search rules in
     subst (λ (o : Option Files). PlacesVolume d p x room d p (record x { files = o }) room (Ok tt)) (none ∙ sym c.take.ensures.after) (record {
@@ -53,14 +52,9 @@ returns-in_default-clause-places g c = λ is.
 
 pub returns-in-Ok-clause-places : goal.returns-in-Ok-clause-places
 returns-in-Ok-clause-places g c = λ is.
-    let d = g.D.Disk.shown c.args.disk.now in
-    let p = c.args.pool.now in
-    let x = c.args.self.now in
-    let files = c.in-Some.files in
-    let held : x.files ≡ Some files = search rules in
-    let goes = c.place_table.ensures.goes in
-    let now = c.place_table.new in
-    let after = c.take.ensures.after in
+    let d = g.D.Disk.shown c.args.disk.now in let p = c.args.pool.now in let x = c.args.self.now in
+    let files = c.in-Some.files in let held : x.files ≡ Some files = search rules in
+    let goes = c.place_table.ensures.goes in let now = c.place_table.new in let after = c.take.ensures.after in
     let table = c.in-Ok.ensures.table in
     let rooted = c.rooted-self.ensures in
     let y : VolumeState = record x { active = c.rooted-self.result; map = now.map; files = c.take.new.self; changed = true } in
@@ -77,14 +71,9 @@ returns-in-Ok-clause-places g c = λ is.
 
 pub returns-in-Err-clause-places : goal.returns-in-Err-clause-places
 returns-in-Err-clause-places g c = λ is.
-    let d = g.D.Disk.shown c.args.disk.now in
-    let p = c.args.pool.now in
-    let x = c.args.self.now in
-    let files = c.in-Some.files in
-    let held : x.files ≡ Some files = search rules in
-    let goes = c.place_table.ensures.goes in
-    let now = c.place_table.new in
-    let fault = c.in-Err.fault in
+    let d = g.D.Disk.shown c.args.disk.now in let p = c.args.pool.now in let x = c.args.self.now in
+    let files = c.in-Some.files in let held : x.files ≡ Some files = search rules in
+    let goes = c.place_table.ensures.goes in let now = c.place_table.new in let fault = c.in-Err.fault in
     let table = c.in-Err.ensures.table in
     let told = was_told d p x files held in
     record {
@@ -98,11 +87,8 @@ returns-in-Err-clause-places g c = λ is.
 
 pub returns-in-Err-clause-cause : goal.returns-in-Err-clause-cause
 returns-in-Err-clause-cause g c =
-    let d = g.D.Disk.shown c.args.disk.now in
-    let p = c.args.pool.now in
-    let x = c.args.self.now in
-    let files = c.in-Some.files in
-    let held : x.files ≡ Some files = search rules in
+    let d = g.D.Disk.shown c.args.disk.now in let p = c.args.pool.now in let x = c.args.self.now in
+    let files = c.in-Some.files in let held : x.files ≡ Some files = search rules in
     let room = c.place_table.new.room in
     let old = lent_for p x.map d 0 (home_in x) c.args.room.now in
     subst (FlushFails (IsStanding d p x) old room) (sym c.into.ensures)
@@ -113,18 +99,12 @@ returns-in_default-clause-unused g c = λ is v none. refl
 
 pub returns-in-Ok-clause-unused : goal.returns-in-Ok-clause-unused
 returns-in-Ok-clause-unused g c = λ is.
-    let d = g.D.Disk.shown c.args.disk.now in
-    let p = c.args.pool.now in
-    let x = c.args.self.now in
-    let files = c.in-Some.files in
-    let held : x.files ≡ Some files = search rules in
+    let d = g.D.Disk.shown c.args.disk.now in let p = c.args.pool.now in let x = c.args.self.now in
+    let files = c.in-Some.files in let held : x.files ≡ Some files = search rules in
     c.place_table.ensures.unused (was_told d p x files held is) (was_laid d p x files held is)
 
 pub returns-in-Err-clause-unused : goal.returns-in-Err-clause-unused
 returns-in-Err-clause-unused g c = λ is.
-    let d = g.D.Disk.shown c.args.disk.now in
-    let p = c.args.pool.now in
-    let x = c.args.self.now in
-    let files = c.in-Some.files in
-    let held : x.files ≡ Some files = search rules in
+    let d = g.D.Disk.shown c.args.disk.now in let p = c.args.pool.now in let x = c.args.self.now in
+    let files = c.in-Some.files in let held : x.files ≡ Some files = search rules in
     c.place_table.ensures.unused (was_told d p x files held is) (was_laid d p x files held is)

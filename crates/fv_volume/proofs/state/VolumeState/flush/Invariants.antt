@@ -1,5 +1,5 @@
 use Rattle.fv_files.specs.Tables.{AreStanding}
-use Rattle.fv_volume.specs.Lending.{IsTold, sees}
+use Rattle.fv_pool.specs.Lending.{IsTold, sees}
 use Rattle.fv_volume.proofs.state.VolumeState.flush.Given as goal
 
 abbrev pub ghosts-place_table : goal.ghosts-place_table

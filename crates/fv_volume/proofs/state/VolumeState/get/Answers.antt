@@ -6,16 +6,17 @@ use Rattle.fv_files.specs.Calls.{GivesCell}
 use Rattle.fv_files.specs.Tables.{IsInfoOf}
 use Rattle.fv_model.specs.declared.answers.Refusal.{Refusal}
 use Rattle.fv_model.specs.Numbers.{is_index}
-use Rattle.fv_volume.specs.declared.fault.VolumeFault.TheVariants.{Refused}
+use Rattle.fv_pool.specs.declared.fault.VolumeFault.TheVariants.{Refused}
 use Rattle.fv_volume.specs.declared.state.VolumeState.{VolumeState}
 use Rattle.fv_volume.specs.Asking.{standing_of, standing_read}
-use Rattle.fv_volume.specs.Calls.{BlockCause, CallCause}
-use Rattle.fv_volume.specs.Causes.{of_block}
-use Rattle.fv_volume.specs.Lending.{lent_for}
+use Rattle.fv_pool.specs.Calls.{BlockCause}
+use Rattle.fv_pool.specs.Causes.{of_block}
+use Rattle.fv_pool.specs.Lending.{lent_for}
 use Rattle.fv_volume.specs.OneVolume.{home_in, IsStanding}
 use Rattle.fv_volume.specs.Paths.{unknown_over, StepsTo}
 use Rattle.fv_volume.proofs.Asked.{first_info, get_asked_found, get_asked_lost, get_asked_missing, get_asked_past, get_too_far}
-use Rattle.fv_volume.proofs.CallCauses.{failed_cause, fails_on, not_refused}
+use Rattle.fv_pool.proofs.CallCauses.{failed_cause, not_refused}
+use Rattle.fv_volume.proofs.CallCauses.{fails_on}
 use Rattle.fv_volume.proofs.Followed.{steps_to}
 use Rattle.fv_volume.proofs.KeptReads.{asked_cause, asked_is, asked_none, of_after, of_before, read_is, still_of}
 use Rattle.fv_volume.proofs.state.VolumeState.get.Goals as goal
@@ -33,29 +34,21 @@ returns-in_default-clause-asked g c = λ is.
     get_asked_lost d c.args.pool.now c.args.self.now s is (asked_none d c.args.pool.now c.args.self.now s (sym c.table_asked.ensures ∙ c.in_default.is)) c.args.file.now c.args.index _ near
 
 pub returns-in_err-find_in-clause-cause : goal.returns-in_err-find_in-clause-cause
-returns-in_err-find_in-clause-cause g c =
-    let failed : c.from_residual.result ≡ Err (of_block c.in_err-find_in.field-0.0) = search rules in
-    asked_cause (g.D.Disk.shown c.args.disk.now) c.args.pool.now c.args.self.now (option_copied c.args.snapshot) c.in-Some.table (sym c.table_asked.ensures ∙ c.in-Some.is) 0 (g.D.Disk.shown c.find_in.new.disk).faults c.in_err-find_in.field-0.0 c.from_residual.result failed c.in_err-find_in.ensures.cause
+returns-in_err-find_in-clause-cause g c = asked_cause (g.D.Disk.shown c.args.disk.now) c.args.pool.now c.args.self.now (option_copied c.args.snapshot) c.in-Some.table (sym c.table_asked.ensures ∙ c.in-Some.is) 0 (g.D.Disk.shown c.find_in.new.disk).faults c.in_err-find_in.field-0.0 c.from_residual.result (search rules) c.in_err-find_in.ensures.cause
 
 pub returns-in-None-clause-asked : goal.returns-in-None-clause-asked
 returns-in-None-clause-asked g c = λ is.
-    let d = g.D.Disk.shown c.args.disk.now in
-    let p = c.args.pool.now in
-    let x = c.args.self.now in
-    let s = option_copied c.args.snapshot in
-    let t = c.in-Some.table in
     let near : is_index c.args.index ≡ true = search rules in
+    let d = g.D.Disk.shown c.args.disk.now in let p = c.args.pool.now in let x = c.args.self.now in
+    let s = option_copied c.args.snapshot in let t = c.in-Some.table in
     let found : c.in_ok-find_in.field-0 ≡ None = search rules in
     get_asked_missing d p x s is (standing_of d p x t) (asked_is d p x s t (sym c.table_asked.ensures ∙ c.in-Some.is)) c.args.file.now c.args.index _ near (subst (λ o. Finds (standing_of d p x t).inode c.args.file.now o) found (c.in_ok-find_in.ensures.found is))
 
 pub returns-then-info-index-clause-asked : goal.returns-then-info-index-clause-asked
 returns-then-info-index-clause-asked g c = λ is.
-    let d = g.D.Disk.shown c.args.disk.now in
-    let p = c.args.pool.now in
-    let x = c.args.self.now in
-    let s = option_copied c.args.snapshot in
-    let t = c.in-Some.table in
     let near : is_index c.args.index ≡ true = search rules in
+    let d = g.D.Disk.shown c.args.disk.now in let p = c.args.pool.now in let x = c.args.self.now in
+    let s = option_copied c.args.snapshot in let t = c.in-Some.table in
     let found : c.in_ok-find_in.field-0 ≡ Some c.in-Some-2.info = search rules in
     let first : IsFirst (standing_of d p x t).inode c.args.file.now c.in-Some-2.info = subst (λ o. Finds (standing_of d p x t).inode c.args.file.now o) found (c.in_ok-find_in.ensures.found is) in
     let past : c.in-Some-2.info.length ≤ c.args.index = search rules in
@@ -63,9 +56,7 @@ returns-then-info-index-clause-asked g c = λ is.
 
 pub read_in-requires-clause-there : goal.read_in-requires-clause-there
 read_in-requires-clause-there g c =
-    let d = g.D.Disk.shown c.args.disk.now in
-    let p = c.args.pool.now in
-    let x = c.args.self.now in
+    let d = g.D.Disk.shown c.args.disk.now in let p = c.args.pool.now in let x = c.args.self.now in
     let t = c.in-Some.table in
     let found : c.in_ok-find_in.field-0 ≡ Some c.in-Some-2.info = search rules in
     of_after d (g.D.Disk.shown c.find_in.new.disk) p c.find_in.new.pool c.find_in.ensures.reads x t c.find_in.new.volume c.find_in.ensures.same (λ (u : Standing). IsInfoOf u.inode c.in-Some-2.info)
@@ -78,8 +69,7 @@ returns-in_err-read_in-in-Some-2-clause-cause g c =
     let p = c.args.pool.now in
     let q = c.find_in.new.pool in
     let x = c.args.self.now in
-    let s = option_copied c.args.snapshot in
-    let t = c.in-Some.table in
+    let s = option_copied c.args.snapshot in let t = c.in-Some.table in
     let left = (g.D.Disk.shown c.read_in.new.disk).faults in
     let fault = c.in_err-read_in-in-Some-2.field-0.0 in
     let failed : c.from_residual-in_err-read_in-in-Some-2.result ≡ Err (of_block fault) = search rules in
@@ -90,12 +80,9 @@ returns-in_err-read_in-in-Some-2-clause-cause g c =
 
 pub returns-in_ok-read_in-in-Some-2-clause-asked : goal.returns-in_ok-read_in-in-Some-2-clause-asked
 returns-in_ok-read_in-in-Some-2-clause-asked g c = λ is.
-    let d = g.D.Disk.shown c.args.disk.now in
-    let p = c.args.pool.now in
-    let x = c.args.self.now in
-    let s = option_copied c.args.snapshot in
-    let t = c.in-Some.table in
     let near : is_index c.args.index ≡ true = search rules in
+    let d = g.D.Disk.shown c.args.disk.now in let p = c.args.pool.now in let x = c.args.self.now in
+    let s = option_copied c.args.snapshot in let t = c.in-Some.table in
     let found : c.in_ok-find_in.field-0 ≡ Some c.in-Some-2.info = search rules in
     let first : IsFirst (standing_of d p x t).inode c.args.file.now c.in-Some-2.info = subst (λ o. Finds (standing_of d p x t).inode c.args.file.now o) found (c.in_ok-find_in.ensures.found is) in
     let within : c.args.index < c.in-Some-2.info.length = search rules in
@@ -105,11 +92,8 @@ returns-in_ok-read_in-in-Some-2-clause-asked g c = λ is.
 
 pub returns-in_ok-read_in-in-Some-2-clause-steps : goal.returns-in_ok-read_in-in-Some-2-clause-steps
 returns-in_ok-read_in-in-Some-2-clause-steps g c = λ is.
-    let d = g.D.Disk.shown c.args.disk.now in
-    let p = c.args.pool.now in
-    let x = c.args.self.now in
-    let s = option_copied c.args.snapshot in
-    let t = c.in-Some.table in
+    let d = g.D.Disk.shown c.args.disk.now in let p = c.args.pool.now in let x = c.args.self.now in
+    let s = option_copied c.args.snapshot in let t = c.in-Some.table in
     let found : c.in_ok-find_in.field-0 ≡ Some c.in-Some-2.info = search rules in
     let first : IsFirst (standing_of d p x t).inode c.args.file.now c.in-Some-2.info = subst (λ o. Finds (standing_of d p x t).inode c.args.file.now o) found (c.in_ok-find_in.ensures.found is) in
     let rose = of_before d (g.D.Disk.shown c.find_in.new.disk) p c.find_in.new.pool c.find_in.ensures.reads x t c.find_in.new.volume c.find_in.ensures.same

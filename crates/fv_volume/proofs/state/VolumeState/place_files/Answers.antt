@@ -1,9 +1,9 @@
 use Rattle.std.proofs.Common.{◌≡◌, ◌≤◌, true, is_some, Some, Ok, Err, Result, arith}
 use Rattle.std.specs.Prelude.{IfErr}
-use Rattle.fv_volume.specs.declared.fault.VolumeFault.{VolumeFault}
-use Rattle.fv_volume.specs.declared.fault.VolumeFault.TheVariants.{Memory}
+use Rattle.fv_pool.specs.declared.fault.VolumeFault.{VolumeFault}
+use Rattle.fv_pool.specs.declared.fault.VolumeFault.TheVariants.{Memory}
 use Rattle.fv_volume.specs.OneVolume.{IsStanding}
-use Rattle.fv_volume.specs.Placing.{pending_of}
+use Rattle.fv_pool.specs.Tables.{pending_of}
 use Rattle.fv_volume.proofs.Spending.{spends_held}
 use Rattle.fv_volume.specs.Held.{MayFail}
 use Rattle.fv_volume.proofs.state.VolumeState.place_files.Goals as goal

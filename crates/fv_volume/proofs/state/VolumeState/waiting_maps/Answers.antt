@@ -12,20 +12,10 @@ loop-slot-preserved c =
     elim c.if-self-slot.branch [
       | then-self-slot w ↦
           let on : get_or x.fresh k false ≡ true = w.if-self-slot.true in
-          record {
-            first = omega (arith, kept.first);
-            last = omega (arith, c.loop-slot-test.true);
-            few = omega (arith, kept.few, w.count-is);
-            counted = omega (arith, w.count-is, kept.counted, more, ap (λ (t : Bool). cond {A = ℕ} t 1 0) on);
-          }
+          record { first = omega (arith, kept.first); last = omega (arith, c.loop-slot-test.true); few = omega (arith, kept.few, w.count-is); counted = omega (arith, w.count-is, kept.counted, more, ap (λ (t : Bool). cond {A = ℕ} t 1 0) on) }
       | else-self-slot w ↦
           let off : get_or x.fresh k false ≡ false = w.if-self-slot.false in
-          record {
-            first = omega (arith, kept.first);
-            last = omega (arith, c.loop-slot-test.true);
-            few = omega (arith, kept.few, w.count-is);
-            counted = omega (arith, w.count-is, kept.counted, more, ap (λ (t : Bool). cond {A = ℕ} t 1 0) off);
-          }
+          record { first = omega (arith, kept.first); last = omega (arith, c.loop-slot-test.true); few = omega (arith, kept.few, w.count-is); counted = omega (arith, w.count-is, kept.counted, more, ap (λ (t : Bool). cond {A = ℕ} t 1 0) off) }
     ]
 
 pub returns-clause-value : goal.returns-clause-value

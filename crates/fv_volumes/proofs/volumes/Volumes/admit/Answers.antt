@@ -19,31 +19,30 @@ err_of : (P Q : Refusal → Type 0) (result : Result Admitted Refusal) → ((r :
 err_of P Q (Ok a) so holds = tt
 err_of P Q (Err r) so holds = so r holds
 
+-- there are 64 slots
+long : (c : goal.After-admit) → length c.args.self.now ≡ 64
+long c = ap (λ (s : States). length s) (sym c.self.view_is) ∙ c.self.invariant
+
+-- what is admitted, of the volumes that contracts see
+admitted : (c : goal.After-admit) → IfOk c.admit.result (λ (a : Admitted). Admits c.args.self.now c.args.blocks c.args.name.now c.args.size c.args.kind a.slot a.span)
+admitted c = subst (λ (s : States). IfOk c.admit.result (λ (a : Admitted). Admits s c.args.blocks c.args.name.now c.args.size c.args.kind a.slot a.span)) (c.deref.ensures.value ∙ c.self.view_is) c.admit.ensures.admitted
+
 pub returns-clause-accepted : goal.returns-clause-accepted
 returns-clause-accepted c =
-    let states : States = c.args.self.now in
-    let long : length states ≡ 64 = ap (λ (s : States). length s) (sym c.self.view_is) ∙ c.self.invariant in
-    let admitted : IfOk c.admit.result (λ (a : Admitted). Admits states c.args.blocks c.args.name.now c.args.size c.args.kind a.slot a.span) =
-    subst (λ (s : States). IfOk c.admit.result (λ (a : Admitted). Admits s c.args.blocks c.args.name.now c.args.size c.args.kind a.slot a.span)) (c.deref.ensures.value ∙ c.self.view_is) c.admit.ensures.admitted in
-    ok_of (λ (a : Admitted). Admits states c.args.blocks c.args.name.now c.args.size c.args.kind a.slot a.span) _ c.admit.result
-    (λ a is pool trees same i are. accepted pool states trees i long are c.args.name.now c.args.size c.args.kind a.slot a.span
-    (subst (λ (n : ℕ). Admits states n c.args.name.now c.args.size c.args.kind a.slot a.span) (sym same) is)) admitted
+    ok_of (λ (a : Admitted). Admits c.args.self.now c.args.blocks c.args.name.now c.args.size c.args.kind a.slot a.span) _ c.admit.result
+    (λ a is pool trees same i are. accepted pool c.args.self.now trees i (long c) are c.args.name.now c.args.size c.args.kind a.slot a.span
+    (subst (λ (n : ℕ). Admits c.args.self.now n c.args.name.now c.args.size c.args.kind a.slot a.span) (sym same) is)) (admitted c)
 
 pub returns-clause-room : goal.returns-clause-room
 returns-clause-room c =
-    let states : States = c.args.self.now in
-    let long : length states ≡ 64 = ap (λ (s : States). length s) (sym c.self.view_is) ∙ c.self.invariant in
-    let admitted : IfOk c.admit.result (λ (a : Admitted). Admits states c.args.blocks c.args.name.now c.args.size c.args.kind a.slot a.span) =
-    subst (λ (s : States). IfOk c.admit.result (λ (a : Admitted). Admits s c.args.blocks c.args.name.now c.args.size c.args.kind a.slot a.span)) (c.deref.ensures.value ∙ c.self.view_is) c.admit.ensures.admitted in
-    ok_of (λ (a : Admitted). Admits states c.args.blocks c.args.name.now c.args.size c.args.kind a.slot a.span) _ c.admit.result
-    (λ a is pool trees same i are. room_beside pool states trees i long are c.args.name.now c.args.size c.args.kind a.slot a.span c.args.blocks is) admitted
+    ok_of (λ (a : Admitted). Admits c.args.self.now c.args.blocks c.args.name.now c.args.size c.args.kind a.slot a.span) _ c.admit.result
+    (λ a is pool trees same i are. room_beside pool c.args.self.now trees i (long c) are c.args.name.now c.args.size c.args.kind a.slot a.span c.args.blocks is) (admitted c)
 
 pub returns-clause-refused : goal.returns-clause-refused
 returns-clause-refused c =
     let states : States = c.args.self.now in
-    let long : length states ≡ 64 = ap (λ (s : States). length s) (sym c.self.view_is) ∙ c.self.invariant in
     let refused : IfErr c.admit.result (Refuses states c.args.blocks c.args.name.now c.args.size c.args.kind) =
     subst (λ (s : States). IfErr c.admit.result (Refuses s c.args.blocks c.args.name.now c.args.size c.args.kind)) (c.deref.ensures.value ∙ c.self.view_is) c.admit.ensures.refused in
     err_of (Refuses states c.args.blocks c.args.name.now c.args.size c.args.kind) _ c.admit.result
-    (λ r by pool trees same i are. refused_as pool states trees i long are c.args.name.now c.args.size c.args.kind r
+    (λ r by pool trees same i are. refused_as pool states trees i (long c) are c.args.name.now c.args.size c.args.kind r
     (subst (λ (n : ℕ). Refuses states n c.args.name.now c.args.size c.args.kind r) (sym same) by)) refused

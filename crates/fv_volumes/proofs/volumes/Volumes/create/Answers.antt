@@ -4,24 +4,25 @@ use Rattle.fv_model.specs.declared.commands.Command.TheVariants.{VolCreate}
 use Rattle.fv_model.specs.Refusals.{next}
 use Rattle.fv_container.specs.Mapped.{empty_map}
 use Rattle.fv_volumes.specs.Creating.{Admits}
-use Rattle.fv_volume.specs.declared.pool.Pool.{Pool}
+use Rattle.fv_pool.specs.declared.pool.Pool.{Pool}
 use Rattle.fv_volume.specs.Files.{AreStates, IsLabelled}
 use Rattle.fv_volume.specs.States.{States, state_at, view_over}
 use Rattle.fv_volume.specs.Trees.{machine_in}
 use Rattle.fv_volumes.proofs.Made.{IsAdded, accepted, added_by, added_states, is_new, each_made, made_next}
 use Rattle.fv_volumes.proofs.volumes.Volumes.create.Goals as goal
 
-pub returns-clause-states : goal.returns-clause-states
-returns-clause-states c = λ trees i are. added_states c.args.pool.now c.self.inside.states.items c.args.admitted.slot c.args.name.now c.args.size c.args.kind c.in_ok-state.state new_pool is_added trees i
-    (subst (λ (s : States). AreStates (view_over c.args.pool.now s i) trees s) (sym c.self.view_is) are)
-  where
-    new_pool : Pool
-    new_pool = record c.args.pool.now { containers = c.put.new.self }
+-- the pool with the container of the volume that was added
+abbrev new_pool : (c : goal.After-put) → Pool
+new_pool c = record c.args.pool.now { containers = c.put.new.self }
 
-    is_added : IsAdded c.args.pool.now c.self.inside.states.items c.args.admitted.slot c.args.name.now c.args.size c.args.kind c.in_ok-state.state new_pool
-    is_added = added_by c.args.pool.now c.self.inside.states.items c.args.admitted.slot c.args.name.now c.args.size c.args.kind c.args.admitted.span c.in_ok-state.state new_pool _ c.self.invariant
-        (subst (λ (s : States). Admits s c.args.pool.now.found.blocks c.args.name.now c.args.size c.args.kind c.args.admitted.slot c.args.admitted.span) (sym c.self.view_is) c.requires.admitted)
-        c.in_ok-state.ensures.slot c.in_ok-state.ensures.head c.in_ok-state.ensures.ledger c.in_ok-state.ensures.named c.in_ok-state.ensures.map c.in_ok-state.ensures.rests.fresh refl refl c.put.ensures.put
+is_added : (c : goal.After-put) → IsAdded c.args.pool.now c.self.inside.states.items c.args.admitted.slot c.args.name.now c.args.size c.args.kind c.in_ok-state.state (new_pool c)
+is_added c = added_by c.args.pool.now c.self.inside.states.items c.args.admitted.slot c.args.name.now c.args.size c.args.kind c.args.admitted.span c.in_ok-state.state (new_pool c) _ c.self.invariant
+    (subst (λ (s : States). Admits s c.args.pool.now.found.blocks c.args.name.now c.args.size c.args.kind c.args.admitted.slot c.args.admitted.span) (sym c.self.view_is) c.requires.admitted)
+    c.in_ok-state.ensures.slot c.in_ok-state.ensures.head c.in_ok-state.ensures.ledger c.in_ok-state.ensures.named c.in_ok-state.ensures.map c.in_ok-state.ensures.rests.fresh refl refl c.put.ensures.put
+
+pub returns-clause-states : goal.returns-clause-states
+returns-clause-states c = λ trees i are. added_states c.args.pool.now c.self.inside.states.items c.args.admitted.slot c.args.name.now c.args.size c.args.kind c.in_ok-state.state (new_pool c) (is_added c) trees i
+    (subst (λ (s : States). AreStates (view_over c.args.pool.now s i) trees s) (sym c.self.view_is) are)
 
 pub returns-clause-accepted : goal.returns-clause-accepted
 returns-clause-accepted c = λ trees i are.
@@ -30,17 +31,9 @@ returns-clause-accepted c = λ trees i are.
     accepted c.args.pool.now states trees i long are c.args.name.now c.args.size c.args.kind c.args.admitted.slot c.args.admitted.span c.requires.admitted
 
 pub returns-clause-machine : goal.returns-clause-machine
-returns-clause-machine c = λ trees i are. made_next c.args.pool.now c.self.inside.states.items c.args.admitted.slot c.args.name.now c.args.size c.args.kind c.in_ok-state.state new_pool is_added trees i
+returns-clause-machine c = λ trees i are. made_next c.args.pool.now c.self.inside.states.items c.args.admitted.slot c.args.name.now c.args.size c.args.kind c.in_ok-state.state (new_pool c) (is_added c) trees i
     (subst (λ (s : States). AreStates (view_over c.args.pool.now s i) trees s) (sym c.self.view_is) are)
     ∙ ap (λ (s : States). next (machine_in c.args.pool.now s trees i) (VolCreate c.args.name.now c.args.size c.args.kind)) c.self.view_is
-  where
-    new_pool : Pool
-    new_pool = record c.args.pool.now { containers = c.put.new.self }
-
-    is_added : IsAdded c.args.pool.now c.self.inside.states.items c.args.admitted.slot c.args.name.now c.args.size c.args.kind c.in_ok-state.state new_pool
-    is_added = added_by c.args.pool.now c.self.inside.states.items c.args.admitted.slot c.args.name.now c.args.size c.args.kind c.args.admitted.span c.in_ok-state.state new_pool _ c.self.invariant
-        (subst (λ (s : States). Admits s c.args.pool.now.found.blocks c.args.name.now c.args.size c.args.kind c.args.admitted.slot c.args.admitted.span) (sym c.self.view_is) c.requires.admitted)
-        c.in_ok-state.ensures.slot c.in_ok-state.ensures.head c.in_ok-state.ensures.ledger c.in_ok-state.ensures.named c.in_ok-state.ensures.map c.in_ok-state.ensures.rests.fresh refl refl c.put.ensures.put
 
 pub returns-clause-new : goal.returns-clause-new
 returns-clause-new c =

@@ -2,8 +2,8 @@ use Rattle.std.proofs.Common.{◌≡◌, ℕ, length, refl, arith}
 use Rattle.std.specs.Prelude.{IsTrue}
 use Rattle.fv_volumes.proofs.Openings.{all_led, all_ready, all_standing, all_well}
 use Rattle.fv_volumes.proofs.Viewed.{loaded_machine, loaded_states, viewed}
-use Rattle.fv_volume.specs.Calls.{Reads}
-use Rattle.fv_volume.specs.declared.pool.Pool.{Pool}
+use Rattle.fv_pool.specs.Calls.{Reads}
+use Rattle.fv_pool.specs.declared.pool.Pool.{Pool}
 use Rattle.fv_volumes.proofs.volumes.Volumes.open.Goals as goal
 
 pub returns : goal.returns

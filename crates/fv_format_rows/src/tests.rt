@@ -1,0 +1,7 @@
+//! The tests.
+
+mod bits;
+mod blocks;
+mod lines;
+mod scripts;
+mod vectors;

@@ -1,0 +1,15 @@
+mod Writing
+mod Lent
+pub mod Holding
+pub mod Shows
+mod PlaceShown
+mod Going
+pub mod Failing
+pub mod CallCauses
+mod TableCauses
+mod DropCauses
+mod LeftTables
+pub mod TakenTrees
+mod PlacedFree
+pub mod PlaceCauses
+pub mod OverBlocks

@@ -1,0 +1,119 @@
+-- What loading a block, placing one and giving one up show to a tree, whether the disk is asked or not.
+use Rattle.std.proofs.Common.{rules, ◌≤◌, ◌+◌, ◌≡◌, ◌≢◌, ℕ, false, true, List, Option, Some, Ok, Err, slice_set, refl, sym, ap, subst, ◌∙◌, ⊎_elim, arith}
+use Rattle.fv_disk.specs.Shown.{Rose, Shown as Disk}
+use Rattle.fv_disk.specs.DiskCalls.{OnlyReads}
+use Rattle.fv_disk.specs.declared.fault.BlockFault.{BlockFault}
+use Rattle.fv_disk.specs.declared.fault.BlockFault.TheVariants.{DiskFault, Damaged, Memory}
+use Rattle.fv_bits.specs.Members.{is_member}
+use Rattle.fv_aggmap.specs.Space.{free_blocks}
+use Rattle.fv_image.specs.Layout.{root_place}
+use Rattle.fv_codec.specs.Blocks.{last_place}
+use Rattle.fv_codec.specs.declared.pointer.Pointer.{Pointer}
+use Rattle.fv_container.specs.declared.entry.Entry.{Entry}
+use Rattle.fv_container.specs.Chains.{Slots}
+use Rattle.fv_volmap.specs.Slots.{IsVolume, Volume, active_of, with_slot}
+use Rattle.fv_tree.specs.declared.blocks.Placed.{Placed}
+use Rattle.fv_tree.specs.Sources.{Counts, Drops, HasCause, IsDamaged, IsUntouched, Loads, Places, Shown}
+use Rattle.fv_pool.specs.declared.blocks.Home.{Home}
+use Rattle.fv_pool.specs.declared.noted.Noted.{Noted}
+use Rattle.fv_pool.specs.declared.pool.Pool.{Pool}
+use Rattle.fv_pool.specs.BlocksOver.{AreApart, HoldsMore, IsLooseFault, LacksPlace, LeavesPool, PlacesBlock, block_of, free_numbers, held_block, held_entry, place_of, steps_by}
+use Rattle.fv_pool.specs.Lending.{Notes, lent_by, shown_over, use_of}
+use Rattle.fv_pool.proofs.Failing.{still_shown}
+use Rattle.fv_pool.proofs.Going.{place_lacks}
+use Rattle.fv_pool.proofs.Shows.{get_held, held_gone, held_more, loose_none, not_active, read_place, unused_member, use_gone, use_none, use_placed, used_member}
+
+module _ (map : Volume) (pool after : Pool) (disk later : Disk) (steps made : ℕ) (home : Home) (room strays : ℕ) (noted last : Noted) (told : Type 0) (pointer : Pointer) (block : List ℕ) (leaves : LeavesPool pool after) (reads : OnlyReads disk later) where
+  abbrev unloaded : Shown
+  unloaded = shown_over (lent_by pool map disk steps home room strays noted)
+
+  abbrev loaded : Shown
+  loaded = shown_over (lent_by after map later made home room strays last)
+
+  abbrev entry : Option Entry
+  entry = held_entry map pool.containers home.slot pointer.vvbn
+
+  pub loaded_shown : (pvbn : ℕ) → (told → held_block map pool home.slot disk.reads pointer.vvbn ≡ Some block) → place_of entry ≡ Some pvbn → pvbn ≤ last_place → made ≡ steps + steps_by entry pointer.pvbn
+      → Counts {T = ℕ} {E = BlockFault} unloaded loaded (Ok pvbn) → Loads told unloaded pointer loaded block (Ok pvbn)
+  loaded_shown pvbn gives place range spent counts = record {
+    untouched = still_shown map pool after disk later steps made home room strays noted last leaves reads;
+    gives = λ told. get_held map pool home.slot disk.reads pointer.vvbn ∙ gives told;
+    answers = read_place entry pvbn place ∙ ap (λ (s : Slots). (use_of (held_entry map s home.slot pointer.vvbn)).pvbn) (sym leaves.containers);
+    range = range;
+    spent = spent;
+    counts = counts;
+    cause = tt;
+    loose = tt;
+  }
+
+  pub failed_shown : (e fault : BlockFault) → e ≡ fault → IsLooseFault entry home.label fault → Counts {T = ℕ} unloaded loaded (Err e) → HasCause unloaded loaded e → Loads told unloaded pointer loaded block (Err e)
+  failed_shown e fault same loose counts cause = record {
+    untouched = still_shown map pool after disk later steps made home room strays noted last leaves reads;
+    gives = λ _. tt;
+    answers = tt;
+    range = tt;
+    spent = tt;
+    counts = counts;
+    cause = cause;
+    loose = λ damaged. get_held map pool home.slot disk.reads pointer.vvbn ∙ ap (block_of pool.kept disk.reads) (loose_none entry home.label fault loose (subst IsDamaged same damaged));
+  }
+
+module _ (pool new : Pool) (map after : Volume) (disk : Disk) (steps : ℕ) (home : Home) (room less strays : ℕ) (noted : Noted) (told : Type 0) (apart : told → AreApart pool map home.slot)
+    (kind : ℕ) (block : List ℕ) (placed : Placed) (valid : IsVolume map) (places : PlacesBlock pool map home.slot kind block new after placed) (holds : HoldsMore pool map home.slot kind block new after placed)
+    (within : placed.vvbn ≤ last_place) (fewer : room ≤ less + 1) where
+  pub placed_shown : Places told (shown_over (lent_by pool map disk steps home room strays noted)) kind block (shown_over (lent_by new after disk steps home less strays noted)) (Ok placed)
+  placed_shown = record {
+    fresh = get_held map pool home.slot disk.reads placed.vvbn ∙ ap (block_of pool.kept disk.reads) holds.fresh;
+    unused = use_none map pool.containers home.slot placed.vvbn (not_active map placed.vvbn valid places.takes.number.free);
+    held = λ is. held_more map after pool new home.slot disk.reads placed.vvbn block (holds.content disk.reads) (λ w other. holds.contents (apart is) disk.reads w other);
+    used = use_placed map after placed.vvbn valid places.takes.number pool.containers new.containers home.slot (record { pvbn = placed.pvbn; kind = kind }) holds.entry holds.others;
+    vvbn = within;
+    pvbn = places.takes.greatest;
+    strays = refl;
+    room = fewer;
+    enough = λ _. tt;
+    spent = refl;
+    failed = tt;
+    counts = record { faults = omega arith; damages = omega arith; spent = omega arith; calm = record { faults = refl; damages = refl; spent = omega arith } };
+    cause = tt;
+  }
+
+-- a placement that failed, and left what is shown but the counts
+unplaced : (told : Type 0) (old new : Shown) (kind : ℕ) (block : List ℕ) (e : BlockFault) → IsUntouched old new → new.spent ≡ old.spent → (old.room ≢ 0 → IsDamaged e → ⊥) → Counts {T = Placed} old new (Err e)
+    → HasCause old new e → Places told old kind block new (Err e)
+unplaced told old new kind block e untouched spent enough counts cause = record { fresh = tt; unused = tt; held = λ _. tt; used = tt; vvbn = tt; pvbn = tt; strays = untouched.strays; room = tt; enough = enough; spent = spent; failed = untouched; counts = counts; cause = cause }
+
+module _ (pool : Pool) (map : Volume) (disk : Disk) (steps : ℕ) (home : Home) (room strays : ℕ) (noted after : Noted) (told : Type 0) (kind : ℕ) (block : List ℕ) where
+  abbrev shown_with : Noted → Shown
+  shown_with n = shown_over (lent_by pool map disk steps home room strays n)
+
+  still : (n : Noted) → IsUntouched (shown_with noted) (shown_with n)
+  still n = record { held = refl; used = refl; strays = refl; room = refl; cost = refl }
+
+  pub unplaced_shown : (fault : BlockFault) → LacksPlace pool.map map (root_place pool.found.slot) home.label fault → Notes noted fault after → room ≤ free_numbers map → room ≤ free_blocks pool.map
+      → Places told (shown_over (lent_by pool map disk steps home room strays noted)) kind block (shown_over (lent_by pool map disk steps home room strays after)) (Err fault)
+  unplaced_shown DiskFault lacks notes numbers blocks = absurd lacks
+  unplaced_shown (Damaged at want found) lacks notes numbers blocks =
+      let cause : HasCause (shown_with noted) (shown_with after) (Damaged at want found) = search rules in
+      unplaced told (shown_with noted) (shown_with after) kind block (Damaged at want found) (still after) refl
+      (λ some damaged. some (⊎_elim (λ none. omega (arith, none, numbers)) (λ none. omega (arith, none, blocks))
+      (place_lacks pool.map map (root_place pool.found.slot) home.label (Damaged at want found) lacks damaged)))
+      (record { faults = omega arith; damages = notes.1; spent = omega arith; calm = tt })
+      cause
+  unplaced_shown Memory lacks notes numbers blocks = subst (λ (n : Noted). Places told (shown_with noted) kind block (shown_with n) (Err Memory)) (sym notes)
+      (unplaced told (shown_with noted) (shown_with noted) kind block Memory (still noted) refl (λ _ damaged. absurd damaged)
+      (record { faults = omega arith; damages = omega arith; spent = omega arith; calm = tt })
+      (record { faults = refl; damages = refl; spent = omega arith }))
+
+module _ (pool : Pool) (map after : Volume) (disk : Disk) (steps : ℕ) (home : Home) (room strays more : ℕ) (noted : Noted) (v : ℕ) (valid : IsVolume map)
+    (released : after ≡ with_slot map 0 (Some (slice_set (active_of map) v false))) (named : is_member (active_of map) v ≡ true → more ≡ strays) (stray : is_member (active_of map) v ≡ false → Rose strays more) where
+  pub gone_shown : Drops (shown_over (lent_by pool map disk steps home room strays noted)) v (shown_over (lent_by pool after disk steps home room more noted))
+  gone_shown = record {
+    held = held_gone map after v valid released pool.containers home.slot pool disk.reads refl;
+    used = use_gone map after v valid released pool.containers home.slot;
+    named = λ some. named (used_member map pool.containers home.slot v some);
+    stray = λ none. stray (unused_member map pool.containers home.slot v none);
+    room = omega arith;
+    spent = refl;
+    calm = record { faults = refl; damages = refl; spent = omega arith };
+  }

@@ -1,0 +1,22 @@
+-- What calls leave of all that was lent for one volume, where they load and give up, and place nothing.
+use Rattle.std.specs.Prelude.{◌≡◌, ◌≢◌, ◌≤◌, ◌⊎◌, ℕ}
+use Rattle.fv_disk.specs.DiskCalls.{OnlyReads}
+use Rattle.fv_volmap.specs.Slots.{slot_at}
+use Rattle.fv_pool.specs.BlocksOver.{free_numbers}
+use Rattle.fv_pool.specs.Lending.{Lent, WasHole}
+
+-- Blocks were read and numbers given up. Of the pool nothing changed but the cache, and of the volume's maps only the active one, which has
+-- as many free numbers at least.
+pub record DropsOver (old new : Lent) : Type 0 where
+  pub home : new.home ≡ old.home
+  pub space : new.pool.map ≡ old.pool.map
+  pub containers : new.pool.containers ≡ old.pool.containers
+  pub kept : new.pool.kept ≡ old.pool.kept
+  pub found : new.pool.found ≡ old.pool.found
+  pub room : new.room ≡ old.room
+  pub steps : old.steps ≤ new.steps
+  pub only_reads : OnlyReads old.disk new.disk
+  pub noted : (new.noted ≡ old.noted) ⊎ WasHole old.home.label new.noted
+  pub span : new.map.span ≡ old.map.span
+  pub snapshots : (s : ℕ) → s ≢ 0 → slot_at new.map s ≡ slot_at old.map s
+  pub numbers : free_numbers old.map ≤ free_numbers new.map

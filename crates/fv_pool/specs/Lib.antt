@@ -1,0 +1,13 @@
+pub mod Causes
+pub mod Keeping
+pub mod Opening
+pub mod BlocksOver
+pub mod Lending
+pub mod LendingLaws
+pub mod Dropping
+pub mod DroppingLaws
+pub mod Putting
+pub mod PuttingLaws
+pub mod Tables
+pub mod Calls
+pub mod Placing

@@ -1,0 +1,280 @@
+//! The blocks of one volume, over what a session lends.
+
+ghost use Rattle.std.specs.Prelude.{◌≡◌, ◌<◌, ◌≤◌, ◌+◌, None, Some, false, true, length, slice_set, IsTrue, IfOk, IfErr, IfSome, OnOk, OnErr, option_copied};
+ghost use Rattle.fv_aggmap.specs.Space.{blocks_of, free_blocks};
+ghost use Rattle.fv_bits.specs.Members.{is_member};
+ghost use Rattle.fv_codec.specs.Blocks.{last_place};
+ghost use Rattle.fv_container.specs.Chains.{IsSlots, container_at, own_entry, slot_count};
+ghost use Rattle.fv_container.specs.Mapped.{IsEntry, IsHeld};
+ghost use Rattle.fv_disk.specs.DiskCalls.{OnlyReads};
+ghost use Rattle.fv_disk.specs.Faults.{HasBlockCause};
+ghost use Rattle.fv_disk.specs.Shown.{Rose};
+ghost use Rattle.fv_disk.specs.declared.fault.BlockFault.TheVariants.{Damaged, DiskFault};
+ghost use Rattle.fv_image.specs.Layout.{root_place};
+ghost use Rattle.fv_store.specs.Held.{StandsOn};
+ghost use Rattle.fv_tree.specs.Sources.{IsKind};
+ghost use Rattle.fv_volmap.specs.Slots.{IsVolume, active_of, has, taken_in, with_slot};
+ghost use Rattle.fv_pool.specs.BlocksOver.{HoldsMore, IsLooseFault, LacksPlace, LeavesPool, LeavesRoom, PlacesBlock, SetsEntry, Takes, block_of, entries_in, given_back, held_entry, place_of, steps_by};
+
+use crate::known::known_maps;
+use crate::pool::Pool;
+use fv_aggmap::AggMap;
+use fv_bits::BitMap;
+use fv_codec::Pointer;
+use fv_container::{Containers, Entry, Steps};
+use fv_disk::{Block, BlockFault, Disk};
+use fv_root::root_place;
+use fv_tree::Placed;
+use fv_volmap::VolMap;
+use std::sync::ledger::Ledger;
+
+/// The greatest VVBN.
+const LAST: u64 = 1_048_575;
+
+/// The slot of a volume's maps that has what a clone's base reaches.
+const BASE: u8 = 25;
+
+/// The volume whose blocks are meant.
+#[derive(Clone, Copy, Debug, PartialEq, Eq)]
+pub struct Home {
+    /// Its slot, below 64.
+    pub slot: u8,
+    /// The PVBN of its label, 0 where it has none yet: damage that no block shows is told with it.
+    pub label: u32,
+}
+
+/// Reads the block under a pointer's VVBN, the kept one or what the store reads, and answers its PVBN. A pointer
+/// that tells the PVBN of its VVBN's entry costs no step, and each other one a look-up along the chain, which is
+/// one step. At `Err` the content of `into` is open.
+///
+/// # Errors
+///
+/// `DiskFault` only where a read failed in this call, and `Damaged` only where the VVBN isn't held: the place of the
+/// volume's label, 1 and 0. `Memory` never comes. Costs at most one block.
+pub fn read_pointed<D: Disk, L: Ledger>(
+    pool: &mut Pool,
+    disk: &mut D,
+    map: &VolMap,
+    steps: &mut Steps<L>,
+    home: &Home,
+    pointer: &Pointer,
+    into: &mut Block,
+) -> Result<u32, BlockFault>
+    requires slot { home.now.slot < slot_count }
+    requires stands { StandsOn (D.shown disk.old) pool.old.store.pairs }
+    ensures block { IsTrue (D.shown disk.old).tells
+        → OnOk result (block_of pool.old.kept (D.shown disk.old).reads (held_entry map.now pool.old.containers home.now.slot pointer.now.vvbn) ≡ Some into.new) }
+    ensures place { IfOk result (λ pvbn. place_of (held_entry map.now pool.old.containers home.now.slot pointer.now.vvbn) ≡ Some pvbn) }
+    ensures range { IfOk result (λ pvbn. pvbn ≤ last_place) }
+    ensures step { OnOk result (steps.new ≡ steps.old + steps_by (held_entry map.now pool.old.containers home.now.slot pointer.now.vvbn) pointer.now.pvbn) }
+    ensures later { steps.old ≤ steps.new }
+    ensures loose { IfErr result (IsLooseFault (held_entry map.now pool.old.containers home.now.slot pointer.now.vvbn) home.now.label) }
+    ensures leaves { LeavesPool pool.old pool.new }
+    ensures stands { StandsOn (D.shown disk.new) pool.new.store.pairs }
+    ensures only_reads { OnlyReads (D.shown disk.old) (D.shown disk.new) }
+    ensures cause { HasBlockCause (D.shown disk.old).faults (D.shown disk.new).faults result }
+{
+    let Some(entry) = find_entry(pool, disk, map, steps, home.slot, pointer)? else {
+        return Err(BlockFault::Damaged {
+            at: u64::from(home.label),
+            want: 1,
+            found: 0,
+        });
+    };
+    pool.read(disk, entry.pvbn, into)?;
+    Ok(entry.pvbn)
+}
+
+/// Places a block of a kind under a VVBN that no slot of the volume's maps has, the base's among them, in a block
+/// that neither root holds: both are taken, the entry of the VVBN is set, and the block is kept until it is written.
+/// Where that VVBN had an entry still, the block of that is given back after the next commit.
+///
+/// # Errors
+///
+/// `Damaged` only where each VVBN is taken, at the place of the volume's label, or where no block is free, at the
+/// place of the root; it wants 1 and finds 0. `Memory` where there is no memory to keep the block. Nothing changes then.
+///
+/// It makes no disk call. Costs a step for each word of 64 numbers or blocks that is passed.
+pub fn place_block(
+    pool: &mut Pool,
+    map: &mut VolMap,
+    home: &Home,
+    kind: u8,
+    block: &Block,
+) -> Result<Placed, BlockFault>
+    requires slot { home.now.slot < slot_count }
+    requires kind { IsKind kind }
+    requires few { map.old.span ≤ last_place + 1 }
+    requires room { map.old.span ≤ length (entries_in (container_at pool.old.containers home.now.slot)) }
+    ensures placed { IfOk result (PlacesBlock pool.old map.old home.now.slot kind block.now pool.new map.new) }
+    ensures holds { IfOk result (HoldsMore pool.old map.old home.now.slot kind block.now pool.new map.new) }
+    ensures vvbn { IfOk result (λ placed. placed.vvbn ≤ last_place) }
+    ensures failed { OnErr result (pool.new ≡ pool.old) }
+    ensures failed_map { OnErr result (map.new ≡ map.old) }
+    ensures fault { IfErr result (LacksPlace pool.old.map map.old (root_place pool.old.found.slot) home.now.label) }
+    ensures leaves { IfOk result (λ placed. LeavesRoom pool.old.map map.old pool.new.map map.new) }
+    ensures valid { IsVolume map.old }
+{
+    let root = root_place(pool.found.slot);
+    let placed = take_numbers(&mut pool.map, map, root, home.label)?;
+    if let Err(fault) = pool.keep(placed.pvbn, block) {
+        return_numbers(&mut pool.map, map, &placed);
+        return Err(fault.into());
+    }
+    let entry = Entry {
+        pvbn: placed.pvbn,
+        kind,
+    };
+    let before = set_entry(&mut pool.containers, home.slot, placed.vvbn, entry);
+    give_back(&mut pool.map, before);
+    Ok(placed)
+}
+
+/// Takes a VVBN and a free block.
+fn take_numbers(
+    space: &mut AggMap,
+    map: &mut VolMap,
+    root: u64,
+    label: u32,
+) -> Result<Placed, BlockFault>
+    ensures taken { IfOk result (λ placed. Takes space.old map.old placed space.new map.new) }
+    ensures within { IfOk result (λ placed. placed.pvbn < blocks_of space.new) }
+    ensures failed { OnErr result (space.new ≡ space.old) }
+    ensures failed_map { OnErr result (map.new ≡ map.old) }
+    ensures fault { IfErr result (LacksPlace space.old map.old root label) }
+    ensures leaves { IfOk result (λ placed. LeavesRoom space.old map.old space.new map.new) }
+    ensures valid { IsVolume map.old }
+{
+    known_maps(map);
+    let Some(vvbn) = map.allocate() else {
+        return Err(lacking(u64::from(label)));
+    };
+    let Some(pvbn) = space.take_free() else {
+        map.release(vvbn);
+        return Err(lacking(root));
+    };
+    Ok(Placed { vvbn, pvbn })
+}
+
+/// One number was wanted, and none is left.
+fn lacking(at: u64) -> BlockFault
+    ensures { result ≡ Damaged at 1 0 }
+{
+    BlockFault::Damaged {
+        at,
+        want: 1,
+        found: 0,
+    }
+}
+
+/// Undoes `take_numbers`.
+fn return_numbers(space: &mut AggMap, map: &mut VolMap, placed: &Placed)
+    requires { placed.now.pvbn < blocks_of space.old }
+    ensures space { space.new ≡ record space.old { next = slice_set space.old.next placed.now.pvbn false } }
+    ensures map { map.new ≡ with_slot map.old 0 (Some (slice_set (active_of map.old) placed.now.vvbn false)) }
+{
+    space.release_after_commit(placed.pvbn);
+    map.release(placed.vvbn);
+}
+
+/// Sets the entry of a VVBN of a slot, and answers the one that stood there.
+fn set_entry(containers: &mut Containers, slot: u8, vvbn: u32, entry: Entry) -> Option<Entry>
+    requires slot { slot < slot_count }
+    requires within { vvbn < length (entries_in (container_at containers.old slot)) }
+    requires entry { IsEntry entry }
+    ensures before { result ≡ own_entry (container_at containers.old slot) vvbn }
+    ensures set { SetsEntry containers.old slot vvbn entry containers.new }
+    ensures valid { IsSlots containers.old }
+{
+    let Some(container) = containers.get_mut(slot) else {
+        return None;
+    };
+    let before = container.entry_at(vvbn);
+    container.place(vvbn, entry);
+    before
+}
+
+/// Says that the next root won't hold the block of an entry.
+#[tactic(auto, using(fv_aggmap::proofs::Room::no_fewer))]
+fn give_back(space: &mut AggMap, entry: Option<Entry>)
+    ensures given { space.new ≡ given_back space.old entry }
+    ensures no_fewer { free_blocks space.old ≤ free_blocks space.new }
+{
+    if let Some(entry) = entry
+        && entry.pvbn < space.blocks()
+    {
+        space.release_after_commit(entry.pvbn);
+    }
+}
+
+/// Takes a number out of the active map. One that isn't there changes nothing there and counts as a stray.
+pub(crate) fn drop_number(map: &mut VolMap, strays: &mut u64, vvbn: u32)
+    ensures released { map.new ≡ with_slot map.old 0 (Some (slice_set (active_of map.old) vvbn false)) }
+    ensures named { is_member (active_of map.old) vvbn ≡ true → strays.new ≡ strays.old }
+    ensures stray { is_member (active_of map.old) vvbn ≡ false → Rose strays.old strays.new }
+    ensures valid { IsVolume map.old }
+{
+    if !has_member(map.active(), vvbn) {
+        *strays = strays.saturating_add(1);
+    }
+    map.release(vvbn);
+}
+
+/// The entry of the VVBN of a pointer; `None` exactly where it isn't held.
+#[tactic(auto, unfolding(crate::specs::BlocksOver::held_entry))]
+fn find_entry<D: Disk, L: Ledger>(
+    pool: &mut Pool,
+    disk: &mut D,
+    map: &VolMap,
+    steps: &mut Steps<L>,
+    slot: u8,
+    pointer: &Pointer,
+) -> Result<Option<Entry>, BlockFault>
+    requires slot { slot < slot_count }
+    requires stands { StandsOn (D.shown disk.old) pool.old.store.pairs }
+    ensures entry { IfOk result (λ entry. entry ≡ held_entry map.now pool.old.containers slot pointer.now.vvbn) }
+    ensures held { IfOk result (λ entry. IfSome entry IsHeld) }
+    ensures step { IfOk result (λ entry. IfSome entry (λ e. steps.new ≡ steps.old + steps_by (Some e) pointer.now.pvbn)) }
+    ensures later { steps.old ≤ steps.new }
+    ensures fault { IfErr result (λ fault. fault ≡ DiskFault) }
+    ensures leaves { LeavesPool pool.old pool.new }
+    ensures stands { StandsOn (D.shown disk.new) pool.new.store.pairs }
+    ensures only_reads { OnlyReads (D.shown disk.old) (D.shown disk.new) }
+    ensures cause { HasBlockCause (D.shown disk.old).faults (D.shown disk.new).faults result }
+{
+    if pointer.vvbn > LAST || !is_taken(map, pointer.vvbn as u32) {
+        return Ok(None);
+    }
+    let vvbn = pointer.vvbn as u32;
+    if let Some(entry) = pool.containers.told_by_hint(slot, vvbn, pointer.pvbn) {
+        return Ok(Some(entry));
+    }
+    pool.containers
+        .look_up_chain(&mut pool.store, disk, slot, vvbn, steps)
+}
+
+/// Whether a slot of the maps has a VVBN, the base's among them. Costs a step for each slot.
+#[tactic(auto, using(crate::proofs::Lent::taken_anywhere))]
+pub fn is_taken(map: &VolMap, vvbn: u32) -> bool
+    ensures { result ≡ taken_in map.now.slots vvbn }
+{
+    known_maps(map);
+    map.held(vvbn) || has_number(map.snapshot(BASE), vvbn)
+}
+
+/// Whether the slot has a VVBN.
+fn has_number(map: Option<&BitMap>, vvbn: u32) -> bool
+    ensures { result ≡ has vvbn (option_copied map.entry) }
+{
+    match map {
+        Some(map) => has_member(map, vvbn),
+        None => false,
+    }
+}
+
+/// Whether the map has a VVBN; none from its length on.
+fn has_member(map: &BitMap, vvbn: u32) -> bool
+    ensures { result ≡ is_member map.now vvbn }
+{
+    vvbn < map.len() && map.get(vvbn)
+}

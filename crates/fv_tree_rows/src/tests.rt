@@ -1,0 +1,8 @@
+//! The tests.
+
+mod costs;
+mod pair;
+mod rows;
+mod spelled;
+mod taken;
+mod walk;

@@ -1,8 +1,0 @@
-use Rattle.fv_volume.specs.Calls.{TellsInfo}
-use Rattle.fv_volume.proofs.changing.count_added.Given as goal
-
-abbrev pub ghosts-added_told-K-Guard : goal.ghosts-added_told-K-Guard
-ghosts-added_told-K-Guard g a = record { told = TellsInfo (g.D.Disk.shown a.disk.now) a.pool.now a.map.now a.home.now a.files.now a.info.now }
-
-abbrev pub ghosts-added_told-L-Ledger : goal.ghosts-added_told-L-Ledger
-ghosts-added_told-L-Ledger g a = record { name = a.blank.name; parts = a.blank.parts }

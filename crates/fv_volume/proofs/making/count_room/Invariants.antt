@@ -1,8 +1,0 @@
-use Rattle.fv_volume.specs.Lending.{IsTold}
-use Rattle.fv_volume.proofs.making.count_room.Given as goal
-
-abbrev pub ghosts-room_told-K-Guard : goal.ghosts-room_told-K-Guard
-ghosts-room_told-K-Guard g a = record { told = IsTold (g.D.Disk.shown a.disk.now) a.pool.now a.map.now a.home.now.slot }
-
-abbrev pub ghosts-room_told-L-Ledger : goal.ghosts-room_told-L-Ledger
-ghosts-room_told-L-Ledger g a = record { name = a.blank.name; parts = a.blank.parts }

@@ -1,0 +1,19 @@
+use Rattle.std.proofs.Common.{Option, subst}
+use Rattle.fv_files.specs.declared.numbers.FileNumbers.{FileNumbers}
+use Rattle.fv_files.specs.Numbering.{AreNumbersIf}
+use Rattle.fv_volume.specs.OneVolume.{standing_for, table_for}
+use Rattle.fv_volume.proofs.OneVolumes.{root_fits}
+use Rattle.fv_volume.proofs.TakenTable.{told_cause}
+use Rattle.fv_volume.proofs.numbering.find_number.Goals as goal
+
+pub take_table-files-requires-clause-root : goal.take_table-files-requires-clause-root
+take_table-files-requires-clause-root g c = root_fits (g.D.Disk.shown c.args.disk.now) c.args.pool.now c.args.volume.now c.requires.ready
+
+pub returns-in-Some-clause-number : goal.returns-in-Some-clause-number
+returns-in-Some-clause-number g c = λ is.
+    let d = g.D.Disk.shown c.args.disk.now in
+    c.free_number.ensures.number (standing_for d c.args.pool.now c.args.volume.now) (subst (λ (o : Option FileNumbers). AreNumbersIf o (table_for d c.args.pool.now c.args.volume.now)) c.in-Some.is is.numbers)
+
+pub returns-clause-cause : goal.returns-clause-cause
+returns-clause-cause g c = told_cause (g.D.Disk.shown c.args.disk.now) c.args.pool.now c.args.volume.now c.take_table-files.result c.take_table-files.ensures.table
+    (g.D.Disk.shown c.number_told-answer.new.disk).faults c.number_told-answer.result c.number_told-answer.ensures.cause
