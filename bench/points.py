@@ -29,20 +29,20 @@ def fresh(path, blocks=BLOCKS):
     subprocess.run([PROGRAM, path, "create", str(blocks)], check=True, stdout=subprocess.DEVNULL)
 
 
-def run(path, script, prefix=()):
+def run(path, script, prefix=(), program=PROGRAM):
     """Runs a script and answers the seconds that it took."""
     before = time.perf_counter()
-    done = subprocess.run([*prefix, PROGRAM, path, "run"], input=script, stdout=subprocess.PIPE, check=True)
+    done = subprocess.run([*prefix, program, path, "run"], input=script, stdout=subprocess.PIPE, check=True)
     seconds = time.perf_counter() - before
     last = done.stdout.splitlines()[-1]
     assert last == b"done %d" % script.count(b"\n"), last
     return seconds
 
 
-def calls(path, script, folder):
+def calls(path, script, folder, program=PROGRAM):
     """Blocks written, barriers and blocks read while a script runs."""
     log = os.path.join(folder, "calls")
-    run(path, script, ("strace", "-f", "-qq", "-o", log, "-e", "trace=read,write,pread64,pwrite64,fsync,fdatasync"))
+    run(path, script, ("strace", "-f", "-qq", "-o", log, "-e", "trace=read,write,pread64,pwrite64,fsync,fdatasync"), program)
     counts = {"write": 0, "sync": 0, "read": 0}
     for line in open(log):
         if re.search(r"\b(fsync|fdatasync)\(", line):
