@@ -55,8 +55,8 @@ impl Session {
             (D.shown disk.new) disk.new self.new steps.new result }
     {
         match self.aim(command) {
-            Ok(aim) => self.carry(disk, aim, command, steps),
-            Err(refusal) => Ok(Reply::Refused(refusal)),
+            Ok(aim) => return self.carry(disk, aim, command, steps),
+            Err(refusal) => return Ok(Reply::Refused(refusal)),
         }
     }
 
@@ -113,9 +113,9 @@ impl Session {
             (D.shown disk.new) disk.new self.new steps.new result }
     {
         match aim.task {
-            Task::Look => self.look_at(disk, aim.slot, command, steps),
-            Task::Change => self.change_at(disk, aim.slot, command),
-            Task::Snap => self.snap_at(disk, aim.slot, command),
+            Task::Look => return self.look_at(disk, aim.slot, command, steps),
+            Task::Change => return self.change_at(disk, aim.slot, command),
+            Task::Snap => return self.snap_at(disk, aim.slot, command),
         }
     }
 }

@@ -104,5 +104,6 @@ impl From<AllocError> for Fault {
     }
 }
 
-/// What a session answers to a command.
+/// What a session answers to a command. It has the size of a block, so each arm of a `match` returns its own at once: a value in which
+/// arms join is filled with zeros first, and copied once more.
 pub(crate) type Answer = Result<Reply, Fault>;

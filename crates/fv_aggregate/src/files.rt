@@ -48,10 +48,10 @@ impl Session {
         }
         let judged = self.judge(disk, slot, command)?;
         match refused_by(judged) {
-            Some(refusal) => Ok(Reply::Refused(refusal)),
+            Some(refusal) => return Ok(Reply::Refused(refusal)),
             None => {
                 self.make_room(disk, FILE_ROOM)?;
-                self.carry_out(disk, slot, command)
+                return self.carry_out(disk, slot, command);
             }
         }
     }
@@ -105,8 +105,8 @@ pub(crate) fn done(made: Result<(), VolumeFault>) -> Result<Reply, VolumeFault>
     ensures { result ≡ done_as made }
 {
     match made {
-        Ok(()) => Ok(Reply::Done),
-        Err(fault) => Err(fault),
+        Ok(()) => return Ok(Reply::Done),
+        Err(fault) => return Err(fault),
     }
 }
 

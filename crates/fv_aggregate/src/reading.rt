@@ -82,9 +82,9 @@ impl Session {
         ensures { Replied (D.shown disk.now) asked self.old self.new result }
     {
         match asked {
-            Ok(reply) => Ok(reply),
-            Err(VolumeFault::Refused(refusal)) => Ok(Reply::Refused(refusal)),
-            Err(fault) => Err(self.fault_of(disk, fault)),
+            Ok(reply) => return Ok(reply),
+            Err(VolumeFault::Refused(refusal)) => return Ok(Reply::Refused(refusal)),
+            Err(fault) => return Err(self.fault_of(disk, fault)),
         }
     }
 
@@ -153,22 +153,22 @@ fn ask_state<D: Disk, L: Ledger>(
                 &mut block,
                 steps,
             ) {
-                Ok(()) => Ok(Reply::Content(block)),
-                Err(fault) => Err(fault),
+                Ok(()) => return Ok(Reply::Content(block)),
+                Err(fault) => return Err(fault),
             }
         }
         Command::Len { snapshot, file, .. } => {
             match state.length(alloc, pool, disk, snapshot.as_ref(), file) {
-                Ok(length) => Ok(Reply::Number(u64::from(length))),
-                Err(fault) => Err(fault),
+                Ok(length) => return Ok(Reply::Number(u64::from(length))),
+                Err(fault) => return Err(fault),
             }
         }
         Command::Ls { snapshot, .. } => {
             match state.list(alloc, pool, disk, snapshot.as_ref()) {
-                Ok(names) => Ok(Reply::Names(names)),
-                Err(fault) => Err(fault),
+                Ok(names) => return Ok(Reply::Names(names)),
+                Err(fault) => return Err(fault),
             }
         }
-        _ => Err(VolumeFault::Refused(Refusal::Syntax)),
+        _ => return Err(VolumeFault::Refused(Refusal::Syntax)),
     }
 }

@@ -130,15 +130,17 @@ impl Session {
             return Err(Fault::Failed { faults });
         }
         match command {
-            Command::VolCreate { volume, size, kind } => self.create(disk, volume, *size, *kind),
-            Command::VolList => Ok(Reply::Names(names_of(self.alloc, &self.volumes)?)),
-            Command::Cp => self.reclaim(disk),
-            Command::SnapList { volume } => Ok(self.snapshots(volume)?),
-            Command::VolDestroy { volume } => Ok(self.destroy(volume)),
-            Command::VolResize { volume, size } => Ok(self.resize(volume, *size)),
-            Command::VolGuarantee { volume, kind } => Ok(self.guarantee(volume, *kind)),
-            Command::VolStat { volume } => Ok(self.stat(volume)),
-            _ => self.serve(disk, command, steps),
+            Command::VolCreate { volume, size, kind } => {
+                return self.create(disk, volume, *size, *kind);
+            }
+            Command::VolList => return Ok(Reply::Names(names_of(self.alloc, &self.volumes)?)),
+            Command::Cp => return self.reclaim(disk),
+            Command::SnapList { volume } => return Ok(self.snapshots(volume)?),
+            Command::VolDestroy { volume } => return Ok(self.destroy(volume)),
+            Command::VolResize { volume, size } => return Ok(self.resize(volume, *size)),
+            Command::VolGuarantee { volume, kind } => return Ok(self.guarantee(volume, *kind)),
+            Command::VolStat { volume } => return Ok(self.stat(volume)),
+            _ => return self.serve(disk, command, steps),
         }
     }
 

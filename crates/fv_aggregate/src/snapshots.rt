@@ -42,8 +42,8 @@ impl Session {
         let others = self.volumes.commits_beside(slot);
         let state = volume_in(&self.volumes, slot);
         match judge_snap(state, self.pool.found.blocks, others, command) {
-            Ok(granted) => self.snap_with(disk, slot, others, granted, command),
-            Err(refusal) => Ok(Reply::Refused(refusal)),
+            Ok(granted) => return self.snap_with(disk, slot, others, granted, command),
+            Err(refusal) => return Ok(Reply::Refused(refusal)),
         }
     }
 

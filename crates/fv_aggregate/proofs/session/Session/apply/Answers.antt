@@ -103,8 +103,8 @@ returns-in_err-names_of-in-VolList g c =
     rests_lacks c.args.command.now d c.args.disk.now c.args.self.now c.args.steps.now (g.met.D.Disk.laws c.args.disk.now) fresh (c.requires.stands fresh) (no_files c.args.command.now (ap volume_asked c.in-VolList.is) (ap changed_by c.in-VolList.is)) (list_no_point _ c.args.command.now c.in-VolList.is)
     (list_fails c.args.command.now c.in-VolList.is d c.args.disk.now c.args.self.now) c.from_residual.result (search rules)
 
-pub returns-in_ok-names_of-in-VolList : goal.returns-in_ok-names_of-in-VolList
-returns-in_ok-names_of-in-VolList g c =
+pub returns-in-VolList : goal.returns-in-VolList
+returns-in-VolList g c =
     let d = g.D.Disk.shown c.args.disk.now in
     let fresh : IsNone c.args.self.now.failed = subst (λ (k : Session). IsNone k.failed) c.self.view_is (subst IsNone (sym c.in_default.is) refl) in
     let listed = subst (λ (k : Session). c.in_ok-names_of-in-VolList.field-0 ≡ names_from k.volumes 0 64) c.self.view_is c.in_ok-names_of-in-VolList.ensures in
@@ -119,8 +119,8 @@ returns-in_err-snapshots-in-SnapList g c =
     rests_lacks c.args.command.now d c.args.disk.now c.args.self.now c.args.steps.now (g.met.D.Disk.laws c.args.disk.now) fresh (c.requires.stands fresh) (no_files c.args.command.now (ap volume_asked c.in-SnapList.is) (ap changed_by c.in-SnapList.is)) (snaps_no_point c.args.command.now c.in-SnapList.volume c.in-SnapList.is _)
     (snaps_fail c.args.command.now c.in-SnapList.volume c.in-SnapList.is d c.args.disk.now c.args.self.now) c.from_residual-in_err-snapshots-in-SnapList.result (search rules)
 
-pub returns-in_ok-snapshots-in-SnapList : goal.returns-in_ok-snapshots-in-SnapList
-returns-in_ok-snapshots-in-SnapList g c =
+pub returns-in-SnapList : goal.returns-in-SnapList
+returns-in-SnapList g c =
     let d = g.D.Disk.shown c.args.disk.now in
     let fresh : IsNone c.args.self.now.failed = subst (λ (k : Session). IsNone k.failed) c.self.view_is (subst IsNone (sym c.in_default.is) refl) in
     let reply = c.in_ok-snapshots-in-SnapList.field-0 in

@@ -35,8 +35,8 @@ carry_out-requires-in-None-clause-aimed g c =
     still_aimed c.judge.new.self.volumes c.make_room.new.self.volumes c.args.slot c.args.command.now c.in_ok-make_room-in-None.ensures.cores
     (aimed_read (g.D.Disk.shown c.args.disk.now) c.args.self.now (g.D.Disk.shown c.judge.new.disk) c.judge.new.self c.args.slot c.args.command.now c.in_ok-judged.ensures.judged.read c.requires.aimed)
 
-pub returns-in_ok-make_room-in-None-clause-makes : goal.returns-in_ok-make_room-in-None-clause-makes
-returns-in_ok-make_room-in-None-clause-makes g c =
+pub returns-in-None-clause-makes : goal.returns-in-None-clause-makes
+returns-in-None-clause-makes g c =
     let d = g.D.Disk.shown c.args.disk.now in let e = g.D.Disk.shown c.judge.new.disk in let h = g.D.Disk.shown c.make_room.new.disk in
     let k = g.D.Disk.shown c.carry_out-in-None.new.disk in let s = c.args.self.now in let aimed = c.requires.aimed in
     let past = passes_limit s.pending 16 _ c.has_room.ensures c.if-has_room.false in
