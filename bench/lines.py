@@ -1,9 +1,10 @@
 #!/usr/bin/env python3
 """What one line of a script costs: instructions, and bytes that are filled and copied.
 
-It makes an aggregate of 65,536 blocks with one volume and one file of 300 blocks of five bytes, which one point has written, so that no entry is
-delayed. For each kind of line it runs the program over copies of it, with some such lines and with more of them; the difference of the two counts
-is divided by how many more. So what opening costs isn't counted, nor what only the first lines do: both scripts pass each block of the file.
+It makes an aggregate of 65,536 blocks with one volume and one file of 300 blocks. Two in three of them are put, with five bytes each: so many that one
+point writes them all, and no entry is delayed. For each kind of line it runs the program over copies of it, with some such lines and with more of
+them; the difference of the two counts is divided by how many more. So what opening costs isn't counted, nor what only the first lines do: both
+scripts pass each block that was put.
 
 Instructions are counted by valgrind, with a C library that copies and fills by vectors. Bytes are counted by `count.c`, which is compiled here and
 loaded before that library. None of it moves with the load of the machine. A table is printed as docs/LAYERS.md has it; a KB is 1,000 bytes.
@@ -28,8 +29,9 @@ from names import CONTENT, SIZE, count, instructions, processor, replies
 from points import BLOCK, BLOCKS, PROGRAM, TOP, calls
 
 LONG = 300  # blocks of the file, so that nodes of two levels stand over them
+THERE = [number for number in range(LONG) if number % 3 != 1]  # those that are put: one point has room for them
 EACH = 64  # puts for each `cp`
-FEW, MANY = 320, 640  # lines of the two scripts: both pass the whole file, and both end with a `cp` where there are some
+FEW, MANY = 320, 640  # lines of the two scripts: both pass all of these blocks, and both end with a `cp` where there are some
 CLOCKED = {"written": 1024, "got": 20000}  # lines whose time is taken
 RUNS = 5
 
@@ -41,7 +43,7 @@ def same(line):
 
 def over_blocks(line):
     """Lines that go over the blocks of the file in turn."""
-    return lambda times: [line.format(number % LONG) for number in range(times)]
+    return lambda times: [line.format(THERE[number % len(THERE)]) for number in range(times)]
 
 
 def with_points(lines):
@@ -74,7 +76,7 @@ def make(program, folder):
     """An aggregate with a file that one point has written."""
     path = os.path.join(folder, "aggregate")
     subprocess.run([program, path, "create", str(BLOCKS)], check=True, stdout=subprocess.DEVNULL)
-    assert set(replies(program, path, [f"vol create a {SIZE} none", "new a f", *PUT(LONG)])) == {"ok"}
+    assert set(replies(program, path, [f"vol create a {SIZE} none", "cp", "new a f", *PUT(len(THERE))])) == {"ok"}
     assert not any(volume.delayed() for volume in Image(path).volumes.values())
     return path
 
@@ -168,7 +170,7 @@ def tell_times(program, path, folder):
     written = [f"put a new {number} {CONTENT}" for number in range(CLOCKED["written"])]
     print("| Line | Microseconds | The plain loop | Blocks written | Barriers |\n|---|---|---|---|---|")
     tell_time(f"a block written in order, a `cp` behind each {EACH}", program, path, ["new a new"], with_points(written), len(written), folder)
-    tell_time("`get` of a block in the cache", program, path, GET(LONG), GET(CLOCKED["got"]), CLOCKED["got"], folder)
+    tell_time("`get` of a block in the cache", program, path, GET(len(THERE)), GET(CLOCKED["got"]), CLOCKED["got"], folder)
     print(f"\nLoad {os.getloadavg()[0]:.1f} on {os.cpu_count()} processors.")
 
 
