@@ -165,6 +165,10 @@ module _ (w : View) (tables : AreTables (seen w)) (uses : UsesOwn w) where
   pub room_from_commits : delayed w ≡ 0 → 256 ≤ w.blocks - first_block w.blocks → leaves_room w 0 ≡ true
   room_from_commits none large = room_from w 0 (omega (arith, none, large, commits_hold, capacity_fits))
 
+  -- So it does with more room where the commits leave it in the capacity.
+  pub room_beside_commits : (room : ℕ) → delayed w ≡ 0 → 256 ≤ w.blocks - first_block w.blocks → commits_seen (seen w) + room ≤ capacity w.blocks → leaves_room w (256 + room) ≡ true
+  room_beside_commits room none large enough = room_from w (256 + room) (omega (arith, none, large, commits_hold, enough))
+
   -- Say that so many blocks were missing for the space rule with what was delayed before, and that so many were given back. Either these are
   -- enough, and the rule holds by what the volumes use. Or no entry is delayed any more, and it holds by what they commit.
   pub room_after : (room before taken missing : ℕ) → 256 ≤ w.blocks - first_block w.blocks → commits_seen (seen w) + room ≤ capacity w.blocks

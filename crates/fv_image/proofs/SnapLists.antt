@@ -115,6 +115,16 @@ module _ (keep : Snap → Bool) where
       so true parts rest = or_from (test q.name) _ parts.0 (rest parts.1)
       so false parts rest = rest parts.1
 
+  rising_kept : (ps : List Snap) → is_rising (map (λ p. p.slot) ps) ≡ true → is_rising (map (λ p. p.slot) (filter keep ps)) ≡ true
+  rising_kept [] rising = refl
+  rising_kept (q ∷ qs) rising = so (keep q) (and_parts (list_all (nat_lt q.slot) (map (λ p. p.slot) qs)) _ rising) (λ f. rising_kept qs f)
+    where
+      so : (b : Bool) → (list_all (nat_lt q.slot) (map (λ p. p.slot) qs) ≡ true) × (is_rising (map (λ p. p.slot) qs) ≡ true) → (is_rising (map (λ p. p.slot) qs) ≡ true → is_rising (map (λ p. p.slot) (filter keep qs)) ≡ true)
+          → is_rising (map (λ p. p.slot) (cond b (q ∷ filter keep qs) (filter keep qs))) ≡ true
+      so true parts rest = and_from (list_all (nat_lt q.slot) (map (λ p. p.slot) (filter keep qs))) _
+          (list_all-map (nat_lt q.slot) (λ (d : Snap). d.slot) (filter keep qs) ∙ all_kept keep (λ (d : Snap). nat_lt q.slot d.slot) qs (sym (list_all-map (nat_lt q.slot) (λ (d : Snap). d.slot) qs) ∙ parts.0)) (rest parts.1)
+      so false parts rest = rest parts.1
+
   distinct_kept : (ps : List Snap) → are_distinct (map (λ p. p.name) ps) ≡ true → are_distinct (map (λ p. p.name) (filter keep ps)) ≡ true
   distinct_kept [] distinct = refl
   distinct_kept (q ∷ qs) distinct = so (keep q) (and_parts (not (list_any (is_same_name q.name) (map (λ p. p.name) qs))) _ distinct) (λ f. distinct_kept qs f)
@@ -124,7 +134,35 @@ module _ (keep : Snap → Bool) where
       so true parts rest = and_from (not (list_any (is_same_name q.name) (map (λ p. p.name) (filter keep qs)))) _ (not_from_false _ (none_kept (is_same_name q.name) qs (not-true _ parts.0))) (rest parts.1)
       so false parts rest = rest parts.1
 
+pub slots_without : (h : Head) (a : Rooted) (name : List ℕ) → AreInSlots h → AreInSlots (turned h a (without name h.snapshots))
+slots_without h a name is = record {
+  within = all_kept (λ p. not (is_same_name p.name name)) (λ p. nat_le 1 p.slot && nat_lt p.slot stored_slots) h.snapshots is.within;
+  rising = rising_kept (λ p. not (is_same_name p.name name)) h.snapshots is.rising;
+}
+
 pub distinct_without : (name : List ℕ) (ps : List Snap) → are_distinct (map (λ p. p.name) ps) ≡ true → are_distinct (map (λ p. p.name) (without name ps)) ≡ true
 distinct_without name ps distinct = distinct_kept (λ p. not (is_same_name p.name name)) ps distinct
 
 -- ---- clones
+
+-- A new snapshot is none that a clone stands on, where each clone finds its own,
+pub created_bases : (w : View) (s : ℕ) (h : Head) (p : Snap) → snap_at h p.slot ≡ None → ((k : ℕ) (g : Head) (b : Footing) → w.head k ≡ Some g → g.base ≡ Some b → b.parent ≡ s → snap_at h b.slot ≢ None) → KeepsBases w s h (added p h.snapshots)
+unfolding snap_at
+created_bases w s h p free stands = record {
+  each = λ k g b there based at. find_added p h.snapshots b.slot free ∙ ap (λ (t : Bool). if t then Some p else find (λ q. q.slot == b.slot) h.snapshots)
+      (let other : p.slot ≢ b.slot = (λ e. absurd (stands k g b there based at (ap (λ (n : ℕ). find (λ q. q.slot == n) h.snapshots) (sym e) ∙ free))) in unequal p.slot b.slot other);
+}
+  where
+    unequal : (a b : ℕ) → a ≢ b → (a == b) ≡ false
+    unequal a b e = grind (arith, nat_tests, e)
+
+-- and one that is removed is none, where no clone stands on it.
+pub deleted_bases : (w : View) (s : ℕ) (h : Head) (p : Snap) → ((q : Snap) → In q h.snapshots → is_same_name q.name p.name ≡ (q.slot == p.slot)) → ((k : ℕ) (g : Head) (b : Footing) → w.head k ≡ Some g → g.base ≡ Some b → b.parent ≡ s → b.slot ≢ p.slot)
+    → KeepsBases w s h (without p.name h.snapshots)
+unfolding snap_at
+deleted_bases w s h p same free = record {
+  each = λ k g b there based at. find_without p.name p.slot h.snapshots b.slot same ∙ ap (λ (t : Bool). if t then None else find (λ q. q.slot == b.slot) h.snapshots) (unequal b.slot p.slot (free k g b there based at));
+}
+  where
+    unequal : (a b : ℕ) → a ≢ b → (a == b) ≡ false
+    unequal a b e = grind (arith, nat_tests, e)

@@ -154,3 +154,11 @@ stands_for i m is = so (root_of i) refl is
     so (Some t) e is = (t, (e, tells_from (layout_at t i) m is))
 
 -- ---- images that agree on what is held
+
+-- Images that agree on all that a root names stand for the same machine under it.
+pub same_machine : (t : Taken) (i j : Image) → AgreeOnNamed t i j → machine_at t j ≡ machine_at t i
+same_machine t i j agree = ap machine_from (same_layout t i j agree)
+
+-- and one is sound where the other is
+pub same_sound : (t : Taken) (i j : Image) → AgreeOnNamed t i j → IsSound (layout_at t i) → IsSound (layout_at t j)
+same_sound t i j agree is = subst IsSound (sym (same_layout t i j agree)) is

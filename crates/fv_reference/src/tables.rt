@@ -20,7 +20,7 @@ use std::marker::Model;
 use std::rc::Rc;
 
 /// The content of a cell. Copies of a table share it.
-#[derive(Clone, Drop)]
+#[derive(Drop)]
 pub struct Cell {
     bytes: Rc<Block>,
 }
@@ -29,6 +29,16 @@ impl Model for Cell {
     ghost Value = { List ℕ };
 
     ghost view = { λ c. c.bytes.value };
+}
+
+impl Clone for Cell {
+    ghost is_clone = { λ x y. y ≡ x };
+
+    fn clone(&self) -> Result<Cell, AllocError> {
+        Ok(Cell {
+            bytes: self.bytes.clone()?,
+        })
+    }
 }
 
 impl Cell {

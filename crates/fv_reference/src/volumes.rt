@@ -21,7 +21,7 @@ use std::collections::{BTreeMap, BTreeSet};
 use std::marker::Model;
 
 /// What a clone stands on: a snapshot of its parent with its table, and whether it is being split from it.
-#[derive(Clone, Drop)]
+#[derive(Drop)]
 pub struct Base {
     parent: Name,
     snapshot: Name,
@@ -35,6 +35,19 @@ impl Model for Base {
     ghost coded = { base_code };
 
     ghost view = { λ b. record { parent = b.parent; snapshot = b.snapshot; table = b.table; splitting = b.splitting } };
+}
+
+impl Clone for Base {
+    ghost is_clone = { λ x y. y ≡ x };
+
+    fn clone(&self) -> Result<Base, AllocError> {
+        Ok(Base {
+            parent: self.parent,
+            snapshot: self.snapshot,
+            table: self.table.clone()?,
+            splitting: self.splitting,
+        })
+    }
 }
 
 impl Base {
@@ -103,9 +116,18 @@ impl Clone for Volume {
             changes: self.changes,
             active: self.active.clone()?,
             snapshots: copy(&self.snapshots)?,
-            base: self.base.clone()?,
+            base: copy_base(&self.base)?,
             known: self.known,
         })
+    }
+}
+
+fn copy_base(base: &Option<Base>) -> Result<Option<Base>, AllocError>
+    ensures { IfOk result (λ b. b ≡ base.now) }
+{
+    match base {
+        None => Ok(None),
+        Some(base) => Ok(Some(base.clone()?)),
     }
 }
 
@@ -214,7 +236,7 @@ impl Volume {
             changes: self.next_stamp(),
             active: table,
             snapshots: copy(&self.snapshots)?,
-            base: self.base.clone()?,
+            base: copy_base(&self.base)?,
             known: self.known,
         })
     }

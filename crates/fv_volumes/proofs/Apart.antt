@@ -234,3 +234,23 @@ loaded_apart pool i states sound loaded kept volumes = entries_apart (root_found
     (sound_holds (layout_at (root_found pool.found) i) sound)
     (record { few = kept.few; each = λ s inside. (volumes.each s inside).tree })
     (λ b bit. ap (λ (m : List Bool). is_member m b) loaded.same ∙ (loaded.bits b ∙ bit))
+
+-- So do those of what was loaded from an image that stands for a machine.
+pub machine_apart : (pool : Pool) (i : Image) (states : States) (m : Machine) → root_of i ≡ Some (root_found pool.found) → machine_of i ≡ Some m → IsMapLoaded i pool.found pool.map
+    → KeptTo slot_count states pool.containers → LoadedTo i pool.found slot_count states pool.containers → (map : Volume) (slot : ℕ) → AreApart pool map slot
+machine_apart pool i states m counts stands = loaded_apart pool i states
+    (tells_from (layout_at (root_found pool.found) i) m (sym (machine_under i (root_found pool.found) counts) ∙ stands)).sound
+
+-- And those of what `Pool::open` and `Volumes::open` leave, one after the other, where the disk tells a sound image.
+pub opened_apart : (first second last : Shown) (found : Found) (opened left : Pool) (states : States) → IsTrue first.tells → IsSound (layout_at (root_found found) first.reads)
+    → OpensPool first found second (Ok opened) → OpensVolumes second opened last left (Ok states) → (map : Volume) (slot : ℕ) → AreApart left map slot
+opened_apart first second last found opened left states told sound pool volumes =
+    let same : left.found ≡ found = volumes.found ∙ pool.found in
+    let told_then : IsTrue second.tells = subst IsTrue (sym pool.only_reads.stays.tells) told in
+    let map_loaded : IsMapLoaded first.reads found left.map = subst (λ (m : Space). IsMapLoaded first.reads found m) (sym volumes.map) (pool.map told) in
+    let loaded : LoadedTo second.reads left.found slot_count states left.containers = subst (λ (f : Found). LoadedTo second.reads f slot_count states left.containers) (sym volumes.found) (volumes.loaded told_then) in
+    loaded_apart left first.reads states
+    (subst (λ (f : Found). IsSound (layout_at (root_found f) first.reads)) (sym same) sound)
+    (subst (λ (f : Found). IsMapLoaded first.reads f left.map) (sym same) map_loaded)
+    volumes.states
+    (subst (λ (i : Image). LoadedTo i left.found slot_count states left.containers) pool.only_reads.stays.reads loaded)

@@ -49,3 +49,13 @@ module _ (disk : Disk) (pool : Pool) (states : States) (x : VolumeState) (there 
       (root_reaches 0 x.active (active_reached disk pool x is none) (active_reach disk pool x is none led))
       (λ n q lt. kept_reaches (slice_index_or x.snapshots n q) (is.kept n q lt))
       k r (root_there (head_in x) k r at)
+
+-- So its view alone tells it.
+pub standing_seen : (disk : Disk) (pool : Pool) (x : VolumeState) → IsStanding disk pool x → x.files ≡ None → IsLabelled x.slot x → IsSeen disk pool x
+standing_seen disk pool x is none labelled = λ states there alone.
+    let base = form_base (head_in x) labelled.form in
+    record {
+      table = standing_table disk pool states x there alone base is none;
+      state = standing_state disk pool states x there alone base is none labelled;
+      reach = standing_reach disk pool states x there alone base is none;
+    }

@@ -16,6 +16,14 @@ use Rattle.fv_volumes.specs.Housed.{ReachesAll}
 use Rattle.fv_volume.specs.Loading.{HaveBits}
 use Rattle.fv_volume.specs.States.{table_in}
 
+-- the bits that are told of slot 0 are those of the active map
+pub active_bits : (w : View) (s span : ℕ) (m : Maps) → HaveBits w s span m → (v : ℕ) → is_member (active_of m) v ≡ volume_bit w s span 0 v
+active_bits w s span m bits v = sym (active_has m v) ∙ bits 0 v (omega arith)
+
+-- so it has the numbers that the active table reaches
+pub active_reaches : (w : View) (s : ℕ) (x : VolumeState) → ReachesAll w s x → (v : ℕ) → is_member (active_of x.map) v ≡ is_listed (items (standing_of w s (table_in x.active))) v
+active_reaches w s x is v = sym (active_has x.map v) ∙ is 0 (table_in x.active) refl v
+
 some_same : {X : Type 0} (a b : X) → Some a ≡ Some b → a ≡ b
 some_same a b e = cc
 

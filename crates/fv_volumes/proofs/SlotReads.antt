@@ -66,6 +66,13 @@ takes_block old new slot index block low is loads = record {
 pub takes_none : (m : Volume) (slot : ℕ) → TakesSlot m slot 0 m
 takes_none m slot = record { span = refl; used = λ some. absurd (omega (arith, some)); others = λ k other. refl }
 
+pub takes_more : (a b c : Volume) (slot count : ℕ) → TakesSlot a slot count b → TakesSlot b slot 1 c → TakesSlot a slot (count + 1) c
+takes_more a b c slot count before one = record {
+  span = one.span ∙ before.span;
+  used = λ some. one.used (omega arith);
+  others = λ k other. one.others k other ∙ before.others k other;
+}
+
 module _ (i : Image) (c : Mapped) (span slot : ℕ) where
   area : ℕ → List ℕ
   area k = entry_block i (entry_under c (map_vvbn span slot k))
