@@ -192,10 +192,10 @@ module _ (held : Held) (from to : ℕ) (bytes other : List ℕ) (old new : Shown
   still : SaysAs (between from to other) held.line
   still = subst (λ (l : List ℕ). SaysAs l held.line) (sym (same_line from to bytes other front)) line
 
-  pub filled : (n : ℕ) → n ≤ 4096 → to + 4096 ≤ length other → Takes old (between to (to + 4096) other) new (Ok n)
+  pub filled : (n : ℕ) → n ≤ 65536 → to + 65536 ≤ length other → Takes old (between to (to + 65536) other) new (Ok n)
       → Fills held old (record { line = between from to other; closed = held.closed; bytes = between to (to + n) other; room = held.room; ended = nat_eq n 0 }) new (Ok tt)
   filled n few room takes =
-      let into : take n (between to (to + 4096) other) ≡ between to (to + n) other = cut_between to (to + 4096) n other (omega (arith, few)) in
+      let into : take n (between to (to + 65536) other) ≡ between to (to + n) other = cut_between to (to + 65536) n other (omega (arith, few)) in
       record {
         same = λ tells. unread_of held old none going
             ∙ taken n (between to (to + n) other) new.ends.left old.ends.left (takes.bytes tells ∙ ap (λ (l : List ℕ). l ++ new.ends.left) into) (λ nothing. takes.end tells (ap Ok nothing)) (λ nothing. none_between to (to + n) other (omega (arith, nothing)));
@@ -204,10 +204,10 @@ module _ (held : Held) (from to : ℕ) (bytes other : List ℕ) (old new : Shown
         room = refl;
         end = λ empty. no_count n (between to (to + n) other) (length-between other to (to + n) (omega (arith, few, room)) ∙ (let d : (to + n) - to ≡ n = omega arith in d)) empty;
         none = tt;
-        asks = asks_take old new (between to (to + 4096) other) n laws takes;
+        asks = asks_take old new (between to (to + 65536) other) n laws takes;
       }
 
-  pub unfilled : (e : Failed) → Takes old (between to (to + 4096) other) new (Err e)
+  pub unfilled : (e : Failed) → Takes old (between to (to + 65536) other) new (Err e)
       → Fills held old (record { line = between from to other; closed = held.closed; bytes = between to to other; room = held.room; ended = held.ended }) new (Err e)
   unfilled e takes = record {
     same = λ tells. unread_of held old none going ∙ sym (takes.none tells) ∙ rw (none_between to to other (omega arith), going) refl;
@@ -216,7 +216,7 @@ module _ (held : Held) (from to : ℕ) (bytes other : List ℕ) (old new : Shown
     room = refl;
     end = tt;
     none = none_between to to other (omega arith);
-    asks = asks_take_failed old new (between to (to + 4096) other) e laws takes;
+    asks = asks_take_failed old new (between to (to + 65536) other) e laws takes;
   }
 
 -- ---- both

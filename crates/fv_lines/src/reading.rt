@@ -22,9 +22,9 @@ pub enum Found {
 /// are a line where the script ends, and none where the limit cuts them off.
 ///
 /// At `Err` the source failed, and what of the line was read by then is lost. It takes no memory, and asks
-/// the source for at most 4096 bytes at once, only where all that it gave before were read. Once the source
-/// has said that it ends, it isn't asked again. It looks at each byte once, and no byte is copied but those of a line that has to move to
-/// the front of the 32,768 bytes that are held, at most 9001 for each 19,000 that are taken.
+/// the source for at most 65,536 bytes at once, only where all that it gave before were read. Once the source
+/// has said that it ends, it isn't asked again. It looks at each byte at most twice, and no byte is copied but those of a line that has to move to
+/// the front of the 98,304 bytes that are held, at most 9001 for each 23,000 that are taken.
 #[tactic(auto, using(crate::proofs::LinesRead::begins, crate::proofs::LinesRead::reads_on, crate::proofs::LinesRead::found_line, crate::proofs::LinesRead::found_end, crate::proofs::LinesRead::found_limit, crate::proofs::LinesRead::found_fault))]
 pub fn next_line<H: Host>(script: &mut Script, host: &mut H) -> Result<Found, Failed>
     ensures finds { Finds script.old (H.shown host.old) script.new (H.shown host.new) script.new.line result }

@@ -7,14 +7,14 @@ ghost use Rattle.fv_lines.specs.Held.{Held, begun};
 ghost use Rattle.fv_lines.specs.Reading.{letters, Fills, IsNext, ReadsOn, SaysAs};
 
 use fv_disk::{Failed, Host};
-use fv_script::LONGEST;
+use fv_script::{LONGEST, before};
 use std::marker::Model;
 
 /// The most bytes that are asked of the source at once.
-const PIECE: usize = 4096;
+const PIECE: usize = 65_536;
 
-/// How many bytes are held at once: eight pieces, so that a line seldom has to move for the next one.
-const HELD: usize = 32_768;
+/// How many bytes are held at once: a piece and half of one, so that a line seldom has to move for the next one.
+const HELD: usize = 98_304;
 
 /// One byte more than a line may have: so many tell that a line is too long.
 const KEPT: usize = LONGEST + 1;
@@ -61,7 +61,7 @@ impl Model for Script {
 
     ghost view = { λ s. record { line = between s.from s.to s.bytes; closed = s.closed; bytes = between s.start s.end s.bytes; room = s.room; ended = s.ended } };
 
-    ghost invariant = { λ s. (s.from ≤ s.to) × (s.to ≤ s.start) × (s.start ≤ s.end) × (s.end ≤ 32768) × (s.ended ≡ true → s.start ≡ s.end) × (s.closed ≡ false → s.to ≡ s.start) };
+    ghost invariant = { λ s. (s.from ≤ s.to) × (s.to ≤ s.start) × (s.start ≤ s.end) × (s.end ≤ 98304) × (s.ended ≡ true → s.start ≡ s.end) × (s.closed ≡ false → s.to ≡ s.start) };
 }
 
 impl Script {
@@ -167,11 +167,12 @@ impl Script {
 }
 
 /// How many bytes stand before the first end of a line.
+#[tactic(auto, using(fv_script::proofs::Befores::before_within))]
 fn count_letters(bytes: &[u8]) -> usize
     ensures count { result ≡ letters bytes.now }
     ensures within { result ≤ length bytes.now }
 {
-    bytes.iter().take_while(|b| **b != b'\n').count()
+    before(bytes, b'\n')
 }
 
 /// Makes room for a piece behind the line that lies between these places: where there is none the line moves to the front, and of one
@@ -179,9 +180,9 @@ fn count_letters(bytes: &[u8]) -> usize
 #[tactic(auto, using(crate::proofs::Spans::moved))]
 fn make_room(bytes: &mut Pieces, from: usize, to: usize) -> (usize, usize)
     requires order { from ≤ to }
-    requires within { to ≤ 32768 }
+    requires within { to ≤ 98304 }
     ensures order { result.0 ≤ result.1 }
-    ensures room { result.1 + 4096 ≤ 32768 }
+    ensures room { result.1 + 65536 ≤ 98304 }
     ensures line { SaysAs (between result.0 result.1 bytes.new) (between from to bytes.old) }
 {
     if to + PIECE <= HELD {
@@ -194,9 +195,9 @@ fn make_room(bytes: &mut Pieces, from: usize, to: usize) -> (usize, usize)
 
 /// Takes a piece of the source behind so many bytes, and answers how long it is.
 fn take_behind<H: Host>(host: &mut H, bytes: &mut Pieces, at: usize) -> Result<usize, Failed>
-    requires room { at + 4096 ≤ 32768 }
-    ensures takes { Takes (H.shown host.old) (between at (at + 4096) bytes.new) (H.shown host.new) result }
-    ensures few { IfOk result (λ count. count ≤ 4096) }
+    requires room { at + 65536 ≤ 98304 }
+    ensures takes { Takes (H.shown host.old) (between at (at + 65536) bytes.new) (H.shown host.new) result }
+    ensures few { IfOk result (λ count. count ≤ 65536) }
     ensures front { take at bytes.new ≡ take at bytes.old }
 {
     host.take(&mut bytes[at..at + PIECE])

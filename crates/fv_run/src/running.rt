@@ -27,7 +27,7 @@ use std::sync::ledger::{Blank, Ledger};
 /// further consistency point: where no write and no barrier failed the disk is settled then, with the image of the last point that
 /// was asked for: by a `cp`, by a line whose room passes the dirty limit with the rooms behind the last `cp`, or by the end of the script.
 /// That each reply comes before the next line is applied, and that no point follows a fault in a line that asks for one, the tests show.
-/// It holds 32,768 bytes of the script beside the session, and costs for each line what `Session::apply` does.
+/// It holds 98,304 bytes of the script beside the session, and costs for each line what `Session::apply` does.
 pub fn run_script<H: Host>(alloc: Global, host: &mut H, limit: u64) -> u8
     ensures { IsRun limit (H.shown host.old) (H.shown host.new) result }
 {

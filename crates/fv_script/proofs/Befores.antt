@@ -39,7 +39,7 @@ passed_by test x xs ys true e all so_far = rw e (omega (arith, so_far all))
 passed_by test x xs ys false e all so_far = cc
 
 -- elements that all pass come before the others that do
-passed : (test : ℕ → Bool) (xs ys : List ℕ) → list_all test xs ≡ true → prefix_len test (xs ++ ys) ≡ length xs + prefix_len test ys
+pub passed : (test : ℕ → Bool) (xs ys : List ℕ) → list_all test xs ≡ true → prefix_len test (xs ++ ys) ≡ length xs + prefix_len test ys
 passed test [] ys all = omega arith
 passed test (x ∷ xs) ys all = passed_by test x xs ys (test x) refl all (λ rest. passed test xs ys rest)
 

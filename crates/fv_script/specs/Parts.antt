@@ -1,6 +1,7 @@
 -- What the private functions of the reader answer of a line's words.
-use Rattle.std.specs.Prelude.{◌≡◌, ℕ, ◌+◌, ◌-◌, ◌*◌, ◌^◌, Bool, true, false, not, nat_eq, min, List, length, take, drop, Option, Some, None, Result, Ok, Err, if◌then◌else◌}
-use Rattle.std.specs.List.{prefix_len, position_or_len}
+use Rattle.std.specs.Prelude.{◌≡◌, ◌≤◌, ℕ, ◌+◌, ◌-◌, ◌*◌, ◌^◌, Bool, true, false, not, nat_eq, min, List, length, take, drop, Option, Some, None, Result, Ok, Err, if◌then◌else◌}
+use Rattle.std.specs.List.{list_all, prefix_len, position_or_len}
+use Rattle.std.specs.Char.{is_ascii_hexdigit}
 use Rattle.fv_model.specs.Spelling.{is_name}
 use Rattle.fv_model.specs.Words.{Words}
 use Rattle.fv_model.specs.Grammar.{is_end}
@@ -16,6 +17,10 @@ Gives view (Err fault) left first = (first ≡ None) × (fault ≡ Syntax)
 abbrev pub Ends : Result Unit LineFault → Words → Type 0
 Ends (Ok done) words = is_end words ≡ true
 Ends (Err fault) words = (is_end words ≡ false) × (fault ≡ Syntax)
+
+-- at most so many hexadecimal digits as a block has
+abbrev pub AreDigits : List ℕ → Type 0
+AreDigits digits = (length digits ≤ 8192) × (list_all is_ascii_hexdigit digits ≡ true)
 
 -- a number is read exactly where it is in its range
 abbrev pub in_range : Bool → {A : Type 0} → A → Result A LineFault
@@ -38,6 +43,10 @@ spaces line = prefix_len is_space line
 
 abbrev pub letters : List ℕ → ℕ
 letters line = prefix_len (λ b. not (is_space b)) line
+
+-- a zero byte
+abbrev pub is_zero : ℕ → Bool
+is_zero b = nat_eq b 0
 
 -- one more digit, held at the greatest number of 32 bits
 abbrev pub held : ℕ → ℕ → ℕ

@@ -12,6 +12,11 @@ reading (Says command) = Ok command
 reading NoCommand = Err Syntax
 reading OutOfRange = Err Range
 
+-- what a call answers that leaves the command where it was told to
+abbrev pub handed : Result Unit LineFault → Command → Result Command LineFault
+handed (Ok done) command = Ok command
+handed (Err fault) command = Err fault
+
 -- what is read of words that say this command, or none
 abbrev pub outcome : Option Command → Result Command LineFault
 outcome command = reading (ranged command)

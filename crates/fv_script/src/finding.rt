@@ -7,7 +7,8 @@ ghost use Rattle.fv_script.specs.Parts.{before, is_other};
 /// How many bytes are looked at in one piece. A compiler looks at a piece of 32 in a few steps.
 const PIECE: usize = 32;
 
-/// How many bytes stand before the first one of this value. It looks at pieces as long as they lack it, and then at single bytes.
+/// How many bytes stand before the first one of this value; all of them where none has it. It takes no memory, and looks at each byte before
+/// that one at most twice: at pieces of 32 bytes as long as they lack it, and then at single bytes.
 pub fn before(bytes: &[u8], wanted: u8) -> usize
     ensures { result ≡ before wanted bytes.now }
 {

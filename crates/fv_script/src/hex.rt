@@ -1,25 +1,28 @@
 //! A block by its hexadecimal digits.
 
-ghost use Rattle.std.specs.Prelude.{◌≡◌, ◌≤◌, ◌<◌, ◌+◌, ◌*◌, ◌/◌, ◌-◌, ◌++◌, true, length, replicate};
+ghost use Rattle.std.specs.Prelude.{◌≡◌, ◌≤◌, ◌<◌, ◌+◌, ◌*◌, ◌/◌, ◌-◌, ◌++◌, true, length, replicate, IfSome};
 ghost use Rattle.std.specs.Char.{is_ascii_hexdigit};
 ghost use Rattle.std.specs.List.{list_all};
+ghost use Rattle.std.specs.Option.{option_map};
 ghost use Rattle.fv_model.specs.Words.{block_of, bytes_of, is_hex, nibble, padded};
+ghost use Rattle.fv_script.specs.Parts.{AreDigits};
 
 use crate::values::is;
 use fv_model::Block;
 
-/// The block that the word spells.
+/// The digits of the block that the word spells: the word itself, or none for a dash.
 #[tactic(auto, unfolding(fv_model::specs::Words::block_of))]
-pub fn block_of(word: &[u8]) -> Option<Block>
-    ensures { result ≡ block_of word.now }
+pub fn digits_of(word: &[u8]) -> Option<&[u8]>
+    ensures spelled { option_map (λ digits. padded (bytes_of digits.now)) result ≡ block_of word.now }
+    ensures digits { IfSome result (λ digits. AreDigits digits.now) }
 {
     if is(word, b"-") {
-        Some(filled(&[]))
-    } else if is_hex(word) {
-        Some(filled(word))
-    } else {
-        None
+        return Some(&word[..0]);
     }
+    if is_hex(word) {
+        return Some(word);
+    }
+    None
 }
 
 fn is_hex(word: &[u8]) -> bool
@@ -40,18 +43,16 @@ fn has_hex_alone(word: &[u8]) -> bool
     all
 }
 
-/// The bytes of the digits, and zeros after them.
+/// Lays the bytes of the digits at the front of a zero block.
 #[tactic(auto, using(crate::proofs::Digits::begins, crate::proofs::Digits::turn, crate::proofs::Digits::ended, crate::proofs::Digits::is_digit))]
-fn filled(digits: &[u8]) -> Block
-    requires length { length digits.now ≤ 8192 }
-    requires digits { list_all is_ascii_hexdigit digits.now ≡ true }
-    ensures { result ≡ padded (bytes_of digits.now) }
+pub fn fill(block: &mut Block, digits: &[u8])
+    requires zero { block.old ≡ replicate 4096 0 }
+    requires digits { AreDigits digits.now }
+    ensures { block.new ≡ padded (bytes_of digits.now) }
 {
-    let mut block = [0; 4096];
     for i in 0..digits.len() / 2 {
         block[i] = byte(digits[2 * i], digits[2 * i + 1]);
     }
-    block
 }
 
 fn byte(high: u8, low: u8) -> u8

@@ -17,7 +17,8 @@ mod words;
 mod write;
 
 pub use fault::LineFault;
+pub use finding::before;
 pub use generate::Generator;
-pub use read::{LONGEST, read_line};
+pub use read::{LONGEST, read_into, read_line};
 pub use values::read_blocks;
 pub use write::{write_done, write_reply};

@@ -1,22 +1,23 @@
 //! The words of a line, one after another, and what each says.
 
-ghost use Rattle.std.specs.Prelude.{◌≡◌, drop, take};
-ghost use Rattle.fv_model.specs.Words.{block_of, count_of, kind_of, line_words, name_of, table_of, text_of, value_of};
+ghost use Rattle.std.specs.Prelude.{◌≡◌, drop, take, IfOk};
+ghost use Rattle.fv_model.specs.Words.{block_of, bytes_of, count_of, kind_of, line_words, name_of, padded, table_of, text_of, value_of};
 ghost use Rattle.fv_model.specs.Grammar.{first};
-ghost use Rattle.fv_script.specs.Parts.{Ends, Gives, letters, spaces};
+ghost use Rattle.fv_script.specs.Parts.{AreDigits, Ends, Gives, letters, spaces};
 
 use crate::LineFault;
 use crate::finding::before;
-use crate::hex::block_of;
+use crate::hex::digits_of;
 use crate::values::{is_number, kind_of, table_of};
-use fv_model::{Block, Kind, Name};
+use fv_model::{Kind, Name};
 
 /// The command of a form: what each of its words says, one after the other to the end of the line, and then the numbers in their ranges.
 macro_rules! form {
-    ($words:ident; $($said:pat = $read:ident),*; $command:expr) => {{
+    ($words:ident, $into:ident; $($said:pat = $read:ident),*; $command:expr) => {{
         $(let $said = $read($words)?;)*
         end($words)?;
-        Ok($command)
+        *$into = $command;
+        Ok(())
     }};
 }
 
@@ -107,12 +108,13 @@ pub fn table(words: &mut Words<'_>) -> Result<(Name, Option<Name>), LineFault>
     table_of(word(words)?).ok_or(LineFault::Syntax)
 }
 
-/// The block that the next word spells.
+/// The digits of the block that the next word spells.
 #[tactic(auto, using(crate::proofs::Said::said))]
-pub fn block(words: &mut Words<'_>) -> Result<Block, LineFault>
-    ensures { Gives (λ block. block) result (line_words words.new.line.now) (first block_of (line_words words.old.line.now)) }
+pub fn block_digits<'a>(words: &mut Words<'a>) -> Result<&'a [u8], LineFault>
+    ensures spelled { Gives (λ digits. padded (bytes_of digits.now)) result (line_words words.new.line.now) (first block_of (line_words words.old.line.now)) }
+    ensures digits { IfOk result (λ digits. AreDigits digits.now) }
 {
-    block_of(word(words)?).ok_or(LineFault::Syntax)
+    digits_of(word(words)?).ok_or(LineFault::Syntax)
 }
 
 /// No word is left.

@@ -1,18 +1,27 @@
 //! Writing a reply.
 
-ghost use Rattle.std.specs.Prelude.{◌≡◌, ◌≤◌, ◌<◌, ◌+◌, ◌*◌, ◌++◌, ◌∷◌, [], length};
-ghost use Rattle.fv_model.specs.Texts.{done_text, text};
+ghost use Rattle.std.specs.Prelude.{◌≡◌, ◌≤◌, ◌<◌, ◌+◌, ◌*◌, ◌++◌, ◌∷◌, [], flat_map, length};
+ghost use Rattle.fv_model.specs.Texts.{done_text, hex, or_dash, text};
 ghost use Rattle.fv_script.specs.Telling.{Tells};
 ghost use Rattle.fv_script.specs.Spelled.{before_spaces};
 
-use crate::content::content_line;
+use crate::content::{lay_line, trimmed};
 use crate::lines::{done_line, number_line, ok_line, refusal_line, stat_line};
 use arrayvec::ArrayVec;
 use fv_disk::{Failed, Host, give_all};
-use fv_model::{Name, Reply};
+use fv_model::{Block, Name, Reply};
 
 /// How many names are given at once, at most.
 const PIECE_NAMES: usize = 64;
+
+/// Up to so many bytes of a block are spelled in a place of 128 bytes.
+const SHORT: usize = 63;
+
+/// Up to so many in one of 1,024.
+const MIDDLE: usize = 511;
+
+/// All that a block has.
+const WHOLE: usize = 4096;
 
 /// So many names, each of at most 64 bytes and with one byte behind it.
 type Piece = ArrayVec<u8, 4160>;
@@ -27,7 +36,7 @@ pub fn write_reply<H: Host>(reply: &Reply, host: &mut H) -> Result<(), Failed>
 {
     match reply {
         Reply::Done => give_line(ok_line().as_bytes(), host),
-        Reply::Content(block) => give_line(content_line(block).as_slice(), host),
+        Reply::Content(block) => give_content(block, host),
         Reply::Number(number) => give_line(number_line(*number).as_str().as_bytes(), host),
         Reply::Names(names) => write_names(names.as_slice(), host),
         Reply::Stat(stat) => give_line(stat_line(stat).as_str().as_bytes(), host),
@@ -46,6 +55,31 @@ fn give_line<H: Host>(line: &[u8], host: &mut H) -> Result<(), Failed>
     ensures { Tells (H.shown host.old) line.now (H.shown host.new) result }
 {
     give_all(host, line)
+}
+
+/// Gives out the line of a block. It is spelled in a place that is filled with zeros first, so few bytes get a small one.
+#[tactic(auto, using(crate::proofs::Told::told), unfolding(fv_model::specs::Texts::words))]
+fn give_content<H: Host>(block: &Block, host: &mut H) -> Result<(), Failed>
+    ensures { Tells (H.shown host.old) (text (Reply.Content block.now)) (H.shown host.new) result }
+{
+    let bytes = trimmed(block);
+    if bytes.len() <= SHORT {
+        return give_bytes(&mut [0; 2 * SHORT + 2], bytes, host);
+    }
+    if bytes.len() <= MIDDLE {
+        return give_bytes(&mut [0; 2 * MIDDLE + 2], bytes, host);
+    }
+    give_bytes(&mut [0; 2 * WHOLE + 2], bytes, host)
+}
+
+/// Gives out the line of a block that ends with zeros behind these bytes. It is spelled in the place lent.
+#[tactic(auto, using(crate::proofs::Told::told))]
+fn give_bytes<H: Host>(line: &mut [u8], bytes: &[u8], host: &mut H) -> Result<(), Failed>
+    requires { 2 * length bytes.now + 2 ≤ length line.old }
+    ensures { Tells (H.shown host.old) (or_dash (flat_map hex bytes.now) ++ 10 ∷ []) (H.shown host.new) result }
+{
+    let end = lay_line(line, bytes);
+    give_line(&line[..end], host)
 }
 
 /// Gives out names with a space between, or a dash, and the line's end.
