@@ -1,5 +1,5 @@
 -- Blocks that are written one after another.
-use Rattle.std.proofs.Common.{◌≡◌, ◌≢◌, ℕ, Bool, true, false, cond, List, [], ◌∷◌, Some, None, Less, refl, sym, ap, ◌∙◌, ⊎_elim, arith, nat_eq}
+use Rattle.std.proofs.Common.{◌≡◌, ◌≢◌, ℕ, Bool, true, false, cond, List, [], ◌∷◌, Some, None, Option, Less, refl, sym, ap, subst, ◌∙◌, ⊎_elim, arith, nat_eq}
 use Rattle.std.specs.FinMap as fin
 use Rattle.std.specs.FinMap.{find}
 use Rattle.std.specs.Ordering.{nat_cmp, eq_by_cmp, is_eq}
@@ -10,13 +10,17 @@ use Rattle.std.specs.List.Sorted.{IsStrictlySortedBy}
 use Rattle.std.specs.Map.{keys_of, lookup}
 use Rattle.std.proofs.lemmas.Bool.{cases_Bool}
 use Rattle.std.proofs.lemmas.Bool.Decides.{nat_tests}
+use Rattle.std.proofs.lemmas.Map.Made.{keys_of-map_values, lookup-map_values}
+use Rattle.std.specs.Global.{Box}
+use Rattle.std.specs.Option.{option_map}
 use Rattle.std.specs.Prelude.{IsTrue, IsErr, Result, Ok, Err}
 use Rattle.fv_disk.specs.declared.Failed.{Failed}
 use Rattle.fv_disk.specs.Sparing.{Spares}
 use Rattle.fv_disk.proofs.Sparing.{spares_then}
 use Rattle.fv_disk.specs.Shown.{Image, Shown}
 use Rattle.fv_disk.specs.DiskCalls.{Writes}
-use Rattle.fv_pool.specs.Keeping.{IsUnkept, kept_or, seen}
+use Rattle.fv_store.specs.Boxed.{unboxed}
+use Rattle.fv_pool.specs.Keeping.{IsUnkept, kept_in, kept_or, seen}
 
 -- each of these entries has a PVBN that has a block in the whole
 abbrev pub AreIn : List (ℕ × List ℕ) → List (ℕ × List ℕ) → Type 0
@@ -101,21 +105,40 @@ unkept_elsewhere whole b at is unkept same = is (ap (λ k. find nat_cmp k whole)
 turned : (q k : ℕ) → eq_by_cmp nat_cmp q k ≡ is_eq (nat_cmp k q)
 turned q k = grind (arith, nat_tests)
 
-module _ {X : Type 0} where
-  same_find : (es : List (ℕ × X)) (q : ℕ) → find nat_cmp q es ≡ lookup (λ k. is_eq (nat_cmp q k)) es
-  same_find [] q = refl
-  same_find (e ∷ es) q = ap (λ r. cond (is_eq (nat_cmp q e.0)) (Some e.1) r) (same_find es q)
+same_find : (es : List (ℕ × List ℕ)) (q : ℕ) → find nat_cmp q es ≡ lookup (λ k. is_eq (nat_cmp q k)) es
+same_find [] q = refl
+same_find (e ∷ es) q = ap (λ r. cond (is_eq (nat_cmp q e.0)) (Some e.1) r) (same_find es q)
 
-  pub view_get : (m : tree.BTreeMap ℕ X) (q : ℕ) → fin.get (fin.from_entries {R = nat_cmp} m.entries) q ≡ tree.get nat_cmp m q
-  view_get m q = fin.get-from_entries nat_cmp_total m.entries q ∙ same_find m.entries q
+abbrev Boxes : Type 0
+Boxes = tree.BTreeMap ℕ (Box (List ℕ))
 
-  pub view_insert : (m n : tree.BTreeMap ℕ X) (k : ℕ) (x : X) → tree.Updates nat_cmp m n k (Some x) → fin.from_entries {R = nat_cmp} n.entries ≡ fin.insert (fin.from_entries m.entries) k x
-  view_insert m n k x updates = fin.same_map nat_cmp_total fin.nat_cmp-IsAntisymmetric (fin.from_entries n.entries) (fin.insert (fin.from_entries m.entries) k x)
-      (λ q. view_get n q ∙ updates.0 q ∙ sym (fin.get-insert nat_cmp_total (fin.from_entries m.entries) k x q ∙ ap (λ r. cond (eq_by_cmp nat_cmp q k) (Some x) r) (view_get m q) ∙ ap (λ b. cond b (Some x) (tree.get nat_cmp m q)) (turned q k)))
+abbrev inside : Option (Box (List ℕ)) → Option (List ℕ)
+inside = option_map (λ box. box.value)
 
-  pub view_remove : (m n : tree.BTreeMap ℕ X) (k : ℕ) → tree.Updates nat_cmp m n k None → fin.from_entries {R = nat_cmp} n.entries ≡ fin.remove (fin.from_entries m.entries) k
-  view_remove m n k updates = fin.same_map nat_cmp_total fin.nat_cmp-IsAntisymmetric (fin.from_entries n.entries) (fin.remove (fin.from_entries m.entries) k)
-      (λ q. view_get n q ∙ updates.0 q ∙ sym (fin.get-remove nat_cmp_total (fin.from_entries m.entries) k q ∙ ap (λ r. cond (eq_by_cmp nat_cmp q k) None r) (view_get m q) ∙ ap (λ b. cond b None (tree.get nat_cmp m q)) (turned q k)))
+inside_either : (b : Bool) (x y : Option (Box (List ℕ))) → inside (cond b x y) ≡ cond b (inside x) (inside y)
+inside_either true x y = refl
+inside_either false x y = refl
+
+pub view_get : (m : Boxes) (q : ℕ) → fin.get (kept_in m) q ≡ inside (tree.get nat_cmp m q)
+view_get m q = fin.get-from_entries nat_cmp_total (unboxed m.entries) q ∙ same_find (unboxed m.entries) q ∙ lookup-map_values (λ box. box.value) (λ k. is_eq (nat_cmp q k)) m.entries
+
+-- what an update of a box makes of the blocks
+updated : (m n : Boxes) (k : ℕ) (w : Option (Box (List ℕ))) → tree.Updates nat_cmp m n k w → (q : ℕ) → fin.get (kept_in n) q ≡ cond (eq_by_cmp nat_cmp q k) (inside w) (fin.get (kept_in m) q)
+updated m n k w updates q =
+    view_get n q ∙ ap inside (updates.0 q) ∙ inside_either (is_eq (nat_cmp k q)) w (tree.get nat_cmp m q)
+    ∙ ap (λ b. cond b (inside w) (inside (tree.get nat_cmp m q))) (sym (turned q k)) ∙ ap (cond (eq_by_cmp nat_cmp q k) (inside w)) (sym (view_get m q))
+
+pub view_insert : (m n : Boxes) (k : ℕ) (box : Box (List ℕ)) → tree.Updates nat_cmp m n k (Some box) → kept_in n ≡ fin.insert (kept_in m) k box.value
+view_insert m n k box updates = fin.same_map nat_cmp_total fin.nat_cmp-IsAntisymmetric (kept_in n) (fin.insert (kept_in m) k box.value)
+    (λ q. updated m n k (Some box) updates q ∙ sym (fin.get-insert nat_cmp_total (kept_in m) k box.value q))
+
+pub view_remove : (m n : Boxes) (k : ℕ) → tree.Updates nat_cmp m n k None → kept_in n ≡ fin.remove (kept_in m) k
+view_remove m n k updates = fin.same_map nat_cmp_total fin.nat_cmp-IsAntisymmetric (kept_in n) (fin.remove (kept_in m) k)
+    (λ q. updated m n k None updates q ∙ sym (fin.get-remove nat_cmp_total (kept_in m) k q))
+
+-- the blocks stand in the order of their boxes
+pub unboxed_ordered : (m : Boxes) → IsStrictlySortedBy nat_cmp (keys_of m.entries) → IsStrictlySortedBy nat_cmp (keys_of (unboxed m.entries))
+unboxed_ordered m ordered = subst (IsStrictlySortedBy nat_cmp) (sym (keys_of-map_values (λ box. box.value) m.entries)) ordered
 
 -- a write in front of others
 pub wrote : (rest : List (ℕ × List ℕ)) (old : Shown) (at : ℕ) (block : List ℕ) (new : Shown) (b : ℕ) → IsTrue old.tells → Writes old at block new (Ok tt) → written rest new.reads b ≡ written ((at, block) ∷ rest) old.reads b

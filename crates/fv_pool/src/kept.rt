@@ -1,11 +1,11 @@
 //! Blocks that were placed and aren't written yet.
 
-ghost use Rattle.std.specs.Prelude.{◌≡◌, IsTrue, OnOk, OnErr, option_copied, ℕ};
+ghost use Rattle.std.specs.Prelude.{◌≡◌, IsTrue, OnOk, OnErr, cond, option_copied, ℕ};
 ghost use Rattle.std.specs.Ordering.{nat_cmp};
 ghost use Rattle.std.specs.FinMap as fin;
 ghost use Rattle.fv_store.specs.Held.{StandsOn};
 ghost use Rattle.fv_disk.specs.Sparing.{Spares};
-ghost use Rattle.fv_pool.specs.Keeping.{Blocks, IsUnkept, seen};
+ghost use Rattle.fv_pool.specs.Keeping.{IsUnkept, kept_in, seen};
 
 use fv_disk::{Block, Disk, Failed};
 use fv_store::Store;
@@ -13,24 +13,28 @@ use std::alloc::{AllocError, Global};
 use std::collections::BTreeMap;
 use std::marker::Model;
 
+/// The blocks by PVBN, each in a box of its own: the tree moves boxes, and no block.
+type Boxes = BTreeMap<u32, Box<Block>>;
+
 /// The blocks that were placed and aren't written yet, by PVBN. Contracts see a finite map from PVBN to
 /// block.
 #[derive(Drop)]
 pub struct Kept {
-    blocks: BTreeMap<u32, Block>,
+    alloc: Global,
+    blocks: Boxes,
 }
 
 impl Model for Kept {
     ghost use Rattle.std.specs.Ordering.{nat_cmp};
     ghost use Rattle.std.specs.FinMap as fin;
-    ghost use Rattle.fv_pool.specs.Keeping.{Blocks};
+    ghost use Rattle.fv_pool.specs.Keeping.{Blocks, kept_in};
     ghost use Rattle.std.specs.Coded.{coded_ℕ, coded_list};
 
     ghost Value = { Blocks };
 
     ghost coded = { fin.code coded_ℕ (coded_list coded_ℕ) };
 
-    ghost view = { λ kept. fin.from_entries kept.blocks.entries };
+    ghost view = { λ kept. kept_in kept.blocks };
 }
 
 impl Kept {
@@ -39,6 +43,7 @@ impl Kept {
         ensures { result ≡ fin.empty }
     {
         Kept {
+            alloc,
             blocks: BTreeMap::new(alloc),
         }
     }
@@ -48,7 +53,10 @@ impl Kept {
     pub fn get(&self, pvbn: u32) -> Option<&Block>
         ensures { option_copied result ≡ fin.get self.now pvbn }
     {
-        self.blocks.get(&pvbn)
+        match self.blocks.get(&pvbn) {
+            Some(block) => Some(&**block),
+            None => None,
+        }
     }
 
     /// Keeps a block under a PVBN, in place of one kept there before. The one error is want of memory;
@@ -57,7 +65,11 @@ impl Kept {
         ensures kept { OnOk result (self.new ≡ fin.insert self.old pvbn block.now) }
         ensures failed { OnErr result (self.new ≡ self.old) }
     {
-        self.blocks.insert(pvbn, *block)?;
+        if overwrite(&mut self.blocks, pvbn, block) {
+            return Ok(());
+        }
+        let boxed = Box::new(self.alloc, *block)?;
+        self.blocks.insert(pvbn, boxed)?;
         Ok(())
     }
 
@@ -89,19 +101,29 @@ impl Kept {
     }
 }
 
-fn write_blocks<D: Disk>(
-    blocks: &BTreeMap<u32, Block>,
-    store: &mut Store,
-    disk: &mut D,
-) -> Result<(), Failed>
+/// Copies a block over the one that is kept under a PVBN, and says whether there is one.
+fn overwrite(blocks: &mut Boxes, pvbn: u32, block: &Block) -> bool
+    ensures { kept_in blocks.new ≡ cond result (fin.insert (kept_in blocks.old) pvbn block.now) (kept_in blocks.old) }
+{
+    match blocks.get_mut(&pvbn) {
+        Some(kept) => {
+            **kept = *block;
+            true
+        }
+        None => false,
+    }
+}
+
+/// Writes each block to its place.
+fn write_blocks<D: Disk>(blocks: &Boxes, store: &mut Store, disk: &mut D) -> Result<(), Failed>
     requires stands { StandsOn (D.shown disk.old) store.old.pairs }
     ensures written { IsTrue (D.shown disk.old).tells
-        → OnOk result ((b : ℕ) → (D.shown disk.new).reads b ≡ seen (fin.from_entries blocks.now.entries) (D.shown disk.old).reads b) }
-    ensures spares { Spares (IsUnkept (fin.from_entries blocks.now.entries)) (D.shown disk.old) (D.shown disk.new) result }
+        → OnOk result ((b : ℕ) → (D.shown disk.new).reads b ≡ seen (kept_in blocks.now) (D.shown disk.old).reads b) }
+    ensures spares { Spares (IsUnkept (kept_in blocks.now)) (D.shown disk.old) (D.shown disk.new) result }
     ensures stands { StandsOn (D.shown disk.new) store.new.pairs }
 {
     for (pvbn, block) in blocks.iter() {
-        store.put(disk, *pvbn, block)?;
+        store.put(disk, *pvbn, &**block)?;
     }
     Ok(())
 }
