@@ -1,3 +1,4 @@
+pub mod Answered
 mod Sums
 pub mod Clear
 pub mod Rooms

@@ -11,6 +11,7 @@ pub mod Managing
 pub mod Numbering
 pub mod Opening
 pub mod Adding
+pub mod Answers
 pub mod Telling
 pub mod Snapping
 pub mod Reclaiming

@@ -27,6 +27,7 @@ use Rattle.fv_pool.specs.declared.fault.VolumeFault.TheVariants as volume
 use Rattle.fv_aggregate.specs.declared.fault.Fault.{Fault}
 use Rattle.fv_aggregate.specs.declared.fault.Fault.TheVariants.{DiskFault, Damaged, Memory}
 use Rattle.fv_aggregate.specs.declared.session.Session.{Session}
+use Rattle.fv_aggregate.specs.Answers.{answer}
 use Rattle.fv_aggregate.specs.Calls.{Goes, GoesFor, IsForWant, IsUntouched, IsWithinLimit, KeepsAsking, KeepsEntries, WasRead}
 use Rattle.fv_snapshot.specs.Creating.{Creates, TellsCreation}
 use Rattle.fv_snapshot.specs.Deleting.{Deletes}
@@ -128,8 +129,7 @@ refusal_in reply = None
 
 -- what a volume that did a command answers for it
 abbrev pub done_as : Result Unit VolumeFault → Result Reply VolumeFault
-done_as (Ok x) = Ok Done
-done_as (Err fault) = Err fault
+done_as made = answer Done made
 
 -- ---- in parts
 

@@ -11,11 +11,12 @@ ghost use Rattle.fv_model.specs.declared.commands.Command.TheVariants.{VolCreate
 ghost use Rattle.fv_volumes.specs.Creating.{Admits};
 ghost use Rattle.fv_aggregate.specs.declared.fault.Fault.TheVariants.{Memory};
 ghost use Rattle.fv_aggregate.specs.Adding.{IsAdded};
+ghost use Rattle.fv_aggregate.specs.Answers.{answer};
 ghost use Rattle.fv_aggregate.specs.Calls.{KeepsHolding, MakesNoHoles, Runs};
 ghost use Rattle.fv_aggregate.specs.Commands.{dirty_limit, is_refusal, most_overhead};
 ghost use Rattle.fv_aggregate.specs.Standing.{Stands, StandsFor};
 
-use crate::fault::Answer;
+use crate::fault::Fault;
 use crate::session::Session;
 use fv_charge::overhead;
 use fv_disk::Disk;
@@ -31,23 +32,27 @@ impl Session {
         name: &Name,
         size: u32,
         kind: Kind,
-    ) -> Answer
+        into: &mut Reply,
+    ) -> Result<(), Fault>
         requires fresh { IsNone self.old.failed }
         requires stands { Stands (D.shown disk.old) self.old }
         ensures runs { Runs (overhead (span_of size 0 0)) (λ m. next m (VolCreate name.now size kind))
-            (D.shown disk.old) self.old (D.shown disk.new) self.new result }
+            (D.shown disk.old) self.old (D.shown disk.new) self.new (answer into.new result) }
         ensures reply { IsTrue (D.shown disk.old).tells → (last m : Machine) → StandsFor (D.shown disk.old) self.old last m
-            → IfOk result (Allows m (VolCreate name.now size kind)) }
-        ensures refused { IfOk result (λ reply. IsTrue (is_refusal reply) → (disk.new ≡ disk.old) × (self.new ≡ self.old)) }
+            → IfOk (answer into.new result) (Allows m (VolCreate name.now size kind)) }
+        ensures refused { IfOk (answer into.new result) (λ reply. IsTrue (is_refusal reply) → (disk.new ≡ disk.old) × (self.new ≡ self.old)) }
         ensures calm { self.old.pending + overhead (span_of size 0 0) ≤ dirty_limit → disk.new ≡ disk.old }
         ensures map { self.old.pending + overhead (span_of size 0 0) ≤ dirty_limit → self.new.pool.map ≡ self.old.pool.map }
         ensures entries { self.old.pending + overhead (span_of size 0 0) ≤ dirty_limit → MakesNoHoles self.old self.new }
-        ensures holding { KeepsHolding (D.shown disk.old) self.old self.new result }
-        ensures wanting { self.old.pending + overhead (span_of size 0 0) ≤ dirty_limit → IfErr result (λ e. e ≡ Memory → self.new ≡ self.old) }
+        ensures holding { KeepsHolding (D.shown disk.old) self.old self.new (answer into.new result) }
+        ensures wanting { self.old.pending + overhead (span_of size 0 0) ≤ dirty_limit → IfErr (answer into.new result) (λ e. e ≡ Memory → self.new ≡ self.old) }
     {
         match self.volumes.admit(self.pool.found.blocks, name, size, kind) {
-            Ok(admitted) => self.make(disk, name, size, kind, admitted),
-            Err(refusal) => Ok(Reply::Refused(refusal)),
+            Ok(admitted) => return self.make(disk, name, size, kind, admitted, into),
+            Err(refusal) => {
+                *into = Reply::Refused(refusal);
+                return Ok(());
+            }
         }
     }
 
@@ -59,24 +64,26 @@ impl Session {
         size: u32,
         kind: Kind,
         admitted: Admitted,
-    ) -> Answer
+        into: &mut Reply,
+    ) -> Result<(), Fault>
         requires fresh { IsNone self.old.failed }
         requires stands { Stands (D.shown disk.old) self.old }
         requires long { length self.old.volumes ≡ slot_count }
         requires admitted { Admits self.old.volumes self.old.pool.found.blocks name.now size kind admitted.slot admitted.span }
         ensures runs { Runs (overhead admitted.span) (λ m. next m (VolCreate name.now size kind))
-            (D.shown disk.old) self.old (D.shown disk.new) self.new result }
-        ensures reply { IfOk result (λ reply. reply ≡ Done) }
+            (D.shown disk.old) self.old (D.shown disk.new) self.new (answer into.new result) }
+        ensures reply { IfOk (answer into.new result) (λ reply. reply ≡ Done) }
         ensures calm { self.old.pending + overhead admitted.span ≤ dirty_limit → disk.new ≡ disk.old }
         ensures map { self.old.pending + overhead admitted.span ≤ dirty_limit → self.new.pool.map ≡ self.old.pool.map }
         ensures entries { self.old.pending + overhead admitted.span ≤ dirty_limit → MakesNoHoles self.old self.new }
-        ensures holding { KeepsHolding (D.shown disk.old) self.old self.new result }
-        ensures wanting { self.old.pending + overhead admitted.span ≤ dirty_limit → IfErr result (λ e. e ≡ Memory → self.new ≡ self.old) }
+        ensures holding { KeepsHolding (D.shown disk.old) self.old self.new (answer into.new result) }
+        ensures wanting { self.old.pending + overhead admitted.span ≤ dirty_limit → IfErr (answer into.new result) (λ e. e ≡ Memory → self.new ≡ self.old) }
     {
         let room = u64::from(overhead(admitted.span()));
         self.make_room(disk, room)?;
         self.add(name, size, kind, admitted, room)?;
-        Ok(Reply::Done)
+        *into = Reply::Done;
+        Ok(())
     }
 
     /// Adds a volume in memory, with this room.

@@ -8,10 +8,11 @@ ghost use Rattle.fv_volumes.specs.contracts.volumes.Volumes.{the_row};
 ghost use Rattle.fv_volume.specs.States.{state_at, with_state};
 ghost use Rattle.fv_cp.specs.Lent.{FitTogether};
 ghost use Rattle.fv_aggregate.specs.Aiming.{Aims, AimsAt, IsAimed, IsServed};
+ghost use Rattle.fv_aggregate.specs.Answers.{answer};
 ghost use Rattle.fv_aggregate.specs.Applying.{HasApplied};
 ghost use Rattle.fv_aggregate.specs.Standing.{Stands};
 
-use crate::fault::Answer;
+use crate::fault::Fault;
 use crate::session::Session;
 use fv_container::Steps;
 use fv_disk::Disk;
@@ -47,16 +48,20 @@ impl Session {
         disk: &mut D,
         command: &Command,
         steps: &mut Steps<L>,
-    ) -> Answer
+        into: &mut Reply,
+    ) -> Result<(), Fault>
         requires fresh { IsNone self.old.failed }
         requires stands { Stands (D.shown disk.old) self.old }
         requires served { IsServed command.now }
         ensures { HasApplied command.now (D.shown disk.old) disk.old self.old steps.old
-            (D.shown disk.new) disk.new self.new steps.new result }
+            (D.shown disk.new) disk.new self.new steps.new (answer into.new result) }
     {
         match self.aim(command) {
-            Ok(aim) => return self.carry(disk, aim, command, steps),
-            Err(refusal) => return Ok(Reply::Refused(refusal)),
+            Ok(aim) => return self.carry(disk, aim, command, steps, into),
+            Err(refusal) => {
+                *into = Reply::Refused(refusal);
+                return Ok(());
+            }
         }
     }
 
@@ -105,17 +110,18 @@ impl Session {
         aim: Aim,
         command: &Command,
         steps: &mut Steps<L>,
-    ) -> Answer
+        into: &mut Reply,
+    ) -> Result<(), Fault>
         requires fresh { IsNone self.old.failed }
         requires stands { Stands (D.shown disk.old) self.old }
         requires aimed { IsAimed self.old.volumes aim.slot aim.task command.now }
         ensures { HasApplied command.now (D.shown disk.old) disk.old self.old steps.old
-            (D.shown disk.new) disk.new self.new steps.new result }
+            (D.shown disk.new) disk.new self.new steps.new (answer into.new result) }
     {
         match aim.task {
-            Task::Look => return self.look_at(disk, aim.slot, command, steps),
-            Task::Change => return self.change_at(disk, aim.slot, command),
-            Task::Snap => return self.snap_at(disk, aim.slot, command),
+            Task::Look => return self.look_at(disk, aim.slot, command, steps, into),
+            Task::Change => return self.change_at(disk, aim.slot, command, into),
+            Task::Snap => return self.snap_at(disk, aim.slot, command, into),
         }
     }
 }

@@ -6,7 +6,6 @@ ghost use Rattle.fv_aggregate.specs.declared.fault.Fault.TheVariants.{Memory};
 ghost use Rattle.fv_aggregate.specs.Causes.{of_block, of_root};
 
 use fv_disk::{BlockFault, Failed};
-use fv_model::Reply;
 use fv_root::RootFault;
 use std::alloc::AllocError;
 use thiserror::Error;
@@ -103,7 +102,3 @@ impl From<AllocError> for Fault {
         Fault::Memory
     }
 }
-
-/// What a session answers to a command. It has the size of a block, so each arm of a `match` returns its own at once: a value in which
-/// arms join is filled with zeros first, and copied once more.
-pub(crate) type Answer = Result<Reply, Fault>;

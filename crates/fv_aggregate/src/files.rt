@@ -5,64 +5,82 @@ ghost use Rattle.fv_disk.specs.DiskCalls.{OnlyReads};
 ghost use Rattle.fv_model.specs.declared.answers.Reply.TheVariants.{Refused};
 ghost use Rattle.fv_volume.specs.Changing.{keeps_numbers};
 ghost use Rattle.fv_volume.specs.States.{state_at};
+ghost use Rattle.fv_aggregate.specs.Answers.{answer};
 ghost use Rattle.fv_aggregate.specs.Commands.{dirty_limit, file_room, finds_file};
 ghost use Rattle.fv_aggregate.specs.Known.{KeepsNumbersBut, KnowsNumbers};
-ghost use Rattle.fv_aggregate.specs.Looking.{HasJudged, IsChangeAt, Makes, done_as, refusal_in};
+ghost use Rattle.fv_aggregate.specs.Looking.{HasJudged, IsChangeAt, Makes, refusal_in};
 ghost use Rattle.fv_aggregate.specs.Standing.{Stands};
 
 use crate::aiming::volume_at;
-use crate::fault::Answer;
+use crate::fault::Fault;
 use crate::session::Session;
 use fv_disk::Disk;
 use fv_model::{Command, Refusal, Reply};
-use fv_volume::VolumeFault;
 
 /// The room of a command that changes a file: so many blocks it adds at most. `docs/SPACE.md` counts them.
 const FILE_ROOM: u64 = 16;
 
 impl Session {
     /// Carries out a command that changes a file of the volume of a slot, with the numbers of its files in memory.
-    pub(crate) fn change_at<D: Disk>(&mut self, disk: &mut D, slot: u8, command: &Command) -> Answer
+    pub(crate) fn change_at<D: Disk>(
+        &mut self,
+        disk: &mut D,
+        slot: u8,
+        command: &Command,
+        into: &mut Reply,
+    ) -> Result<(), Fault>
         requires fresh { IsNone self.old.failed }
         requires stands { Stands (D.shown disk.old) self.old }
         requires aimed { IsChangeAt self.old.volumes slot command.now }
-        ensures makes { Makes file_room (D.shown disk.old) self.old command.now (D.shown disk.new) self.new result }
+        ensures makes { Makes file_room (D.shown disk.old) self.old command.now (D.shown disk.new) self.new (answer into.new result) }
         ensures kept { IsNone self.new.failed → KeepsNumbersBut (λ s. (s ≡ slot) × (keeps_numbers command.now ≡ false)) self.old.volumes self.new.volumes }
-        ensures finds { finds_file command.now ≡ true → OnOk result (KnowsNumbers (state_at self.new.volumes slot)) }
+        ensures finds { finds_file command.now ≡ true → OnOk (answer into.new result) (KnowsNumbers (state_at self.new.volumes slot)) }
     {
         self.read_numbers(disk, slot)?;
-        self.decide(disk, slot, command)
+        self.decide(disk, slot, command, into)
     }
 
     /// Carries out a command that changes a file of the volume of a slot. It is decided before the point that its room would ask for, so
     /// that what is refused is refused before it.
-    fn decide<D: Disk>(&mut self, disk: &mut D, slot: u8, command: &Command) -> Answer
+    fn decide<D: Disk>(
+        &mut self,
+        disk: &mut D,
+        slot: u8,
+        command: &Command,
+        into: &mut Reply,
+    ) -> Result<(), Fault>
         requires fresh { IsNone self.old.failed }
         requires stands { Stands (D.shown disk.old) self.old }
         requires aimed { IsChangeAt self.old.volumes slot command.now }
-        ensures makes { Makes file_room (D.shown disk.old) self.old command.now (D.shown disk.new) self.new result }
+        ensures makes { Makes file_room (D.shown disk.old) self.old command.now (D.shown disk.new) self.new (answer into.new result) }
         ensures kept { IsNone self.new.failed → KeepsNumbersBut (λ s. (s ≡ slot) × (keeps_numbers command.now ≡ false)) self.old.volumes self.new.volumes }
     {
         if self.has_room(FILE_ROOM) {
-            return self.carry_out(disk, slot, command);
+            return self.carry_out(disk, slot, command, into);
         }
-        let judged = self.judge(disk, slot, command)?;
-        match refused_by(judged) {
-            Some(refusal) => return Ok(Reply::Refused(refusal)),
+        self.judge(disk, slot, command, into)?;
+        match refused_by(into) {
+            Some(_) => return Ok(()),
             None => {
                 self.make_room(disk, FILE_ROOM)?;
-                return self.carry_out(disk, slot, command);
+                return self.carry_out(disk, slot, command, into);
             }
         }
     }
 
     /// Makes the change of a command on the volume of a slot, and counts the blocks that it adds.
-    fn carry_out<D: Disk>(&mut self, disk: &mut D, slot: u8, command: &Command) -> Answer
+    fn carry_out<D: Disk>(
+        &mut self,
+        disk: &mut D,
+        slot: u8,
+        command: &Command,
+        into: &mut Reply,
+    ) -> Result<(), Fault>
         requires fresh { IsNone self.old.failed }
         requires stands { Stands (D.shown disk.old) self.old }
         requires few { self.old.pending + file_room ≤ max dirty_limit file_room }
         requires aimed { IsChangeAt self.old.volumes slot command.now }
-        ensures makes { Makes file_room (D.shown disk.old) self.old command.now (D.shown disk.new) self.new result }
+        ensures makes { Makes file_room (D.shown disk.old) self.old command.now (D.shown disk.new) self.new (answer into.new result) }
         ensures reads { OnlyReads (D.shown disk.old) (D.shown disk.new) }
         ensures kept { KeepsNumbersBut (λ s. (s ≡ slot) × (keeps_numbers command.now ≡ false)) self.old.volumes self.new.volumes }
     {
@@ -72,41 +90,39 @@ impl Session {
         let made = state.change(self.alloc, &mut self.pool, disk, others, command);
         let more = added(before, state.pending());
         self.pending += more;
-        self.replied(disk, done(made))
+        *into = Reply::Done;
+        self.replied(disk, made, into)
     }
 
     /// What a command on the volume of a slot will be answered, without a change.
-    fn judge<D: Disk>(&mut self, disk: &mut D, slot: u8, command: &Command) -> Answer
+    fn judge<D: Disk>(
+        &mut self,
+        disk: &mut D,
+        slot: u8,
+        command: &Command,
+        into: &mut Reply,
+    ) -> Result<(), Fault>
         requires fresh { IsNone self.old.failed }
         requires stands { Stands (D.shown disk.old) self.old }
         requires aimed { IsChangeAt self.old.volumes slot command.now }
-        ensures judged { HasJudged (D.shown disk.old) self.old command.now (D.shown disk.new) self.new result }
+        ensures judged { HasJudged (D.shown disk.old) self.old command.now (D.shown disk.new) self.new (answer into.new result) }
         ensures volumes { self.new.volumes ≡ self.old.volumes }
     {
         let others = self.volumes.commits_beside(slot);
         let state = volume_at(&mut self.volumes, slot);
         let judged = state.judge(self.alloc, &mut self.pool, disk, others, command);
-        self.replied(disk, done(judged))
+        *into = Reply::Done;
+        self.replied(disk, judged, into)
     }
 }
 
 /// The refusal that a reply is, if it is one.
-fn refused_by(reply: Reply) -> Option<Refusal>
-    ensures { result ≡ refusal_in reply }
+fn refused_by(reply: &Reply) -> Option<Refusal>
+    ensures { result ≡ refusal_in reply.now }
 {
     match reply {
-        Reply::Refused(refusal) => Some(refusal),
+        Reply::Refused(refusal) => Some(*refusal),
         _ => None,
-    }
-}
-
-/// What a session answers to a command that was done.
-pub(crate) fn done(made: Result<(), VolumeFault>) -> Result<Reply, VolumeFault>
-    ensures { result ≡ done_as made }
-{
-    match made {
-        Ok(()) => return Ok(Reply::Done),
-        Err(fault) => return Err(fault),
     }
 }
 

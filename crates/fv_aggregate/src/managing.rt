@@ -12,49 +12,55 @@ use fv_model::{Kind, Name, Refusal, Reply};
 
 impl Session {
     /// Removes a volume. `docs/SPACE.md` says when its blocks can be used again.
-    pub(crate) fn destroy(&mut self, volume: &Name) -> Reply
+    pub(crate) fn destroy(&mut self, volume: &Name, into: &mut Reply)
         requires fresh { IsNone self.old.failed }
-        ensures { Manages self.old (VolDestroy volume.now) self.new result }
+        ensures { Manages self.old (VolDestroy volume.now) self.new into.new }
     {
-        told(self.volumes.destroy(&mut self.pool, volume))
+        tell(self.volumes.destroy(&mut self.pool, volume), into);
     }
 
     /// Gives a volume another size, in blocks.
-    pub(crate) fn resize(&mut self, volume: &Name, size: u32) -> Reply
+    pub(crate) fn resize(&mut self, volume: &Name, size: u32, into: &mut Reply)
         requires fresh { IsNone self.old.failed }
         requires booked { (s : ℕ) → IfSome (state_at self.old.volumes s) IsBooked }
-        ensures { Manages self.old (VolResize volume.now size) self.new result }
+        ensures { Manages self.old (VolResize volume.now size) self.new into.new }
     {
-        told(self.volumes.resize(self.pool.found.blocks, volume, size))
+        tell(
+            self.volumes.resize(self.pool.found.blocks, volume, size),
+            into,
+        );
     }
 
     /// Gives a volume another kind of guarantee.
-    pub(crate) fn guarantee(&mut self, volume: &Name, kind: Kind) -> Reply
+    pub(crate) fn guarantee(&mut self, volume: &Name, kind: Kind, into: &mut Reply)
         requires fresh { IsNone self.old.failed }
         requires booked { (s : ℕ) → IfSome (state_at self.old.volumes s) IsBooked }
-        ensures { Manages self.old (VolGuarantee volume.now kind) self.new result }
+        ensures { Manages self.old (VolGuarantee volume.now kind) self.new into.new }
     {
-        told(self.volumes.guarantee(self.pool.found.blocks, volume, kind))
+        tell(
+            self.volumes.guarantee(self.pool.found.blocks, volume, kind),
+            into,
+        );
     }
 
     /// Tells what a volume holds and is promised.
-    pub(crate) fn stat(&self, volume: &Name) -> Reply
+    pub(crate) fn stat(&self, volume: &Name, into: &mut Reply)
         requires fresh { IsNone self.now.failed }
-        ensures { Manages self.entry.now (VolStat volume.entry.now) self.entry.now result }
+        ensures { Manages self.entry.now (VolStat volume.entry.now) self.entry.now into.new }
     {
         match self.volumes.find(volume) {
-            Some(slot) => Reply::Stat(volume_in(&self.volumes, slot).stat()),
-            None => Reply::Refused(Refusal::NoVolume),
+            Some(slot) => *into = Reply::Stat(volume_in(&self.volumes, slot).stat()),
+            None => *into = Reply::Refused(Refusal::NoVolume),
         }
     }
 }
 
 /// The reply to a command that was done or refused.
-fn told(made: Result<(), Refusal>) -> Reply
-    ensures { result ≡ told_as made }
+fn tell(made: Result<(), Refusal>, into: &mut Reply)
+    ensures { into.new ≡ told_as made }
 {
     match made {
-        Ok(()) => Reply::Done,
-        Err(refusal) => Reply::Refused(refusal),
+        Ok(()) => *into = Reply::Done,
+        Err(refusal) => *into = Reply::Refused(refusal),
     }
 }

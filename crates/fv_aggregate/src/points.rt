@@ -7,6 +7,7 @@ ghost use Rattle.fv_model.specs.Space.{commits};
 ghost use Rattle.fv_model.specs.declared.answers.Reply.TheVariants.{Done};
 ghost use Rattle.fv_cp.specs.Placing.{KeepCores};
 ghost use Rattle.fv_aggregate.specs.declared.fault.Fault.TheVariants.{Memory};
+ghost use Rattle.fv_aggregate.specs.Answers.{answer};
 ghost use Rattle.fv_aggregate.specs.Adding.{HasRoom, IsPointed, StillAdmits};
 ghost use Rattle.fv_aggregate.specs.Calls.{Goes, GoesFor, IsForWant, KeepsAsking, KeepsHolding, Runs};
 ghost use Rattle.fv_aggregate.specs.Commands.{dirty_limit};
@@ -14,7 +15,7 @@ ghost use Rattle.fv_aggregate.specs.Known.{KeepsNumbers};
 ghost use Rattle.fv_aggregate.specs.Reclaiming.{HasPointed, Points};
 ghost use Rattle.fv_aggregate.specs.Standing.{IsWithoutFiles, Stands, StandsFor};
 
-use crate::fault::{Answer, Fault};
+use crate::fault::Fault;
 use crate::session::Session;
 use fv_cp::full_point;
 use fv_disk::Disk;
@@ -59,16 +60,17 @@ impl Session {
     }
 
     /// The consistency point that a command asks for.
-    pub(crate) fn reclaim<D: Disk>(&mut self, disk: &mut D) -> Answer
+    pub(crate) fn reclaim<D: Disk>(&mut self, disk: &mut D, into: &mut Reply) -> Result<(), Fault>
         requires fresh { IsNone self.old.failed }
         requires stands { Stands (D.shown disk.old) self.old }
-        ensures runs { Runs 0 (λ m. m) (D.shown disk.old) self.old (D.shown disk.new) self.new result }
-        ensures points { Points 0 (D.shown disk.old) self.old (D.shown disk.new) self.new result }
-        ensures reply { IfOk result (λ reply. reply ≡ Done) }
-        ensures files { IsTrue (D.shown disk.old).tells → OnOk result (IsWithoutFiles self.new) }
+        ensures runs { Runs 0 (λ m. m) (D.shown disk.old) self.old (D.shown disk.new) self.new (answer into.new result) }
+        ensures points { Points 0 (D.shown disk.old) self.old (D.shown disk.new) self.new (answer into.new result) }
+        ensures reply { IfOk (answer into.new result) (λ reply. reply ≡ Done) }
+        ensures files { IsTrue (D.shown disk.old).tells → OnOk (answer into.new result) (IsWithoutFiles self.new) }
     {
         self.point(disk, 0)?;
-        Ok(Reply::Done)
+        *into = Reply::Done;
+        Ok(())
     }
 
     /// A consistency point in a session that hasn't failed; the event that asks for it has this room.

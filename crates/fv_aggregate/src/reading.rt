@@ -8,6 +8,7 @@ ghost use Rattle.fv_volume.specs.Asking.{table_named, IsRefusedUnread};
 ghost use Rattle.fv_pool.specs.declared.fault.VolumeFault.TheVariants as of_volume;
 ghost use Rattle.fv_volume.specs.OneVolume.{IsReady};
 ghost use Rattle.fv_volume.specs.States.{state_at};
+ghost use Rattle.fv_aggregate.specs.Answers.{answer};
 ghost use Rattle.fv_aggregate.specs.Calls.{IsUntouched};
 ghost use Rattle.fv_aggregate.specs.Commands.{finds_file, has_range, is_get, is_refusal, snapshot_asked, volume_asked};
 ghost use Rattle.fv_aggregate.specs.Known.{KeepsNumbers, KnowsNumbers};
@@ -15,7 +16,7 @@ ghost use Rattle.fv_aggregate.specs.Looking.{AsksState, Breaks, IsAsked, Looks, 
 ghost use Rattle.fv_aggregate.specs.Standing.{Stands, StandsFor};
 
 use crate::aiming::volume_at;
-use crate::fault::{Answer, Fault};
+use crate::fault::Fault;
 use crate::points::failure;
 use crate::session::Session;
 use fv_container::Steps;
@@ -34,23 +35,24 @@ impl Session {
         slot: u8,
         command: &Command,
         steps: &mut Steps<L>,
-    ) -> Answer
+        into: &mut Reply,
+    ) -> Result<(), Fault>
         requires fresh { IsNone self.old.failed }
         requires stands { Stands (D.shown disk.old) self.old }
         requires asked { IsAsked self.old.volumes slot command.now }
-        ensures looks { Looks (D.shown disk.old) self.old command.now (D.shown disk.new) self.new result }
-        ensures lost { has_range command.now ≡ true → IfSome (state_at self.old.volumes slot) (λ x. table_named x (snapshot_asked command.now) ≡ None → (result ≡ Ok (Refused NoSnapshot)) × IsUntouched disk.old self.old disk.new self.new) }
-        ensures only { result ≡ Ok (Refused NoSnapshot) → IfSome (state_at self.old.volumes slot) (λ x. table_named x (snapshot_asked command.now) ≡ None) }
+        ensures looks { Looks (D.shown disk.old) self.old command.now (D.shown disk.new) self.new (answer into.new result) }
+        ensures lost { has_range command.now ≡ true → IfSome (state_at self.old.volumes slot) (λ x. table_named x (snapshot_asked command.now) ≡ None → (answer into.new result ≡ Ok (Refused NoSnapshot)) × IsUntouched disk.old self.old disk.new self.new) }
+        ensures only { answer into.new result ≡ Ok (Refused NoSnapshot) → IfSome (state_at self.old.volumes slot) (λ x. table_named x (snapshot_asked command.now) ≡ None) }
         ensures steps { is_get command.now ≡ false → steps.new ≡ steps.old }
-        ensures known { IsTrue (D.shown disk.old).tells → (last m : Machine) → StandsFor (D.shown disk.old) self.old last m → OnOk result (steps.new ≡ steps.old) }
+        ensures known { IsTrue (D.shown disk.old).tells → (last m : Machine) → StandsFor (D.shown disk.old) self.old last m → OnOk (answer into.new result) (steps.new ≡ steps.old) }
         ensures kept { KeepsNumbers self.old.volumes self.new.volumes }
-        ensures finds { finds_file command.now ≡ true → OnOk result (KnowsNumbers (state_at self.new.volumes slot)) }
+        ensures finds { finds_file command.now ≡ true → OnOk (answer into.new result) (KnowsNumbers (state_at self.new.volumes slot)) }
     {
         if !finds(command) {
-            return self.ask(disk, slot, command, steps);
+            return self.ask(disk, slot, command, steps, into);
         }
         self.read_numbers(disk, slot)?;
-        self.ask(disk, slot, command, steps)
+        self.ask(disk, slot, command, steps, into)
     }
 
     /// Asks the volume of a slot.
@@ -60,30 +62,47 @@ impl Session {
         slot: u8,
         command: &Command,
         steps: &mut Steps<L>,
-    ) -> Answer
+        into: &mut Reply,
+    ) -> Result<(), Fault>
         requires fresh { IsNone self.old.failed }
         requires stands { Stands (D.shown disk.old) self.old }
         requires asked { IsAsked self.old.volumes slot command.now }
-        ensures looks { Looks (D.shown disk.old) self.old command.now (D.shown disk.new) self.new result }
-        ensures lost { has_range command.now ≡ true → IfSome (state_at self.old.volumes slot) (λ x. table_named x (snapshot_asked command.now) ≡ None → (result ≡ Ok (Refused NoSnapshot)) × IsUntouched disk.old self.old disk.new self.new) }
-        ensures only { result ≡ Ok (Refused NoSnapshot) → IfSome (state_at self.old.volumes slot) (λ x. table_named x (snapshot_asked command.now) ≡ None) }
+        ensures looks { Looks (D.shown disk.old) self.old command.now (D.shown disk.new) self.new (answer into.new result) }
+        ensures lost { has_range command.now ≡ true → IfSome (state_at self.old.volumes slot) (λ x. table_named x (snapshot_asked command.now) ≡ None → (answer into.new result ≡ Ok (Refused NoSnapshot)) × IsUntouched disk.old self.old disk.new self.new) }
+        ensures only { answer into.new result ≡ Ok (Refused NoSnapshot) → IfSome (state_at self.old.volumes slot) (λ x. table_named x (snapshot_asked command.now) ≡ None) }
         ensures steps { is_get command.now ≡ false → steps.new ≡ steps.old }
-        ensures known { IsTrue (D.shown disk.old).tells → (last m : Machine) → StandsFor (D.shown disk.old) self.old last m → OnOk result (steps.new ≡ steps.old) }
+        ensures known { IsTrue (D.shown disk.old).tells → (last m : Machine) → StandsFor (D.shown disk.old) self.old last m → OnOk (answer into.new result) (steps.new ≡ steps.old) }
         ensures volumes { self.new.volumes ≡ self.old.volumes }
     {
         let state = volume_at(&mut self.volumes, slot);
-        let asked = ask_state(state, self.alloc, &mut self.pool, disk, command, steps);
-        self.replied(disk, asked)
+        let asked = ask_state(
+            state,
+            self.alloc,
+            &mut self.pool,
+            disk,
+            command,
+            steps,
+            into,
+        );
+        self.replied(disk, asked, into)
     }
 
-    /// What a session answers for a call on a volume: a refusal is a reply, too.
-    pub(crate) fn replied<D: Disk>(&mut self, disk: &D, asked: Result<Reply, VolumeFault>) -> Answer
+    /// What a session answers for a call on a volume that left its reply in `into`: a refusal is a reply, too.
+    pub(crate) fn replied<D: Disk>(
+        &mut self,
+        disk: &D,
+        asked: Result<(), VolumeFault>,
+        into: &mut Reply,
+    ) -> Result<(), Fault>
         requires fresh { IsNone self.old.failed }
-        ensures { Replied (D.shown disk.now) asked self.old self.new result }
+        ensures { Replied (D.shown disk.now) (answer into.old asked) self.old self.new (answer into.new result) }
     {
         match asked {
-            Ok(reply) => return Ok(reply),
-            Err(VolumeFault::Refused(refusal)) => return Ok(Reply::Refused(refusal)),
+            Ok(()) => return Ok(()),
+            Err(VolumeFault::Refused(refusal)) => {
+                *into = Reply::Refused(refusal);
+                return Ok(());
+            }
             Err(fault) => return Err(self.fault_of(disk, fault)),
         }
     }
@@ -117,7 +136,7 @@ fn finds(command: &Command) -> bool
     }
 }
 
-/// Asks a volume.
+/// Asks a volume, and leaves its reply in `into`.
 fn ask_state<D: Disk, L: Ledger>(
     state: &mut VolumeState,
     alloc: Global,
@@ -125,13 +144,14 @@ fn ask_state<D: Disk, L: Ledger>(
     disk: &mut D,
     command: &Command,
     steps: &mut Steps<L>,
-) -> Result<Reply, VolumeFault>
+    into: &mut Reply,
+) -> Result<(), VolumeFault>
     requires ready { IsReady (D.shown disk.old) pool.old state.old }
     requires asks { volume_asked command.now ≡ Some state.old.name }
-    ensures asks { AsksState (D.shown disk.old) pool.old state.old command.now steps.old (D.shown disk.new) pool.new steps.new result }
-    ensures lost { has_range command.now ≡ true → table_named state.old (snapshot_asked command.now) ≡ None → IsRefusedUnread NoSnapshot disk.old pool.old disk.new pool.new result }
-    ensures only { result ≡ Err (of_volume.Refused NoSnapshot) → table_named state.old (snapshot_asked command.now) ≡ None }
-    ensures told { IfOk result (λ reply. is_refusal reply ≡ false) }
+    ensures asks { AsksState (D.shown disk.old) pool.old state.old command.now steps.old (D.shown disk.new) pool.new steps.new (answer into.new result) }
+    ensures lost { has_range command.now ≡ true → table_named state.old (snapshot_asked command.now) ≡ None → IsRefusedUnread NoSnapshot disk.old pool.old disk.new pool.new (answer into.new result) }
+    ensures only { answer into.new result ≡ Err (of_volume.Refused NoSnapshot) → table_named state.old (snapshot_asked command.now) ≡ None }
+    ensures told { IfOk (answer into.new result) (λ reply. is_refusal reply ≡ false) }
     ensures same { state.new ≡ state.old }
     ensures steps { is_get command.now ≡ false → steps.new ≡ steps.old }
 {
@@ -153,19 +173,28 @@ fn ask_state<D: Disk, L: Ledger>(
                 &mut block,
                 steps,
             ) {
-                Ok(()) => return Ok(Reply::Content(block)),
+                Ok(()) => {
+                    *into = Reply::Content(block);
+                    return Ok(());
+                }
                 Err(fault) => return Err(fault),
             }
         }
         Command::Len { snapshot, file, .. } => {
             match state.length(alloc, pool, disk, snapshot.as_ref(), file) {
-                Ok(length) => return Ok(Reply::Number(u64::from(length))),
+                Ok(length) => {
+                    *into = Reply::Number(u64::from(length));
+                    return Ok(());
+                }
                 Err(fault) => return Err(fault),
             }
         }
         Command::Ls { snapshot, .. } => {
             match state.list(alloc, pool, disk, snapshot.as_ref()) {
-                Ok(names) => return Ok(Reply::Names(names)),
+                Ok(names) => {
+                    *into = Reply::Names(names);
+                    return Ok(());
+                }
                 Err(fault) => return Err(fault),
             }
         }

@@ -10,6 +10,7 @@ ghost use Rattle.fv_volume.specs.Trees.{Trees};
 ghost use Rattle.fv_volume.specs.Files.{Over};
 ghost use Rattle.fv_aggregate.specs.declared.fault.Fault.TheVariants.{Memory};
 ghost use Rattle.fv_aggregate.specs.Asking.{AsksWithin};
+ghost use Rattle.fv_aggregate.specs.Answers.{answer};
 ghost use Rattle.fv_aggregate.specs.Applying.{HasApplied};
 ghost use Rattle.fv_aggregate.specs.Calls.{Runs, SameCounts};
 ghost use Rattle.fv_aggregate.specs.Causes.{HasOpenCause, IsUnwritten, OpenFails};
@@ -126,21 +127,59 @@ impl Session {
         ensures { HasApplied command.now (D.shown disk.old) disk.old self.old steps.old
             (D.shown disk.new) disk.new self.new steps.new result }
     {
+        let mut reply = Reply::Done;
+        self.apply_into(disk, command, steps, &mut reply)?;
+        Ok(reply)
+    }
+
+    /// As `apply`, with the reply in `into`, which is open at `Err`. A reply has the size of a block: so none is moved on its way.
+    ///
+    /// # Errors
+    /// As of `apply`, and its cost.
+    pub fn apply_into<D: Disk, L: Ledger>(
+        &mut self,
+        disk: &mut D,
+        command: &Command,
+        steps: &mut Steps<L>,
+        into: &mut Reply,
+    ) -> Result<(), Fault>
+        requires stands { IsNone self.old.failed → Stands (D.shown disk.old) self.old }
+        ensures { HasApplied command.now (D.shown disk.old) disk.old self.old steps.old
+            (D.shown disk.new) disk.new self.new steps.new (answer into.new result) }
+    {
         if let Some(faults) = self.failed {
             return Err(Fault::Failed { faults });
         }
         match command {
             Command::VolCreate { volume, size, kind } => {
-                return self.create(disk, volume, *size, *kind);
+                return self.create(disk, volume, *size, *kind, into);
             }
-            Command::VolList => return Ok(Reply::Names(names_of(self.alloc, &self.volumes)?)),
-            Command::Cp => return self.reclaim(disk),
-            Command::SnapList { volume } => return Ok(self.snapshots(volume)?),
-            Command::VolDestroy { volume } => return Ok(self.destroy(volume)),
-            Command::VolResize { volume, size } => return Ok(self.resize(volume, *size)),
-            Command::VolGuarantee { volume, kind } => return Ok(self.guarantee(volume, *kind)),
-            Command::VolStat { volume } => return Ok(self.stat(volume)),
-            _ => return self.serve(disk, command, steps),
+            Command::VolList => {
+                *into = Reply::Names(names_of(self.alloc, &self.volumes)?);
+                return Ok(());
+            }
+            Command::Cp => return self.reclaim(disk, into),
+            Command::SnapList { volume } => {
+                self.snapshots(volume, into)?;
+                return Ok(());
+            }
+            Command::VolDestroy { volume } => {
+                self.destroy(volume, into);
+                return Ok(());
+            }
+            Command::VolResize { volume, size } => {
+                self.resize(volume, *size, into);
+                return Ok(());
+            }
+            Command::VolGuarantee { volume, kind } => {
+                self.guarantee(volume, *kind, into);
+                return Ok(());
+            }
+            Command::VolStat { volume } => {
+                self.stat(volume, into);
+                return Ok(());
+            }
+            _ => return self.serve(disk, command, steps, into),
         }
     }
 

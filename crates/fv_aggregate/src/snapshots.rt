@@ -11,6 +11,7 @@ ghost use Rattle.fv_volume.specs.OneVolume.{IsBooked, IsReady};
 ghost use Rattle.fv_volume.specs.Slots.{committed_by, sum_of};
 ghost use Rattle.fv_volume.specs.States.{state_at};
 ghost use Rattle.fv_aggregate.specs.declared.fault.Fault.TheVariants.{Memory};
+ghost use Rattle.fv_aggregate.specs.Answers.{answer};
 ghost use Rattle.fv_aggregate.specs.Calls.{TellsSnapshots};
 ghost use Rattle.fv_aggregate.specs.Commands.{dirty_limit, is_refusal, snapped_by};
 ghost use Rattle.fv_aggregate.specs.Looking.{HasSnapped, IsSnapAimed, SnapsState};
@@ -18,8 +19,7 @@ ghost use Rattle.fv_aggregate.specs.Snapping.{HasGrant, JudgesSnap};
 ghost use Rattle.fv_aggregate.specs.Standing.{Stands};
 
 use crate::aiming::{volume_at, volume_in};
-use crate::fault::Answer;
-use crate::files::done;
+use crate::fault::Fault;
 use crate::session::Session;
 use fv_disk::Disk;
 use fv_model::{Command, Name, Refusal, Reply};
@@ -33,17 +33,26 @@ const NOTHING: Granted = Granted { slot: 0, room: 0 };
 impl Session {
     /// Carries out a command that makes, removes or restores a snapshot of the volume of a slot. A snapshot that is made is judged before
     /// the point that its map would ask for, so that what is refused is refused before it.
-    pub(crate) fn snap_at<D: Disk>(&mut self, disk: &mut D, slot: u8, command: &Command) -> Answer
+    pub(crate) fn snap_at<D: Disk>(
+        &mut self,
+        disk: &mut D,
+        slot: u8,
+        command: &Command,
+        into: &mut Reply,
+    ) -> Result<(), Fault>
         requires fresh { IsNone self.old.failed }
         requires stands { Stands (D.shown disk.old) self.old }
         requires aimed { IsSnapAimed self.old.volumes slot command.now }
-        ensures snapped { HasSnapped (D.shown disk.old) disk.old self.old command.now (D.shown disk.new) disk.new self.new result }
+        ensures snapped { HasSnapped (D.shown disk.old) disk.old self.old command.now (D.shown disk.new) disk.new self.new (answer into.new result) }
     {
         let others = self.volumes.commits_beside(slot);
         let state = volume_in(&self.volumes, slot);
         match judge_snap(state, self.pool.found.blocks, others, command) {
-            Ok(granted) => return self.snap_with(disk, slot, others, granted, command),
-            Err(refusal) => return Ok(Reply::Refused(refusal)),
+            Ok(granted) => return self.snap_with(disk, slot, others, granted, command, into),
+            Err(refusal) => {
+                *into = Reply::Refused(refusal);
+                return Ok(());
+            }
         }
     }
 
@@ -55,20 +64,21 @@ impl Session {
         others: u64,
         granted: Granted,
         command: &Command,
-    ) -> Answer
+        into: &mut Reply,
+    ) -> Result<(), Fault>
         requires fresh { IsNone self.old.failed }
         requires stands { Stands (D.shown disk.old) self.old }
         requires aimed { IsSnapAimed self.old.volumes slot command.now }
         requires others { others ≡ sum_of self.old.volumes - committed_by (state_at self.old.volumes slot) }
         requires most { others ≤ 2 ^ 62 }
         requires granted { HasGrant (state_at self.old.volumes slot) self.old.pool.found.blocks others command.now granted }
-        ensures snapped { HasSnapped (D.shown disk.old) disk.old self.old command.now (D.shown disk.new) disk.new self.new result }
+        ensures snapped { HasSnapped (D.shown disk.old) disk.old self.old command.now (D.shown disk.new) disk.new self.new (answer into.new result) }
     {
         if granted.room == 0 || self.has_room(granted.room) {
-            return self.snap_now(disk, slot, others, granted, command);
+            return self.snap_now(disk, slot, others, granted, command, into);
         }
         self.make_room(disk, granted.room)?;
-        self.snap_now(disk, slot, others, granted, command)
+        self.snap_now(disk, slot, others, granted, command, into)
     }
 
     /// Carries out such a command for which there is room. It doesn't reach the disk.
@@ -79,7 +89,8 @@ impl Session {
         others: u64,
         granted: Granted,
         command: &Command,
-    ) -> Answer
+        into: &mut Reply,
+    ) -> Result<(), Fault>
         requires fresh { IsNone self.old.failed }
         requires stands { Stands (D.shown disk.now) self.old }
         requires aimed { IsSnapAimed self.old.volumes slot command.now }
@@ -87,28 +98,31 @@ impl Session {
         requires most { others ≤ 2 ^ 62 }
         requires few { (granted.room ≡ 0) ⊎ (self.old.pending + granted.room ≤ dirty_limit) }
         requires granted { HasGrant (state_at self.old.volumes slot) self.old.pool.found.blocks others command.now granted }
-        ensures snapped { HasSnapped (D.shown disk.now) disk.now self.old command.now (D.shown disk.now) disk.now self.new result }
-        ensures placed { HaveNoFiles self.old.volumes → IfErr result (λ e. e ≡ Memory) }
-        ensures accepted { granted.room ≢ 0 → IfOk result (λ reply. is_refusal reply ≡ false) }
+        ensures snapped { HasSnapped (D.shown disk.now) disk.now self.old command.now (D.shown disk.now) disk.now self.new (answer into.new result) }
+        ensures placed { HaveNoFiles self.old.volumes → IfErr (answer into.new result) (λ e. e ≡ Memory) }
+        ensures accepted { granted.room ≢ 0 → IfOk (answer into.new result) (λ reply. is_refusal reply ≡ false) }
     {
         let state = volume_at(&mut self.volumes, slot);
         let made = change_snaps(state, &mut self.pool, disk, others, granted, command);
         if made.is_ok() {
             self.pending += granted.room;
         }
-        self.replied(disk, done(made))
+        *into = Reply::Done;
+        self.replied(disk, made, into)
     }
 
     /// Tells the names of the snapshots of a volume, in byte order. The one error is want of memory.
-    pub(crate) fn snapshots(&self, volume: &Name) -> Result<Reply, AllocError>
+    pub(crate) fn snapshots(&self, volume: &Name, into: &mut Reply) -> Result<(), AllocError>
         requires fresh { IsNone self.now.failed }
-        ensures { IfOk result (TellsSnapshots self.entry.now volume.entry.now) }
+        ensures { IfOk (answer into.new result) (TellsSnapshots self.entry.now volume.entry.now) }
     {
         let Some(slot) = self.volumes.find(volume) else {
-            return Ok(Reply::Refused(Refusal::NoVolume));
+            *into = Reply::Refused(Refusal::NoVolume);
+            return Ok(());
         };
         let names = volume_in(&self.volumes, slot).snapshot_names(self.alloc)?;
-        Ok(Reply::Names(names))
+        *into = Reply::Names(names);
+        Ok(())
     }
 }
 

@@ -5,6 +5,7 @@ ghost use Rattle.std.specs.List.{All};
 ghost use Rattle.fv_model.specs.Lines.{line_of};
 ghost use Rattle.fv_model.specs.Spelling.{is_name};
 ghost use Rattle.fv_model.specs.Texts.{text};
+ghost use Rattle.fv_aggregate.specs.Answers.{answer};
 ghost use Rattle.fv_run.specs.Built.{built};
 ghost use Rattle.fv_run.specs.Answering.{AnswersLines, Applies, IsLine, IsReady, TellsLine};
 
@@ -13,12 +14,13 @@ use fv_aggregate::Session;
 use fv_container::Steps;
 use fv_disk::{Failed, Host};
 use fv_lines::{Found, Script, next_line};
-use fv_model::{Name, Refusal, Reply};
-use fv_script::{LineFault, read_line, write_reply};
+use fv_model::{Command, Name, Refusal, Reply};
+use fv_script::{LineFault, read_into, write_reply};
 use std::sync::ledger::Ledger;
 
 /// Answers each line of the script that the host's source has, of at most `limit` bytes, and tells how many
-/// there were. Each reply is given before the next line is applied.
+/// there were. Each reply is given before the next line is applied. A command and a reply have the size of a block, so each line is read into
+/// the same command and answered in the same reply, and neither is moved.
 pub(crate) fn answer_lines<H: Host, L: Ledger>(
     session: &mut Session,
     steps: &mut Steps<L>,
@@ -29,6 +31,8 @@ pub(crate) fn answer_lines<H: Host, L: Ledger>(
     ensures { AnswersLines limit session.old (H.shown host.old) session.new (H.shown host.new) result }
 {
     let mut script = Script::new(limit);
+    let mut command = Command::Cp;
+    let mut reply = Reply::Done;
     let mut count = 0;
     loop {
         let Ok(found) = next_line(&mut script, host) else {
@@ -36,7 +40,14 @@ pub(crate) fn answer_lines<H: Host, L: Ledger>(
         };
         match found {
             Found::Line => {
-                let reply = apply(session, steps, script.line(), host)?;
+                apply(
+                    session,
+                    steps,
+                    script.line(),
+                    host,
+                    &mut command,
+                    &mut reply,
+                )?;
                 tell(&reply, host)?;
                 count += 1;
             }
@@ -46,23 +57,31 @@ pub(crate) fn answer_lines<H: Host, L: Ledger>(
     }
 }
 
-/// Applies what a line says to the session, and answers the reply.
+/// Applies what a line says to the session, and leaves the reply in `reply` and what it says in `command`; both are open at `Err`.
 fn apply<H: Host, L: Ledger>(
     session: &mut Session,
     steps: &mut Steps<L>,
     line: &[u8],
     host: &mut H,
-) -> Result<Reply, Fault>
+    command: &mut Command,
+    reply: &mut Reply,
+) -> Result<(), Fault>
     requires { IsReady (H.shown host.old) session.old }
-    ensures { Applies session.old (built (line_of line.now)) (H.shown host.old) session.new (H.shown host.new) result }
+    ensures { Applies session.old (built (line_of line.now)) (H.shown host.old) session.new (H.shown host.new) (answer reply.new result) }
 {
-    match read_line(line) {
-        Ok(command) => {
-            let reply = session.apply(host, &command, steps)?;
-            return Ok(reply);
+    match read_into(line, command) {
+        Ok(()) => {
+            session.apply_into(host, command, steps, reply)?;
+            return Ok(());
         }
-        Err(LineFault::Syntax) => return Ok(Reply::Refused(Refusal::Syntax)),
-        Err(LineFault::Range) => return Ok(Reply::Refused(Refusal::Range)),
+        Err(LineFault::Syntax) => {
+            *reply = Reply::Refused(Refusal::Syntax);
+            return Ok(());
+        }
+        Err(LineFault::Range) => {
+            *reply = Reply::Refused(Refusal::Range);
+            return Ok(());
+        }
     }
 }
 

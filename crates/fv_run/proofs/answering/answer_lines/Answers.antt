@@ -18,11 +18,11 @@ loop-found-init g c =
 pub returns-in_default : goal.returns-in_default
 returns-in_default g c = source_failed c.args.limit c.args.session.now (g.H.Disk.shown c.args.host.now) c.loop-found.script c.loop-found.session (g.H.Disk.shown c.loop-found.host) c.loop-found.count c.loop-found.invariant c.next_line.new.script (g.H.Disk.shown c.next_line.new.host) c.next_line.new.script.line c.in_default.field-0 c.in_default.ensures.finds
 
-pub returns-in_err-reply-in-Line : goal.returns-in_err-reply-in-Line
-returns-in_err-reply-in-Line g c =
-    let failed : c.from_residual.result ≡ Err c.in_err-reply-in-Line.field-0.0 = search rules in
+pub returns-in_err-apply-in-Line : goal.returns-in_err-apply-in-Line
+returns-in_err-apply-in-Line g c =
+    let failed : c.from_residual.result ≡ Err c.in_err-apply-in-Line.field-0.0 = search rules in
     let finds : Finds c.loop-found.script (g.H.Disk.shown c.loop-found.host) c.next_line.new.script (g.H.Disk.shown c.next_line.new.host) c.next_line.new.script.line (Ok found.Line) = rw (← c.in-Line.is) c.in-Ok.ensures.finds in
-    let applies : Applies c.loop-found.session (built (line_of c.next_line.new.script.line)) (g.H.Disk.shown c.next_line.new.host) c.apply.new.session (g.H.Disk.shown c.apply.new.host) (Err c.in_err-reply-in-Line.field-0.0) = rw (← c.line.ensures) c.in_err-reply-in-Line.ensures in
+    let applies : Applies c.loop-found.session (built (line_of c.next_line.new.script.line)) (g.H.Disk.shown c.next_line.new.host) c.apply.new.session (g.H.Disk.shown c.apply.new.host) (Err c.in_err-apply-in-Line.field-0.0) = rw (← c.line.ensures) c.in_err-apply-in-Line.ensures in
     subst (λ (r : Result ℕ Fault). AnswersLines c.args.limit c.args.session.now (g.H.Disk.shown c.args.host.now) c.apply.new.session (g.H.Disk.shown c.apply.new.host) r) (sym failed)
     (apply_failed c.args.limit c.args.session.now (g.H.Disk.shown c.args.host.now) c.loop-found.script c.loop-found.session (g.H.Disk.shown c.loop-found.host) c.loop-found.count c.loop-found.invariant c.next_line.new.script (g.H.Disk.shown c.next_line.new.host) c.next_line.new.script.line finds _ _ _ applies)
 
@@ -30,20 +30,14 @@ pub returns-in_err-tell-in-Line : goal.returns-in_err-tell-in-Line
 returns-in_err-tell-in-Line g c =
     let failed : c.from_residual-in_err-tell-in-Line.result ≡ Err c.in_err-tell-in-Line.field-0.0 = search rules in
     let finds : Finds c.loop-found.script (g.H.Disk.shown c.loop-found.host) c.next_line.new.script (g.H.Disk.shown c.next_line.new.host) c.next_line.new.script.line (Ok found.Line) = rw (← c.in-Line.is) c.in-Ok.ensures.finds in
-    let applies : Applies c.loop-found.session (built (line_of c.next_line.new.script.line)) (g.H.Disk.shown c.next_line.new.host) c.apply.new.session (g.H.Disk.shown c.apply.new.host) (Ok c.in_ok-reply-in-Line.reply) = rw (← c.line.ensures) c.in_ok-reply-in-Line.ensures in
+    let applies : Applies c.loop-found.session (built (line_of c.next_line.new.script.line)) (g.H.Disk.shown c.next_line.new.host) c.apply.new.session (g.H.Disk.shown c.apply.new.host) (Ok c.apply.new.reply) = rw (← c.line.ensures) c.in_ok-apply-in-Line.ensures in
     subst (λ (r : Result ℕ Fault). AnswersLines c.args.limit c.args.session.now (g.H.Disk.shown c.args.host.now) c.apply.new.session (g.H.Disk.shown c.tell.new.host) r) (sym failed)
     (tell_failed c.args.limit c.args.session.now (g.H.Disk.shown c.args.host.now) c.loop-found.script c.loop-found.session (g.H.Disk.shown c.loop-found.host) c.loop-found.count c.loop-found.invariant c.next_line.new.script (g.H.Disk.shown c.next_line.new.host) c.next_line.new.script.line finds _ _ _ applies _ _ c.in_err-tell-in-Line.ensures)
-
-pub loop-found-preserved-in_ok-tell-in-Line : goal.loop-found-preserved-in_ok-tell-in-Line
-loop-found-preserved-in_ok-tell-in-Line g c =
-    let finds : Finds c.loop-found.script (g.H.Disk.shown c.loop-found.host) c.next_line.new.script (g.H.Disk.shown c.next_line.new.host) c.next_line.new.script.line (Ok found.Line) = rw (← c.in-Line.is) c.in-Ok.ensures.finds in
-    let applies : Applies c.loop-found.session (built (line_of c.next_line.new.script.line)) (g.H.Disk.shown c.next_line.new.host) c.apply.new.session (g.H.Disk.shown c.apply.new.host) (Ok c.in_ok-reply-in-Line.reply) = rw (← c.line.ensures) c.in_ok-reply-in-Line.ensures in
-    goes_on c.args.limit c.args.session.now (g.H.Disk.shown c.args.host.now) c.loop-found.script c.loop-found.session (g.H.Disk.shown c.loop-found.host) c.loop-found.count c.loop-found.invariant c.next_line.new.script (g.H.Disk.shown c.next_line.new.host) c.next_line.new.script.line finds _ _ _ applies _ c.in_ok-tell-in-Line.ensures
 
 pub loop-found-preserved : goal.loop-found-preserved
 loop-found-preserved g c =
     let finds : Finds c.loop-found.script (g.H.Disk.shown c.loop-found.host) c.next_line.new.script (g.H.Disk.shown c.next_line.new.host) c.next_line.new.script.line (Ok found.Line) = rw (← c.in-Line.is) c.in-Ok.ensures.finds in
-    let applies : Applies c.loop-found.session (built (line_of c.next_line.new.script.line)) (g.H.Disk.shown c.next_line.new.host) c.apply.new.session (g.H.Disk.shown c.apply.new.host) (Ok c.in_ok-reply-in-Line.reply) = rw (← c.line.ensures) c.in_ok-reply-in-Line.ensures in
+    let applies : Applies c.loop-found.session (built (line_of c.next_line.new.script.line)) (g.H.Disk.shown c.next_line.new.host) c.apply.new.session (g.H.Disk.shown c.apply.new.host) (Ok c.apply.new.reply) = rw (← c.line.ensures) c.in_ok-apply-in-Line.ensures in
     goes_on c.args.limit c.args.session.now (g.H.Disk.shown c.args.host.now) c.loop-found.script c.loop-found.session (g.H.Disk.shown c.loop-found.host) c.loop-found.count c.loop-found.invariant c.next_line.new.script (g.H.Disk.shown c.next_line.new.host) c.next_line.new.script.line finds _ _ _ applies _ c.in_ok-tell-in-Line.ensures
 
 pub returns-in-End : goal.returns-in-End

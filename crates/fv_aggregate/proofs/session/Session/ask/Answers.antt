@@ -1,5 +1,6 @@
 use Rattle.std.proofs.Common.{◌≡◌, None, ◌∙◌}
 use Rattle.fv_volume.specs.Asking.{table_named}
+use Rattle.fv_aggregate.specs.Answers.{answer}
 use Rattle.fv_aggregate.specs.Commands.{snapshot_asked}
 use Rattle.fv_aggregate.proofs.Asked.{asks_lent, known_lent, looks_lent}
 use Rattle.fv_aggregate.proofs.Looked.{fit_lent}
@@ -21,25 +22,25 @@ invariant_of-self g c = λ none. fit_lent (g.D.Disk.shown c.args.disk.now) (g.D.
 pub returns-clause-looks : goal.returns-clause-looks
 returns-clause-looks g c = looks_lent (g.D.Disk.shown c.args.disk.now) (g.D.Disk.shown c.ask_state-asked.new.disk) (g.met.D.Disk.laws c.args.disk.now) _ _ c.self.view_is c.self.invariant c.requires.fresh c.requires.stands
     c.args.command.now c.args.slot c.volume_at-state.result.now c.volume_at-state.ensures.state c.requires.asked c.ask_state-asked.new.pool c.ask_state-asked.new.state c.ask_state-asked.ensures.same c.args.steps.now
-    c.ask_state-asked.new.steps c.ask_state-asked.result c.ask_state-asked.ensures.asks c.replied.new.self c.replied.result c.replied.ensures
+    c.ask_state-asked.new.steps (answer c.ask_state-asked.new.into c.ask_state-asked.result) c.ask_state-asked.ensures.asks c.replied.new.self (answer c.replied.new.into c.replied.result) c.replied.ensures
 
 pub returns-clause-known : goal.returns-clause-known
 returns-clause-known g c = λ tells. known_lent (g.D.Disk.shown c.args.disk.now) (g.D.Disk.shown c.ask_state-asked.new.disk) (g.met.D.Disk.laws c.args.disk.now) _ _ c.self.view_is c.self.invariant c.requires.fresh c.requires.stands
     c.args.command.now c.args.slot c.volume_at-state.result.now c.volume_at-state.ensures.state c.requires.asked c.ask_state-asked.new.pool c.ask_state-asked.new.state c.ask_state-asked.ensures.same c.args.steps.now
-    c.ask_state-asked.new.steps c.ask_state-asked.result c.ask_state-asked.ensures.asks c.replied.new.self c.replied.result c.replied.ensures
+    c.ask_state-asked.new.steps (answer c.ask_state-asked.new.into c.ask_state-asked.result) c.ask_state-asked.ensures.asks c.replied.new.self (answer c.replied.new.into c.replied.result) c.replied.ensures
 
 -- it leaves the volumes
 pub returns-clause-volumes : goal.returns-clause-volumes
 returns-clause-volumes g c =
-    replied_volumes (g.D.Disk.shown c.ask_state-asked.new.disk) c.ask_state-asked.result _ c.replied.new.self c.replied.result c.replied.ensures
+    replied_volumes (g.D.Disk.shown c.ask_state-asked.new.disk) (answer c.ask_state-asked.new.into c.ask_state-asked.result) _ c.replied.new.self (answer c.replied.new.into c.replied.result) c.replied.ensures
     ∙ volumes_lent _ _ c.self.view_is c.args.slot c.volume_at-state.result.now c.volume_at-state.ensures.state c.ask_state-asked.new.state c.ask_state-asked.ensures.same
 
 pub returns-clause-lost : goal.returns-clause-lost
 returns-clause-lost g c = λ near.
     lost_lent c.args.disk.now c.ask_state-asked.new.disk (g.D.Disk.shown c.ask_state-asked.new.disk) _ _ c.self.view_is c.args.slot c.volume_at-state.result.now c.volume_at-state.ensures.state c.args.command.now
-    c.ask_state-asked.new.pool c.ask_state-asked.new.state c.ask_state-asked.ensures.same c.ask_state-asked.result (c.ask_state-asked.ensures.lost near) c.replied.new.self c.replied.result c.replied.ensures
+    c.ask_state-asked.new.pool c.ask_state-asked.new.state c.ask_state-asked.ensures.same (answer c.ask_state-asked.new.into c.ask_state-asked.result) (c.ask_state-asked.ensures.lost near) c.replied.new.self (answer c.replied.new.into c.replied.result) c.replied.ensures
 
 pub returns-clause-only : goal.returns-clause-only
-returns-clause-only g c = λ answer.
-    let refused = replied_only (g.D.Disk.shown c.ask_state-asked.new.disk) c.ask_state-asked.result _ c.replied.new.self c.replied.result c.ask_state-asked.ensures.told c.replied.ensures answer in
+returns-clause-only g c = λ said.
+    let refused = replied_only (g.D.Disk.shown c.ask_state-asked.new.disk) (answer c.ask_state-asked.new.into c.ask_state-asked.result) _ c.replied.new.self (answer c.replied.new.into c.replied.result) c.ask_state-asked.ensures.told c.replied.ensures said in
     lent_has _ _ c.self.view_is c.args.slot c.volume_at-state.result.now c.volume_at-state.ensures.state (λ z. table_named z (snapshot_asked c.args.command.now) ≡ None) (c.ask_state-asked.ensures.only refused)

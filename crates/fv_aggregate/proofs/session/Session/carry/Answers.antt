@@ -1,4 +1,5 @@
 use Rattle.std.proofs.Common.{◌≡◌, Some, true≢false, sym, ◌∙◌}
+use Rattle.fv_aggregate.specs.Answers.{answer}
 use Rattle.fv_aggregate.specs.Commands.{changed_by}
 use Rattle.fv_aggregate.proofs.Aimed.{suits_as}
 use Rattle.fv_aggregate.proofs.Asked.{asked_at}
@@ -22,16 +23,16 @@ pub returns-in-Look : goal.returns-in-Look
 returns-in-Look g c =
     let s = c.args.self.now in let slot = c.args.aim.slot in let command = c.args.command.now in let aimed = c.requires.aimed in
     let did = c.look_at.ensures in
-    look_applied command aimed.name (suits_as _ _ _ _ _ c.in-Look.is aimed) (g.D.Disk.shown c.args.disk.now) c.args.disk.now s c.args.steps.now (g.D.Disk.shown c.look_at.new.disk) c.look_at.new.disk c.look_at.new.self c.look_at.new.steps c.look_at.result
+    look_applied command aimed.name (suits_as _ _ _ _ _ c.in-Look.is aimed) (g.D.Disk.shown c.args.disk.now) c.args.disk.now s c.args.steps.now (g.D.Disk.shown c.look_at.new.disk) c.look_at.new.disk c.look_at.new.self c.look_at.new.steps (answer c.look_at.new.into c.look_at.result)
     c.requires.fresh did.looks (record {
       range = λ far. absurd (true≢false (sym aimed.near ∙ far));
       missing = λ near none. not_none _ s.volumes slot aimed.name aimed.within aimed.named none;
       lost = λ near lacks. of_lacking s.volumes slot aimed.name command aimed.named lacks _ (did.lost near);
-      only = λ answer. lacking s.volumes slot aimed.name command aimed.within aimed.named (did.only answer);
+      only = λ said. lacking s.volumes slot aimed.name command aimed.within aimed.named (did.only said);
       other = did.steps;
       known = did.known;
       kept = did.kept;
-      finds = λ finds near. knows_on s.volumes aimed.name slot c.look_at.new.self.volumes aimed.named c.look_at.result (did.finds finds);
+      finds = λ finds near. knows_on s.volumes aimed.name slot c.look_at.new.self.volumes aimed.named (answer c.look_at.new.into c.look_at.result) (did.finds finds);
     })
 
 pub returns-in-Change : goal.returns-in-Change
@@ -39,16 +40,16 @@ returns-in-Change g c =
     let s = c.args.self.now in let slot = c.args.aim.slot in let command = c.args.command.now in let aimed = c.requires.aimed in
     let did = c.change_at.ensures in
     let change : changed_by command ≡ Some aimed.name = suits_as _ _ _ _ _ c.in-Change.is aimed in
-    make_applied command aimed.name change (g.D.Disk.shown c.args.disk.now) c.args.disk.now s (g.D.Disk.shown c.change_at.new.disk) c.change_at.new.disk c.change_at.new.self c.args.steps.now c.change_at.result
+    make_applied command aimed.name change (g.D.Disk.shown c.args.disk.now) c.args.disk.now s (g.D.Disk.shown c.change_at.new.disk) c.change_at.new.disk c.change_at.new.self c.args.steps.now (answer c.change_at.new.into c.change_at.result)
     c.requires.fresh did.makes (record {
       range = λ far. absurd (true≢false (sym aimed.near ∙ far));
       missing = λ near none. not_none _ s.volumes slot aimed.name aimed.within aimed.named none;
       kept = λ alive. loses_named command aimed.name (change_of_volume aimed.name command change) s.volumes slot aimed.named.named c.change_at.new.self.volumes (did.kept alive);
-      finds = λ finds near. knows_on s.volumes aimed.name slot c.change_at.new.self.volumes aimed.named c.change_at.result (did.finds finds);
+      finds = λ finds near. knows_on s.volumes aimed.name slot c.change_at.new.self.volumes aimed.named (answer c.change_at.new.into c.change_at.result) (did.finds finds);
     })
 
 pub returns-in-Snap : goal.returns-in-Snap
 returns-in-Snap g c =
     let aimed = c.requires.aimed in
-    snap_applied c.args.command.now aimed.name (suits_as _ _ _ _ _ c.in-Snap.is aimed) g.D.Disk.shown c.args.disk.now c.args.self.now c.snap_at.new.disk c.snap_at.new.self c.args.steps.now c.snap_at.result
+    snap_applied c.args.command.now aimed.name (suits_as _ _ _ _ _ c.in-Snap.is aimed) g.D.Disk.shown c.args.disk.now c.args.self.now c.snap_at.new.disk c.snap_at.new.self c.args.steps.now (answer c.snap_at.new.into c.snap_at.result)
     c.requires.fresh c.snap_at.ensures.snapped (λ none. not_none _ c.args.self.now.volumes c.args.aim.slot aimed.name aimed.within aimed.named none)

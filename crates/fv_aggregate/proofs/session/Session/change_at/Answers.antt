@@ -1,4 +1,6 @@
-use Rattle.std.proofs.Common.{rules}
+use Rattle.std.proofs.Common.{rules, ap}
+use Rattle.fv_aggregate.specs.Answers.{answer}
+use Rattle.fv_aggregate.proofs.Answered.{fails}
 use Rattle.fv_aggregate.proofs.Asked.{damaged_at}
 use Rattle.fv_aggregate.proofs.Numbered.{make_numbered, make_unnumbered}
 use Rattle.fv_aggregate.proofs.PointFirst.{aimed_read}
@@ -7,7 +9,7 @@ use Rattle.fv_aggregate.proofs.session.Session.change_at.Goals as goal
 pub returns-in_err-read_numbers-clause-makes : goal.returns-in_err-read_numbers-clause-makes
 returns-in_err-read_numbers-clause-makes g c =
     make_unnumbered (g.D.Disk.shown c.args.disk.now) c.args.self.now c.args.command.now (g.D.Disk.shown c.read_numbers.new.disk) c.read_numbers.new.self c.in_err-read_numbers.field-0.0
-    c.in_err-read_numbers.ensures.numbered c.from_residual.result (search rules)
+    c.in_err-read_numbers.ensures.numbered (answer c.args.into.now c.from_residual.result) (fails c.args.into.now c.from_residual.result c.in_err-read_numbers.field-0.0 (search rules))
 
 pub decide-requires-clause-aimed : goal.decide-requires-clause-aimed
 decide-requires-clause-aimed g c =
@@ -17,4 +19,4 @@ pub returns-clause-makes : goal.returns-clause-makes
 returns-clause-makes g c =
     let d = g.D.Disk.shown c.args.disk.now in let e = g.D.Disk.shown c.read_numbers.new.disk in let of = c.requires.aimed in
     make_numbered d c.args.self.now c.args.command.now (damaged_at d c.args.self.now c.args.slot of.state of.there c.requires.fresh) e c.read_numbers.new.self tt c.in_ok-read_numbers.ensures.numbered
-    (g.D.Disk.shown c.decide.new.disk) c.decide.new.self c.decide.result c.decide.ensures.makes
+    (g.D.Disk.shown c.decide.new.disk) c.decide.new.self (answer c.decide.new.into c.decide.result) c.decide.ensures.makes

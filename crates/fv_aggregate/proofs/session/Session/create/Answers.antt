@@ -5,6 +5,7 @@ use Rattle.fv_model.specs.Refusals.{next}
 use Rattle.fv_model.specs.declared.answers.Reply.TheVariants.{Refused}
 use Rattle.fv_model.specs.declared.commands.Command.TheVariants.{VolCreate}
 use Rattle.fv_volumes.specs.Creating.{Admits, Refuses}
+use Rattle.fv_aggregate.specs.Answers.{answer}
 use Rattle.fv_aggregate.specs.declared.session.Session.{Session}
 use Rattle.fv_aggregate.specs.Calls.{Runs}
 use Rattle.fv_aggregate.proofs.Added.{accepted_for, done_allowed, refusal_allowed, refused_as, refused_for}
@@ -14,7 +15,7 @@ use Rattle.fv_aggregate.proofs.session.Session.create.Goals as goal
 
 pub returns-in-Ok-clause-runs : goal.returns-in-Ok-clause-runs
 returns-in-Ok-clause-runs g c =
-    subst (λ (k : ℕ). Runs k (λ m. next m (VolCreate c.args.name.now c.args.size c.args.kind)) (g.D.Disk.shown c.args.disk.now) c.args.self.now (g.D.Disk.shown c.make.new.disk) c.make.new.self c.make.result)
+    subst (λ (k : ℕ). Runs k (λ m. next m (VolCreate c.args.name.now c.args.size c.args.kind)) (g.D.Disk.shown c.args.disk.now) c.args.self.now (g.D.Disk.shown c.make.new.disk) c.make.new.self (answer c.make.new.into c.make.result))
     (ap overhead c.in-Ok.ensures.admitted.span_is) c.make.ensures.runs
 
 pub returns-in-Ok-clause-reply : goal.returns-in-Ok-clause-reply
@@ -22,7 +23,7 @@ returns-in-Ok-clause-reply g c = λ tells last m stands.
     let long = ap (λ (s : Session). length s.volumes) (sym c.self.view_is) ∙ (c.self.invariant (subst (λ (s : Session). IsNone s.failed) (sym c.self.view_is) c.requires.fresh)).housed.long in
     let a = c.in-Ok.admitted in
     let admits = subst (λ (s : Session). Admits s.volumes s.pool.found.blocks c.args.name.now c.args.size c.args.kind a.slot a.span) c.self.view_is c.in-Ok.ensures.admitted in
-    done_allowed m c.args.name.now c.args.size c.args.kind (accepted_for (g.D.Disk.shown c.args.disk.now) c.args.self.now last m long stands c.args.name.now c.args.size c.args.kind a.slot a.span admits) c.make.result c.make.ensures.reply
+    done_allowed m c.args.name.now c.args.size c.args.kind (accepted_for (g.D.Disk.shown c.args.disk.now) c.args.self.now last m long stands c.args.name.now c.args.size c.args.kind a.slot a.span admits) (answer c.make.new.into c.make.result) c.make.ensures.reply
 
 pub returns-in-Err-clause-runs : goal.returns-in-Err-clause-runs
 returns-in-Err-clause-runs g c =

@@ -1,44 +1,47 @@
-use Rattle.std.proofs.Common.{◌≡◌, rules, Ok, Err, sym, subst}
+use Rattle.std.proofs.Common.{◌≡◌, rules, Ok, Err, sym, ap, subst}
 use Rattle.fv_model.specs.declared.answers.Reply.{Reply}
+use Rattle.fv_aggregate.specs.Answers.{answer}
 use Rattle.fv_aggregate.specs.Commands.{file_room}
 use Rattle.fv_aggregate.specs.Looking.{HasJudged, Makes}
+use Rattle.fv_aggregate.proofs.Answered.{fails}
 use Rattle.fv_aggregate.proofs.Asked.{damaged_at}
 use Rattle.fv_aggregate.proofs.Changing.{judged_refusal}
 use Rattle.fv_aggregate.proofs.Holes.{passes_limit}
 use Rattle.fv_aggregate.proofs.PointFirst.{aimed_read, judged_refused, judging_failed, made_after, room_failed, still_aimed}
 use Rattle.fv_aggregate.proofs.session.Session.decide.Goals as goal
 
-pub returns-in_err-judged-clause-makes : goal.returns-in_err-judged-clause-makes
-returns-in_err-judged-clause-makes g c =
-    judging_failed (g.D.Disk.shown c.args.disk.now) c.args.self.now c.args.command.now (g.D.Disk.shown c.judge.new.disk) c.judge.new.self c.in_err-judged.field-0.0 c.in_err-judged.ensures.judged
-    c.from_residual.result (search rules)
+pub returns-in_err-judge-clause-makes : goal.returns-in_err-judge-clause-makes
+returns-in_err-judge-clause-makes g c =
+    judging_failed (g.D.Disk.shown c.args.disk.now) c.args.self.now c.args.command.now (g.D.Disk.shown c.judge.new.disk) c.judge.new.self c.in_err-judge.field-0.0 c.in_err-judge.ensures.judged
+    (answer c.judge.new.into c.from_residual.result) (fails c.judge.new.into c.from_residual.result c.in_err-judge.field-0.0 (search rules))
 
 pub returns-in-Some-clause-makes : goal.returns-in-Some-clause-makes
 returns-in-Some-clause-makes g c =
     let d = g.D.Disk.shown c.args.disk.now in let e = g.D.Disk.shown c.judge.new.disk in
-    let is = judged_refusal c.in_ok-judged.judged c.in-Some.refusal (sym c.in-Some.ensures) in
-    judged_refused d c.args.self.now c.args.command.now e c.judge.new.self c.in-Some.refusal
-    (subst (λ (y : Reply). HasJudged d c.args.self.now c.args.command.now e c.judge.new.self (Ok y)) is c.in_ok-judged.ensures.judged)
+    let is = judged_refusal c.judge.new.into c.in-Some.field-0 (sym c.in-Some.ensures) in
+    subst (λ (y : Reply). Makes file_room d c.args.self.now c.args.command.now e c.judge.new.self (Ok y)) (sym is)
+    (judged_refused d c.args.self.now c.args.command.now e c.judge.new.self c.in-Some.field-0
+    (subst (λ (y : Reply). HasJudged d c.args.self.now c.args.command.now e c.judge.new.self (Ok y)) is c.in_ok-judge.ensures.judged))
 
 pub returns-in_err-make_room-in-None-clause-makes : goal.returns-in_err-make_room-in-None-clause-makes
 returns-in_err-make_room-in-None-clause-makes g c =
     let d = g.D.Disk.shown c.args.disk.now in let e = g.D.Disk.shown c.judge.new.disk in let h = g.D.Disk.shown c.make_room.new.disk in
     let s = c.args.self.now in let aimed = c.requires.aimed in
     let past = passes_limit s.pending 16 _ c.has_room.ensures c.if-has_room.false in
-    let failed : c.from_residual-in_err-make_room-in-None.result ≡ Err c.in_err-make_room-in-None.field-0.0 = search rules in
+    let failed : answer c.judge.new.into c.from_residual-in_err-make_room-in-None.result ≡ Err c.in_err-make_room-in-None.field-0.0 = fails c.judge.new.into c.from_residual-in_err-make_room-in-None.result c.in_err-make_room-in-None.field-0.0 (search rules) in
     subst (Makes file_room d s c.args.command.now h c.make_room.new.self) (sym failed)
-    (room_failed d s c.args.command.now past (damaged_at d s c.args.slot aimed.state aimed.there c.requires.fresh) e c.judge.new.self c.in_ok-judged.judged c.in_ok-judged.ensures.judged h c.make_room.new.self c.in_err-make_room-in-None.field-0.0
+    (room_failed d s c.args.command.now past (damaged_at d s c.args.slot aimed.state aimed.there c.requires.fresh) e c.judge.new.self c.judge.new.into c.in_ok-judge.ensures.judged h c.make_room.new.self c.in_err-make_room-in-None.field-0.0
     c.in_err-make_room-in-None.ensures.runs.goes c.in_err-make_room-in-None.ensures.runs.goes_for)
 
 pub carry_out-requires-in-None-clause-aimed : goal.carry_out-requires-in-None-clause-aimed
 carry_out-requires-in-None-clause-aimed g c =
     still_aimed c.judge.new.self.volumes c.make_room.new.self.volumes c.args.slot c.args.command.now c.in_ok-make_room-in-None.ensures.cores
-    (aimed_read (g.D.Disk.shown c.args.disk.now) c.args.self.now (g.D.Disk.shown c.judge.new.disk) c.judge.new.self c.args.slot c.args.command.now c.in_ok-judged.ensures.judged.read c.requires.aimed)
+    (aimed_read (g.D.Disk.shown c.args.disk.now) c.args.self.now (g.D.Disk.shown c.judge.new.disk) c.judge.new.self c.args.slot c.args.command.now c.in_ok-judge.ensures.judged.read c.requires.aimed)
 
 pub returns-in-None-clause-makes : goal.returns-in-None-clause-makes
 returns-in-None-clause-makes g c =
     let d = g.D.Disk.shown c.args.disk.now in let e = g.D.Disk.shown c.judge.new.disk in let h = g.D.Disk.shown c.make_room.new.disk in
     let k = g.D.Disk.shown c.carry_out-in-None.new.disk in let s = c.args.self.now in let aimed = c.requires.aimed in
     let past = passes_limit s.pending 16 _ c.has_room.ensures c.if-has_room.false in
-    made_after d s c.args.command.now past (damaged_at d s c.args.slot aimed.state aimed.there c.requires.fresh) e c.judge.new.self c.in_ok-judged.judged c.in_ok-judged.ensures.judged h c.make_room.new.self
-    aimed.state.name aimed.change (sym c.in-None.ensures) tt c.in_ok-make_room-in-None.ensures.runs.goes c.in_ok-make_room-in-None.ensures.pending c.in_ok-make_room-in-None.ensures.runs.goes_for k c.carry_out-in-None.new.self c.carry_out-in-None.result c.carry_out-in-None.ensures.makes
+    made_after d s c.args.command.now past (damaged_at d s c.args.slot aimed.state aimed.there c.requires.fresh) e c.judge.new.self c.judge.new.into c.in_ok-judge.ensures.judged h c.make_room.new.self
+    aimed.state.name aimed.change (sym c.in-None.ensures) tt c.in_ok-make_room-in-None.ensures.runs.goes c.in_ok-make_room-in-None.ensures.pending c.in_ok-make_room-in-None.ensures.runs.goes_for k c.carry_out-in-None.new.self (answer c.carry_out-in-None.new.into c.carry_out-in-None.result) c.carry_out-in-None.ensures.makes

@@ -3,7 +3,7 @@ use Rattle.fv_aggregate.proofs.Resized.{fit_resized, promised_by}
 use Rattle.fv_aggregate.proofs.session.Session.guarantee.Goals as goal
 
 pub returns : goal.returns
-returns c = promised_by _ _ c.self.view_is (VolGuarantee c.args.volume.now c.args.kind) c.args.volume.now (λ x. x.size) (λ x. c.args.kind) c.guarantee.new.self c.guarantee.result c.guarantee.ensures _ c.told.ensures
+returns c = promised_by _ _ c.self.view_is (VolGuarantee c.args.volume.now c.args.kind) c.args.volume.now (λ x. x.size) (λ x. c.args.kind) c.guarantee.new.self c.guarantee.result c.guarantee.ensures _ c.tell.ensures
 
 pub invariant_of-self : goal.invariant_of-self
 invariant_of-self c = λ fresh.

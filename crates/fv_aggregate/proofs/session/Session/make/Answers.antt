@@ -9,7 +9,9 @@ use Rattle.fv_model.specs.Space.{commits, overhead}
 use Rattle.fv_aggregate.specs.declared.fault.Fault.TheVariants.{Memory}
 use Rattle.fv_aggregate.specs.declared.session.Session.{Session}
 use Rattle.fv_aggregate.specs.declared.fault.Fault.{Fault}
+use Rattle.fv_aggregate.specs.Answers.{answer}
 use Rattle.fv_aggregate.specs.Calls.{KeepsHolding, MakesNoHoles, Runs}
+use Rattle.fv_aggregate.proofs.Answered.{fails}
 use Rattle.fv_aggregate.proofs.Added.{added_asks, added_for, added_goes, made_files, made_map, room_for, unmade_for, wanting_for, wanting_goes}
 use Rattle.fv_aggregate.proofs.Applying.{rests_as, same_map}
 use Rattle.fv_aggregate.proofs.Calls.{fails_alike}
@@ -23,9 +25,9 @@ returns-in_err-make_room-clause-runs g c =
     let n = c.make_room.new.self in
     let f = c.in_err-make_room.field-0.0 in
     let made = c.in_err-make_room.ensures.runs in
-    let failed : c.from_residual.result ≡ Err f = search rules in
+    let failed : answer c.args.into.now c.from_residual.result ≡ Err f = fails c.args.into.now c.from_residual.result f (search rules) in
     let room : c.from-room.result ≡ overhead c.args.admitted.span = search rules in
-    subst (λ (k : ℕ). Runs {T = Reply} k (λ m. next m (VolCreate c.args.name.now c.args.size c.args.kind)) old s mid n c.from_residual.result) room
+    subst (λ (k : ℕ). Runs {T = Reply} k (λ m. next m (VolCreate c.args.name.now c.args.size c.args.kind)) old s mid n (answer c.args.into.now c.from_residual.result)) room
     (subst (λ (r : Result Reply Fault). Runs c.from-room.result (λ m. next m (VolCreate c.args.name.now c.args.size c.args.kind)) old s mid n r) (sym failed) (record {
       goes = fails_alike f c.from-room.result old s mid n made.goes;
       asks = made.asks;
@@ -36,7 +38,7 @@ returns-in_err-make_room-clause-runs g c =
 
 pub returns-in_err-make_room-clause-holding : goal.returns-in_err-make_room-clause-holding
 returns-in_err-make_room-clause-holding g c =
-    let failed : c.from_residual.result ≡ Err c.in_err-make_room.field-0.0 = search rules in
+    let failed : answer c.args.into.now c.from_residual.result ≡ Err c.in_err-make_room.field-0.0 = fails c.args.into.now c.from_residual.result c.in_err-make_room.field-0.0 (search rules) in
     subst (λ (r : Result Reply Fault). KeepsHolding (g.D.Disk.shown c.args.disk.now) c.args.self.now c.make_room.new.self r) (sym failed) (record { files = λ tells none. tt; same = λ tells same. tt })
 
 pub add-requires-clause-admitted : goal.add-requires-clause-admitted
@@ -46,9 +48,9 @@ pub returns-in_err-add-clause-runs : goal.returns-in_err-add-clause-runs
 returns-in_err-add-clause-runs g c =
     let old = g.D.Disk.shown c.args.disk.now in let mid = g.D.Disk.shown c.make_room.new.disk in let s = c.args.self.now in
     let n = c.make_room.new.self in let made = c.in_ok-make_room.ensures.runs in
-    let failed : c.from_residual-in_err-add.result ≡ Err Memory = search rules in
+    let failed : answer c.args.into.now c.from_residual-in_err-add.result ≡ Err Memory = fails c.args.into.now c.from_residual-in_err-add.result Memory (search rules) in
     let room : c.from-room.result ≡ overhead c.args.admitted.span = search rules in
-    subst (λ (k : ℕ). Runs {T = Reply} k (λ m. next m (VolCreate c.args.name.now c.args.size c.args.kind)) old s mid c.add.new.self c.from_residual-in_err-add.result) room
+    subst (λ (k : ℕ). Runs {T = Reply} k (λ m. next m (VolCreate c.args.name.now c.args.size c.args.kind)) old s mid c.add.new.self (answer c.args.into.now c.from_residual-in_err-add.result)) room
     (subst (λ (r : Result Reply Fault). Runs c.from-room.result (λ m. next m (VolCreate c.args.name.now c.args.size c.args.kind)) old s mid c.add.new.self r) (sym failed)
     (subst (λ (k : Session). Runs {T = Reply} c.from-room.result (λ m. next m (VolCreate c.args.name.now c.args.size c.args.kind)) old s mid k (Err Memory)) (sym c.in_err-add.ensures.same) (record {
       goes = wanting_goes old s mid n c.args.name.now c.args.size c.args.kind c.from-room.result made.goes (λ low. rests_as g.D.Disk.shown c.args.disk.now c.make_room.new.disk (c.make_room.ensures.calm low).0);
@@ -60,7 +62,7 @@ returns-in_err-add-clause-runs g c =
 
 pub returns-in_err-add-clause-holding : goal.returns-in_err-add-clause-holding
 returns-in_err-add-clause-holding g c =
-    let failed : c.from_residual-in_err-add.result ≡ Err Memory = search rules in
+    let failed : answer c.args.into.now c.from_residual-in_err-add.result ≡ Err Memory = fails c.args.into.now c.from_residual-in_err-add.result Memory (search rules) in
     subst (λ (r : Result Reply Fault). KeepsHolding (g.D.Disk.shown c.args.disk.now) c.args.self.now c.add.new.self r) (sym failed) (record { files = λ tells none. tt; same = λ tells same. tt })
 
 pub returns-clause-runs : goal.returns-clause-runs

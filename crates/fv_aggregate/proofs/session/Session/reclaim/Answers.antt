@@ -1,9 +1,11 @@
-use Rattle.std.proofs.Common.{◌≡◌, rules, Result, Err, sym, subst}
+use Rattle.std.proofs.Common.{◌≡◌, rules, Result, Err, sym, ap, subst}
 use Rattle.fv_model.specs.declared.answers.Reply.{Reply}
 use Rattle.fv_model.specs.declared.answers.Reply.TheVariants.{Done}
 use Rattle.fv_aggregate.specs.declared.fault.Fault.{Fault}
+use Rattle.fv_aggregate.specs.Answers.{answer}
 use Rattle.fv_aggregate.specs.Calls.{Runs}
 use Rattle.fv_aggregate.specs.Reclaiming.{Points}
+use Rattle.fv_aggregate.proofs.Answered.{fails}
 use Rattle.fv_aggregate.proofs.Calls.{fails_alike, fails_for, replies_done, replies_for}
 use Rattle.fv_aggregate.proofs.session.Session.reclaim.Goals as goal
 
@@ -11,7 +13,7 @@ pub returns-in_err-point-clause-runs : goal.returns-in_err-point-clause-runs
 returns-in_err-point-clause-runs g c =
     let old = g.D.Disk.shown c.args.disk.now in let new = g.D.Disk.shown c.point.new.disk in let s = c.args.self.now in
     let n = c.point.new.self in let f = c.in_err-point.field-0.0 in let did = c.in_err-point.ensures in
-    let failed : c.from_residual.result ≡ Err f = search rules in
+    let failed : answer c.args.into.now c.from_residual.result ≡ Err f = fails c.args.into.now c.from_residual.result f (search rules) in
     subst (λ (r : Result Reply Fault). Runs 0 (λ m. m) old s new n r) (sym failed) (record {
       goes = fails_alike f 0 old s new n did.goes;
       asks = did.asks;
@@ -23,7 +25,7 @@ returns-in_err-point-clause-runs g c =
 pub returns-in_err-point-clause-points : goal.returns-in_err-point-clause-points
 returns-in_err-point-clause-points g c =
     let did = c.in_err-point.ensures.points in
-    let failed : c.from_residual.result ≡ Err c.in_err-point.field-0.0 = search rules in
+    let failed : answer c.args.into.now c.from_residual.result ≡ Err c.in_err-point.field-0.0 = fails c.args.into.now c.from_residual.result c.in_err-point.field-0.0 (search rules) in
     subst (λ (r : Result Reply Fault). Points 0 (g.D.Disk.shown c.args.disk.now) c.args.self.now (g.D.Disk.shown c.point.new.disk) c.point.new.self r) (sym failed)
     (record { memory = did.memory; point = λ tells last m stands. tt; sides = did.sides; left = tt })
 

@@ -3,7 +3,7 @@ use Rattle.fv_aggregate.proofs.Resized.{fit_resized, promised_by}
 use Rattle.fv_aggregate.proofs.session.Session.resize.Goals as goal
 
 pub returns : goal.returns
-returns c = promised_by _ _ c.self.view_is (VolResize c.args.volume.now c.args.size) c.args.volume.now (λ x. c.args.size) (λ x. x.kind) c.resize.new.self c.resize.result c.resize.ensures _ c.told.ensures
+returns c = promised_by _ _ c.self.view_is (VolResize c.args.volume.now c.args.size) c.args.volume.now (λ x. c.args.size) (λ x. x.kind) c.resize.new.self c.resize.result c.resize.ensures _ c.tell.ensures
 
 pub invariant_of-self : goal.invariant_of-self
 invariant_of-self c = λ fresh.

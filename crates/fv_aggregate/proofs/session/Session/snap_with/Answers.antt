@@ -1,7 +1,9 @@
 use Rattle.std.proofs.Common.{◌≡◌, Option, Some, rules, inr, Err, sym, ap, subst, ◌∙◌, arith}
 use Rattle.fv_volume.specs.declared.state.VolumeState.{VolumeState}
+use Rattle.fv_aggregate.specs.Answers.{answer}
 use Rattle.fv_aggregate.specs.Looking.{HasSnapped}
 use Rattle.fv_aggregate.specs.Snapping.{snap_blocks}
+use Rattle.fv_aggregate.proofs.Answered.{fails}
 use Rattle.fv_aggregate.proofs.Asked.{damaged_at}
 use Rattle.fv_aggregate.proofs.Holes.{passes_limit}
 use Rattle.fv_aggregate.proofs.Rooms.{room_most}
@@ -14,7 +16,7 @@ returns-in_err-make_room g c =
     let room = c.args.granted.room in let aimed = c.requires.aimed in let command = c.args.command.now in
     let d = g.D.Disk.shown c.args.disk.now in let e = g.D.Disk.shown c.make_room.new.disk in let s = c.args.self.now in
     let past = passes_limit s.pending room _ c.has_room.ensures c.if-has_room.false in
-    let failed : c.from_residual.result ≡ Err c.in_err-make_room.field-0.0 = search rules in
+    let failed : answer c.args.into.now c.from_residual.result ≡ Err c.in_err-make_room.field-0.0 = fails c.args.into.now c.from_residual.result c.in_err-make_room.field-0.0 (search rules) in
     let made = c.in_err-make_room.ensures in
     let same : room ≡ snap_blocks (Some aimed.state) command = c.requires.granted.room ∙ ap (λ (o : Option VolumeState). snap_blocks o command) aimed.there in
     record {
@@ -58,5 +60,5 @@ returns g c =
     record {
       snapped = snap_roomy d c.args.disk.now s command room past c.if-granted-eq0.false (c.requires.granted.room ∙ aimed_room s.volumes c.args.slot command aimed)
           (room_places aimed.state aimed.state.name command aimed.snaps (λ none. c.if-granted-eq0.false (same ∙ none))) (damaged_at d s c.args.slot aimed.state aimed.there c.requires.fresh) e c.make_room.new.disk c.make_room.new.self c.in_ok-make_room.field-0
-          (still_room_by s.volumes c.make_room.new.self.volumes made.cores c.args.slot command aimed) made.runs.goes made.pending made.runs.goes_for (made.pointed past) made.runs.numbers c.snap_now-2.new.self c.snap_now-2.result (record { snapped = did.snapped; placed = did.placed; accepted = did.accepted });
+          (still_room_by s.volumes c.make_room.new.self.volumes made.cores c.args.slot command aimed) made.runs.goes made.pending made.runs.goes_for (made.pointed past) made.runs.numbers c.snap_now-2.new.self (answer c.snap_now-2.new.into c.snap_now-2.result) (record { snapped = did.snapped; placed = did.placed; accepted = did.accepted });
     }

@@ -1,18 +1,21 @@
 use Rattle.std.proofs.Common.{◌≡◌, ◌≤◌, ◌+◌, ◌⊎◌, ℕ, length, rules, refl, sym, ap, subst, ◌∙◌, ⊎_elim}
 use Rattle.std.specs.Prelude.{IsNone, Some}
 use Rattle.fv_model.specs.Space.{overhead, span_of}
+use Rattle.fv_aggregate.specs.Answers.{answer}
+use Rattle.fv_aggregate.specs.declared.fault.Fault.TheVariants.{Memory}
 use Rattle.fv_aggregate.specs.Telling.{names_from}
 use Rattle.fv_aggregate.specs.declared.session.Session.{Session}
 use Rattle.fv_model.specs.declared.answers.Reply.TheVariants.{Names}
 use Rattle.fv_model.specs.declared.commands.Command.TheVariants.{VolDestroy, VolGuarantee, VolResize, VolStat}
 use Rattle.fv_aggregate.specs.Commands.{changed_by, dirty_limit, room_by, volume_asked}
+use Rattle.fv_aggregate.proofs.Answered.{fails}
 use Rattle.fv_aggregate.proofs.Added.{not_refused}
 use Rattle.fv_aggregate.proofs.Applied.{cp_asks, cp_built, cp_goes, cp_goes_for, cp_no_files, cp_no_list, cp_no_names, cp_no_snap, cp_no_whole, cp_replies, list_no_point, create_asks, create_built, create_goes, create_goes_for, create_no_files, create_no_list, create_no_names, create_no_point, create_no_snap, create_no_whole, create_replies, create_room, list_after, list_done, list_fails, list_replies, no_files, some_room}
 use Rattle.fv_aggregate.proofs.Applying.{booked_each, no_step, not_dead, pointed_same, rests_as}
 use Rattle.fv_aggregate.proofs.Keeping.{keeps_but}
 use Rattle.fv_aggregate.proofs.Serving.{failed_applied, own_applied, rests_answers, rests_lacks}
 use Rattle.fv_aggregate.proofs.SnapListed.{snaps_after, snaps_done, snaps_fail, snaps_no_point, snaps_replies}
-use Rattle.fv_aggregate.proofs.session.Session.apply.Goals as goal
+use Rattle.fv_aggregate.proofs.session.Session.apply_into.Goals as goal
 
 pub returns-in-Some : goal.returns-in-Some
 returns-in-Some g c =
@@ -28,10 +31,10 @@ returns-in-VolCreate g c =
     let low : (room_by s.volumes command ≡ 0) ⊎ (s.pending + room_by s.volumes command ≤ dirty_limit) → s.pending + overhead (span_of size 0 0) ≤ dirty_limit =
     λ few. ⊎_elim (λ (none : room_by s.volumes command ≡ 0). absurd (some_room size (sym room ∙ none))) (λ (few : s.pending + room_by s.volumes command ≤ dirty_limit). subst (λ (k : ℕ). s.pending + k ≤ dirty_limit) room few) few in
     record {
-      goes = create_goes command _ _ _ c.in-VolCreate.is d s e n c.create.result c.create.ensures.runs.goes;
+      goes = create_goes command _ _ _ c.in-VolCreate.is d s e n (answer c.create.new.into c.create.result) c.create.ensures.runs.goes;
       asks = λ none. create_asks command _ _ _ c.in-VolCreate.is d s e n c.create.ensures.runs.asks;
-      goes_for = λ tells last m stands. create_goes_for command _ _ _ c.in-VolCreate.is d last m e n c.create.result (c.create.ensures.runs.goes_for tells last m stands);
-      reply = λ tells last m stands. create_replies command _ _ _ c.in-VolCreate.is m c.create.result (c.create.ensures.reply tells last m stands);
+      goes_for = λ tells last m stands. create_goes_for command _ _ _ c.in-VolCreate.is d last m e n (answer c.create.new.into c.create.result) (c.create.ensures.runs.goes_for tells last m stands);
+      reply = λ tells last m stands. create_replies command _ _ _ c.in-VolCreate.is m (answer c.create.new.into c.create.result) (c.create.ensures.reply tells last m stands);
       plain = λ plain. record {
         refused = c.create.ensures.refused;
         calm = λ other few. c.create.ensures.calm (low few);
@@ -54,7 +57,7 @@ returns-in-VolCreate g c =
       entries = λ other few stays. c.create.ensures.entries (low few);
       files = λ tells none without. c.create.ensures.holding.files tells without;
       same = λ tells none stays places same. c.create.ensures.holding.same tells same;
-      steps = record { other = λ none. refl; known = λ tells last m stands. no_step c.create.result c.args.steps.now; dead = λ failed. refl };
+      steps = record { other = λ none. refl; known = λ tells last m stands. no_step (answer c.create.new.into c.create.result) c.args.steps.now; dead = λ failed. refl };
       numbers = λ alive. keeps_but _ s.volumes n.volumes (c.create.ensures.runs.numbers alive);
       dead = λ failed. not_dead _ s fresh failed;
     }
@@ -65,12 +68,12 @@ returns-in-Cp g c =
     let n = c.reclaim.new.self in let command = c.args.command.now in
     let fresh : IsNone s.failed = subst (λ (k : Session). IsNone k.failed) c.self.view_is (subst IsNone (sym c.in_default.is) refl) in
     record {
-      goes = cp_goes command c.in-Cp.is d s e n c.reclaim.result c.reclaim.ensures.runs.goes;
+      goes = cp_goes command c.in-Cp.is d s e n (answer c.reclaim.new.into c.reclaim.result) c.reclaim.ensures.runs.goes;
       asks = λ none. cp_asks command c.in-Cp.is d s e n c.reclaim.ensures.runs.asks;
-      goes_for = λ tells last m stands. cp_goes_for command c.in-Cp.is d last m e n c.reclaim.result (c.reclaim.ensures.runs.goes_for tells last m stands);
-      reply = λ tells last m stands. cp_replies command c.in-Cp.is m c.reclaim.result c.reclaim.ensures.reply;
+      goes_for = λ tells last m stands. cp_goes_for command c.in-Cp.is d last m e n (answer c.reclaim.new.into c.reclaim.result) (c.reclaim.ensures.runs.goes_for tells last m stands);
+      reply = λ tells last m stands. cp_replies command c.in-Cp.is m (answer c.reclaim.new.into c.reclaim.result) c.reclaim.ensures.reply;
       plain = λ plain. record {
-        refused = not_refused _ c.reclaim.result c.reclaim.ensures.reply;
+        refused = not_refused _ (answer c.reclaim.new.into c.reclaim.result) c.reclaim.ensures.reply;
         calm = λ other. absurd (other c.in-Cp.is);
         map = λ other. absurd (other c.in-Cp.is);
         wanting = λ other. absurd (other c.in-Cp.is);
@@ -90,8 +93,8 @@ returns-in-Cp g c =
       calm = λ other. absurd (other c.in-Cp.is);
       entries = λ other. absurd (other c.in-Cp.is);
       files = λ tells none without. c.reclaim.ensures.files tells;
-      same = λ tells none stays places same. pointed_same d s n c.reclaim.result c.reclaim.ensures.points.left tells;
-      steps = record { other = λ none. refl; known = λ tells last m stands. no_step c.reclaim.result c.args.steps.now; dead = λ failed. refl };
+      same = λ tells none stays places same. pointed_same d s n (answer c.reclaim.new.into c.reclaim.result) c.reclaim.ensures.points.left tells;
+      steps = record { other = λ none. refl; known = λ tells last m stands. no_step (answer c.reclaim.new.into c.reclaim.result) c.args.steps.now; dead = λ failed. refl };
       numbers = λ alive. keeps_but _ s.volumes n.volumes (c.reclaim.ensures.runs.numbers alive);
       dead = λ failed. not_dead _ s fresh failed;
     }
@@ -101,7 +104,7 @@ returns-in_err-names_of-in-VolList g c =
     let d = g.D.Disk.shown c.args.disk.now in
     let fresh : IsNone c.args.self.now.failed = subst (λ (k : Session). IsNone k.failed) c.self.view_is (subst IsNone (sym c.in_default.is) refl) in
     rests_lacks c.args.command.now d c.args.disk.now c.args.self.now c.args.steps.now (g.met.D.Disk.laws c.args.disk.now) fresh (c.requires.stands fresh) (no_files c.args.command.now (ap volume_asked c.in-VolList.is) (ap changed_by c.in-VolList.is)) (list_no_point _ c.args.command.now c.in-VolList.is)
-    (list_fails c.args.command.now c.in-VolList.is d c.args.disk.now c.args.self.now) c.from_residual.result (search rules)
+    (list_fails c.args.command.now c.in-VolList.is d c.args.disk.now c.args.self.now) (answer c.args.into.now c.from_residual.result) (fails c.args.into.now c.from_residual.result Memory (search rules))
 
 pub returns-in-VolList : goal.returns-in-VolList
 returns-in-VolList g c =
@@ -117,13 +120,13 @@ returns-in_err-snapshots-in-SnapList g c =
     let d = g.D.Disk.shown c.args.disk.now in
     let fresh : IsNone c.args.self.now.failed = subst (λ (k : Session). IsNone k.failed) c.self.view_is (subst IsNone (sym c.in_default.is) refl) in
     rests_lacks c.args.command.now d c.args.disk.now c.args.self.now c.args.steps.now (g.met.D.Disk.laws c.args.disk.now) fresh (c.requires.stands fresh) (no_files c.args.command.now (ap volume_asked c.in-SnapList.is) (ap changed_by c.in-SnapList.is)) (snaps_no_point c.args.command.now c.in-SnapList.volume c.in-SnapList.is _)
-    (snaps_fail c.args.command.now c.in-SnapList.volume c.in-SnapList.is d c.args.disk.now c.args.self.now) c.from_residual-in_err-snapshots-in-SnapList.result (search rules)
+    (snaps_fail c.args.command.now c.in-SnapList.volume c.in-SnapList.is d c.args.disk.now c.args.self.now) (answer c.snapshots.new.into c.from_residual-in_err-snapshots-in-SnapList.result) (fails c.snapshots.new.into c.from_residual-in_err-snapshots-in-SnapList.result Memory (search rules))
 
 pub returns-in-SnapList : goal.returns-in-SnapList
 returns-in-SnapList g c =
     let d = g.D.Disk.shown c.args.disk.now in
     let fresh : IsNone c.args.self.now.failed = subst (λ (k : Session). IsNone k.failed) c.self.view_is (subst IsNone (sym c.in_default.is) refl) in
-    let reply = c.in_ok-snapshots-in-SnapList.field-0 in
+    let reply = c.snapshots.new.into in
     let long = subst (λ (k : Session). length k.volumes ≡ 64) c.self.view_is (c.self.invariant (subst IsNone (sym c.in_default.is) refl)).housed.long in
     rests_answers c.args.command.now d c.args.disk.now c.args.self.now c.args.steps.now (g.met.D.Disk.laws c.args.disk.now) reply fresh (c.requires.stands fresh) (no_files c.args.command.now (ap volume_asked c.in-SnapList.is) (ap changed_by c.in-SnapList.is)) (snaps_no_point c.args.command.now c.in-SnapList.volume c.in-SnapList.is _)
     (snaps_after c.args.command.now c.in-SnapList.volume c.in-SnapList.is) (λ tells last m stands. snaps_replies c.args.command.now c.in-SnapList.volume c.in-SnapList.is d c.args.self.now long last m stands reply c.in_ok-snapshots-in-SnapList.ensures)
@@ -132,22 +135,22 @@ returns-in-SnapList g c =
 pub returns-in-VolDestroy : goal.returns-in-VolDestroy
 returns-in-VolDestroy g c =
     own_applied (VolDestroy c.in-VolDestroy.volume) c.args.command.now c.in-VolDestroy.is (g.D.Disk.shown c.args.disk.now) (g.met.D.Disk.laws c.args.disk.now) c.args.disk.now _ c.args.self.now c.self.view_is c.in_default.is c.self.invariant c.requires.stands
-    c.args.steps.now c.destroy.new.self c.destroy.result c.destroy.ensures refl refl refl refl
+    c.args.steps.now c.destroy.new.self c.destroy.new.into c.destroy.ensures refl refl refl refl
 
 pub returns-in-VolResize : goal.returns-in-VolResize
 returns-in-VolResize g c =
     own_applied (VolResize c.in-VolResize.volume c.in-VolResize.size) c.args.command.now c.in-VolResize.is (g.D.Disk.shown c.args.disk.now) (g.met.D.Disk.laws c.args.disk.now) c.args.disk.now _ c.args.self.now c.self.view_is c.in_default.is c.self.invariant c.requires.stands
-    c.args.steps.now c.resize.new.self c.resize.result c.resize.ensures refl refl refl refl
+    c.args.steps.now c.resize.new.self c.resize.new.into c.resize.ensures refl refl refl refl
 
 pub returns-in-VolGuarantee : goal.returns-in-VolGuarantee
 returns-in-VolGuarantee g c =
     own_applied (VolGuarantee c.in-VolGuarantee.volume c.in-VolGuarantee.kind) c.args.command.now c.in-VolGuarantee.is (g.D.Disk.shown c.args.disk.now) (g.met.D.Disk.laws c.args.disk.now) c.args.disk.now _ c.args.self.now c.self.view_is c.in_default.is c.self.invariant c.requires.stands
-    c.args.steps.now c.guarantee.new.self c.guarantee.result c.guarantee.ensures refl refl refl refl
+    c.args.steps.now c.guarantee.new.self c.guarantee.new.into c.guarantee.ensures refl refl refl refl
 
 pub returns-in-VolStat : goal.returns-in-VolStat
 returns-in-VolStat g c =
     own_applied (VolStat c.in-VolStat.volume) c.args.command.now c.in-VolStat.is (g.D.Disk.shown c.args.disk.now) (g.met.D.Disk.laws c.args.disk.now) c.args.disk.now _ c.args.self.now c.self.view_is c.in_default.is c.self.invariant c.requires.stands
-    c.args.steps.now c.args.self.now c.stat.result c.stat.ensures refl refl refl refl
+    c.args.steps.now c.args.self.now c.stat.new.into c.stat.ensures refl refl refl refl
 
 pub resize-requires-clause-booked : goal.resize-requires-clause-booked
 resize-requires-clause-booked g c =
