@@ -88,7 +88,7 @@ node_differs block r is = read_differs node_fields block _ r (tt, (tt, (tt, (tt,
 length-part : (at n : ℕ) (bytes : List ℕ) → at + n ≤ length bytes → length (take n (drop at bytes)) ≡ n
 length-part at n bytes room = omega (arith, length-take n (drop at bytes), length-drop at bytes)
 
-file_is : (item : List ℕ) → 240 ≤ length item → asks_file item ≡ Ok tt → IsInodeRecord (file_of item)
+pub file_is : (item : List ℕ) → 240 ≤ length item → asks_file item ≡ Ok tt → IsInodeRecord (file_of item)
 unfolding asks_file file_of
 file_is item room said =
     let f = as_said (file_fields item) item said in

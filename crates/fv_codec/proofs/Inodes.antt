@@ -18,7 +18,7 @@ unfolding none_filled items file_of
 free_alone zero size bytes = refl
 free_alone (suc n) size bytes = ap (λ (b : Bool). is_free_at bytes && b) (free_alone n size (drop size bytes))
 
-length-file : (r : InodeRecord) → length r.name ≡ 64 → length (file_bytes r) ≡ 240
+pub length-file : (r : InodeRecord) → length r.name ≡ 64 → length (file_bytes r) ≡ 240
 unfolding file_bytes
 length-file r long = simp (length-append, length-word, length-zeros, length-pointer, long) refl
 

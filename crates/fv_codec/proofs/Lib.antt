@@ -13,5 +13,7 @@ pub mod Labels
 pub mod Differs
 pub mod Ranges
 pub mod Decoded
+pub mod Picked
 pub mod Found
 pub mod Laws
+pub mod Renewed

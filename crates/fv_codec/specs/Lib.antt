@@ -1,4 +1,5 @@
 pub mod Bytes
 pub mod Fields
 pub mod Blocks
+pub mod Forms
 pub mod Spelling

@@ -1,6 +1,6 @@
 use crate::page::Page;
 use crate::pointer::Pointer;
-use crate::reading::{byte_in, name_in, some_filled, tail, up_to, word_in, zeros_in};
+use crate::reading::{byte_in, name_in, some_filled, tail, up_to, word_at, word_in, zeros_in};
 use crate::shape::Shape;
 
 /// `FVINODES` as a word.
@@ -27,7 +27,7 @@ pub struct InodeRecord {
 }
 
 impl InodeRecord {
-    ghost use Rattle.std.specs.Prelude.{◌≡◌, ◌≤◌, ◌+◌, ◌++◌, length, IfOk};
+    ghost use Rattle.std.specs.Prelude.{◌≡◌, ◌≤◌, ◌+◌, ◌++◌, length, Ok, IfOk};
     ghost use Rattle.fv_codec.specs.Fields.{verdict_of};
     ghost use Rattle.fv_codec.specs.Blocks.{asks_file, file_of};
     ghost use Rattle.fv_codec.specs.Spelling.{file_bytes};
@@ -68,9 +68,28 @@ impl InodeRecord {
         })
     }
 
+    /// The record that bytes begin with, which isn't judged.
+    #[tactic(auto, unfolding(crate::specs::Bytes::byte_at, crate::specs::Blocks::file_of))]
+    fn pick(bytes: &[u8]) -> InodeRecord
+        requires room { 240 ≤ length bytes.now }
+        requires said { asks_file bytes.now ≡ Ok tt }
+        ensures { result ≡ file_of bytes.now }
+    {
+        let mut name = [0; 64];
+        name.copy_from_slice(&bytes[1..65]);
+        InodeRecord {
+            name_length: bytes[0],
+            name,
+            length: word_at(bytes, 72) as u32,
+            reserve: word_at(bytes, 80) as u32,
+            levels: word_at(bytes, 88) as u8,
+            root: Pointer::pick(tail(bytes, 96)),
+        }
+    }
+
     /// Writes the record.
     #[tactic(auto, unfolding(crate::specs::Spelling::file_bytes))]
-    fn write(&self, page: &mut Page)
+    pub(crate) fn write(&self, page: &mut Page)
         requires { length page.old + 240 ≤ 4096 }
         ensures written { page.new ≡ page.old ++ file_bytes self.now }
         ensures length { length page.new ≡ length page.old + 240 }
@@ -96,10 +115,10 @@ pub struct InodeBlock {
 }
 
 impl InodeBlock {
-    ghost use Rattle.std.specs.Prelude.{◌≡◌, ◌≢◌, ◌≤◌, ◌<◌, ◌^◌, ◌+◌, ◌*◌, ◌++◌, length, IfOk, IfErr, OnOk};
+    ghost use Rattle.std.specs.Prelude.{◌≡◌, ◌≢◌, ◌≤◌, ◌<◌, ◌^◌, ◌+◌, ◌*◌, ◌++◌, get_or, is_ok, length, true, IfOk, IfErr, OnOk};
     ghost use Rattle.std.specs.List.{flat_map};
     ghost use Rattle.fv_codec.specs.Fields.{each, items};
-    ghost use Rattle.fv_codec.specs.Blocks.{all_free, asks_file, file_of, inodes_at, IsInodeBlock};
+    ghost use Rattle.fv_codec.specs.Blocks.{all_free, asks_file, file_of, inodes_at, IsInodeBlock, IsInodeRecord};
     ghost use Rattle.fv_codec.specs.Spelling.{file_bytes, inodes_bytes};
 
     /// The inode block that a block spells, or the first field that isn't as said; a block of free records
@@ -124,6 +143,18 @@ impl InodeBlock {
         InodeBlock::read_files(tail(block, 256), &mut files)?;
         some_filled(InodeBlock::all_free(&files))?;
         Ok(InodeBlock { index, files })
+    }
+
+    /// The record in a slot below 16 of the inode block that a block spells. It reads the record's 240 bytes and judges
+    /// nothing.
+    #[tactic(auto, using(crate::proofs::Picked::record_of, crate::proofs::Picked::record_said, crate::proofs::Picked::record_fits))]
+    pub fn record(block: &[u8; 4096], slot: u32) -> InodeRecord
+        requires slot { slot < 16 }
+        requires shaped { is_ok (inodes_at block.now) ≡ true }
+        ensures file { (d : InodeRecord) → IfOk (inodes_at block.now) (λ b. get_or b.files slot d ≡ result) }
+        ensures range { IsInodeRecord result }
+    {
+        InodeRecord::pick(tail(block, 256 + 240 * slot as usize))
     }
 
     /// Writes the inode block into a block; every byte of it is written.

@@ -2,6 +2,7 @@
 #![tactic(auto)]
 
 mod container;
+mod form;
 mod gate;
 mod inode;
 mod label;
@@ -9,11 +10,13 @@ mod node;
 mod page;
 mod pointer;
 mod reading;
+mod renew;
 mod root;
 mod shape;
 mod superblock;
 
 pub use container::{ContainerInner, ContainerLeaf};
+pub use form::{Form, has_form};
 pub use gate::{gate_open, open_gate};
 pub use inode::{InodeBlock, InodeRecord};
 pub use label::{Label, SnapRecord};

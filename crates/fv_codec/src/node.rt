@@ -1,4 +1,4 @@
-ghost use Rattle.std.specs.Prelude.{◌≡◌, ◌≢◌, ◌≤◌, ◌<◌, ◌^◌, ◌+◌, ◌*◌, ◌++◌, true, length, IfOk, IfErr, OnOk};
+ghost use Rattle.std.specs.Prelude.{◌≡◌, ◌≢◌, ◌≤◌, ◌<◌, ◌^◌, ◌+◌, ◌*◌, ◌++◌, true, get_or, length, IfOk, IfErr, OnOk};
 ghost use Rattle.std.specs.List.{flat_map};
 
 use crate::page::Page;
@@ -25,6 +25,7 @@ pub struct Node {
 impl Node {
     ghost use Rattle.fv_codec.specs.Fields.{each, items};
     ghost use Rattle.fv_codec.specs.Blocks.{all_holes, asks_pointer, node_at, pointer_of, IsNode};
+    ghost use Rattle.fv_codec.specs.Forms.{hole};
     ghost use Rattle.fv_codec.specs.Spelling.{node_bytes, pointer_bytes};
 
     /// The node that a block spells, or the first field that isn't as said; a node of holes alone wants 1
@@ -56,6 +57,16 @@ impl Node {
             place,
             children,
         })
+    }
+
+    /// The child in a slot below 128 of the node that a block spells. It reads the pointer's 24 bytes and judges nothing:
+    /// of a block that spells no node it answers any numbers.
+    #[tactic(auto, using(crate::proofs::Picked::child_of))]
+    pub fn child(block: &[u8; 4096], slot: u32) -> Pointer
+        requires { slot < 128 }
+        ensures { IfOk (node_at block.now) (λ n. get_or n.children slot hole ≡ result) }
+    {
+        Pointer::pick(tail(block, 1024 + 24 * slot as usize))
     }
 
     /// Writes the node into a block; every byte of it is written.

@@ -86,6 +86,13 @@ impl Page {
         }
     }
 
+    /// What is written.
+    pub(crate) fn front(&self) -> &[u8]
+        ensures { result.now ≡ self.now }
+    {
+        &self.bytes[..self.at]
+    }
+
     /// Copies the whole block out.
     pub(crate) fn finish(&self, into: &mut [u8; 4096])
         requires { length self.now ≡ 4096 }

@@ -49,6 +49,19 @@ impl Pointer {
         Ok(Pointer { vvbn, pvbn, stamp })
     }
 
+    /// The pointer that bytes begin with, which isn't judged.
+    #[tactic(auto, unfolding(crate::specs::Blocks::pointer_of))]
+    pub(crate) fn pick(bytes: &[u8]) -> Pointer
+        requires { 24 ≤ length bytes.now }
+        ensures { result ≡ pointer_of bytes.now }
+    {
+        Pointer {
+            vvbn: word_at(bytes, 0),
+            pvbn: word_at(bytes, 8),
+            stamp: word_at(bytes, 16),
+        }
+    }
+
     /// Writes the pointer.
     #[tactic(auto, unfolding(crate::specs::Spelling::pointer_bytes))]
     pub(crate) fn write(&self, page: &mut Page)

@@ -170,9 +170,29 @@ pub(crate) fn some_filled(none: bool) -> Result<(), Shape>
     Ok(())
 }
 
-/// Whether all of the bytes are zero.
-#[tactic(auto, using(crate::proofs::Runs::all_zero_drop), unfolding(crate::specs::Fields::all_zero))]
+/// Whether all of the bytes are zero. Words of zeros are passed over first.
+#[tactic(auto, unfolding(crate::specs::Fields::all_zero))]
 fn all_zero(bytes: &[u8]) -> Result<(), Shape>
+    ensures { result ≡ all_zero bytes.now }
+{
+    each_zero(tail(bytes, zero_words(bytes)))
+}
+
+/// How many bytes the words of zeros have with which the bytes begin.
+fn zero_words(bytes: &[u8]) -> usize
+    ensures within { result ≤ length bytes.now }
+    ensures rest { all_zero bytes.now ≡ all_zero (drop result bytes.now) }
+{
+    let mut at = 0;
+    while bytes.len() - at >= 8 && word_at(bytes, at) == 0 {
+        at += 8;
+    }
+    at
+}
+
+/// Whether all of the bytes are zero, one after the other.
+#[tactic(auto, using(crate::proofs::Runs::all_zero_drop), unfolding(crate::specs::Fields::all_zero))]
+fn each_zero(bytes: &[u8]) -> Result<(), Shape>
     ensures { result ≡ all_zero bytes.now }
 {
     for byte in bytes {

@@ -16,3 +16,4 @@ pub mod Cuts
 pub mod Readied
 pub mod Alike
 pub mod Lost
+pub mod Single

@@ -1,16 +1,16 @@
 -- A file whose inode block is in memory with the nodes over it.
 use Rattle.std.proofs.Common.{◌≡◌, ◌≢◌, ℕ, ◌/◌, ◌%◌, Bool, true, false, cond, nat_eq, List, length, get_or, replicate, refl, sym, ap, subst, ◌∙◌, ◌≤◌, arith, ⊎_elim}
-use Rattle.std.specs.Prelude.{Some, None, Result, Ok, Err, IfErr, OnErr, is_some, not, slice_set, ◌==◌, if◌then◌else◌}
+use Rattle.std.specs.Prelude.{Some, None, Result, Ok, Err, IfErr, OnErr, is_some, not, ◌==◌, if◌then◌else◌}
 use Rattle.std.specs.Option.{option_map}
 use Rattle.std.proofs.lemmas.Bool.{both_ways}
 use Rattle.std.proofs.lemmas.Bool.Decides.{nat_tests}
-use Rattle.std.proofs.lemmas.List.{get_or-replicate, get_or_default}
+use Rattle.std.proofs.lemmas.List.{get_or-replicate}
 use Rattle.fv_disk.specs.declared.fault.BlockFault.{BlockFault}
 use Rattle.fv_codec.specs.declared.inode.InodeRecord.{InodeRecord}
 use Rattle.fv_codec.specs.declared.inode.InodeBlock.{InodeBlock}
 use Rattle.fv_codec.specs.declared.shape.Shape.{Shape}
 use Rattle.fv_codec.specs.Fields.{up_to}
-use Rattle.fv_codec.specs.Blocks.{all_free, inodes_at, is_used, most_cells, IsInodeRecord, IsPointerIf}
+use Rattle.fv_codec.specs.Blocks.{inodes_at, is_used, most_cells, IsInodeRecord, IsPointerIf}
 use Rattle.fv_tables.specs.Spelled.{Under, Rooted, pointer_at, stamp_in, block_at}
 use Rattle.fv_tables.specs.Told.{records_each, records_of, records_in, free_record, used_record, file_at}
 use Rattle.fv_tree.specs.declared.kept.Tree.{Tree}
@@ -22,7 +22,7 @@ use Rattle.fv_inode.specs.declared.info.Info.{Info}
 use Rattle.fv_inode.specs.Files.{AreRecords, IsInfo, blank_record, with_info}
 use Rattle.fv_inode.specs.Changing.{Rewrites}
 use Rattle.fv_inode.specs.Readying.{HoldsFile, IsReadyFile}
-use Rattle.fv_inode.proofs.Slots.{KeepsName, own_record, used_name, changed_is, put_used, still_some, file_is, block_there, cell_there}
+use Rattle.fv_inode.proofs.Slots.{still_some, file_is, block_there, cell_there}
 use Rattle.fv_inode.proofs.Taken.{true_or_false}
 
 -- no blocks at all
@@ -56,7 +56,7 @@ in_use r = so (r.name_length == 0)
 no_files : (b : Result InodeBlock Shape) (shape : Shape) (k : ℕ) → b ≡ Err shape → used_record (get_or (records_of b) k free_record) ≡ None
 no_files b shape k is = ap (λ (r : Result InodeBlock Shape). used_record (get_or (records_of r) k free_record)) is
 
-no_spelled : (block : List ℕ) (shape : Shape) (k : ℕ) → inodes_at block ≡ Err shape → used_record (get_or (records_in (Some block)) k free_record) ≡ None
+pub no_spelled : (block : List ℕ) (shape : Shape) (k : ℕ) → inodes_at block ≡ Err shape → used_record (get_or (records_in (Some block)) k free_record) ≡ None
 unfolding records_in
 no_spelled block shape k is = no_files (inodes_at block) shape k is
 
@@ -75,11 +75,6 @@ none_without t n none = ⊎_elim
 
 -- ---- a rewrite
 
--- the record of a file that is ready is in use
-pub held_used : (t : Tree) (n : ℕ) (fs : List InodeRecord) (d : InodeRecord) → length fs ≡ 16 → HoldsFile t n → AreRecords (standing nothing_held t) (n / 16) fs → (get_or fs (n % 16) d).name_length ≢ 0
-held_used t n fs d long holds are = used_name (get_or fs (n % 16) d)
-    (ap is_some (ap used_record (get_or_default fs (n % 16) d free_record (omega (arith, long))) ∙ own_record (standing nothing_held t) n fs are ∙ held_record nothing_held t n holds.way) ∙ holds.used)
-
 -- a record in use with other numbers is in range
 pub info_fits : (info : Info) (r : InodeRecord) → IsInfo info → IsInodeRecord r → r.name_length ≢ 0 → IsInodeRecord (with_info info r)
 info_fits info r fits was some =
@@ -94,14 +89,7 @@ info_fits info r fits was some =
       root = subst (λ b. IsPointerIf b info.root) (sym used) fits.root;
     }
 
--- the records with one that says other numbers are written, as one is in use
-pub still_written : (t : Tree) (n : ℕ) (fs : List InodeRecord) (f : InodeRecord → InodeRecord) → KeepsName f → (r d : InodeRecord) → length fs ≡ 16 → HoldsFile t n → AreRecords (standing nothing_held t) (n / 16) fs → r ≡ f (get_or fs (n % 16) d)
-    → all_free (slice_set fs (n % 16) r) ≡ false
-still_written t n fs f keeps r d long holds are is =
-    put_used fs (n % 16) r (omega (arith, long))
-    (ap is_some (changed_is (standing nothing_held t) n fs f keeps r d long are is) ∙ still_some f (file_at (standing nothing_held t) n) ∙ ap is_some (held_record nothing_held t n holds.way) ∙ holds.used)
-
--- and the file is still ready
+-- a file that was ready is still ready
 pub still_holds : (t u : Tree) (n s : ℕ) (f : InodeRecord → InodeRecord) → HoldsFile t n → IsReady u (n / records_each)
     → Rewrites (standing nothing_held t) (standing nothing_held u) n s (option_map f (file_at (standing nothing_held t) n)) → HoldsFile u n
 still_holds t u n s f holds ready rewrites =

@@ -1,12 +1,13 @@
 -- The records of an inode block by the numbers of their files.
 use Rattle.std.proofs.Common.{◌≡◌, ◌≢◌, ℕ, ◌+◌, ◌-◌, ◌*◌, ◌/◌, ◌%◌, ◌^◌, ◌<◌, ◌≤◌, Bool, true, false, List, [], ◌∷◌, length, get_or, replicate, refl, sym, ap, ◌∙◌, arith, ⊎_elim, zero, suc}
-use Rattle.std.specs.Prelude.{Option, Some, None, Ok, is_some, ◌==◌, ◌&&◌, slice_set, if◌then◌else◌}
+use Rattle.std.specs.Prelude.{Option, Some, None, Result, Ok, Err, IfOk, is_ok, is_some, ◌==◌, ◌&&◌, slice_set, if◌then◌else◌}
 use Rattle.std.specs.Option.{option_map}
 use Rattle.std.proofs.Math.Nat.{div-add-mod}
 use Rattle.std.proofs.lemmas.Nat.{le-div, pow-add}
 use Rattle.std.proofs.lemmas.Bool.{cases_lt, both_ways}
 use Rattle.std.proofs.lemmas.Bool.Decides.{nat_tests}
 use Rattle.std.proofs.lemmas.List.{get_or-set_same, get_or-replicate, get_or_default, length-set}
+use Rattle.fv_codec.specs.declared.shape.Shape.{Shape}
 use Rattle.fv_codec.specs.declared.inode.InodeRecord.{InodeRecord}
 use Rattle.fv_codec.specs.declared.inode.InodeBlock.{InodeBlock}
 use Rattle.fv_codec.specs.Blocks.{all_free, inodes_at, IsInodeRecord}
@@ -44,13 +45,32 @@ pub inodes_of : (block : List ℕ) (b : InodeBlock) → inodes_at block ≡ Ok b
 unfolding records_in
 inodes_of block b is = ap records_of is
 
--- the records of a block that stands at a cell
-pub records_are : (t : Rooted) (cell : ℕ) (o : Option (List ℕ)) (files : List InodeRecord) → block_at t cell ≡ o → records_in o ≡ files → AreRecords t cell files
-records_are t cell o files at is k lt = sym (file_is t cell k lt ∙ ap (λ b. used_record (get_or (records_in b) k free_record)) at ∙ ap (λ (rs : List InodeRecord). used_record (get_or rs k free_record)) is)
-
 no_record : (k : ℕ) → used_record (get_or (records_in None) k free_record) ≡ None
 unfolding records_in
 no_record k = refl
+
+-- one of its records, which was read alone
+pub own_file : (block : List ℕ) (slot : ℕ) (r : InodeRecord) → true ≡ is_ok (inodes_at block) → ((d : InodeRecord) → IfOk (inodes_at block) (λ b. get_or b.files slot d ≡ r)) → get_or (records_in (Some block)) slot free_record ≡ r
+unfolding records_in
+own_file block slot r ok is = by (inodes_at block) ok (is free_record)
+  where
+    by : (o : Result InodeBlock Shape) → true ≡ is_ok o → IfOk o (λ b. get_or b.files slot free_record ≡ r) → get_or (records_of o) slot free_record ≡ r
+    by (Ok b) ok is = is
+    by (Err shape) ok is = absurd cc
+
+-- the record of a number by that of its block
+pub own_used : (t : Rooted) (n : ℕ) (o : Option (List ℕ)) (r : InodeRecord) → block_at t (n / 16) ≡ o → get_or (records_in o) (n % 16) free_record ≡ r → used_record r ≡ file_at t n
+unfolding file_at
+own_used t n o r at is = sym (ap (λ b. used_record (get_or (records_in b) (n % records_each) free_record)) at ∙ ap used_record is)
+
+-- a number without a block has no file
+pub own_none : (t : Rooted) (n : ℕ) (r : InodeRecord) → block_at t (n / 16) ≡ None → r ≡ blank_record → used_record r ≡ file_at t n
+unfolding file_at
+own_none t n r none is = ap used_record is ∙ sym (ap (λ b. used_record (get_or (records_in b) (n % records_each) free_record)) none ∙ no_record (n % records_each))
+
+-- the records of a block that stands at a cell
+pub records_are : (t : Rooted) (cell : ℕ) (o : Option (List ℕ)) (files : List InodeRecord) → block_at t cell ≡ o → records_in o ≡ files → AreRecords t cell files
+records_are t cell o files at is k lt = sym (file_is t cell k lt ∙ ap (λ b. used_record (get_or (records_in b) k free_record)) at ∙ ap (λ (rs : List InodeRecord). used_record (get_or rs k free_record)) is)
 
 -- a cell that isn't there has free records
 pub none_are : (t : Rooted) (cell : ℕ) (files : List InodeRecord) → block_at t cell ≡ None → files ≡ replicate 16 blank_record → AreRecords t cell files

@@ -15,8 +15,8 @@ ghost use Rattle.fv_inode.specs.Changing.{Rewrites};
 
 use crate::file::InodeFile;
 use crate::info::{Info, InodeFault};
-use crate::records::{EACH, held_files, rewrite_files};
-use fv_codec::InodeRecord;
+use crate::records::EACH;
+use fv_codec::{InodeBlock, InodeRecord};
 use fv_tree::Blocks;
 
 impl InodeFile {
@@ -64,10 +64,12 @@ impl InodeFile {
         ensures rises { Rises self.old.tree self.new.tree 4 0 }
     {
         let cell = info.number / EACH;
-        let slot = (info.number % EACH) as usize;
-        let mut files = held_files(&self.tree, cell);
-        files[slot] = with_info(&files[slot], info);
-        rewrite_files(&mut self.tree, cell, &files, stamp);
+        let slot = info.number % EACH;
+        let mut block = [0; 4096];
+        self.tree.content(cell, &mut block);
+        let file = with_info(&InodeBlock::record(&block, slot), info);
+        InodeBlock::renew(&mut block, u64::from(cell), slot, &file);
+        self.tree.rewrite(cell, &block, stamp);
     }
 }
 

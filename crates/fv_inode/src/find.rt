@@ -14,7 +14,7 @@ ghost use Rattle.fv_inode.specs.Failing.{Looks};
 
 use crate::file::InodeFile;
 use crate::info::{Info, InodeFault};
-use crate::records::{EACH, cells, is_named, read_files};
+use crate::records::{EACH, cells, is_named, read_file, read_files};
 use fv_codec::InodeRecord;
 use fv_model::Name;
 use fv_tree::{Blocks, Tree};
@@ -57,8 +57,8 @@ impl InodeFile {
         ensures looks { Looks B.told (rooted (B.shown blocks.old) self.now) (B.shown blocks.old) (B.shown blocks.new) result }
         ensures reads { B.reads blocks.old blocks.new }
     {
-        let files = read_files(&self.tree, blocks, number / EACH)?;
-        Ok(info_in(number, &files[(number % EACH) as usize]))
+        let file = read_file(&self.tree, blocks, number)?;
+        Ok(info_in(number, &file))
     }
 }
 

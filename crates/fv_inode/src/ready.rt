@@ -15,14 +15,15 @@ ghost use Rattle.fv_inode.specs.Readying.{HoldsFile, IsReadyFile};
 
 use crate::file::InodeFile;
 use crate::info::InodeFault;
-use crate::records::{EACH, held_files, read_files};
+use crate::records::{EACH, read_files};
+use fv_codec::{Form, InodeBlock, has_form};
 use fv_tree::{Blocks, Tree};
 
 impl InodeFile {
     /// Brings the inode block of a file and the nodes over it into memory, so that a `rewrite` or an `erase` of the file
-    /// can't fail; false exactly where no file has the number. The inode file stays as it is, after a fault, too. It loads
-    /// what `Tree::ready` loads, and once more to read the record. They stay in memory unchanged: for them alone a `flush`
-    /// places nothing.
+    /// can't fail; false exactly where no file has the number. The inode file stays as it is, after a fault, too. Where they
+    /// are in memory it loads nothing; else it loads what `Tree::ready` loads, and once more to read the record. They stay in
+    /// memory unchanged: for them alone a `flush` places nothing.
     ///
     /// # Errors
     ///
@@ -54,6 +55,9 @@ fn ready_file<B: Blocks>(tree: &mut Tree, blocks: &mut B, number: u32) -> Result
     ensures rises { Rises tree.old tree.new 0 1 }
     ensures reads { B.reads blocks.old blocks.new }
 {
+    if holds_file(tree, number) {
+        return Ok(true);
+    }
     let files = read_files(tree, blocks, number / EACH)?;
     if files[(number % EACH) as usize].name_length == 0 {
         return Ok(false);
@@ -79,11 +83,25 @@ fn hold<B: Blocks>(tree: &mut Tree, blocks: &mut B, number: u32) -> Result<bool,
     Ok(has_record(tree, number))
 }
 
+/// Whether the inode block of a file and the nodes over it are in memory, and a file has the number.
+fn holds_file(tree: &Tree, number: u32) -> bool
+    ensures { result ≡ true → HoldsFile tree.now number }
+{
+    if !tree.is_ready(number / EACH) {
+        return false;
+    }
+    has_record(tree, number)
+}
+
 /// Whether a file has a number, whose inode block is in memory.
 fn has_record(tree: &Tree, number: u32) -> bool
     requires ready { IsReady tree.now (number / records_each) }
     ensures { (blocks : Under) → is_some (file_at (standing blocks tree.now) number) ≡ result }
 {
-    let files = held_files(tree, number / EACH);
-    files[(number % EACH) as usize].name_length != 0
+    let mut block = [0; 4096];
+    tree.content(number / EACH, &mut block);
+    if !has_form(&block, Form::Inodes) {
+        return false;
+    }
+    InodeBlock::record(&block, number % EACH).name_length != 0
 }

@@ -1,13 +1,15 @@
 //! The records of one inode block.
 
-ghost use Rattle.std.specs.Prelude.{◌≡◌, ◌≤◌, ◌<◌, ◌^◌, ◌+◌, ◌/◌, ℕ, Option, Some, true, false, IfOk, IfErr, OnOk, OnErr, Ok, Err, length, replicate};
+ghost use Rattle.std.specs.Prelude.{◌≡◌, ◌≤◌, ◌<◌, ◌^◌, ◌+◌, ◌/◌, ℕ, Option, Some, true, false, IfOk, IfErr, OnOk, OnErr, Ok, Err, get_or, length, replicate};
 ghost use Rattle.std.specs.List.{All};
 ghost use Rattle.fv_codec.specs.declared.shape.Shape.{Shape};
 ghost use Rattle.fv_disk.specs.declared.fault.BlockFault.TheVariants.{Damaged};
 ghost use Rattle.fv_codec.specs.Blocks.{all_free, inodes_at, IsInodeRecord};
+ghost use Rattle.fv_codec.specs.Forms.{has_form};
+ghost use Rattle.fv_codec.specs.declared.form.Form.TheVariants.{Inodes};
 ghost use Rattle.fv_model.specs.Spelling.{is_same_name};
 ghost use Rattle.fv_model.specs.Trees.{fan};
-ghost use Rattle.fv_tables.specs.Told.{records_each, used_record, records_in};
+ghost use Rattle.fv_tables.specs.Told.{records_each, file_at, free_record, used_record, records_in};
 ghost use Rattle.fv_tables.specs.Spelled.{Under};
 ghost use Rattle.fv_tree.specs.Standing.{standing, under};
 ghost use Rattle.fv_tree.specs.Readying.{IsReady};
@@ -20,7 +22,7 @@ ghost use Rattle.fv_inode.specs.Changing.{WritesFiles};
 ghost use Rattle.fv_inode.specs.Readying.{HoldsFile};
 
 use crate::info::InodeFault;
-use fv_codec::{InodeBlock, InodeRecord, Pointer, Shape};
+use fv_codec::{Form, InodeBlock, InodeRecord, Pointer, Shape};
 use fv_model::Name;
 use fv_tree::{Blocks, Tree};
 use std::cmp::Ordering;
@@ -98,6 +100,57 @@ pub fn read_files<B: Blocks>(
     }
 }
 
+/// The record of a number; a free one where no file has it. It loads what `read_files` does, and of a block that spells
+/// an inode block it reads that record alone.
+///
+/// # Errors
+///
+/// As `read_files`.
+pub fn read_file<B: Blocks>(
+    tree: &Tree,
+    blocks: &mut B,
+    number: u32,
+) -> Result<InodeRecord, InodeFault>
+    ensures file { B.told → IfOk result (λ file. used_record file ≡ file_at (standing (under (B.shown blocks.old)) tree.now) number) }
+    ensures range { IfOk result IsInodeRecord }
+    ensures spent { B.told → OnOk result ((B.shown blocks.new).spent ≡ (B.shown blocks.old).spent + way_cost (B.shown blocks.old).cost (standing (under (B.shown blocks.old)) tree.now) (number / records_each)) }
+    ensures held { B.told → HoldsFile tree.now number → OnErr result ⊥ }
+    ensures looks { Looks B.told (standing (under (B.shown blocks.old)) tree.now) (B.shown blocks.old) (B.shown blocks.new) result }
+    ensures reads { B.reads blocks.old blocks.new }
+{
+    let cell = number / EACH;
+    if cell >= cells(tree) {
+        return Ok(free_record());
+    }
+    let mut block = [0; 4096];
+    let mut is_inodes = false;
+    match tree.read_as(blocks, cell, Form::Inodes, &mut block, &mut is_inodes)? {
+        None => Ok(free_record()),
+        Some(at) => file_of(at, is_inodes, &block, number % EACH),
+    }
+}
+
+/// One record of the inode block that a block spells, which was read at a place.
+#[tactic(auto, using(crate::proofs::Slots::own_file))]
+fn file_of(
+    at: u32,
+    is_inodes: bool,
+    block: &[u8; 4096],
+    slot: u32,
+) -> Result<InodeRecord, InodeFault>
+    requires slot { slot < records_each }
+    requires form { is_inodes ≡ has_form Inodes block.now }
+    ensures file { IfOk result (λ file. get_or (records_in (Some block.now)) slot free_record ≡ file) }
+    ensures range { IfOk result IsInodeRecord }
+    ensures damage { IfErr result (λ e. (shape : Shape) × (inodes_at block.now ≡ Err shape) × (e ≡ Damaged at shape.want shape.found)) }
+{
+    if is_inodes {
+        return Ok(InodeBlock::record(block, slot));
+    }
+    let files = files_of(at, block)?;
+    Ok(files[slot as usize])
+}
+
 /// The records of the inode block that a block spells, which was read at a place.
 fn files_of(at: u32, block: &[u8; 4096]) -> Result<[InodeRecord; 16], InodeFault>
     ensures files { IfOk result (λ files. records_in (Some block.now) ≡ files) }
@@ -167,7 +220,8 @@ pub fn write_files<B: Blocks>(
     ensures rises { Rises tree.old tree.new 6 1 }
     ensures reads { B.reads blocks.old blocks.new }
 {
-    let block = spelled(cell, files);
+    let mut block = [0; 4096];
+    spell(cell, files, &mut block);
     tree.put(blocks, cell, &block, stamp)
 }
 
@@ -183,23 +237,22 @@ pub fn rewrite_files(tree: &mut Tree, cell: u32, files: &[InodeRecord; 16], stam
     ensures marked { changed_of tree.new 0 cell ≡ true }
     ensures rises { Rises tree.old tree.new 4 0 }
 {
-    let block = spelled(cell, files);
+    let mut block = [0; 4096];
+    spell(cell, files, &mut block);
     tree.rewrite(cell, &block, stamp);
 }
 
-/// The inode block of an index with these records.
-pub fn spelled(cell: u32, files: &[InodeRecord; 16]) -> [u8; 4096]
+/// Spells the inode block of an index with these records.
+pub fn spell(cell: u32, files: &[InodeRecord; 16], into: &mut [u8; 4096])
     requires range { All IsInodeRecord files.now }
     requires some { all_free files.now ≡ false }
-    ensures { inodes_at result ≡ Ok (record { index = cell; files = files.now }) }
+    ensures { inodes_at into.new ≡ Ok (record { index = cell; files = files.now }) }
 {
-    let mut block = [0; 4096];
     let inodes = InodeBlock {
         index: u64::from(cell),
         files: *files,
     };
-    inodes.encode(&mut block);
-    block
+    inodes.encode(into);
 }
 
 /// Whether a record isn't free and has this name.

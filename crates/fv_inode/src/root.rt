@@ -18,7 +18,7 @@ ghost use Rattle.fv_inode.specs.Changing.{FillsFiles, SetsRoot};
 
 use crate::file::InodeFile;
 use crate::info::InodeFault;
-use crate::records::{EACH, read_files, spelled};
+use crate::records::{EACH, read_files, spell};
 use fv_codec::{InodeRecord, Pointer};
 use fv_tree::{Blocks, Tree};
 
@@ -92,7 +92,8 @@ fn refill_files<B: Blocks>(
     ensures still { OnErr result (pending tree.new ≤ pending tree.old) }
     ensures reads { B.reads blocks.old blocks.new }
 {
-    let block = spelled(cell, files);
+    let mut block = [0; 4096];
+    spell(cell, files, &mut block);
     tree.refill(blocks, cell, &block)?;
     Ok(())
 }

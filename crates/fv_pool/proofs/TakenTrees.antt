@@ -37,7 +37,7 @@ module _ (blocks : Under) (f : Files) (levels : ℕ) (root : Pointer) (is : stan
   no_node level place = none_of (λ kept. kept.children) (maps.get spot_cmp f.inode.tree.nodes (level, place)) (ap (λ (t : Tree). t.nodes level place) inode)
 
   no_cell : (index : ℕ) → maps.get nat_cmp f.inode.tree.cells index ≡ None
-  no_cell index = none_of (λ kept. kept.block) (maps.get nat_cmp f.inode.tree.cells index) (ap (λ (t : Tree). t.cells index) inode)
+  no_cell index = none_of (λ kept. kept.block.value) (maps.get nat_cmp f.inode.tree.cells index) (ap (λ (t : Tree). t.cells index) inode)
 
   -- what is said of a cell and of a node that isn't there is said of each
   absent : (on_cell : Option KeptCell → Bool) (on_node : Option KeptNode → Bool) (b : Bool) → on_cell None ≡ b → on_node None ≡ b → (level place : ℕ)

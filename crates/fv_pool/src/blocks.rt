@@ -4,6 +4,7 @@ ghost use Rattle.std.specs.Prelude.{◌≡◌, ◌<◌, ◌≤◌, ◌+◌, None
 ghost use Rattle.fv_aggmap.specs.Space.{blocks_of, free_blocks};
 ghost use Rattle.fv_bits.specs.Members.{is_member};
 ghost use Rattle.fv_codec.specs.Blocks.{last_place};
+ghost use Rattle.fv_codec.specs.Forms.{has_form};
 ghost use Rattle.fv_container.specs.Chains.{IsSlots, container_at, own_entry, slot_count};
 ghost use Rattle.fv_container.specs.Mapped.{IsEntry, IsHeld};
 ghost use Rattle.fv_disk.specs.DiskCalls.{OnlyReads};
@@ -20,7 +21,7 @@ use crate::known::known_maps;
 use crate::pool::Pool;
 use fv_aggmap::AggMap;
 use fv_bits::BitMap;
-use fv_codec::Pointer;
+use fv_codec::{Form, Pointer};
 use fv_container::{Containers, Entry, Steps};
 use fv_disk::{Block, BlockFault, Disk};
 use fv_root::root_place;
@@ -82,6 +83,49 @@ pub fn read_pointed<D: Disk, L: Ledger>(
         });
     };
     pool.read(disk, entry.pvbn, into)?;
+    Ok(entry.pvbn)
+}
+
+/// As `read_pointed`, and tells whether the block has a form: whether it spells a node, or an inode block. At `Err` also
+/// `has` is open.
+///
+/// # Errors
+///
+/// As `read_pointed`.
+pub fn read_pointed_as<D: Disk, L: Ledger>(
+    pool: &mut Pool,
+    disk: &mut D,
+    map: &VolMap,
+    steps: &mut Steps<L>,
+    home: &Home,
+    pointer: &Pointer,
+    form: Form,
+    into: &mut Block,
+    has: &mut bool,
+) -> Result<u32, BlockFault>
+    requires slot { home.now.slot < slot_count }
+    requires stands { StandsOn (D.shown disk.old) pool.old.store.pairs }
+    ensures form { OnOk result (has.new ≡ has_form form into.new) }
+    ensures block { IsTrue (D.shown disk.old).tells
+        → OnOk result (block_of pool.old.kept (D.shown disk.old).reads (held_entry map.now pool.old.containers home.now.slot pointer.now.vvbn) ≡ Some into.new) }
+    ensures place { IfOk result (λ pvbn. place_of (held_entry map.now pool.old.containers home.now.slot pointer.now.vvbn) ≡ Some pvbn) }
+    ensures range { IfOk result (λ pvbn. pvbn ≤ last_place) }
+    ensures step { OnOk result (steps.new ≡ steps.old + steps_by (held_entry map.now pool.old.containers home.now.slot pointer.now.vvbn) pointer.now.pvbn) }
+    ensures later { steps.old ≤ steps.new }
+    ensures loose { IfErr result (IsLooseFault (held_entry map.now pool.old.containers home.now.slot pointer.now.vvbn) home.now.label) }
+    ensures leaves { LeavesPool pool.old pool.new }
+    ensures stands { StandsOn (D.shown disk.new) pool.new.store.pairs }
+    ensures only_reads { OnlyReads (D.shown disk.old) (D.shown disk.new) }
+    ensures cause { HasBlockCause (D.shown disk.old).faults (D.shown disk.new).faults result }
+{
+    let Some(entry) = find_entry(pool, disk, map, steps, home.slot, pointer)? else {
+        return Err(BlockFault::Damaged {
+            at: u64::from(home.label),
+            want: 1,
+            found: 0,
+        });
+    };
+    pool.read_as(disk, entry.pvbn, form, into, has)?;
     Ok(entry.pvbn)
 }
 

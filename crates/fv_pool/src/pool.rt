@@ -2,6 +2,7 @@
 
 ghost use Rattle.std.specs.Prelude.{◌≡◌, IsTrue, OnOk, OnErr, ℕ, IfSome};
 ghost use Rattle.std.specs.FinMap as fin;
+ghost use Rattle.fv_codec.specs.Forms.{has_form};
 ghost use Rattle.fv_disk.specs.DiskCalls.{OnlyReads};
 ghost use Rattle.fv_disk.specs.Shown.{HasCause};
 ghost use Rattle.fv_store.specs.Held.{StandsOn};
@@ -15,6 +16,7 @@ ghost use Rattle.fv_pool.specs.Opening.{OpensPool};
 use crate::fault::VolumeFault;
 use crate::kept::Kept;
 use fv_aggmap::AggMap;
+use fv_codec::{Form, has_form};
 use fv_container::Containers;
 use fv_disk::{Block, BlockFault, Disk, Failed};
 use fv_root::Found;
@@ -90,6 +92,33 @@ impl Pool {
             return Ok(());
         }
         self.store.get(disk, pvbn, into)
+    }
+
+    /// As `read`, and tells whether the block has a form: whether it spells a node, or an inode block. A block that the
+    /// cache holds is judged once, and a kept one at each call. At `Err` also `has` is open.
+    pub fn read_as<D: Disk>(
+        &mut self,
+        disk: &mut D,
+        pvbn: u32,
+        form: Form,
+        into: &mut Block,
+        has: &mut bool,
+    ) -> Result<(), Failed>
+        requires stands { StandsOn (D.shown disk.old) self.old.store.pairs }
+        ensures form { OnOk result (has.new ≡ has_form form into.new) }
+        ensures block { IsTrue (D.shown disk.old).tells → OnOk result (into.new ≡ seen self.old.kept (D.shown disk.old).reads pvbn) }
+        ensures untouched { IfSome (fin.get self.old.kept pvbn) (λ block. into.new ≡ block) }
+        ensures leaves { LeavesPool self.old self.new }
+        ensures stands { StandsOn (D.shown disk.new) self.new.store.pairs }
+        ensures only_reads { OnlyReads (D.shown disk.old) (D.shown disk.new) }
+        ensures cause { HasCause (D.shown disk.old).faults (D.shown disk.new).faults result }
+    {
+        if let Some(block) = self.kept.get(pvbn) {
+            *into = *block;
+            *has = has_form(into, form);
+            return Ok(());
+        }
+        self.store.get_as(disk, pvbn, form, into, has)
     }
 
     /// Keeps a block under a PVBN, in place of one kept there before. The one error is want of memory;

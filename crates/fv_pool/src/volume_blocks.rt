@@ -9,10 +9,10 @@ ghost use Rattle.fv_store.specs.Held.{StandsOn};
 ghost use Rattle.fv_pool.specs.BlocksOver.{AreApart, entries_in, free_numbers};
 ghost use Rattle.fv_pool.specs.Lending.{GoesOver, ReadsOver, WasLack, lent_by, shown_over};
 
-use crate::blocks::{Home, drop_number, place_block, read_pointed};
+use crate::blocks::{Home, drop_number, place_block, read_pointed, read_pointed_as};
 use crate::noted::{Noted, note};
 use crate::pool::Pool;
-use fv_codec::Pointer;
+use fv_codec::{Form, Pointer};
 use fv_container::Steps;
 use fv_disk::Disk;
 use fv_tree::{Blocks, Placed, Sharing, TreeFault};
@@ -128,6 +128,21 @@ impl<'p, 'd, 'v, 's, K: Guard, D: Disk, L: Ledger> Blocks
     fn load(&mut self, pointer: &Pointer, into: &mut [u8; 4096]) -> Result<u32, TreeFault> {
         match read_pointed(
             self.pool, self.disk, self.map, self.steps, &self.home, pointer, into,
+        ) {
+            Ok(pvbn) => Ok(pvbn),
+            Err(fault) => Err(note(&mut self.noted, fault)),
+        }
+    }
+
+    fn load_as(
+        &mut self,
+        pointer: &Pointer,
+        form: Form,
+        into: &mut [u8; 4096],
+        has: &mut bool,
+    ) -> Result<u32, TreeFault> {
+        match read_pointed_as(
+            self.pool, self.disk, self.map, self.steps, &self.home, pointer, form, into, has,
         ) {
             Ok(pvbn) => Ok(pvbn),
             Err(fault) => Err(note(&mut self.noted, fault)),

@@ -9,11 +9,11 @@ ghost use Rattle.fv_pool.specs.BlocksOver.{AreApart, entries_in};
 ghost use Rattle.fv_pool.specs.Dropping.{DropsOver};
 ghost use Rattle.fv_pool.specs.Lending.{ReadsOver, WasLack, lent_by, shown_over};
 
-use crate::blocks::{Home, drop_number, read_pointed};
+use crate::blocks::{Home, drop_number, read_pointed, read_pointed_as};
 use crate::noted::{Noted, note};
 use crate::pool::Pool;
 use crate::volume_blocks::Guard;
-use fv_codec::Pointer;
+use fv_codec::{Form, Pointer};
 use fv_container::Steps;
 use fv_disk::Disk;
 use fv_tree::{Blocks, Placed, Sharing, TreeFault};
@@ -90,6 +90,21 @@ impl<'p, 'd, 'v, 's, K: Guard, D: Disk, L: Ledger> Blocks for VolumeDrops<'p, 'd
     fn load(&mut self, pointer: &Pointer, into: &mut [u8; 4096]) -> Result<u32, TreeFault> {
         match read_pointed(
             self.pool, self.disk, self.map, self.steps, &self.home, pointer, into,
+        ) {
+            Ok(pvbn) => Ok(pvbn),
+            Err(fault) => Err(note(&mut self.noted, fault)),
+        }
+    }
+
+    fn load_as(
+        &mut self,
+        pointer: &Pointer,
+        form: Form,
+        into: &mut [u8; 4096],
+        has: &mut bool,
+    ) -> Result<u32, TreeFault> {
+        match read_pointed_as(
+            self.pool, self.disk, self.map, self.steps, &self.home, pointer, form, into, has,
         ) {
             Ok(pvbn) => Ok(pvbn),
             Err(fault) => Err(note(&mut self.noted, fault)),

@@ -14,7 +14,7 @@ use crate::blocks::{Home, drop_number, place_block};
 use crate::noted::{Noted, note};
 use crate::pool::Pool;
 use crate::volume_blocks::Guard;
-use fv_codec::Pointer;
+use fv_codec::{Form, Pointer};
 use fv_disk::Disk;
 use fv_tree::{Blocks, Placed, TreeFault};
 use fv_volmap::VolMap;
@@ -93,6 +93,16 @@ impl<'p, 'd, 'v, K: Guard, D: Disk> Blocks for VolumePlaces<'p, 'd, 'v, K, D> {
     ghost keeps_on = { λ v a b c first second. second ∙ first };
 
     fn load(&mut self, _pointer: &Pointer, _into: &mut [u8; 4096]) -> Result<u32, TreeFault> {
+        Err(TreeFault::Memory)
+    }
+
+    fn load_as(
+        &mut self,
+        _pointer: &Pointer,
+        _form: Form,
+        _into: &mut [u8; 4096],
+        _has: &mut bool,
+    ) -> Result<u32, TreeFault> {
         Err(TreeFault::Memory)
     }
 

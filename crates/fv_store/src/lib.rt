@@ -4,6 +4,7 @@
 //! used first. `specs/Held.antt` says what each call makes of the list. A read is the disk's, held or not.
 #![tactic(auto)]
 
+mod judged;
 mod store;
 
 pub use store::Store;

@@ -1,11 +1,14 @@
 //! The store itself.
 
-ghost use Rattle.std.specs.Prelude.{◌≡◌, ◌≤◌, [], cond, Some, None, IfOk, IfSome, option_copied, option_map, nat_eq};
+ghost use Rattle.std.specs.Prelude.{◌≡◌, ◌≤◌, [], cond, Some, None, IfOk, IfSome, OnOk, option_copied, option_map, nat_eq};
+ghost use Rattle.fv_codec.specs.Forms.{has_form};
 ghost use Rattle.fv_disk.specs.DiskCalls.{Reads, Writes};
 ghost use Rattle.fv_store.specs.Held.{Held, held, IsStore, StandsOn, Gets, Puts, block_at, to_front, without, Keeps, KeepsFrom, Renews};
 ghost use Rattle.fv_store.specs.Boxed.{held_in, unboxed};
 ghost use Rattle.std.specs.Map.{set_value};
 
+use crate::judged::Judged;
+use fv_codec::{Form, has_form};
 use fv_disk::{Block, Disk, Failed};
 use lru::LruCache;
 use std::alloc::{AllocError, Global};
@@ -14,7 +17,7 @@ use std::num::NonZeroUsize;
 
 /// The held blocks, each in a box of its own: a cache of blocks by value takes the optimizer three minutes
 /// in each program.
-type Cache = LruCache<u32, Box<Block>>;
+type Cache = LruCache<u32, Box<Judged>>;
 
 /// The blocks of a disk that were used last, at most as many as its capacity.
 ///
@@ -59,6 +62,27 @@ impl Store {
         ensures valid { IsStore self.new }
     {
         read_through(&mut self.cache, disk, pvbn, into)
+    }
+
+    /// As `get`, and tells whether the block has a form: whether it spells a node, or an inode block. A held block
+    /// that has the form is judged once, until it is renewed. After a failed read `has` is open. Costs one block.
+    pub fn get_as<D: Disk>(
+        &mut self,
+        disk: &mut D,
+        pvbn: u32,
+        form: Form,
+        into: &mut Block,
+        has: &mut bool,
+    ) -> Result<(), Failed>
+        requires stands { StandsOn (D.shown disk.old) self.old.pairs }
+        ensures form { OnOk result (has.new ≡ has_form form into.new) }
+        ensures reads { Reads (D.shown disk.old) pvbn (D.shown disk.new) into.new result }
+        ensures untouched { IfSome (block_at self.old.pairs pvbn) (λ _. disk.new ≡ disk.old) }
+        ensures list { Gets self.old pvbn self.new into.new result }
+        ensures stands { StandsOn (D.shown disk.new) self.new.pairs }
+        ensures valid { IsStore self.new }
+    {
+        judge_through(&mut self.cache, disk, pvbn, form, into, has)
     }
 
     /// Writes block `pvbn`. A held block is renewed, and after a failure it isn't held any more. It takes
@@ -107,6 +131,30 @@ fn read_through<D: Disk>(
     Ok(())
 }
 
+/// Reads a block, and tells whether it has a form.
+#[tactic(auto, using(crate::proofs::Judging::held_after))]
+fn judge_through<D: Disk>(
+    cache: &mut Cache,
+    disk: &mut D,
+    pvbn: u32,
+    form: Form,
+    into: &mut Block,
+    has: &mut bool,
+) -> Result<(), Failed>
+    requires valid { IsStore (held_in cache.old) }
+    requires stands { StandsOn (D.shown disk.old) (unboxed cache.old.entries) }
+    ensures form { OnOk result (has.new ≡ has_form form into.new) }
+    ensures reads { Reads (D.shown disk.old) pvbn (D.shown disk.new) into.new result }
+    ensures untouched { IfSome (block_at (unboxed cache.old.entries) pvbn) (λ _. disk.new ≡ disk.old) }
+    ensures list { Gets (held_in cache.old) pvbn (held_in cache.new) into.new result }
+    ensures stands { StandsOn (D.shown disk.new) (unboxed cache.new.entries) }
+    ensures valid { IsStore (held_in cache.new) }
+{
+    read_through(cache, disk, pvbn, into)?;
+    *has = judge(cache, pvbn, form, into);
+    Ok(())
+}
+
 /// Writes a block to the disk, and to the cache where it is held.
 #[tactic(auto, using(crate::proofs::Standing::stands_renewed, crate::proofs::Standing::stands_forgotten))]
 fn write_through<D: Disk>(
@@ -132,12 +180,12 @@ fn write_through<D: Disk>(
 }
 
 /// Copies a block, if there is one, and tells whether there is.
-fn copy_block(from: Option<&Box<Block>>, into: &mut Block) -> bool
+fn copy_block(from: Option<&Box<Judged>>, into: &mut Block) -> bool
     ensures { option_map (λ block. block.value) (option_copied from.entry) ≡ cond result (Some into.new) None }
 {
     match from {
         Some(block) => {
-            *into = **block;
+            block.copy(into);
             true
         }
         None => false,
@@ -168,7 +216,7 @@ fn keep(cache: &mut Cache, pvbn: u32, block: &Block)
     ensures capacity { cache.new.cap ≡ cache.old.cap }
     ensures valid { IsStore (held_in cache.new) }
 {
-    if let Ok(boxed) = Box::new(*cache.allocator(), *block) {
+    if let Ok(boxed) = Box::new(*cache.allocator(), Judged::new(block)) {
         let _ = cache.put(pvbn, boxed);
     }
 }
@@ -191,7 +239,20 @@ fn overwrite(cache: &mut Cache, pvbn: u32, block: &Block)
     ensures capacity { cache.new.cap ≡ cache.old.cap }
 {
     if let Some(held) = cache.peek_mut(&pvbn) {
-        **held = *block;
+        held.renew(block);
+    }
+}
+
+/// Whether a block has a form. Where it is held, that is judged once: the held block is marked.
+fn judge(cache: &mut Cache, pvbn: u32, form: Form, block: &Block) -> bool
+    requires held { IfSome (block_at (unboxed cache.old.entries) pvbn) (λ was. was ≡ block.now) }
+    ensures told { result ≡ has_form form block.now }
+    ensures list { unboxed cache.new.entries ≡ unboxed cache.old.entries }
+    ensures capacity { cache.new.cap ≡ cache.old.cap }
+{
+    match cache.peek_mut(&pvbn) {
+        Some(held) => held.judge(form),
+        None => has_form(block, form),
     }
 }
 

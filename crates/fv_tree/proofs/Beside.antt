@@ -37,7 +37,7 @@ unkept_node : (o : Option KeptNode) → option_map (λ (kept : KeptNode). kept.c
 unkept_node None e = refl
 unkept_node (Some kept) e = absurd cc
 
-unkept_cell : (o : Option KeptCell) → option_map (λ (kept : KeptCell). kept.block) o ≡ None → cell_placed o ≡ true
+unkept_cell : (o : Option KeptCell) → option_map (λ (kept : KeptCell). kept.block.value) o ≡ None → cell_placed o ≡ true
 unkept_cell None e = refl
 unkept_cell (Some kept) e = absurd cc
 

@@ -32,14 +32,14 @@ unfolding or_this
 some_same x y e = ap (or_this x) e
 
 -- all other nodes are in memory as they were
-pub but_one : (t u : Tree) (level place : ℕ) (node : KeptNode) (r : Result (List Pointer) BlockFault)
+pub but_one : (t u : Tree) (level place : ℕ) (node : KeptNode) (r : Result Unit BlockFault)
     → OnOk r ((k q : ℕ) → kept_at u k q ≡ cond (nat_eq k level && nat_eq q place) (Some node) (kept_at t k q))
     → OnErr r ((k q : ℕ) → kept_at u k q ≡ kept_at t k q)
     → (k q : ℕ) → (k ≢ level) ⊎ (q ≢ place) → kept_at u k q ≡ kept_at t k q
 but_one t u level place node (Ok xs) done failed k q other = done k q ∙ ap (λ b. cond b (Some node) (kept_at t k q)) (elsewhere k q level place other)
 but_one t u level place node (Err e) done failed k q other = failed k q
 
-pub brought : (blocks : Under) (t u : Tree) (level place : ℕ) (p : Pointer) (node : KeptNode) (r : Result (List Pointer) BlockFault)
+pub brought : (blocks : Under) (t u : Tree) (level place : ℕ) (p : Pointer) (node : KeptNode) (r : Result Unit BlockFault)
     → OnOk r ((k q : ℕ) → kept_at u k q ≡ cond (nat_eq k level && nat_eq q place) (Some node) (kept_at t k q))
     → OnErr r ((k q : ℕ) → kept_at u k q ≡ kept_at t k q)
     → (kept_at u level place ≡ Some node → ((p.stamp ≡ 0) × IsBlank (kept_at u level place)) ⊎ ((p.stamp ≢ 0) × (kept_at t level place ≡ None) × IsRead blocks p.vvbn (kept_at u level place)))
@@ -53,7 +53,7 @@ brought blocks t u level place p node (Err e) done failed own = record {
   own = inl (failed level place);
 }
 
-pub blank_now : (t u : Tree) (level place : ℕ) (node : KeptNode) (r : Result (List Pointer) BlockFault) → node.children ≡ replicate 128 hole → node.changed ≡ false → node.placed ≡ false
+pub blank_now : (t u : Tree) (level place : ℕ) (node : KeptNode) (r : Result Unit BlockFault) → node.children ≡ replicate 128 hole → node.changed ≡ false → node.placed ≡ false
     → OnOk r ((k q : ℕ) → kept_at u k q ≡ cond (nat_eq k level && nat_eq q place) (Some node) (kept_at t k q)) → OnOk r (IsBlank (kept_at u level place))
 blank_now t u level place node (Ok xs) children changed placed done = record {
   node = node;
@@ -181,7 +181,7 @@ module _ (old new : Shown) (t u : Tree) (level place : ℕ) (low : 1 ≤ level) 
       → (under new (pointer_at (standing (under new) u) 0 index).vvbn ≡ Some block) × (placed_of u 0 index ≡ true)
   in_cells index block cell now reached =
       let other : (0 ≢ level) ⊎ (index ≢ place) = inl (λ e. absurd (omega (arith, low, e))) in
-      let was = stands.cells index block (sym (ap (λ (cells : tree.BTreeMap ℕ KeptCell). option_map (λ (kept : KeptCell). kept.block) (tree.get nat_cmp cells index)) fields.cells) ∙ cell) (sym (other_changed 0 index other) ∙ now) (λ e. reached (stamps 0 index ∙ e)) in
+      let was = stands.cells index block (sym (ap (λ (cells : tree.BTreeMap ℕ KeptCell). option_map (λ (kept : KeptCell). kept.block.value) (tree.get nat_cmp cells index)) fields.cells) ∙ cell) (sym (other_changed 0 index other) ∙ now) (λ e. reached (stamps 0 index ∙ e)) in
       ((λ i. seen_blocks i (same.pointers 0 index i).vvbn) ∙ was.0, other_led 0 index other ∙ was.1)
 
   own_empty : (pointer_at (standing (under old) t) level place).stamp ≡ 0 → IsEmptyNode (standing (under old) t) level place → IsEmptyNode (standing (under new) u) level place

@@ -44,7 +44,7 @@ spot_led t j c low = let test : (j == 0) ≡ false = grind (arith, nat_tests) in
 pub is_memory : (source : Shown) (t : Tree) → IsMemory (loaded source t)
 is_memory source t = record {
   nodes = λ j c low none. spot_led t j c low ∙ ap node_placed (map_none (λ (kept : KeptNode). kept.children) (tree.get spot_cmp t.nodes (j, c)) none);
-  cells = λ c none. cell_led t 0 c refl ∙ ap cell_placed (map_none (λ (kept : KeptCell). kept.block) (tree.get nat_cmp t.cells c) none);
+  cells = λ c none. cell_led t 0 c refl ∙ ap cell_placed (map_none (λ (kept : KeptCell). kept.block.value) (tree.get nat_cmp t.cells c) none);
 }
 
 -- a cell or node goes out of memory
@@ -115,13 +115,13 @@ module _ (t u : Tree) (k q : ℕ) (goes : Goes t u k q) where
   other_node j c low other = ap (option_map (λ (kept : KeptNode). kept.children)) (goes.nodes j c low other)
 
   pub other_content : (i : ℕ) → (k ≢ 0) ⊎ (i ≢ q) → cell_in u i ≡ cell_in t i
-  other_content i other = ap (option_map (λ (kept : KeptCell). kept.block)) (goes.cells i other)
+  other_content i other = ap (option_map (λ (kept : KeptCell). kept.block.value)) (goes.cells i other)
 
   pub gone_node : 1 ≤ k → node_in u k q ≡ None
   gone_node low = ap (option_map (λ (kept : KeptNode). kept.children)) (goes.own_node low)
 
   pub gone_cell : k ≡ 0 → cell_in u q ≡ None
-  gone_cell e = ap (option_map (λ (kept : KeptCell). kept.block)) (goes.own_cell e)
+  gone_cell e = ap (option_map (λ (kept : KeptCell). kept.block.value)) (goes.own_cell e)
 
 -- ---- it needs no place
 

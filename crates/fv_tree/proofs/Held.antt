@@ -35,7 +35,7 @@ keeps_but old new under t u level place p same others own = record {
   own = own;
 }
 
-pub kept_as : (old new : Under) → new ≡ old → (t u : Tree) (level place : ℕ) (p : Pointer) (xs : List Pointer) (r : Result (List Pointer) BlockFault) → IsSameBut t u
+pub kept_as : (old new : Under) → new ≡ old → (t u : Tree) (level place : ℕ) (p : Pointer) (xs : List Pointer) (r : Result Unit BlockFault) → IsSameBut t u
     → OnOk r ((k q : ℕ) → node_in u k q ≡ cond (nat_eq k level && nat_eq q place) (Some xs) (node_in t k q))
     → OnErr r ((k q : ℕ) → node_in u k q ≡ node_in t k q)
     → length xs ≡ 128

@@ -15,7 +15,7 @@ use Rattle.fv_tree.specs.Standing.{standing, under, node_in, cell_in, children_i
 use Rattle.fv_tree.specs.Writing.{IsAlike}
 use Rattle.fv_tree.specs.Flushing.{IsSound, loaded_over, changed_of, placed_of, changed_in, placed_in, cell_changed, cell_placed, kind_for}
 use Rattle.fv_tree.specs.Leading.{Carries, LeadsNoMore}
-use Rattle.fv_tree.specs.Readying.{HoldsCell, KeepsReady}
+use Rattle.fv_tree.specs.Readying.{HasCell, HoldsCell, KeepsReady}
 use Rattle.fv_tree.proofs.Cases.{some_none}
 use Rattle.fv_tree.proofs.Unchanged.{block_read}
 use Rattle.fv_tree.proofs.Gone.{changed_cell, spot_changed, cell_led, spot_led}
@@ -24,34 +24,36 @@ use Rattle.fv_tree.proofs.Ready.{nodes_alone}
 use Rattle.fv_tree.proofs.StillReady.{cells_ready}
 use Rattle.fv_tree.proofs.Writes.{block_here, block_same}
 
-abbrev as_read : List ℕ → KeptCell
-as_read block = record { block = block; changed = false; placed = true }
-
 abbrev content : Option KeptCell → Option (List ℕ)
-content = option_map (λ (kept : KeptCell). kept.block)
+content = option_map (λ (kept : KeptCell). kept.block.value)
+
+-- a cell in memory has a content
+pub filled_cell : (o : Option KeptCell) → is_some o ≡ true → is_some (content o) ≡ true
+filled_cell None is = is
+filled_cell (Some kept) is = refl
 
 module _ (t u : Tree) (i : ℕ) (block : List ℕ) (is : HoldsCell t u i block) where
   -- what is the same of no cell and of this one is the same of all
-  seen_as : (f : Option KeptCell → Bool) → f (Some (as_read block)) ≡ f None → (j : ℕ) → f (tree.get nat_cmp u.cells j) ≡ f (tree.get nat_cmp t.cells j)
+  seen_as : (f : Option KeptCell → Bool) → ((cell : KeptCell) → cell.changed ≡ false → cell.placed ≡ true → f (Some cell) ≡ f None) → (j : ℕ) → f (tree.get nat_cmp u.cells j) ≡ f (tree.get nat_cmp t.cells j)
   seen_as f same j = elim (cases_eq j i) [
     | inr differs ↦ ap f (is.others j differs)
     | inl at ↦ (λ k. f (tree.get nat_cmp u.cells (at k))) ∙ here is.own ∙ sym (λ k. f (tree.get nat_cmp t.cells (at k)))
   ]
     where
-      here : ((is_some (cell_in t i) ≡ true) × (tree.get nat_cmp u.cells i ≡ tree.get nat_cmp t.cells i)) ⊎ ((tree.get nat_cmp t.cells i ≡ None) × (tree.get nat_cmp u.cells i ≡ Some (as_read block)))
+      here : ((is_some (cell_in t i) ≡ true) × (tree.get nat_cmp u.cells i ≡ tree.get nat_cmp t.cells i)) ⊎ ((tree.get nat_cmp t.cells i ≡ None) × HasCell (tree.get nat_cmp u.cells i) block false true)
           → f (tree.get nat_cmp u.cells i) ≡ f (tree.get nat_cmp t.cells i)
       here (inl kept) = ap f kept.1
-      here (inr new) = ap f new.1 ∙ same ∙ sym (ap f new.0)
+      here (inr new) = ap f new.1.is ∙ same new.1.cell new.1.changed new.1.placed ∙ sym (ap f new.0)
 
   pub held_changed : (k q : ℕ) → changed_of u k q ≡ changed_of t k q
   held_changed k q = elim (cases_eq k 0) [
-    | inl e ↦ changed_cell u k q e ∙ seen_as cell_changed refl q ∙ sym (changed_cell t k q e)
+    | inl e ↦ changed_cell u k q e ∙ seen_as cell_changed (λ cell changed placed. changed) q ∙ sym (changed_cell t k q e)
     | inr low ↦ spot_changed u k q (omega arith) ∙ ap (λ (nodes : tree.BTreeMap Spot KeptNode). changed_in nodes k q) is.fields.nodes ∙ sym (spot_changed t k q (omega arith))
   ]
 
   same_placed : (k q : ℕ) → placed_of u k q ≡ placed_of t k q
   same_placed k q = elim (cases_eq k 0) [
-    | inl e ↦ cell_led u k q e ∙ seen_as cell_placed refl q ∙ sym (cell_led t k q e)
+    | inl e ↦ cell_led u k q e ∙ seen_as cell_placed (λ cell changed placed. placed) q ∙ sym (cell_led t k q e)
     | inr low ↦ spot_led u k q (omega arith) ∙ ap (λ (nodes : tree.BTreeMap Spot KeptNode). placed_in nodes k q) is.fields.nodes ∙ sym (spot_led t k q (omega arith))
   ]
 
@@ -67,14 +69,14 @@ module _ (t u : Tree) (i : ℕ) (block : List ℕ) (is : HoldsCell t u i block) 
     | inr differs ↦ inl (ap content (is.others j differs))
     | inl at ↦ elim is.own [
       | inl kept ↦ inl (ap (cell_in u) at ∙ ap content kept.1 ∙ ap (cell_in t) (sym at))
-      | inr new ↦ inr (at, ap content new.0, ap content new.1)
+      | inr new ↦ inr (at, ap content new.0, ap content new.1.is ∙ ap Some new.1.block)
     ]
   ]
 
   pub held_there : is_some (cell_in u i) ≡ true
   held_there = elim is.own [
     | inl kept ↦ ap (λ (o : Option KeptCell). is_some (content o)) kept.1 ∙ kept.0
-    | inr new ↦ ap (λ (o : Option KeptCell). is_some (content o)) new.1
+    | inr new ↦ ap (λ (o : Option KeptCell). is_some (content o)) new.1.is
   ]
 
   pub held_ready : KeepsReady t u
@@ -127,7 +129,7 @@ module _ (t u : Tree) (i : ℕ) (block : List ℕ) (is : HoldsCell t u i block) 
         where
           unkept : (o : Option KeptCell) → content o ≡ None → cell_placed o ≡ true
           unkept None e = refl
-          unkept (Some kept) e = some_none (content (Some kept)) kept.block e refl
+          unkept (Some kept) e = some_none (content (Some kept)) kept.block.value e refl
 
       in_cells : (index : ℕ) (b : List ℕ) → cell_in u index ≡ Some b → changed_of u 0 index ≡ false → (pointer_at (standing blocks u) 0 index).stamp ≢ 0
           → (blocks (pointer_at (standing blocks u) 0 index).vvbn ≡ Some b) × (placed_of u 0 index ≡ true)

@@ -1,5 +1,5 @@
 -- What stays under a VVBN through a flush, step by step.
-use Rattle.std.proofs.Common.{◌≡◌, ◌≢◌, ◌≤◌, ℕ, inl, inr, Bool, true, List, Option, Some, is_some, refl, sym, ap, ◌∙◌}
+use Rattle.std.proofs.Common.{◌≡◌, ◌≢◌, ◌≤◌, ℕ, inl, inr, Bool, true, List, Option, Some, is_some, refl, sym, ap, subst, ◌∙◌}
 use Rattle.std.specs.Ordering.{nat_cmp}
 use Rattle.std.specs.BTreeMap as tree
 use Rattle.std.proofs.lemmas.Bool.{cases_eq}
@@ -11,6 +11,7 @@ use Rattle.fv_tree.specs.declared.kept.KeptCell.{KeptCell}
 use Rattle.fv_tree.specs.Spelled.{pointer_at}
 use Rattle.fv_tree.specs.Sources.{Shown, Use}
 use Rattle.fv_tree.specs.Flushing.{CameIntoUse, Flushes, IsPlaced, IsReplaced, KeepsOthers, Loaded, NamesUsed, Stands, Swaps, cell_changed, cell_placed, kind_for, loaded, node_changed, node_placed, pointer_in}
+use Rattle.fv_tree.specs.Readying.{HasCell}
 use Rattle.fv_tree.proofs.Cases.{bit, none_some}
 use Rattle.fv_tree.proofs.Flushes.{placed_first, placed_second}
 use Rattle.fv_tree.proofs.Gone.{changed_cell, spot_changed, cell_led, spot_led}
@@ -36,6 +37,10 @@ swap_keeps old kind content named known r p new stays some names swaps others v 
 
 pub names_cell : (old : Shown) (t : Tree) (q : ℕ) (cell : KeptCell) → Stands old t → tree.get nat_cmp t.cells q ≡ Some cell → cell.changed ≡ true → NamesUsed old cell.placed (pointer_in t 0 q)
 names_cell old t q cell stands held changed = names_used old t 0 q cell.placed stands (changed_cell t 0 q refl ∙ ap cell_changed held ∙ changed) (sym (cell_led t 0 q refl ∙ ap cell_placed held))
+
+-- the same of a cell that was found in memory
+pub found_names : {content : List ℕ} {differs named : Bool} (old : Shown) (t : Tree) (q : ℕ) → Stands old t → HasCell (tree.get nat_cmp t.cells q) content differs named → differs ≡ true → NamesUsed old named (pointer_in t 0 q)
+found_names old t q stands found changed = subst (λ b. NamesUsed old b (pointer_in t 0 q)) found.placed (names_cell old t q found.cell stands found.is (found.changed ∙ changed))
 
 pub names_node : (old : Shown) (t : Tree) (k q : ℕ) (node : KeptNode) → Stands old t → tree.get spot_cmp t.nodes (k, q) ≡ Some node → 1 ≤ k → node.changed ≡ true → NamesUsed old node.placed (pointer_in t k q)
 names_node old t k q node stands held low changed = names_used old t k q node.placed stands (spot_changed t k q low ∙ ap node_changed held ∙ changed) (sym (spot_led t k q low ∙ ap node_placed held))

@@ -1,6 +1,7 @@
 pub mod Cases
 pub mod Below
 pub mod Causes
+mod Spelling
 pub mod Spots
 pub mod Ways
 pub mod Held

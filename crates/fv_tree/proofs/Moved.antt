@@ -214,7 +214,7 @@ module _ (old new : Shown) (t mid u : Tree) (k q : ℕ) (content : List ℕ) (na
     own = gone_node mid u k q goes;
     own_cell = gone_cell mid u k q goes;
     nodes = λ j c low differs beside. other_node mid u k q goes j c low differs ∙ moved.points.others j c beside;
-    cells = λ i differs. other_content mid u k q goes i differs ∙ ap (λ (cells : tree.BTreeMap ℕ KeptCell). option_map (λ (kept : KeptCell). kept.block) (tree.get nat_cmp cells i)) moved.points.cells;
+    cells = λ i differs. other_content mid u k q goes i differs ∙ ap (λ (cells : tree.BTreeMap ℕ KeptCell). option_map (λ (kept : KeptCell). kept.block.value) (tree.get nat_cmp cells i)) moved.points.cells;
     node = λ low. let is = node low in (is.0, is.1, ap pointers_in placed_now ∙ is.2, λ slot filled none. moved.swaps.unknown (is.3 slot filled none));
     names = λ low. subst (IsNodeOf t.owner k q) (sym placed_now) (names low);
     cell = λ e. (content, cell e, placed_now);

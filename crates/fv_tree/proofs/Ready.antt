@@ -38,7 +38,7 @@ stands_again old new t u held used same stands =
 
 pub cells_loaded : (blocks : Under) (t u : Tree) → IsSameButCells t u → ((i : ℕ) → tree.get nat_cmp u.cells i ≡ tree.get nat_cmp t.cells i) → loaded_over blocks u ≡ loaded_over blocks t
 cells_loaded blocks t u same cells = λ j. record {
-  tree = same_standing blocks t u same (λ i. ap (option_map (λ (kept : KeptCell). kept.block)) (cells i)) j;
+  tree = same_standing blocks t u same (λ i. ap (option_map (λ (kept : KeptCell). kept.block.value)) (cells i)) j;
   changed = λ level place. if level == 0 then cell_changed (cells place j) else changed_in (same.nodes j) level place;
   placed = λ level place. if level == 0 then cell_placed (cells place j) else placed_in (same.nodes j) level place;
 }
@@ -111,7 +111,7 @@ module _ (blocks : Under) (v u : Tree) (i s : ℕ) (stamps : Stamps v u i s) (ma
     };
     beside = λ level place le differs. marked_pointers level place le ∙ off (pointer_at (standing blocks v)) i s level place differs;
     nodes = stamps.others;
-    cells = λ index. ap (λ (m : tree.BTreeMap ℕ KeptCell). option_map (λ (kept : KeptCell). kept.block) (tree.get nat_cmp m index)) stamps.cells;
+    cells = λ index. ap (λ (m : tree.BTreeMap ℕ KeptCell). option_map (λ (kept : KeptCell). kept.block.value) (tree.get nat_cmp m index)) stamps.cells;
     placed = all_led blocks v u i stamps.cells marks kept cell;
     way = way_changed blocks v u i stamps.cells marks kept cell;
     others = others_changed blocks v u i stamps.cells marks kept cell;
@@ -211,7 +211,7 @@ module _ (blocks : Under) (w v : Tree) (i : ℕ) (named : Bool) (same : IsSameBu
             ((λ j. pointers_in (blocks (cell_pointers level place j).vvbn)) ∙ was.0, led_off level place (inl (omega (arith, low))) ∙ was.1);
         cells = λ index block differs cell now reached.
             let off : index ≢ i = λ e. differs (e ∙ sym (first_range i)) in
-            let was = sound.cells index block (sym (ap (option_map (λ (kept : KeptCell). kept.block)) (others index off)) ∙ cell) (sym (changed_off 0 index differs) ∙ now) (λ e. reached (ap (λ (p : Pointer). p.stamp) (cell_pointers 0 index) ∙ e)) in
+            let was = sound.cells index block (sym (ap (option_map (λ (kept : KeptCell). kept.block.value)) (others index off)) ∙ cell) (sym (changed_off 0 index differs) ∙ now) (λ e. reached (ap (λ (p : Pointer). p.stamp) (cell_pointers 0 index) ∙ e)) in
             ((λ j. blocks (cell_pointers 0 index j).vvbn) ∙ was.0, led_off 0 index (inr off) ∙ was.1);
         empty = λ level place differs low none which xs node. sound.empty level place low (sym (ap (λ (p : Pointer). p.stamp) (cell_pointers level place)) ∙ none) (elim which [
           | inl le ↦ inl (omega (arith, le, same.levels))
@@ -223,7 +223,7 @@ module _ (blocks : Under) (w v : Tree) (i : ℕ) (named : Bool) (same : IsSameBu
 pub cell_there : (w v : Tree) (i : ℕ) (block : List ℕ) → ((j : ℕ) → cell_in v j ≡ cond (nat_eq j i) (Some block) (cell_in w j)) → is_some (tree.get nat_cmp v.cells i) ≡ true
 cell_there w v i block cells =
     let test : nat_eq i i ≡ true = grind (arith, nat_tests) in
-    ap is_some (map_some (λ (kept : KeptCell). kept.block) (tree.get nat_cmp v.cells i) block (cells i ∙ ap (λ b. cond b (Some block) (cell_in w i)) test)).1
+    ap is_some (map_some (λ (kept : KeptCell). kept.block.value) (tree.get nat_cmp v.cells i) block (cells i ∙ ap (λ b. cond b (Some block) (cell_in w i)) test)).1
 
 pub unstamped : (p : Pointer) → p.stamp ≡ 0 → not (p.stamp == 0) ≡ false
 unstamped p e = let test : (p.stamp == 0) ≡ true = grind (arith, nat_tests) in ap not test

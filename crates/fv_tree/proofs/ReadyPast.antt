@@ -179,7 +179,7 @@ module _ (blocks : Under) (t v : Tree) (i s : ℕ) (is : Raises t v i s) (some :
         → (blocks (pointer_at (standing blocks v) 0 index).vvbn ≡ Some block) × (placed_of v 0 index ≡ true)
     in_cells index block differs cell now reached = elim (old_or_new 0 index reached) [
       | inl old ↦
-          let was = sound.cells index block (sym (ap (option_map (λ (kept : KeptCell). kept.block)) (others index (cell_off 0 index refl differs))) ∙ cell) (sym (changed_old 0 index old.0) ∙ now) old.0 in
+          let was = sound.cells index block (sym (ap (option_map (λ (kept : KeptCell). kept.block.value)) (others index (cell_off 0 index refl differs))) ∙ cell) (sym (changed_old 0 index old.0) ∙ now) old.0 in
           ((λ j. blocks (old.1 j).vvbn) ∙ was.0, led_old 0 index old.0 ∙ was.1)
       | inr (inl high) ↦ absurd (omega (arith, high.1))
       | inr (inr lone) ↦ absurd (differs (lone_on 0 index lone.1 lone.2))

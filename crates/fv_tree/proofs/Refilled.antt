@@ -47,7 +47,7 @@ module _ (blocks : Under) (v w u : Tree) (i : ℕ) (block : List ℕ) (fields : 
   pointers = nodes_alone (standing blocks v) (standing blocks u) (but.owner ∙ fields.owner) refl (but.levels ∙ fields.levels) (but.root ∙ fields.root) same_nodes
 
   cells : (j : ℕ) → cell_in u j ≡ cond (nat_eq j i) (Some block) (cell_in v j)
-  cells j = ap (λ (m : tree.BTreeMap ℕ KeptCell). option_map (λ (kept : KeptCell). kept.block) (tree.get nat_cmp m j)) but.cells ∙ put j
+  cells j = ap (λ (m : tree.BTreeMap ℕ KeptCell). option_map (λ (kept : KeptCell). kept.block.value) (tree.get nat_cmp m j)) but.cells ∙ put j
 
   pub refilled_is : (t : Rooted) → IsSame t (standing blocks v) → StandsAt t 0 i → IsRefilled t (standing blocks u) i block true
   refilled_is t same stands = record {
@@ -79,7 +79,7 @@ module _ (blocks : Under) (w u : Tree) (i : ℕ) (but : IsSameBut w u) (nodes : 
     };
     beside = λ level place _ _. still level place;
     nodes = λ level place _. nodes level place;
-    cells = λ index. ap (λ (m : tree.BTreeMap ℕ KeptCell). option_map (λ (kept : KeptCell). kept.block) (tree.get nat_cmp m index)) but.cells;
+    cells = λ index. ap (λ (m : tree.BTreeMap ℕ KeptCell). option_map (λ (kept : KeptCell). kept.block.value) (tree.get nat_cmp m index)) but.cells;
     placed = all_led blocks w u i but.cells marks kept cell;
     way = way_changed blocks w u i but.cells marks kept cell;
     others = others_changed blocks w u i but.cells marks kept cell;

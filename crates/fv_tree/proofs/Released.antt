@@ -129,14 +129,14 @@ module _ (old new : Under) (u : Tree) (stay : (level place : ℕ) → Led old u 
       unkept None e = refl
       unkept (Some kept) e = absurd cc
 
-  read_cell_block : (i : ℕ) → StandsAt t 0 i → (o : Option KeptCell) → tree.get nat_cmp u.cells i ≡ o → option_map (λ (kept : KeptCell). kept.block) o ≡ None → Led old u 0 i
+  read_cell_block : (i : ℕ) → StandsAt t 0 i → (o : Option KeptCell) → tree.get nat_cmp u.cells i ≡ o → option_map (λ (kept : KeptCell). kept.block.value) o ≡ None → Led old u 0 i
   read_cell_block i stands o is none = record {
     some = stands;
     placed = ap cell_placed is ∙ unkept o none;
     vvbn = refl;
   }
     where
-      unkept : (o : Option KeptCell) → option_map (λ (kept : KeptCell). kept.block) o ≡ None → cell_placed o ≡ true
+      unkept : (o : Option KeptCell) → option_map (λ (kept : KeptCell). kept.block.value) o ≡ None → cell_placed o ≡ true
       unkept None e = refl
       unkept (Some kept) e = absurd cc
 

@@ -15,6 +15,7 @@ use Rattle.fv_tree.specs.Spelled.{hole, pointer_at}
 use Rattle.fv_tree.specs.Sources.{Shown}
 use Rattle.fv_tree.specs.Standing.{standing, under, children_in, node_in}
 use Rattle.fv_tree.specs.Flushing.{Stands, Flushes, IsPlaced, HoldsAsMuch, Points, IsHidden, IsMoved, IsCellStep, IsNodeStep, ForgetsCell, ForgetsNode, loaded, changed_of, cell_changed, node_changed, node_placed, cell_placed, all_known, child_of, pointer_in}
+use Rattle.fv_tree.specs.Readying.{HasCell}
 use Rattle.fv_tree.proofs.Cases.{bit, false_is_true}
 use Rattle.fv_tree.proofs.Flushed.{flushes_placed, placed_fresh}
 use Rattle.fv_tree.proofs.Forgotten.{flushes_none, none_flushed}
@@ -46,29 +47,36 @@ idle_step old new t u k q stands held used goes why =
       fresh = λ v placed. absurd (none_flushed (loaded old t) (loaded new u) old.used k q stands (is_memory old t) forgets placed.level placed.place placed.flushed);
     }
 
-cell_written : (old new : Shown) (t mid u : Tree) (q : ℕ) (cell : KeptCell) → Stands old t → tree.get nat_cmp t.cells q ≡ Some cell → changed_of t 0 q ≡ true → IsHidden old t 0 q new mid ⊎ IsMoved old t 0 q cell.block cell.placed true new mid → ForgetsCell mid u q
+cell_written : (old new : Shown) (t mid u : Tree) (q : ℕ) (cell : KeptCell) → Stands old t → tree.get nat_cmp t.cells q ≡ Some cell → changed_of t 0 q ≡ true → IsHidden old t 0 q new mid ⊎ IsMoved old t 0 q cell.block.value cell.placed true new mid → ForgetsCell mid u q
     → Step old new t u
 cell_written old new t mid u q cell stands held was (inl hidden) forgets =
     idle_step old new t u 0 q stands hidden.untouched.held hidden.untouched.used (cell_goes t u q (subst (λ v. ForgetsCell v u q) hidden.tree forgets)) (inr (hidden_is old t stands 0 q was hidden.none))
 cell_written old new t mid u q cell stands held was (inr moved) forgets =
-    let replaces = replaces_is old new t mid u 0 q cell.block cell.placed true stands was (sym (cell_led t 0 q refl ∙ ap cell_placed held)) (λ j c e. absurd (omega (arith, e))) moved (cell_goes mid u q forgets)
-    (λ low. absurd (omega (arith, low))) (λ low. absurd (omega (arith, low))) (λ e. ap (option_map (λ (kept : KeptCell). kept.block)) held) (λ hidden. false_is_true true hidden refl) in record {
+    let replaces = replaces_is old new t mid u 0 q cell.block.value cell.placed true stands was (sym (cell_led t 0 q refl ∙ ap cell_placed held)) (λ j c e. absurd (omega (arith, e))) moved (cell_goes mid u q forgets)
+    (λ low. absurd (omega (arith, low))) (λ low. absurd (omega (arith, low))) (λ e. ap (option_map (λ (kept : KeptCell). kept.block.value)) held) (λ hidden. false_is_true true hidden refl) in record {
       flushes = flushes_placed (loaded old t) old.used (loaded new u) new.used 0 q moved.pointer stands (is_memory old t) replaces;
       fresh = placed_fresh (loaded old t) old.used (loaded new u) new.used 0 q moved.pointer stands (is_memory old t) replaces;
     }
 
-pub cell_step : (old new : Shown) (t mid u : Tree) (q : ℕ) (cell : KeptCell) → Stands old t → tree.get nat_cmp t.cells q ≡ Some cell → IsCellStep old t q cell new mid → ForgetsCell mid u q → Step old new t u
+pub cell_step : (old new : Shown) (t mid u : Tree) (q : ℕ) (cell : KeptCell) → Stands old t → tree.get nat_cmp t.cells q ≡ Some cell → IsCellStep old t q cell.block.value cell.changed cell.placed new mid → ForgetsCell mid u q → Step old new t u
 cell_step old new t mid u q cell stands held (inl idle) forgets =
     idle_step old new t u 0 q stands idle.untouched.held idle.untouched.used (cell_goes t u q (subst (λ v. ForgetsCell v u q) idle.tree forgets)) (inl (changed_cell t 0 q refl ∙ ap cell_changed held ∙ idle.why))
 cell_step old new t mid u q cell stands held (inr is) forgets = cell_written old new t mid u q cell stands held (changed_cell t 0 q refl ∙ ap cell_changed held ∙ is.changed) is.moved forgets
 
+-- the same of a cell that was found in memory
+pub found_step : {held : Option KeptCell} {content : List ℕ} {differs named : Bool} (old new : Shown) (t mid : Tree) (q : ℕ) (found : HasCell held content differs named) → IsCellStep old t q content differs named new mid
+    → IsCellStep old t q found.cell.block.value found.cell.changed found.cell.placed new mid
+found_step {content = content} {differs = differs} old new t mid q found is =
+    subst (λ b. IsCellStep old t q b found.cell.changed found.cell.placed new mid) (sym found.block)
+    (subst (λ b. IsCellStep old t q content b found.cell.placed new mid) (sym found.changed) (subst (λ b. IsCellStep old t q content differs b new mid) (sym found.placed) is))
+
 -- it names no stray
-none_strays : (old new : Shown) (t mid : Tree) (q : ℕ) (cell : KeptCell) → Stands old t → tree.get nat_cmp t.cells q ≡ Some cell → changed_of t 0 q ≡ true → IsHidden old t 0 q new mid ⊎ IsMoved old t 0 q cell.block cell.placed true new mid
+none_strays : (old new : Shown) (t mid : Tree) (q : ℕ) (cell : KeptCell) → Stands old t → tree.get nat_cmp t.cells q ≡ Some cell → changed_of t 0 q ≡ true → IsHidden old t 0 q new mid ⊎ IsMoved old t 0 q cell.block.value cell.placed true new mid
     → new.strays ≡ old.strays
 none_strays old new t mid q cell stands held was (inl hidden) = hidden.untouched.strays
-none_strays old new t mid q cell stands held was (inr moved) = no_stray old new t mid 0 q cell.block cell.placed true stands was (sym (cell_led t 0 q refl ∙ ap cell_placed held)) moved
+none_strays old new t mid q cell stands held was (inr moved) = no_stray old new t mid 0 q cell.block.value cell.placed true stands was (sym (cell_led t 0 q refl ∙ ap cell_placed held)) moved
 
-pub cell_strays : (old new : Shown) (t mid : Tree) (q : ℕ) (cell : KeptCell) → Stands old t → tree.get nat_cmp t.cells q ≡ Some cell → IsCellStep old t q cell new mid → new.strays ≡ old.strays
+pub cell_strays : (old new : Shown) (t mid : Tree) (q : ℕ) (cell : KeptCell) → Stands old t → tree.get nat_cmp t.cells q ≡ Some cell → IsCellStep old t q cell.block.value cell.changed cell.placed new mid → new.strays ≡ old.strays
 cell_strays old new t mid q cell stands held (inl idle) = idle.untouched.strays
 cell_strays old new t mid q cell stands held (inr is) = none_strays old new t mid q cell stands held (changed_cell t 0 q refl ∙ ap cell_changed held ∙ is.changed) is.moved
 

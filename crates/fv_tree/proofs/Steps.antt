@@ -25,7 +25,7 @@ stamps_way blocks t v u i s same stamps = record {
 
 -- the content of a cell, through stamps
 pub stamped_cells : (t v u : Tree) (i s : ℕ) (block : List ℕ) → ((j : ℕ) → cell_in v j ≡ cond (nat_eq j i) (Some block) (cell_in t j)) → u.cells ≡ v.cells → (j : ℕ) → cell_in u j ≡ cond (nat_eq j i) (Some block) (cell_in t j)
-stamped_cells t v u i s block put same j = ap (λ (cells : tree.BTreeMap ℕ KeptCell). option_map (λ (kept : KeptCell). kept.block) (tree.get nat_cmp cells j)) same ∙ put j
+stamped_cells t v u i s block put same j = ap (λ (cells : tree.BTreeMap ℕ KeptCell). option_map (λ (kept : KeptCell). kept.block.value) (tree.get nat_cmp cells j)) same ∙ put j
 
 -- new levels, where nothing but nodes counts
 pub moved : (t u v : Tree) (levels i s : ℕ) → v.nodes ≡ u.nodes → HasNewLevels t u levels i s → HasNewLevels t v levels i s

@@ -22,7 +22,7 @@ pub node_there : (t : Tree) (level place : ℕ) (xs : List Pointer) → node_in 
 node_there t level place xs node = ap is_some (map_some (λ (kept : KeptNode). kept.children) (kept_at t level place) xs node).1
 
 pub cell_still : (t u : Tree) (i : ℕ) → u.cells ≡ t.cells → is_some (cell_in t i) ≡ true → is_some (cell_in u i) ≡ true
-cell_still t u i cells is = ap (λ (m : tree.BTreeMap ℕ KeptCell). is_some (option_map (λ (kept : KeptCell). kept.block) (tree.get nat_cmp m i))) cells ∙ is
+cell_still t u i cells is = ap (λ (m : tree.BTreeMap ℕ KeptCell). is_some (option_map (λ (kept : KeptCell). kept.block.value) (tree.get nat_cmp m i))) cells ∙ is
 
 -- where all nodes over the cell stay
 pub way_ready : (t u : Tree) (i : ℕ) → u.levels ≡ t.levels → u.root ≡ t.root → is_some (cell_in u i) ≡ true

@@ -112,7 +112,7 @@ module _ (blocks : Under) (t v : Tree) (i : ℕ) (far : fan ^ t.levels ≤ i) (f
         → (blocks (pointer_at (standing blocks v) 0 index).vvbn ≡ Some block) × (placed_of v 0 index ≡ true)
     in_cells index block cell now reached =
         let some : (pointer_at (standing blocks t) 0 index).stamp ≢ 0 = λ e. reached (stamps 0 index ∙ e) in
-        let was = sound.cells index block (sym (ap (λ (cells : tree.BTreeMap ℕ KeptCell). option_map (λ (kept : KeptCell). kept.block) (tree.get nat_cmp cells index)) fields.cells) ∙ cell) (sym (changed_old 0 index some) ∙ now) some in
+        let was = sound.cells index block (sym (ap (λ (cells : tree.BTreeMap ℕ KeptCell). option_map (λ (kept : KeptCell). kept.block.value) (tree.get nat_cmp cells index)) fields.cells) ∙ cell) (sym (changed_old 0 index some) ∙ now) some in
         ((λ j. blocks (same.pointers 0 index j).vvbn) ∙ was.0, led_old 0 index some ∙ was.1)
 
     empty : (k q : ℕ) → 1 ≤ k → (pointer_at (standing blocks v) k q).stamp ≡ 0 → (k ≤ v.levels) ⊎ ((q ≢ 0) ⊎ (v.root.stamp ≡ 0)) → IsEmptyNode (standing blocks v) k q

@@ -36,7 +36,7 @@ module _ (t : Tree) (no_nodes : tree.btree_map_len t.nodes ≡ 0) (no_cells : tr
     levels = t.levels;
     root = t.root;
     nodes = λ level place. option_map (λ (kept : KeptNode). kept.children) (no_node t no_nodes level place i);
-    cells = λ index. option_map (λ (kept : KeptCell). kept.block) (no_cell t no_cells index i);
+    cells = λ index. option_map (λ (kept : KeptCell). kept.block.value) (no_cell t no_cells index i);
   }
 
   no_kept : {P : Type 0} (level place : ℕ) (xs : List Pointer) → node_in t level place ≡ Some xs → P
@@ -60,7 +60,7 @@ module _ (t : Tree) (no_nodes : tree.btree_map_len t.nodes ≡ 0) (no_cells : tr
       used = λ level place v leads. subst (λ v. IsRight (kind_for t.owner level) (pointer_at (standing blocks t) level place) (used v)) leads.vvbn (is.used level place leads.some);
       over = λ level place changed. false_is_true (changed_of t level place) (none_changed level place) changed;
       same = λ level place xs _ node. no_kept level place xs node;
-      cells = λ index block cell. some_none (cell_in t index) block (ap (option_map (λ (kept : KeptCell). kept.block)) (no_cell t no_cells index)) cell;
+      cells = λ index block cell. some_none (cell_in t index) block (ap (option_map (λ (kept : KeptCell). kept.block.value)) (no_cell t no_cells index)) cell;
       empty = λ level place _ _ _ xs node. no_kept level place xs node;
     }
 

@@ -307,12 +307,12 @@ pub record IsCellIdle (old : Shown) (t : Tree) (changed : Bool) (new : Shown) (u
   pub untouched : IsUntouched old new
 
 -- the cell's block was placed
-pub record IsCellMoved (old : Shown) (t : Tree) (place : ℕ) (cell : KeptCell) (new : Shown) (u : Tree) : Type 0 where
-  pub changed : cell.changed ≡ true
-  pub moved : IsHidden old t 0 place new u ⊎ IsMoved old t 0 place cell.block cell.placed true new u
+pub record IsCellMoved (old : Shown) (t : Tree) (place : ℕ) (content : List ℕ) (differs named : Bool) (new : Shown) (u : Tree) : Type 0 where
+  pub changed : differs ≡ true
+  pub moved : IsHidden old t 0 place new u ⊎ IsMoved old t 0 place content named true new u
 
-abbrev pub IsCellStep : Shown → Tree → ℕ → KeptCell → Shown → Tree → Type 0
-IsCellStep old t place cell new u = IsCellIdle old t cell.changed new u ⊎ IsCellMoved old t place cell new u
+abbrev pub IsCellStep : Shown → Tree → ℕ → List ℕ → Bool → Bool → Shown → Tree → Type 0
+IsCellStep old t place content differs named new u = IsCellIdle old t differs new u ⊎ IsCellMoved old t place content differs named new u
 
 abbrev pub IsNodeStep : Shown → Tree → ℕ → ℕ → KeptNode → Shown → Tree → Type 0
 IsNodeStep old t level place node new u = IsIdle old t level node.changed new u ⊎ (IsHidden old t level place new u ⊎ IsNodeMoved old t level place node new u)

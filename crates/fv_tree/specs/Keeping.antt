@@ -20,6 +20,13 @@ pub record IsKept (t : Rooted) (level place : ℕ) : Type 0 where
   pub long : length pointers ≡ 128
   pub empty : (pointer_at t level place).stamp ≡ 0 → (slot : ℕ) → get_or pointers slot hole ≡ hole
 
+-- The node of a position is in memory; where the source tells its blocks, it has the pointers of the node to which p leads.
+pub record Spells (told : Type 0) (old new : Rooted) (level place : ℕ) (p : Pointer) : Type 0 where
+  pub pointers : List Pointer
+  pub node : new.nodes level place ≡ Some pointers
+  pub long : length pointers ≡ 128
+  pub children : told → (slot : ℕ) → get_or pointers slot hole ≡ get_or (pointers_at old level place p) slot hole
+
 -- the nodes of all other levels are in memory as they were
 abbrev pub KeepsBelow : Rooted → Rooted → ℕ → Type 0
 KeepsBelow old new level = (k place : ℕ) → k ≢ level → new.nodes k place ≡ old.nodes k place

@@ -1,10 +1,11 @@
 -- A cell that is in memory with all nodes over it.
-use Rattle.std.specs.Prelude.{◌≡◌, ◌≢◌, ◌≤◌, ◌<◌, ◌⊎◌, ℕ, ◌-◌, ◌/◌, ◌^◌, true, false, List, Some, None, is_some}
+use Rattle.std.specs.Prelude.{◌≡◌, ◌≢◌, ◌≤◌, ◌<◌, ◌⊎◌, ℕ, ◌-◌, ◌/◌, ◌^◌, Bool, true, false, List, Option, Some, None, is_some}
 use Rattle.std.specs.Ordering.{nat_cmp}
 use Rattle.std.specs.BTreeMap as maps
 use Rattle.fv_codec.specs.declared.pointer.Pointer.{Pointer}
 use Rattle.fv_model.specs.Trees.{fan}
 use Rattle.fv_tree.specs.declared.kept.Tree.{Tree}
+use Rattle.fv_tree.specs.declared.kept.KeptCell.{KeptCell}
 use Rattle.fv_tree.specs.Standing.{cell_in, IsSameButCells}
 use Rattle.fv_tree.specs.Flushing.{pointer_in}
 
@@ -18,11 +19,19 @@ pub record IsReady (t : Tree) (i : ℕ) : Type 0 where
   pub cell : is_some (cell_in t i) ≡ true
   pub way : HoldsWay t i
 
+-- A cell is in memory with this content; it differs from its block, or not, and replaces one, or not.
+pub record HasCell (held : Option KeptCell) (content : List ℕ) (differs replaces : Bool) : Type 0 where
+  pub cell : KeptCell
+  pub is : held ≡ Some cell
+  pub block : cell.block.value ≡ content
+  pub changed : cell.changed ≡ differs
+  pub placed : cell.placed ≡ replaces
+
 -- The content of cell i came into memory as its block has it, where it wasn't there.
 pub record HoldsCell (old new : Tree) (i : ℕ) (block : List ℕ) : Type 0 where
   pub fields : IsSameButCells old new
   pub own : ((is_some (cell_in old i) ≡ true) × (maps.get nat_cmp new.cells i ≡ maps.get nat_cmp old.cells i))
-      ⊎ ((maps.get nat_cmp old.cells i ≡ None) × (maps.get nat_cmp new.cells i ≡ Some (record { block = block; changed = false; placed = true })))
+      ⊎ ((maps.get nat_cmp old.cells i ≡ None) × HasCell (maps.get nat_cmp new.cells i) block false true)
   pub others : (j : ℕ) → j ≢ i → maps.get nat_cmp new.cells j ≡ maps.get nat_cmp old.cells j
 
 -- The pointer over a cell from one level to the next, as the root and the nodes in memory have it. It leads somewhere only if the pointer

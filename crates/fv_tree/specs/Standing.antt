@@ -29,7 +29,7 @@ node_in t = children_in t.nodes
 
 -- the content of a cell that is in memory
 abbrev pub cell_in : Tree → ℕ → Option (List ℕ)
-cell_in t index = option_map (λ kept. kept.block) (tree.get nat_cmp t.cells index)
+cell_in t index = option_map (λ kept. kept.block.value) (tree.get nat_cmp t.cells index)
 
 -- nothing but the cells in memory differs
 pub record IsSameButCells (old new : Tree) : Type 0 where

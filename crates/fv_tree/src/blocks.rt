@@ -1,9 +1,10 @@
 //! What a tree reaches its blocks through.
 
-ghost use Rattle.std.specs.Prelude.{◌≢◌, ◌≤◌, ℕ, IfOk};
+ghost use Rattle.std.specs.Prelude.{◌≡◌, ◌≢◌, ◌≤◌, ℕ, IfOk, OnOk};
+ghost use Rattle.fv_codec.specs.Forms.{has_form};
 ghost use Rattle.fv_tree.specs.Sources.{Shown, IsSource, IsKind, Loads, Places, Drops};
 
-use fv_codec::Pointer;
+use fv_codec::{Form, Pointer};
 use fv_disk::BlockFault;
 
 /// Where a block was placed.
@@ -62,6 +63,19 @@ pub trait Blocks {
     fn load(&mut self, pointer: &Pointer, into: &mut [u8; 4096]) -> Result<u32, TreeFault>
         ensures loads { Loads told (shown self.old) pointer.now (shown self.new) into.new result }
         ensures reads { reads self.old self.new };
+
+    /// As `load`, and tells whether the block has a form: whether it spells a node, or an inode block. At `Err` also `has` is
+    /// open. A source may remember what it judged, so that it judges a block once.
+    fn load_as(
+        &mut self,
+        pointer: &Pointer,
+        form: Form,
+        into: &mut [u8; 4096],
+        has: &mut bool,
+    ) -> Result<u32, TreeFault>
+        ensures loads { Loads told (shown self.old) pointer.now (shown self.new) into.new result }
+        ensures reads { reads self.old self.new }
+        ensures form { OnOk result (has.new ≡ has_form form into.new) };
 
     /// Adds a block of a kind from 1 to 7 under a VVBN that was neither in the map nor in use, and takes it
     /// into use with that kind and the PVBN that it answers; all else stays in use as it was, and in the map where

@@ -164,8 +164,11 @@ fn keep_range<B: Blocks>(
     ensures loading { Loading B.told (B.reads blocks.old blocks.new) (B.shown blocks.old) (B.shown blocks.new) tree.old tree.new result }
 {
     let pointer = pointer_in(tree, level, place);
-    let children = keep_node(tree, blocks, level, place, &pointer)?;
-    add_ranges(&children, level, place, most, below)
+    keep_node(tree, blocks, level, place, &pointer)?;
+    match tree.nodes.get(&(level, place)) {
+        Some(node) => add_ranges(&node.children, level, place, most, below),
+        None => Ok(()),
+    }
 }
 
 /// Adds the ranges of a node that stand and have an index from a length on.

@@ -13,9 +13,10 @@ ghost use Rattle.fv_tree.specs.Costs.{changes_in, pending};
 ghost use Rattle.fv_tree.specs.Calls.{PlacesChanged, PlacesOne};
 
 use crate::blocks::{Blocks, TreeFault};
-use crate::kept::{KeptCell, KeptNode, Tree};
+use crate::keep::empty_node;
+use crate::kept::{KeptNode, Tree};
 use crate::placing::{
-    all_known, first_cell, first_node, forget_cell, forget_node, replace, spelled,
+    FoundCell, all_known, first_cell, first_node, forget_cell, forget_node, replace, spell,
 };
 use fv_codec::Pointer;
 
@@ -24,8 +25,9 @@ fn flush_cells<B: Blocks>(tree: &mut Tree, blocks: &mut B) -> Result<(), TreeFau
     ensures none { OnOk result (maps.btree_map_len tree.new.cells ≡ 0) }
     ensures flushing { PlacesChanged B.told B.known B.shown B.goes B.keeps blocks.old blocks.new tree.old tree.new result }
 {
+    let mut block = [0; 4096];
     for _ in 0..tree.cells.len() {
-        flush_first_cell(tree, blocks)?;
+        flush_first_cell(tree, blocks, &mut block)?;
     }
     Ok(())
 }
@@ -37,22 +39,28 @@ fn flush_nodes<B: Blocks>(tree: &mut Tree, blocks: &mut B) -> Result<(), TreeFau
     ensures none { OnOk result (maps.btree_map_len tree.new.nodes ≡ 0) }
     ensures flushing { PlacesChanged B.told B.known B.shown B.goes B.keeps blocks.old blocks.new tree.old tree.new result }
 {
+    let mut node = empty_node();
+    let mut block = [0; 4096];
     for _ in 0..tree.nodes.len() {
-        flush_first_node(tree, blocks)?;
+        flush_first_node(tree, blocks, &mut node, &mut block)?;
     }
     Ok(())
 }
 
-/// Places the first cell in memory, where it changed.
-fn flush_first_cell<B: Blocks>(tree: &mut Tree, blocks: &mut B) -> Result<(), TreeFault>
+/// Places the first cell in memory, where it changed. Its content goes through `block`.
+fn flush_first_cell<B: Blocks>(
+    tree: &mut Tree,
+    blocks: &mut B,
+    block: &mut [u8; 4096],
+) -> Result<(), TreeFault>
     ensures fewer { OnOk result (maps.btree_map_len tree.new.cells ≡ maps.btree_map_len tree.old.cells - 1) }
     ensures flushing { PlacesChanged B.told B.known B.shown B.goes B.keeps blocks.old blocks.new tree.old tree.new result }
 {
-    match first_cell(tree) {
+    match first_cell(tree, block) {
         None => Ok(()),
-        Some((index, cell)) => {
-            flush_cell(tree, blocks, index, &cell)?;
-            forget_cell(tree, index);
+        Some(cell) => {
+            flush_cell(tree, blocks, &cell, block)?;
+            forget_cell(tree, cell.index);
             Ok(())
         }
     }
@@ -62,49 +70,55 @@ fn flush_first_cell<B: Blocks>(tree: &mut Tree, blocks: &mut B) -> Result<(), Tr
 fn flush_cell<B: Blocks>(
     tree: &mut Tree,
     blocks: &mut B,
-    index: u32,
-    cell: &KeptCell,
+    cell: &FoundCell,
+    block: &[u8; 4096],
 ) -> Result<(), TreeFault>
-    ensures cell { B.told → OnOk result (IsCellStep (B.shown blocks.old) tree.old index cell.now (B.shown blocks.new) tree.new) }
-    ensures keeps { B.told → (cell.now.changed ≡ true → NamesUsed (B.shown blocks.old) cell.now.placed (pointer_in tree.old 0 index)) → KeepsOthers (λ v. B.keeps v blocks.old blocks.new) (B.shown blocks.old) (B.shown blocks.new) }
+    ensures cell { B.told → OnOk result (IsCellStep (B.shown blocks.old) tree.old cell.now.index block.now cell.now.changed cell.now.placed (B.shown blocks.new) tree.new) }
+    ensures keeps { B.told → (cell.now.changed ≡ true → NamesUsed (B.shown blocks.old) cell.now.placed (pointer_in tree.old 0 cell.now.index)) → KeepsOthers (λ v. B.keeps v blocks.old blocks.new) (B.shown blocks.old) (B.shown blocks.new) }
     ensures still { HoldsAsMuch tree.old tree.new }
     ensures failed { OnErr result (tree.new ≡ tree.old) }
     ensures changed { OnErr result (cell.now.changed ≡ true) }
-    ensures changes { (cell.now.changed ≡ true → (pointer_in tree.old 0 index).stamp ≢ 0 → 0 < tree.old.levels → changed_in tree.old.nodes 1 (index / fan) ≡ true) → changes_in tree.new.nodes ≤ changes_in tree.old.nodes }
+    ensures changes { (cell.now.changed ≡ true → (pointer_in tree.old 0 cell.now.index).stamp ≢ 0 → 0 < tree.old.levels → changed_in tree.old.nodes 1 (cell.now.index / fan) ≡ true) → changes_in tree.new.nodes ≤ changes_in tree.old.nodes }
     ensures still_room { cell.now.changed ≡ false → (B.shown blocks.old).room ≤ (B.shown blocks.new).room }
     ensures one { PlacesOne B.known (B.goes blocks.old blocks.new) (B.shown blocks.old) (B.shown blocks.new) result }
 {
     if cell.changed {
-        replace(tree, blocks, (0, index), &cell.block, cell.placed, true)
+        replace(tree, blocks, (0, cell.index), block, cell.placed, true)
     } else {
         Ok(())
     }
 }
 
-/// Places the first node in memory, where it changed.
-fn flush_first_node<B: Blocks>(tree: &mut Tree, blocks: &mut B) -> Result<(), TreeFault>
+/// Places the first node in memory, where it changed. It goes through `node` and `block`.
+fn flush_first_node<B: Blocks>(
+    tree: &mut Tree,
+    blocks: &mut B,
+    node: &mut KeptNode,
+    block: &mut [u8; 4096],
+) -> Result<(), TreeFault>
     requires { maps.btree_map_len tree.old.cells ≡ 0 }
     ensures cells { tree.new.cells ≡ tree.old.cells }
     ensures fewer { OnOk result (maps.btree_map_len tree.new.nodes ≡ maps.btree_map_len tree.old.nodes - 1) }
     ensures flushing { PlacesChanged B.told B.known B.shown B.goes B.keeps blocks.old blocks.new tree.old tree.new result }
 {
-    match first_node(tree) {
+    match first_node(tree, node) {
         None => Ok(()),
-        Some(((level, place), node)) => {
-            flush_node(tree, blocks, level, place, &node)?;
+        Some((level, place)) => {
+            flush_node(tree, blocks, level, place, node, block)?;
             forget_node(tree, level, place);
             Ok(())
         }
     }
 }
 
-/// Places a node, where it changed and lies within the levels.
+/// Places a node, where it changed and lies within the levels. It is spelled in `block`.
 fn flush_node<B: Blocks>(
     tree: &mut Tree,
     blocks: &mut B,
     level: u8,
     place: u32,
     node: &KeptNode,
+    block: &mut [u8; 4096],
 ) -> Result<(), TreeFault>
     ensures node { B.told → OnOk result (IsNodeStep (B.shown blocks.old) tree.old level place node.now (B.shown blocks.new) tree.new) }
     ensures keeps { B.told → (1 ≤ level → node.now.changed ≡ true → NamesUsed (B.shown blocks.old) node.now.placed (pointer_in tree.old level place)) → KeepsOthers (λ v. B.keeps v blocks.old blocks.new) (B.shown blocks.old) (B.shown blocks.new) }
@@ -117,9 +131,9 @@ fn flush_node<B: Blocks>(
     ensures one { PlacesOne B.known (B.goes blocks.old blocks.new) (B.shown blocks.old) (B.shown blocks.new) result }
 {
     if node.changed && 1 <= level && level <= tree.levels {
-        let block = spelled(tree.owner, level, place, node);
+        spell(tree.owner, level, place, node, block);
         let known = all_known(&node.children);
-        replace(tree, blocks, (level, place), &block, node.placed, known)
+        replace(tree, blocks, (level, place), block, node.placed, known)
     } else {
         Ok(())
     }

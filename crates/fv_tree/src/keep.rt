@@ -1,12 +1,12 @@
 //! Holding the nodes over a cell in memory.
 
-ghost use Rattle.std.specs.Prelude.{◌≡◌, ◌≢◌, ◌≤◌, ◌<◌, ◌/◌, ◌+◌, ◌-◌, ◌^◌, ◌&&◌, ◌⊎◌, ℕ, true, false, is_some, cond, nat_eq, Some, IfOk, IfErr, OnOk, OnErr, get_or, length, replicate};
+ghost use Rattle.std.specs.Prelude.{◌≡◌, ◌≢◌, ◌≤◌, ◌<◌, ◌/◌, ◌+◌, ◌-◌, ◌^◌, ◌&&◌, ◌⊎◌, ℕ, true, false, is_some, cond, nat_eq, Some, IfOk, IfErr, OnOk, OnErr, replicate};
 ghost use Rattle.std.specs.List.{All};
 ghost use Rattle.fv_codec.specs.Blocks.{IsPointer};
 ghost use Rattle.fv_model.specs.Trees.{fan};
-ghost use Rattle.fv_tree.specs.Spelled.{hole, pointers_at, pointer_at};
+ghost use Rattle.fv_tree.specs.Spelled.{hole, pointer_at};
 ghost use Rattle.fv_tree.specs.Standing.{standing, under, node_in, IsSameBut, LoadFails};
-ghost use Rattle.fv_tree.specs.Keeping.{IsKept, Keeps, KeepsBelow};
+ghost use Rattle.fv_tree.specs.Keeping.{IsKept, Keeps, KeepsBelow, Spells};
 ghost use Rattle.fv_tree.specs.Flushing.{placed_in, pointer_in};
 ghost use Rattle.fv_tree.specs.Carried.{kept_at, Brings, IsBlank};
 ghost use Rattle.fv_tree.specs.Readying.{HoldsWay, IsChildOver, KeepsReady};
@@ -18,7 +18,8 @@ ghost use Rattle.fv_disk.specs.declared.fault.BlockFault.TheVariants.{Memory};
 
 use crate::blocks::{Blocks, TreeFault};
 use crate::kept::{HOLE, KeptNode, Tree};
-use crate::sizes::{FAN, width};
+use crate::placing::pointer_in;
+use crate::sizes::width;
 use crate::way::load_node;
 use fv_codec::Pointer;
 
@@ -69,54 +70,43 @@ fn keep_step<B: Blocks>(
     ensures loading { Loading B.told (B.reads blocks.old blocks.new) (B.shown blocks.old) (B.shown blocks.new) tree.old tree.new result }
 {
     let place = index / width(level);
-    let slot = index / width(level - 1) % FAN;
-    let children = keep_node(tree, blocks, level, place, pointer)?;
-    Ok(children[slot as usize])
+    keep_node(tree, blocks, level, place, pointer)?;
+    Ok(pointer_in(tree, level - 1, index / width(level - 1)))
 }
 
-/// Holds the node of a position, to which a pointer leads, in memory, and answers its pointers.
+/// Holds the node of a position, to which a pointer leads, in memory.
 pub fn keep_node<B: Blocks>(
     tree: &mut Tree,
     blocks: &mut B,
     level: u8,
     place: u32,
     pointer: &Pointer,
-) -> Result<[Pointer; 128], TreeFault>
+) -> Result<(), TreeFault>
     ensures keeps { B.told → Keeps (standing (under (B.shown blocks.old)) tree.old) (standing (under (B.shown blocks.new)) tree.new) level place pointer.now }
-    ensures children { B.told → IfOk result (λ xs. (slot : ℕ) → get_or xs slot hole ≡ get_or (pointers_at (standing (under (B.shown blocks.old)) tree.old) level place pointer.now) slot hole) }
+    ensures spells { OnOk result (Spells B.told (standing (under (B.shown blocks.old)) tree.old) (standing (under (B.shown blocks.new)) tree.new) level place pointer.now) }
     ensures brings { B.told → Brings (under (B.shown blocks.old)) tree.old tree.new level place pointer.now }
     ensures blank { OnOk result (pointer.now.stamp ≡ 0 → IsBlank (kept_at tree.new level place)) }
     ensures others { (k q : ℕ) → (k ≢ level) ⊎ (q ≢ place) → kept_at tree.new k q ≡ kept_at tree.old k q }
     ensures stays { pointer.now.stamp ≢ 0 → is_some (kept_at tree.old level place) ≡ true → kept_at tree.new level place ≡ kept_at tree.old level place }
     ensures held { is_some (kept_at tree.old level place) ≡ true → IfErr result (λ e. e ≡ Memory) }
     ensures fields { IsSameBut tree.old tree.new }
-    ensures long { IfOk result (λ xs. length xs ≡ 128) }
     ensures changes { changes_in tree.new.nodes ≤ changes_in tree.old.nodes }
-    ensures kept { IfOk result (λ xs. (standing (under (B.shown blocks.new)) tree.new).nodes level place ≡ Some xs) }
     ensures loads { LoadsFrom (B.reads blocks.old blocks.new) (LoadFails B.told (B.shown blocks.old) (B.shown blocks.new) pointer.now) (B.shown blocks.old) (B.shown blocks.new) result }
 {
     if pointer.stamp == 0 {
         return keep(tree, level, place, empty_node());
     }
-    match tree.nodes.get(&(level, place)) {
-        Some(node) => Ok(node.children),
-        None => {
-            let node = load_node(blocks, pointer)?;
-            keep(tree, level, place, read_node(node.children))
-        }
+    if tree.nodes.contains_key(&(level, place)) {
+        return Ok(());
     }
+    let node = load_node(blocks, pointer)?;
+    keep(tree, level, place, read_node(node.children))
 }
 
-/// Puts a node into memory, and answers its pointers.
-pub fn keep(
-    tree: &mut Tree,
-    level: u8,
-    place: u32,
-    node: KeptNode,
-) -> Result<[Pointer; 128], TreeFault>
+/// Puts a node into memory.
+pub fn keep(tree: &mut Tree, level: u8, place: u32, node: KeptNode) -> Result<(), TreeFault>
     ensures fields { IsSameBut tree.old tree.new }
     ensures node { OnOk result ((k q : ℕ) → node_in tree.new k q ≡ cond (nat_eq k level && nat_eq q place) (Some node.children) (node_in tree.old k q)) }
-    ensures children { IfOk result (λ xs. xs ≡ node.children) }
     ensures failed { OnErr result ((k q : ℕ) → node_in tree.new k q ≡ node_in tree.old k q) }
     ensures kept { OnOk result ((k q : ℕ) → kept_at tree.new k q ≡ cond (nat_eq k level && nat_eq q place) (Some node) (kept_at tree.old k q)) }
     ensures same { OnErr result ((k q : ℕ) → kept_at tree.new k q ≡ kept_at tree.old k q) }
@@ -124,9 +114,8 @@ pub fn keep(
     ensures unchanged { node.changed ≡ false → changes_in tree.new.nodes ≤ changes_in tree.old.nodes }
     ensures memory { IfErr result (λ e. e ≡ Memory) }
 {
-    let children = node.children;
     match tree.nodes.insert((level, place), node) {
-        Ok(_) => Ok(children),
+        Ok(_) => Ok(()),
         Err(_) => Err(TreeFault::Memory),
     }
 }

@@ -25,11 +25,11 @@ pub struct KeptNode {
     ghost some: { changed ≡ true → all_holes children ≡ false },
 }
 
-/// A cell in memory.
-#[derive(Clone, Copy)]
+/// A cell in memory. Its content lies in a box, so that a map of cells moves no block.
+#[derive(Drop)]
 pub struct KeptCell {
     /// Its content.
-    pub block: [u8; 4096],
+    pub block: Box<[u8; 4096]>,
     /// Whether it differs from its block.
     pub changed: bool,
     /// Whether the pointer to it leads to a block that it replaces.

@@ -10,6 +10,7 @@ mod cut;
 mod erase;
 mod flush;
 mod grow;
+mod holding;
 mod keep;
 mod kept;
 mod next;

@@ -10,34 +10,56 @@ ghost use Rattle.fv_tree.specs.Sources.{Drops, IsCalm, IsKind, IsUntouched};
 ghost use Rattle.fv_tree.specs.Standing.{children_in};
 ghost use Rattle.fv_tree.specs.Costs.{cells_changed, changes_in};
 ghost use Rattle.fv_tree.specs.Flushing.{all_known, cell_changed, changed_in, is_unknown, kind_for, placed_in, pointer_in, ForgetsCell, ForgetsNode, HoldsAsMuch, IsHidden, IsMoved, KeepsOthers, NamesUsed, Points, Swaps};
+ghost use Rattle.fv_tree.specs.Readying.{HasCell};
 ghost use Rattle.fv_tree.specs.Calls.{PlacesOne};
 
 use crate::blocks::{Blocks, Placed, TreeFault};
-use crate::kept::{HOLE, KeptCell, KeptNode, Tree};
+use crate::kept::{HOLE, KeptNode, Tree};
 use crate::sizes::FAN;
 use fv_codec::{Node, Pointer};
 use std::collections::BTreeMap;
 
-/// The cell in memory with the least index.
-pub fn first_cell(tree: &Tree) -> Option<(u32, KeptCell)>
-    ensures there { IfSome result (λ e. maps.get nat_cmp tree.now.cells e.0 ≡ Some e.1) }
+/// What a flush asks of a cell in memory beside its content.
+#[derive(Clone, Copy)]
+pub struct FoundCell {
+    /// Its index.
+    pub index: u32,
+    /// Whether it differs from its block.
+    pub changed: bool,
+    /// Whether the pointer to it leads to a block that it replaces.
+    pub placed: bool,
+}
+
+/// The cell in memory with the least index, whose content is copied.
+pub fn first_cell(tree: &Tree, into: &mut [u8; 4096]) -> Option<FoundCell>
+    ensures there { IfSome result (λ e. HasCell (maps.get nat_cmp tree.now.cells e.index) into.new e.changed e.placed) }
     ensures none { IfNone result (maps.btree_map_len tree.now.cells ≡ 0) }
 {
     match tree.cells.first_key_value() {
         None => None,
-        Some((index, cell)) => Some((*index, *cell)),
+        Some((index, cell)) => {
+            *into = *cell.block;
+            Some(FoundCell {
+                index: *index,
+                changed: cell.changed,
+                placed: cell.placed,
+            })
+        }
     }
 }
 
-/// The first node of the lowest level in memory.
-pub fn first_node(tree: &Tree) -> Option<((u8, u32), KeptNode)>
-    ensures there { IfSome result (λ e. maps.get spot_cmp tree.now.nodes e.0 ≡ Some e.1) }
+/// The first node of the lowest level in memory, which is copied.
+pub fn first_node(tree: &Tree, into: &mut KeptNode) -> Option<(u8, u32)>
+    ensures there { IfSome result (λ e. maps.get spot_cmp tree.now.nodes e ≡ Some into.new) }
     ensures none { IfNone result (maps.btree_map_len tree.now.nodes ≡ 0) }
-    ensures lowest { IfSome result (λ e. (k q : ℕ) → k < e.0.0 → maps.get spot_cmp tree.now.nodes (k, q) ≡ None) }
+    ensures lowest { IfSome result (λ e. (k q : ℕ) → k < e.0 → maps.get spot_cmp tree.now.nodes (k, q) ≡ None) }
 {
     match tree.nodes.first_key_value() {
         None => None,
-        Some((spot, node)) => Some((*spot, *node)),
+        Some((spot, node)) => {
+            *into = *node;
+            Some(*spot)
+        }
     }
 }
 
@@ -61,22 +83,20 @@ pub fn forget_node(tree: &mut Tree, level: u8, place: u32)
     let _ = tree.nodes.remove(&(level, place));
 }
 
-/// The block of a node that changed.
-pub fn spelled(owner: u64, level: u8, place: u32, node: &KeptNode) -> [u8; 4096]
+/// Spells a node that changed.
+pub fn spell(owner: u64, level: u8, place: u32, node: &KeptNode, into: &mut [u8; 4096])
     requires low { 1 ≤ level }
     requires high { level ≤ 3 }
     requires changed { node.now.changed ≡ true }
-    ensures { node_at result ≡ Ok (record { level = level; owner = owner; place = place; children = node.now.children }) }
+    ensures { node_at into.new ≡ Ok (record { level = level; owner = owner; place = place; children = node.now.children }) }
 {
-    let mut block = [0; 4096];
     let spelled = Node {
         level,
         owner,
         place: u64::from(place),
         children: node.children,
     };
-    spelled.encode(&mut block);
-    block
+    spelled.encode(into);
 }
 
 /// Whether no pointer is an unknown one.

@@ -1,7 +1,8 @@
 //! Reading a cell with the place where it was read.
 
-ghost use Rattle.std.specs.Prelude.{◌≡◌, ◌≤◌, ◌+◌, ◌==◌, ℕ, Option, Some, None, is_some, not, true, IfOk, IfErr, OnOk, OnErr};
+ghost use Rattle.std.specs.Prelude.{◌≡◌, ◌≤◌, ◌+◌, ◌==◌, ℕ, Option, Some, None, is_some, not, true, IfOk, IfErr, IfSome, OnOk, OnErr};
 ghost use Rattle.std.specs.Option.{option_map};
+ghost use Rattle.fv_codec.specs.Forms.{has_form};
 ghost use Rattle.fv_tree.specs.Spelled.{pointer_at, block_at};
 ghost use Rattle.fv_tree.specs.Sources.{Counts, IsUntouched};
 ghost use Rattle.fv_tree.specs.Standing.{standing, under, cell_in, Fails, PointerFails};
@@ -12,7 +13,7 @@ ghost use Rattle.fv_tree.specs.Readying.{IsReady};
 use crate::blocks::{Blocks, TreeFault};
 use crate::kept::Tree;
 use crate::way::find;
-use fv_codec::Pointer;
+use fv_codec::{Form, Pointer, has_form};
 
 impl Tree {
     /// The content of the cell at `index`, and the PVBN where it was read, or 0 for one that is in memory or isn't
@@ -41,6 +42,35 @@ impl Tree {
         let pointer = find(self, blocks, index)?;
         read_pointed(self, blocks, index, &pointer, into)
     }
+
+    /// As `read`, and tells whether the cell's block has a form: whether it spells a node, or an inode block. For a hole
+    /// and at `Err` `has` is open.
+    ///
+    /// # Errors
+    ///
+    /// As `get`.
+    pub fn read_as<B: Blocks>(
+        &self,
+        blocks: &mut B,
+        index: u32,
+        form: Form,
+        into: &mut [u8; 4096],
+        has: &mut bool,
+    ) -> Result<Option<u32>, TreeFault>
+        ensures cell { B.told → IfOk result (λ at. block_at (standing (under (B.shown blocks.old)) self.now) index ≡ option_map (λ (place : ℕ). into.new) at) }
+        ensures form { IfOk result (λ at. IfSome at (λ place. has.new ≡ has_form form into.new)) }
+        ensures place { B.told → IfOk result (λ at. (place : ℕ) → at ≡ Some place → place ≡ cell_read_at (standing (under (B.shown blocks.old)) self.now) (B.shown blocks.new) index) }
+        ensures spent { B.told → OnOk result ((B.shown blocks.new).spent ≡ (B.shown blocks.old).spent + way_cost (B.shown blocks.old).cost (standing (under (B.shown blocks.old)) self.now) index) }
+        ensures few { self.now.levels ≤ 3 }
+        ensures held { IsReady self.now index → OnErr result ⊥ }
+        ensures untouched { IsUntouched (B.shown blocks.old) (B.shown blocks.new) }
+        ensures reads { B.reads blocks.old blocks.new }
+        ensures counts { Counts (B.shown blocks.old) (B.shown blocks.new) result }
+        ensures cause { IfErr result (Fails B.told (standing (under (B.shown blocks.old)) self.now) (B.shown blocks.old) (B.shown blocks.new)) }
+    {
+        let pointer = find(self, blocks, index)?;
+        read_pointed_as(self, blocks, index, &pointer, form, into, has)
+    }
 }
 
 /// Copies a cell's content from memory, or loads it.
@@ -68,11 +98,50 @@ pub fn read_pointed<B: Blocks>(
     }
     match tree.cells.get(&index) {
         Some(cell) => {
-            *into = cell.block;
+            *into = *cell.block;
             Ok(Some(0))
         }
         None => {
             let at = blocks.load(pointer, into)?;
+            Ok(Some(at))
+        }
+    }
+}
+
+/// Copies a cell's content from memory, or loads it, and tells whether it has a form.
+#[tactic(auto, unfolding(crate::specs::Spelled::block_at))]
+fn read_pointed_as<B: Blocks>(
+    tree: &Tree,
+    blocks: &mut B,
+    index: u32,
+    pointer: &Pointer,
+    form: Form,
+    into: &mut [u8; 4096],
+    has: &mut bool,
+) -> Result<Option<u32>, TreeFault>
+    requires pointer { B.told → pointer.now ≡ pointer_at (standing (under (B.shown blocks.old)) tree.now) 0 index }
+    ensures cell { B.told → IfOk result (λ at. block_at (standing (under (B.shown blocks.old)) tree.now) index ≡ option_map (λ (place : ℕ). into.new) at) }
+    ensures form { IfOk result (λ at. IfSome at (λ place. has.new ≡ has_form form into.new)) }
+    ensures place { B.told → IfOk result (λ at. (place : ℕ) → at ≡ Some place → place ≡ cell_read_at (standing (under (B.shown blocks.old)) tree.now) (B.shown blocks.new) index) }
+    ensures spent { OnOk result ((B.shown blocks.new).spent ≡ (B.shown blocks.old).spent + load_cost (B.shown blocks.old).cost (is_some (cell_in tree.now index)) pointer.now) }
+    ensures there { IfOk result (λ at. is_some at ≡ not (pointer.now.stamp == 0)) }
+    ensures held { is_some (cell_in tree.now index) ≡ true → OnErr result ⊥ }
+    ensures untouched { IsUntouched (B.shown blocks.old) (B.shown blocks.new) }
+    ensures reads { B.reads blocks.old blocks.new }
+    ensures counts { Counts (B.shown blocks.old) (B.shown blocks.new) result }
+    ensures cause { IfErr result (PointerFails (B.shown blocks.old) (B.shown blocks.new) pointer.now) }
+{
+    if pointer.stamp == 0 {
+        return Ok(None);
+    }
+    match tree.cells.get(&index) {
+        Some(cell) => {
+            *into = *cell.block;
+            *has = has_form(into, form);
+            Ok(Some(0))
+        }
+        None => {
+            let at = blocks.load_as(pointer, form, into, has)?;
             Ok(Some(at))
         }
     }

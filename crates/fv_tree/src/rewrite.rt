@@ -3,8 +3,6 @@
 ghost use Rattle.std.specs.Prelude.{◌≡◌, ◌≢◌, ◌≤◌, ◌+◌, ℕ, true, is_some, cond, nat_eq, Some, IfOk, IfErr, OnOk, OnErr};
 ghost use Rattle.std.specs.BTreeMap as maps;
 ghost use Rattle.std.specs.Ordering.{nat_cmp};
-ghost use Rattle.std.specs.Option.{option_map};
-ghost use Rattle.fv_tree.specs.declared.kept.KeptCell.{KeptCell};
 ghost use Rattle.fv_tree.specs.Spelled.{Under, pointer_at, stamp_in, block_at};
 ghost use Rattle.fv_tree.specs.Standing.{standing, under, cell_in, IsSameButCells};
 ghost use Rattle.fv_tree.specs.Writing.{IsAlike, IsWritten, Remains, Writes};
@@ -20,9 +18,8 @@ use crate::keep::keep_path;
 use crate::kept::{KeptCell, Tree};
 use crate::read::read_pointed;
 use crate::sizes::width;
-use crate::write::stamp_path;
+use crate::write::{boxed, set_content, stamp_path};
 use fv_codec::Pointer;
-use std::collections::BTreeMap;
 
 impl Tree {
     /// Holds the cell at `index` and the nodes over it in memory, so that `rewrite` or `erase` can follow, which can't
@@ -87,6 +84,9 @@ fn ready_cell<B: Blocks>(tree: &mut Tree, blocks: &mut B, index: u32) -> Result<
     if pointer.stamp == 0 {
         return Ok(false);
     }
+    if tree.cells.contains_key(&index) {
+        return Ok(true);
+    }
     let mut content = [0; 4096];
     read_pointed(tree, blocks, index, &pointer, &mut content)?;
     hold_cell(tree, index, &content)?;
@@ -105,8 +105,9 @@ fn hold_cell(tree: &mut Tree, index: u32, block: &[u8; 4096]) -> Result<(), Tree
     if tree.cells.contains_key(&index) {
         return Ok(());
     }
+    let block = boxed(tree, block)?;
     let cell = KeptCell {
-        block: *block,
+        block,
         changed: false,
         placed: true,
     };
@@ -122,7 +123,7 @@ fn copy_cell(tree: &Tree, index: u32, into: &mut [u8; 4096])
     ensures cell { cell_in tree.now index ≡ Some into.new }
 {
     if let Some(cell) = tree.cells.get(&index) {
-        *into = cell.block;
+        *into = *cell.block;
     }
 }
 
@@ -137,21 +138,5 @@ fn put_content(tree: &mut Tree, index: u32, block: &[u8; 4096])
     ensures own { cell_placed (maps.get nat_cmp tree.new.cells index) ≡ cell_placed (maps.get nat_cmp tree.old.cells index) }
     ensures others { (i : ℕ) → i ≢ index → maps.get nat_cmp tree.new.cells i ≡ maps.get nat_cmp tree.old.cells i }
 {
-    set_content(&mut tree.cells, index, block);
-}
-
-/// Puts another content over that of a cell in memory.
-fn set_content(cells: &mut BTreeMap<u32, KeptCell>, index: u32, block: &[u8; 4096])
-    requires there { is_some (maps.get nat_cmp cells.old index) ≡ true }
-    ensures count { cells_changed cells.new ≤ cells_changed cells.old + 1 }
-    ensures len { maps.btree_map_len cells.new ≡ maps.btree_map_len cells.old }
-    ensures changed { cell_changed (maps.get nat_cmp cells.new index) ≡ true }
-    ensures content { (i : ℕ) → option_map (λ (kept : KeptCell). kept.block) (maps.get nat_cmp cells.new i) ≡ cond (nat_eq i index) (Some block.now) (option_map (λ (kept : KeptCell). kept.block) (maps.get nat_cmp cells.old i)) }
-    ensures own { cell_placed (maps.get nat_cmp cells.new index) ≡ cell_placed (maps.get nat_cmp cells.old index) }
-    ensures others { (i : ℕ) → i ≢ index → maps.get nat_cmp cells.new i ≡ maps.get nat_cmp cells.old i }
-{
-    if let Some(cell) = cells.get_mut(&index) {
-        cell.block = *block;
-        cell.changed = true;
-    }
+    set_content(&mut tree.cells, index, block, true);
 }

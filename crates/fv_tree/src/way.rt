@@ -13,7 +13,7 @@ ghost use Rattle.fv_tree.specs.Calls.{LoadsFrom};
 use crate::blocks::{Blocks, TreeFault};
 use crate::kept::{HOLE, Tree};
 use crate::sizes::{FAN, width};
-use fv_codec::{Node, Pointer};
+use fv_codec::{Form, Node, Pointer};
 
 /// The pointer to a cell.
 pub fn find<B: Blocks>(tree: &Tree, blocks: &mut B, index: u32) -> Result<Pointer, TreeFault>
@@ -92,9 +92,37 @@ fn child<B: Blocks>(
     match tree.nodes.get(&(level, place)) {
         Some(node) => Ok(node.children[slot as usize]),
         None => {
-            let node = load_node(blocks, pointer)?;
-            Ok(node.children[slot as usize])
+            let child = load_child(blocks, slot, pointer)?;
+            Ok(child)
         }
+    }
+}
+
+/// One pointer of the node to which a pointer leads, whatever position its block names. Of a block that spells a node it
+/// reads that pointer alone.
+fn load_child<B: Blocks>(blocks: &mut B, slot: u32, pointer: &Pointer) -> Result<Pointer, TreeFault>
+    requires slot { slot < fan }
+    requires some { pointer.now.stamp ≢ 0 }
+    ensures child { B.told → IfOk result (λ p. get_or (pointers_in (under (B.shown blocks.old) pointer.now.vvbn)) slot hole ≡ p) }
+    ensures spent { OnOk result ((B.shown blocks.new).spent ≡ (B.shown blocks.old).spent + (B.shown blocks.old).cost pointer.now) }
+    ensures untouched { IsUntouched (B.shown blocks.old) (B.shown blocks.new) }
+    ensures reads { B.reads blocks.old blocks.new }
+    ensures counts { Counts (B.shown blocks.old) (B.shown blocks.new) result }
+    ensures cause { IfErr result (LoadFails B.told (B.shown blocks.old) (B.shown blocks.new) pointer.now) }
+{
+    let mut block = [0; 4096];
+    let mut is_node = false;
+    let at = blocks.load_as(pointer, Form::Node, &mut block, &mut is_node)?;
+    if is_node {
+        return Ok(Node::child(&block, slot));
+    }
+    match Node::decode(&block) {
+        Ok(node) => Ok(node.children[slot as usize]),
+        Err(shape) => Err(TreeFault::Damaged {
+            at: u64::from(at),
+            want: shape.want,
+            found: shape.found,
+        }),
     }
 }
 

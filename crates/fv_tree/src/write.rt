@@ -1,10 +1,11 @@
 //! Writing a cell: its content, and the stamps on the way to it.
 
-ghost use Rattle.std.specs.Prelude.{◌≡◌, ◌≢◌, ◌≤◌, ◌<◌, ◌+◌, ◌-◌, ◌/◌, ◌^◌, ◌⊎◌, ◌&&◌, ℕ, true, is_some, cond, nat_eq, Some, IfErr, OnOk, OnErr};
+ghost use Rattle.std.specs.Prelude.{◌≡◌, ◌≢◌, ◌≤◌, ◌<◌, ◌+◌, ◌-◌, ◌/◌, ◌^◌, ◌⊎◌, ◌&&◌, ℕ, true, is_some, cond, nat_eq, Some, IfOk, IfErr, OnOk, OnErr};
 ghost use Rattle.std.specs.BTreeMap as maps;
 ghost use Rattle.std.specs.Ordering.{nat_cmp};
 ghost use Rattle.std.specs.Option.{option_map};
 ghost use Rattle.fv_model.specs.Trees.{fan, spot_cmp};
+ghost use Rattle.fv_tree.specs.declared.kept.KeptCell.{KeptCell};
 ghost use Rattle.fv_tree.specs.Standing.{standing, under, children_in, cell_in, IsSameButCells};
 ghost use Rattle.fv_tree.specs.Spelled.{Under};
 ghost use Rattle.fv_tree.specs.Flushing.{cell_changed, cell_placed, changed_in, changed_of, loaded, loaded_over, placed_in};
@@ -42,15 +43,61 @@ pub fn keep_cell(
     ensures held { cells_held tree.new ≤ cells_held tree.old + 1 }
     ensures memory { IfErr result (λ e. e ≡ Memory) }
 {
+    if tree.cells.contains_key(&index) {
+        set_content(&mut tree.cells, index, block, placed);
+        return Ok(());
+    }
+    let block = boxed(tree, block)?;
     let cell = KeptCell {
-        block: *block,
+        block,
         changed: true,
-        placed: placed && is_placed(tree, index),
+        placed,
     };
     match tree.cells.insert(index, cell) {
         Ok(_) => Ok(()),
         Err(_) => Err(TreeFault::Memory),
     }
+}
+
+/// A block in a box of its own.
+pub fn boxed(tree: &Tree, block: &[u8; 4096]) -> Result<Box<[u8; 4096]>, TreeFault>
+    ensures content { IfOk result (λ made. made.value ≡ block.now) }
+    ensures memory { IfErr result (λ e. e ≡ Memory) }
+{
+    match Box::new(tree.alloc, *block) {
+        Ok(made) => Ok(made),
+        Err(_) => Err(TreeFault::Memory),
+    }
+}
+
+/// Puts another content over that of a cell in memory, where it lies. The pointer to it still leads to a block that it
+/// replaces only where `placed` says so, too.
+pub fn set_content(
+    cells: &mut BTreeMap<u32, KeptCell>,
+    index: u32,
+    block: &[u8; 4096],
+    placed: bool,
+)
+    requires there { is_some (maps.get nat_cmp cells.old index) ≡ true }
+    ensures count { cells_changed cells.new ≤ cells_changed cells.old + 1 }
+    ensures len { maps.btree_map_len cells.new ≡ maps.btree_map_len cells.old }
+    ensures changed { cell_changed (maps.get nat_cmp cells.new index) ≡ true }
+    ensures content { (i : ℕ) → option_map (λ (kept : KeptCell). kept.block.value) (maps.get nat_cmp cells.new i) ≡ cond (nat_eq i index) (Some block.now) (option_map (λ (kept : KeptCell). kept.block.value) (maps.get nat_cmp cells.old i)) }
+    ensures own { cell_placed (maps.get nat_cmp cells.new index) ≡ (placed && cell_placed (maps.get nat_cmp cells.old index)) }
+    ensures others { (i : ℕ) → i ≢ index → maps.get nat_cmp cells.new i ≡ maps.get nat_cmp cells.old i }
+{
+    if let Some(cell) = cells.get_mut(&index) {
+        *cell.block = *block;
+        cell.changed = true;
+        cell.placed = still_placed(placed, cell.placed);
+    }
+}
+
+/// Whether a pointer leads to a block that is replaced, where it did so before.
+fn still_placed(placed: bool, before: bool) -> bool
+    ensures { result ≡ (placed && before) }
+{
+    placed && before
 }
 
 /// Whether the pointer to a cell, where there is one, leads to a block.

@@ -6,7 +6,7 @@ ghost use Rattle.fv_disk.specs.Shown.{Rose};
 ghost use Rattle.fv_disk.specs.declared.fault.BlockFault.TheVariants.{DiskFault};
 ghost use Rattle.fv_tree_rows.specs.InMemory.{shown_in_memory, in_memory_is_source};
 
-use fv_codec::Pointer;
+use fv_codec::{Form, Pointer, has_form};
 use fv_tree::{Blocks, Placed, Sharing, TreeFault};
 use std::alloc::{AllocError, Global};
 use std::collections::BTreeMap;
@@ -209,6 +209,18 @@ impl Blocks for MemBlocks {
         }
         self.loads += 1;
         Ok(vvbn + 1)
+    }
+
+    fn load_as(
+        &mut self,
+        pointer: &Pointer,
+        form: Form,
+        into: &mut [u8; 4096],
+        has: &mut bool,
+    ) -> Result<u32, TreeFault> {
+        let at = self.load(pointer, into)?;
+        *has = has_form(into, form);
+        Ok(at)
     }
 
     fn place(&mut self, kind: u8, block: &[u8; 4096]) -> Result<Placed, TreeFault> {

@@ -3,7 +3,7 @@
 ghost use Rattle.std.specs.Prelude.{◌≡◌};
 ghost use Rattle.fv_tree_rows.specs.Silence.{shown_in_silence, silence_is_source};
 
-use fv_codec::Pointer;
+use fv_codec::{Form, Pointer, has_form};
 use fv_tree::{Blocks, Placed, TreeFault};
 
 /// A source that tells nothing: a load gives the same block under each pointer, and none is placed.
@@ -52,6 +52,18 @@ impl Blocks for Silent {
     fn load(&mut self, pointer: &Pointer, into: &mut [u8; 4096]) -> Result<u32, TreeFault> {
         *into = self.block;
         Ok(0)
+    }
+
+    fn load_as(
+        &mut self,
+        pointer: &Pointer,
+        form: Form,
+        into: &mut [u8; 4096],
+        has: &mut bool,
+    ) -> Result<u32, TreeFault> {
+        let at = self.load(pointer, into)?;
+        *has = has_form(into, form);
+        Ok(at)
     }
 
     fn place(&mut self, kind: u8, block: &[u8; 4096]) -> Result<Placed, TreeFault> {

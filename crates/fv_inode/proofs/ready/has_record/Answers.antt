@@ -1,15 +1,20 @@
-use Rattle.std.proofs.Common.{◌%◌, sym, ap, ◌∙◌, arith}
+use Rattle.std.proofs.Common.{◌%◌, sym, ap, ◌∙◌}
 use Rattle.std.specs.Prelude.{is_some}
-use Rattle.std.proofs.lemmas.List.{get_or_default}
-use Rattle.fv_tables.specs.Told.{free_record, used_record}
-use Rattle.fv_tree.specs.Standing.{standing}
-use Rattle.fv_inode.proofs.Slots.{own_record}
+use Rattle.fv_tables.specs.Told.{free_record}
 use Rattle.fv_inode.proofs.Readied.{in_use}
+use Rattle.fv_inode.proofs.Single.{single, none_formed, own_single, held_in}
 use Rattle.fv_inode.proofs.ready.has_record.Goals as goal
+
+pub returns-then-not-has_form : goal.returns-then-not-has_form
+returns-then-not-has_form c = λ blocks.
+    let n = c.args.number in
+    let block = c.content.new.into in
+    ap is_some (held_in c.args.tree.now n block c.requires.ready c.content.ensures.memory blocks ∙ none_formed block (n % 16) (sym c.has_form.ensures ∙ c.if-not-has_form.true))
 
 pub returns : goal.returns
 returns c = λ blocks.
     let n = c.args.number in
-    let files = c.held_files-files.result in
-    ap is_some (sym (own_record (standing blocks c.args.tree.now) n files (c.held_files-files.ensures.files blocks)) ∙ ap used_record (sym (get_or_default files (n % 16) _ free_record (omega (arith, c.held_files-files.ensures.long)))))
-    ∙ in_use _
+    let block = c.content.new.into in
+    let one = single block (n % 16) c.record.result (sym c.has_form.ensures ∙ c.if-not-has_form.false) (c.record.ensures.file free_record) in
+    ap is_some (held_in c.args.tree.now n block c.requires.ready c.content.ensures.memory blocks ∙ own_single block (n % 16) c.record.result one)
+    ∙ in_use c.record.result

@@ -1,4 +1,4 @@
-use Rattle.std.proofs.Common.{◌≡◌, ◌%◌, sym, ap, ◌∙◌, arith}
+use Rattle.std.proofs.Common.{◌≡◌, ◌%◌, true, sym, ap, ◌∙◌, arith}
 use Rattle.std.specs.Prelude.{is_some, not, ◌==◌, IfOk}
 use Rattle.std.proofs.lemmas.Result.{err_from_is_err_and}
 use Rattle.std.proofs.lemmas.List.{get_or_default}
@@ -7,9 +7,10 @@ use Rattle.fv_tree.specs.Standing.{standing, under}
 use Rattle.fv_tree.specs.Altering.{Leaves}
 use Rattle.fv_tree.specs.Flushing.{loaded}
 use Rattle.fv_tree.specs.Writing.{IsAlike}
-use Rattle.fv_inode.proofs.Looked.{earlier, later, loaded_as, loads_leaves, looks_done, loads_none, loads_then, loads_none_failed}
+use Rattle.fv_tree.proofs.Altered.{leaves_itself}
+use Rattle.fv_inode.proofs.Looked.{earlier, later, loaded_as, loads_leaves, looks_done, looks_self, loads_none, loads_then, loads_none_failed}
 use Rattle.fv_inode.proofs.Slots.{own_record}
-use Rattle.fv_inode.proofs.Readied.{in_use}
+use Rattle.fv_inode.proofs.Readied.{held_record, in_use}
 use Rattle.fv_inode.proofs.Alike.{alike_itself}
 use Rattle.fv_inode.proofs.ready.ready_file.Goals as goal
 
@@ -62,3 +63,20 @@ returns-then-files-number-eq0-clause-leaves g c = λ told. loads_leaves c.args.t
 pub returns-clause-leaves : goal.returns-clause-leaves
 returns-clause-leaves g c = λ told.
     earlier (λ v. Leaves (loaded_as c.args.tree.now v) (loaded (g.B.Blocks.shown c.hold.new.blocks) c.hold.new.tree)) c.args.tree.now (g.B.Blocks.shown c.args.blocks.now) (g.B.Blocks.shown c.read_files.new.blocks) c.in_ok-files.ensures.looks.untouched.held (c.hold.ensures.leaves told)
+
+pub returns-then-holds_file-clause-there : goal.returns-then-holds_file-clause-there
+returns-then-holds_file-clause-there g c = λ told.
+    let holds = c.holds_file.ensures c.if-holds_file.true in
+    ap is_some (held_record (under (g.B.Blocks.shown c.args.blocks.now)) c.args.tree.now c.args.number holds.way) ∙ holds.used
+
+pub returns-then-holds_file-clause-alike : goal.returns-then-holds_file-clause-alike
+returns-then-holds_file-clause-alike g c = λ told. alike_itself _
+
+pub returns-then-holds_file-clause-loads : goal.returns-then-holds_file-clause-loads
+returns-then-holds_file-clause-loads g c =
+    let old = g.B.Blocks.shown c.args.blocks.now in
+    let t = standing (under old) c.args.tree.now in
+    loads_none g.B.Blocks.told c.args.tree.now old old _ (looks_done g.B.Blocks.told t old old (tt {0}) true (looks_self g.B.Blocks.told t old))
+
+pub returns-then-holds_file-clause-leaves : goal.returns-then-holds_file-clause-leaves
+returns-then-holds_file-clause-leaves g c = λ told. leaves_itself _

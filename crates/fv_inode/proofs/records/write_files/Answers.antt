@@ -8,4 +8,4 @@ returns-clause-loads g c =
 
 pub returns-clause-written : goal.returns-clause-written
 returns-clause-written g c = λ told.
-    both_ok c.put.result (c.put.ensures.written told) (c.put.ensures.place_by_place told) (λ written place_by_place. record { block = c.spelled-block.result; spelled = c.spelled-block.ensures; written = written; place_by_place = place_by_place })
+    both_ok c.put.result (c.put.ensures.written told) (c.put.ensures.place_by_place told) (λ written place_by_place. record { block = c.spell.new.into; spelled = c.spell.ensures; written = written; place_by_place = place_by_place })

@@ -1,7 +1,7 @@
 use Rattle.std.proofs.Common.{◌≡◌, ◌∙◌, sym, ap, None, nat_eq}
 use Rattle.std.specs.Prelude.{option_map}
 use Rattle.std.specs.Box.{with_value}
-use Rattle.std.specs.Map.{lookup}
+use Rattle.std.specs.Map.{lookup, set_value}
 use Rattle.fv_store.specs.Held.{block_at}
 use Rattle.fv_store.specs.Boxed.{unboxed}
 use Rattle.fv_store.proofs.Boxes.{found_in, overwritten_in}
@@ -9,7 +9,7 @@ use Rattle.fv_store.proofs.Lists.{overwritten_absent}
 use Rattle.fv_store.proofs.store.overwrite.Goals as goal
 
 pub returns-in-Some-clause-list : goal.returns-in-Some-clause-list
-returns-in-Some-clause-list c = overwritten_in c.args.cache.now.entries c.args.pvbn (with_value c.in-Some.held.now c.args.block.now)
+returns-in-Some-clause-list c = overwritten_in c.args.cache.now.entries c.args.pvbn (with_value c.in-Some.held.now c.renew.new.self) ∙ ap (set_value (nat_eq c.args.pvbn) (unboxed c.args.cache.now.entries)) c.renew.ensures
 
 pub returns-in_default-clause-list : goal.returns-in_default-clause-list
 returns-in_default-clause-list c =

@@ -78,7 +78,7 @@ returns-else-lost-tree-clause-unlinks c = λ way.
       unmarked = λ _ level place differs. changed_as t u c.args.index level place differs now.cells now.same;
       forgotten = λ level low high. ap (option_map (λ (kept : KeptNode). kept.children)) (now.gone level low high);
       emptied = λ all. absurd (c.if-lost-tree.false all);
-      cells = λ _ k differs. ap (option_map (λ (kept : KeptCell). kept.block)) (now.cells k differs);
+      cells = λ _ k differs. ap (option_map (λ (kept : KeptCell). kept.block.value)) (now.cells k differs);
       blocks = λ _ level place other. blocks_as t u c.args.index c.args.lost level place other now.cells now.placed;
     }
 

@@ -28,28 +28,28 @@ returns-in_err-flush_node-in-Some-clause-flushing g c = let failed = c.in_err-fl
     rw (p.1, p.2) (flushes_failed failed.one failed.failed
     (λ told stands.
     flush_keeps (g.B.Blocks.shown c.args.blocks.now) (g.B.Blocks.shown c.flush_node.new.blocks) c.args.tree.now c.flush_node.new.tree (λ v. g.B.Blocks.keeps v c.args.blocks.now c.flush_node.new.blocks) stands (flushes_still (g.B.Blocks.shown c.args.blocks.now) (g.B.Blocks.shown c.flush_node.new.blocks) c.args.tree.now c.flush_node.new.tree failed.one.untouched.held failed.one.untouched.used failed.failed stands)
-    (c.in_err-flush_node-in-Some.ensures.keeps told (names_node (g.B.Blocks.shown c.args.blocks.now) c.args.tree.now c.in-Some.level c.in-Some.place c.in-Some.node stands c.in-Some.ensures.there)))
+    (c.in_err-flush_node-in-Some.ensures.keeps told (names_node (g.B.Blocks.shown c.args.blocks.now) c.args.tree.now c.in-Some.level c.in-Some.place c.first_node.new.into stands c.in-Some.ensures.there)))
     (λ none. absurd (omega (arith, some, none))))
 
 pub returns-in_ok-flush_node-in-Some-clause-flushing : goal.returns-in_ok-flush_node-in-Some-clause-flushing
 returns-in_ok-flush_node-in-Some-clause-flushing g c = let did = c.in_ok-flush_node-in-Some.ensures in
     let still = did.still in
     let forgets = c.forget_node.ensures.forgets in
-    let flushes : g.B.Blocks.told → Stands (g.B.Blocks.shown c.args.blocks.now) c.args.tree.now → Flushes (loaded (g.B.Blocks.shown c.args.blocks.now) c.args.tree.now) (g.B.Blocks.shown c.args.blocks.now).used (loaded (g.B.Blocks.shown c.flush_node.new.blocks) c.forget_node.new.tree) (g.B.Blocks.shown c.flush_node.new.blocks).used = λ told stands. (node_step (g.B.Blocks.shown c.args.blocks.now) (g.B.Blocks.shown c.flush_node.new.blocks) c.args.tree.now c.flush_node.new.tree c.forget_node.new.tree c.in-Some.level c.in-Some.place c.in-Some.node
+    let flushes : g.B.Blocks.told → Stands (g.B.Blocks.shown c.args.blocks.now) c.args.tree.now → Flushes (loaded (g.B.Blocks.shown c.args.blocks.now) c.args.tree.now) (g.B.Blocks.shown c.args.blocks.now).used (loaded (g.B.Blocks.shown c.flush_node.new.blocks) c.forget_node.new.tree) (g.B.Blocks.shown c.flush_node.new.blocks).used = λ told stands. (node_step (g.B.Blocks.shown c.args.blocks.now) (g.B.Blocks.shown c.flush_node.new.blocks) c.args.tree.now c.flush_node.new.tree c.forget_node.new.tree c.in-Some.level c.in-Some.place c.first_node.new.into
     stands c.requires c.in-Some.ensures.there c.in-Some.ensures.lowest (c.in_ok-flush_node-in-Some.ensures.node told) c.forget_node.ensures.forgets).flushes in record {
       flushes = flushes;
       anew = λ told stands.
           let old = g.B.Blocks.shown c.args.blocks.now in
           let new = g.B.Blocks.shown c.flush_node.new.blocks in
-          let step = node_step (g.B.Blocks.shown c.args.blocks.now) (g.B.Blocks.shown c.flush_node.new.blocks) c.args.tree.now c.flush_node.new.tree c.forget_node.new.tree c.in-Some.level c.in-Some.place c.in-Some.node
+          let step = node_step (g.B.Blocks.shown c.args.blocks.now) (g.B.Blocks.shown c.flush_node.new.blocks) c.args.tree.now c.flush_node.new.tree c.forget_node.new.tree c.in-Some.level c.in-Some.place c.first_node.new.into
           stands c.requires c.in-Some.ensures.there c.in-Some.ensures.lowest (c.in_ok-flush_node-in-Some.ensures.node told) c.forget_node.ensures.forgets in
           flush_anew (loaded old c.args.tree.now) old.used (loaded new c.forget_node.new.tree) new.used (WasFree g.B.Blocks.shown g.B.Blocks.goes c.args.blocks.now c.flush_node.new.blocks) step.flushes
           (λ v placed. free_now g.B.Blocks.shown g.B.Blocks.goes c.args.blocks.now c.flush_node.new.blocks (g.met.B.Blocks.goes_nothing c.args.blocks.now) c.in_ok-flush_node-in-Some.ensures.one.calls v (step.fresh v placed));
       keeps = λ told stands.
           flush_keeps (g.B.Blocks.shown c.args.blocks.now) (g.B.Blocks.shown c.flush_node.new.blocks) c.args.tree.now c.forget_node.new.tree (λ v. g.B.Blocks.keeps v c.args.blocks.now c.flush_node.new.blocks) stands (flushes told stands)
-          (c.in_ok-flush_node-in-Some.ensures.keeps told (names_node (g.B.Blocks.shown c.args.blocks.now) c.args.tree.now c.in-Some.level c.in-Some.place c.in-Some.node stands c.in-Some.ensures.there));
+          (c.in_ok-flush_node-in-Some.ensures.keeps told (names_node (g.B.Blocks.shown c.args.blocks.now) c.args.tree.now c.in-Some.level c.in-Some.place c.first_node.new.into stands c.in-Some.ensures.there));
       strays = λ told stands.
-          node_strays (g.B.Blocks.shown c.args.blocks.now) (g.B.Blocks.shown c.flush_node.new.blocks) c.args.tree.now c.flush_node.new.tree c.in-Some.level c.in-Some.place c.in-Some.node stands c.in-Some.ensures.there (c.in_ok-flush_node-in-Some.ensures.node told);
+          node_strays (g.B.Blocks.shown c.args.blocks.now) (g.B.Blocks.shown c.flush_node.new.blocks) c.args.tree.now c.flush_node.new.tree c.in-Some.level c.in-Some.place c.first_node.new.into stands c.in-Some.ensures.there (c.in_ok-flush_node-in-Some.ensures.node told);
       fits = λ told stands.
           let old = g.B.Blocks.shown c.args.blocks.now in
           let t = c.args.tree.now in
@@ -57,7 +57,7 @@ returns-in_ok-flush_node-in-Some-clause-flushing g c = let did = c.in_ok-flush_n
           let place = c.in-Some.place in
           let there = c.in-Some.ensures.there in
           let did = c.in_ok-flush_node-in-Some.ensures in
-          fits_node old (g.B.Blocks.shown c.flush_node.new.blocks) t c.flush_node.new.tree c.forget_node.new.tree c.in-Some.node.changed
+          fits_node old (g.B.Blocks.shown c.flush_node.new.blocks) t c.flush_node.new.tree c.forget_node.new.tree c.first_node.new.into.changed
           (did.changes (λ low changed some lt. marked_over old t level place stands (spot_changed t level place low ∙ ap node_changed there ∙ changed) some lt))
           did.still.cells c.forget_node.ensures.forgets.cells c.forget_node.ensures.changes (λ changed. c.forget_node.ensures.fewer (did.own ∙ ap node_changed there ∙ changed)) did.still_room did.one.room;
       enough = λ _ _ _. tt;

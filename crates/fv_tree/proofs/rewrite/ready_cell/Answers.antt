@@ -16,7 +16,7 @@ use Rattle.fv_tree.proofs.Altered.{leaves_cells, leaves_held, leaves_itself, lea
 use Rattle.fv_tree.proofs.Causes.{cell_fails, counts_then, fails_later, fails_same, untouched_then}
 use Rattle.fv_tree.proofs.Flushes.{alike_then}
 use Rattle.fv_tree.proofs.Held.{same_self}
-use Rattle.fv_tree.proofs.HeldCells.{carries_held, held_alike, held_ready, held_there}
+use Rattle.fv_tree.proofs.HeldCells.{carries_held, filled_cell, held_alike, held_ready, held_there}
 use Rattle.fv_tree.proofs.Leading.{carries_cells, carries_then, carries_untouched}
 use Rattle.fv_tree.proofs.Readied.{way_as}
 use Rattle.fv_tree.proofs.StillReady.{cells_same}
@@ -50,6 +50,30 @@ pub returns-then-pointer-eq0-clause-alike : goal.returns-then-pointer-eq0-clause
 returns-then-pointer-eq0-clause-alike g c = λ told.
     same_alike (standing (under (g.B.Blocks.shown c.args.blocks.now)) c.args.tree.now) (standing (under (g.B.Blocks.shown c.keep_path.new.blocks)) c.keep_path.new.tree) (c.keep_path.ensures.loading.same told)
 
+-- the cell is in memory
+pub returns-then-contains_key-clause-there : goal.returns-then-contains_key-clause-there
+returns-then-contains_key-clause-there g c = λ told.
+    let t = standing (under (g.B.Blocks.shown c.args.blocks.now)) c.args.tree.now in
+    ap is_some (stamp_there (pointer_at t 0 c.args.index) (λ none. c.if-pointer-eq0.false (ap (λ (p : Pointer). p.stamp) (c.in_ok-pointer.ensures.pointer told) ∙ none)))
+
+pub returns-then-contains_key-clause-alike : goal.returns-then-contains_key-clause-alike
+returns-then-contains_key-clause-alike g c = λ told.
+    same_alike (standing (under (g.B.Blocks.shown c.args.blocks.now)) c.args.tree.now) (standing (under (g.B.Blocks.shown c.keep_path.new.blocks)) c.keep_path.new.tree) (c.keep_path.ensures.loading.same told)
+
+pub returns-then-contains_key-clause-ready : goal.returns-then-contains_key-clause-ready
+returns-then-contains_key-clause-ready g c = λ _.
+    let v = c.keep_path.new.tree in
+    let i = c.args.index in
+    let path = c.in_ok-pointer.ensures in
+    let within : i < fan ^ c.args.tree.now.levels = omega (arith, c.if-index-width.false, c.width.ensures.is) in record {
+      covers = subst (λ n. i < fan ^ n) (sym path.loading.fields.levels) within;
+      cell = filled_cell (tree.get nat_cmp v.cells i) (sym c.contains_key.ensures ∙ c.if-contains_key.true);
+      way = path.way c.if-pointer-eq0.false;
+    }
+
+pub returns-then-contains_key-clause-steady : goal.returns-then-contains_key-clause-steady
+returns-then-contains_key-clause-steady g c = steady_loaded 0 1 (loading_ok _ c.in_ok-pointer.ensures.loading) c.keep_path.ensures.keeps_ready
+
 pub returns-in_err-read_pointed-clause-alike : goal.returns-in_err-read_pointed-clause-alike
 returns-in_err-read_pointed-clause-alike g c = λ told.
     let t = standing (under (g.B.Blocks.shown c.args.blocks.now)) c.args.tree.now in
@@ -61,7 +85,7 @@ returns-in_err-hold_cell-clause-alike g c = λ told.
     let t = standing (under (g.B.Blocks.shown c.args.blocks.now)) c.args.tree.now in
     let v = c.keep_path.new.tree in
     let d = under (g.B.Blocks.shown c.read_pointed.new.blocks) in
-    let same = same_standing d v c.hold_cell.new.tree c.hold_cell.ensures.fields (λ i. ap (option_map (λ (kept : KeptCell). kept.block)) (c.in_err-hold_cell.ensures.same i)) in
+    let same = same_standing d v c.hold_cell.new.tree c.hold_cell.ensures.fields (λ i. ap (option_map (λ (kept : KeptCell). kept.block.value)) (c.in_err-hold_cell.ensures.same i)) in
     subst (IsAlike t) (sym same) (subst (λ (h : fin.FinMap nat_cmp (List ℕ)). IsAlike t (standing (λ w. fin.get h w) v)) (sym c.read_pointed.ensures.untouched.held)
     (same_alike t (standing (under (g.B.Blocks.shown c.keep_path.new.blocks)) v) (c.keep_path.ensures.loading.same told)))
 
@@ -182,7 +206,7 @@ returns-in_err-hold_cell-clause-steady g c =
     let nodes = ap changes_in hold.fields.nodes in
     let p = err_from_is_err_and c.from_residual-in_err-hold_cell.result c.from_residual-in_err-hold_cell.ensures.1 in
     rw (p.1, p.2) (steady_on u 0 1 _ first hold.fields.owner (λ _. carries_cells (g.B.Blocks.shown c.read_pointed.new.blocks) c.keep_path.new.tree u hold.fields hold.same)
-    (cells_same c.keep_path.new.tree u hold.fields (λ i. ap (option_map (λ (kept : KeptCell). kept.block)) (hold.same i)))
+    (cells_same c.keep_path.new.tree u hold.fields (λ i. ap (option_map (λ (kept : KeptCell). kept.block.value)) (hold.same i)))
     (record { pending = omega (arith, nodes, hold.changes); cells = hold.held }) hold.memory)
 
 pub returns-clause-steady : goal.returns-clause-steady

@@ -15,9 +15,9 @@ pub returns-in-Some-clause-child : goal.returns-in-Some-clause-child
 returns-in-Some-clause-child g c = λ told.
     sym (ap (λ (xs : List Pointer). get_or xs c.args.slot hole) (kept_pointers (standing (under (g.B.Blocks.shown c.args.blocks.now)) c.args.tree.now) c.args.level c.args.place c.args.pointer.now _ c.if-pointer-eq0.false (sym (ap (option_map (λ kept. kept.children)) c.in-Some.ensures.value))))
 
-pub returns-in_ok-node-in-None-clause-child : goal.returns-in_ok-node-in-None-clause-child
-returns-in_ok-node-in-None-clause-child g c = λ told.
-    sym (ap (λ (xs : List Pointer). get_or xs c.args.slot hole) (read_pointers (standing (under (g.B.Blocks.shown c.args.blocks.now)) c.args.tree.now) c.args.level c.args.place c.args.pointer.now c.if-pointer-eq0.false (sym (ap (option_map (λ kept. kept.children)) c.in-None.ensures.value)) ∙ c.in_ok-node-in-None.ensures.node told))
+pub returns-in_ok-child-in-None-clause-child : goal.returns-in_ok-child-in-None-clause-child
+returns-in_ok-child-in-None-clause-child g c = λ told.
+    sym (ap (λ (xs : List Pointer). get_or xs c.args.slot hole) (read_pointers (standing (under (g.B.Blocks.shown c.args.blocks.now)) c.args.tree.now) c.args.level c.args.place c.args.pointer.now c.if-pointer-eq0.false (sym (ap (option_map (λ kept. kept.children)) c.in-None.ensures.value))) ∙ c.in_ok-child-in-None.ensures.child told)
 
 pub returns-then-pointer-eq0-clause-spent : goal.returns-then-pointer-eq0-clause-spent
 returns-then-pointer-eq0-clause-spent g c =
@@ -31,8 +31,8 @@ returns-in-Some-clause-spent g c =
     let none = kept_costs old.cost (is_some (node_in c.args.tree.now c.args.level c.args.place)) c.args.pointer.now (ap is_some (sym (ap (option_map (λ kept. kept.children)) c.in-Some.ensures.value))) in
     omega (arith, none)
 
-pub returns-in_ok-node-in-None-clause-spent : goal.returns-in_ok-node-in-None-clause-spent
-returns-in_ok-node-in-None-clause-spent g c =
+pub returns-in_ok-child-in-None-clause-spent : goal.returns-in_ok-child-in-None-clause-spent
+returns-in_ok-child-in-None-clause-spent g c =
     let old = g.B.Blocks.shown c.args.blocks.now in
-    c.in_ok-node-in-None.ensures.spent ∙ ap (λ n. old.spent + n) (sym (loads_costs old.cost (is_some (node_in c.args.tree.now c.args.level c.args.place)) c.args.pointer.now
+    c.in_ok-child-in-None.ensures.spent ∙ ap (λ n. old.spent + n) (sym (loads_costs old.cost (is_some (node_in c.args.tree.now c.args.level c.args.place)) c.args.pointer.now
     (ap is_some (sym (ap (option_map (λ kept. kept.children)) c.in-None.ensures.value))) c.if-pointer-eq0.false))

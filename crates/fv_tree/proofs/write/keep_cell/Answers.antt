@@ -2,14 +2,8 @@ use Rattle.std.proofs.Common.{arith}
 use Rattle.std.specs.Cmp.{nat_cmp_total}
 use Rattle.std.specs.Ordering.{nat_cmp}
 use Rattle.fv_tree.proofs.Differing.{cell_mark}
-use Rattle.fv_tree.proofs.MapMarks.{put_one, same_count}
+use Rattle.fv_tree.proofs.MapMarks.{put_one}
 use Rattle.fv_tree.proofs.write.keep_cell.Goals as goal
 
 pub returns-in-Ok-clause-count : goal.returns-in-Ok-clause-count
 returns-in-Ok-clause-count c = put_one nat_cmp cell_mark c.args.tree.now.cells c.insert.new.self nat_cmp_total c.args.index _ c.insert.ensures.was_ordered c.in-Ok.ensures.entries
-
-pub returns-in-Err-clause-count : goal.returns-in-Err-clause-count
-returns-in-Err-clause-count c = let same = same_count nat_cmp cell_mark c.args.tree.now.cells c.insert.new.self c.in-Err.ensures.err in omega (arith, same)
-
-pub returns-in-Err-clause-still : goal.returns-in-Err-clause-still
-returns-in-Err-clause-still c = same_count nat_cmp cell_mark c.args.tree.now.cells c.insert.new.self c.in-Err.ensures.err

@@ -16,6 +16,7 @@ use Rattle.fv_tree.specs.Flushing.{loaded, placed_in}
 use Rattle.fv_tree.proofs.Altered.{changed_up, leaves_cells, leaves_itself, leaves_then, refill_leaves, way_again}
 use Rattle.fv_tree.proofs.Causes.{at_err}
 use Rattle.fv_tree.proofs.Held.{same_self}
+use Rattle.fv_tree.proofs.HeldCells.{filled_cell}
 use Rattle.fv_tree.proofs.Ready.{cell_kept, cell_pointers, cell_there}
 use Rattle.fv_tree.proofs.Refilled.{refilled_none, refilled_is, refills, remarked_is}
 use Rattle.fv_tree.proofs.Seen.{remains_at_err}
@@ -29,10 +30,6 @@ use Rattle.fv_tree.specs.Costs.{cells_changed, cells_held, changes_in, Rises}
 use Rattle.fv_tree.specs.Leading.{Carries}
 use Rattle.fv_tree.proofs.kept.Tree.refill.Given as given
 use Rattle.fv_tree.proofs.kept.Tree.refill.Goals as goal
-
-filled_cell : (o : Option KeptCell) → is_some o ≡ true → is_some (option_map (λ (kept : KeptCell). kept.block) o) ≡ true
-filled_cell None is = is
-filled_cell (Some kept) is = refl
 
 pub returns-then-index-width-clause-place_by_place : goal.returns-then-index-width-clause-place_by_place
 returns-then-index-width-clause-place_by_place g c = λ told.

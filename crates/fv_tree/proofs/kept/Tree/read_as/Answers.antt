@@ -1,0 +1,31 @@
+use Rattle.std.proofs.Common.{arith, ap, sym, ◌∙◌, ℕ, List, nat_cmp}
+use Rattle.std.specs.FinMap as fin
+use Rattle.std.proofs.lemmas.Result.{IfOk-weaker, on_ok_weaker}
+use Rattle.fv_tree.specs.Spelled.{block_at}
+use Rattle.fv_tree.specs.Standing.{standing, under}
+use Rattle.fv_tree.proofs.Causes.{pointed_fails}
+use Rattle.fv_tree.proofs.Costly.{found_costs}
+use Rattle.fv_tree.proofs.Readied.{has_way}
+use Rattle.fv_tree.proofs.kept.Tree.read_as.Goals as goal
+
+pub returns-clause-cell : goal.returns-clause-cell
+returns-clause-cell g c = λ told.
+    IfOk-weaker c.read_pointed_as.result _ _ (λ place is. ap (λ (held : fin.FinMap nat_cmp (List ℕ)). block_at (standing (λ v. fin.get held v) c.args.self.now) c.args.index) (sym c.find.ensures.loads.untouched.held) ∙ is) (c.read_pointed_as.ensures.cell told)
+
+pub returns-clause-cause : goal.returns-clause-cause
+returns-clause-cause g c =
+    let path = c.in_ok-pointer.ensures in
+    let read = c.read_pointed_as.ensures in
+    pointed_fails g.B.Blocks.told (g.B.Blocks.shown c.args.blocks.now) (g.B.Blocks.shown c.find.new.blocks) (g.B.Blocks.shown c.read_pointed_as.new.blocks) c.args.self.now c.args.index c.in_ok-pointer.pointer c.read_pointed_as.result path.loads.counts.calm c.find.ensures.loads.untouched.held
+    path.pointer read.held read.cause
+
+pub returns-clause-spent : goal.returns-clause-spent
+returns-clause-spent g c = λ told.
+    let old = g.B.Blocks.shown c.args.blocks.now in
+    let path = c.in_ok-pointer.ensures in
+    let first = path.spent told in
+    let same = found_costs old.cost (g.B.Blocks.shown c.find.new.blocks).cost (standing (under old) c.args.self.now) c.args.index c.in_ok-pointer.pointer path.loads.untouched.cost (path.pointer told) in
+    on_ok_weaker c.read_pointed_as.result (λ more. omega (arith, first, same, more)) c.read_pointed_as.ensures.spent
+
+pub returns-in_err-pointer-clause-held : goal.returns-in_err-pointer-clause-held
+returns-in_err-pointer-clause-held g c = λ ready. absurd (c.in_err-pointer.ensures.held (has_way c.args.self.now c.args.index ready.way))
