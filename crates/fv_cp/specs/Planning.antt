@@ -1,6 +1,7 @@
 -- What a point reclaims, by a threshold in front of each volume, and what is known of delayed entries then.
-use Rattle.std.specs.Prelude.{◌≡◌, ◌≢◌, ◌≤◌, ◌<◌, ◌⊎◌, ℕ, Bool, true, false, ◌&&◌, List, [], Option, Some, None, IfSome, get_or, replicate}
+use Rattle.std.specs.Prelude.{◌≡◌, ◌≢◌, ◌≤◌, ◌<◌, ◌⊎◌, ℕ, Bool, true, false, ◌&&◌, List, [], ◌++◌, Option, Some, None, IfSome, get_or, replicate}
 use Rattle.fv_container.specs.Chains.{Slots}
+use Rattle.fv_delay.specs.declared.counts.Count.{Count}
 use Rattle.fv_delay.specs.declared.threshold.Table.{Table}
 use Rattle.fv_delay.specs.declared.threshold.Threshold.{Threshold}
 use Rattle.fv_delay.specs.ByThreshold.{IsTable, TakesAll, behind, counts_before, taken_in, takes_some}
@@ -29,12 +30,21 @@ no_table = record { all = 0; full = 0; partial = replicate 64 0 }
 abbrev pub AreTables : (ℕ → Option Holding) → List Table → Type 0
 AreTables volumes tables = (s : ℕ) → s < 64 → IsTable (get_or tables s no_table) (counts_at s (volumes s))
 
+-- no slot has a volume
+abbrev pub no_holding : ℕ → Option Holding
+no_holding s = None
+
 -- A volume that isn't counted, since it hasn't changed and no entry of it may be delayed, has no delayed entry.
 abbrev pub IsSlotCounted : Slots → States → ℕ → Bool → Type 0
 IsSlotCounted containers states s may_delay = may_delay ≡ false → IfSome (state_at states s) (λ x. x.changed ≡ false) → counts_at s (holdings containers states s) ≡ []
 
 abbrev pub AreCounted : Slots → States → List Bool → Type 0
 AreCounted containers states delays = (s : ℕ) → s < 64 → IsSlotCounted containers states s (get_or delays s true)
+
+-- Regions have a table of their own, and are added to another one.
+pub record IsAdded (counts : List Count) (table old new : Table) : Type 0 where
+  pub own : IsTable table counts
+  pub all : (others : List Count) → IsTable old others → IsTable new (others ++ counts)
 
 -- ---- the plan
 

@@ -1,22 +1,24 @@
 //! Which regions of the containers a consistency point reclaims.
 
-ghost use Rattle.std.specs.Prelude.{◌≡◌, ◌≤◌, ◌<◌, ◌+◌, ◌-◌, ℕ, Option, IfSome, length, max, min, option_copied};
+ghost use Rattle.std.specs.Prelude.{◌≡◌, ◌≤◌, ◌<◌, ◌+◌, ◌-◌, [], false, true, ℕ, IfSome, List, Option, length, max, min, option_copied};
+ghost use Rattle.std.specs.List.{list_all};
 ghost use Rattle.fv_model.specs.Machines.{first_block};
 ghost use Rattle.fv_model.specs.Numbers.{greatest_span};
 ghost use Rattle.fv_root.specs.Finding.{IsInRange};
 ghost use Rattle.fv_root.specs.Formatted.{IsSize};
 ghost use Rattle.fv_aggmap.specs.Space.{free_blocks};
 ghost use Rattle.fv_container.specs.Chains.{container_at, slot_count};
-ghost use Rattle.fv_delay.specs.ByThreshold.{IsTable, threshold_for};
+ghost use Rattle.fv_delay.specs.declared.counts.Count.{Count};
+ghost use Rattle.fv_delay.specs.ByThreshold.{IsTable, behind, takes_some, threshold_for};
 ghost use Rattle.fv_delay.specs.Choice.{full_count};
-ghost use Rattle.fv_delay.specs.Holding.{Holding, counts_of};
+ghost use Rattle.fv_delay.specs.Holding.{Holding, counts_of, has_some};
 ghost use Rattle.fv_volume.specs.Files.{IsLabelled};
 ghost use Rattle.fv_volumes.specs.Housed.{AreHoused};
 ghost use Rattle.fv_volume.specs.Loading.{Houses};
 ghost use Rattle.fv_volume.specs.States.{state_at};
 ghost use Rattle.fv_cp.specs.Lent.{blocks_asked};
 ghost use Rattle.fv_cp.specs.Choosing.{asked_marked, asked_with, counts_at, greatest_number, holdings, missing_for, needs, needs_by, regions_chosen};
-ghost use Rattle.fv_cp.specs.Planning.{AreCounted, AreTables, IsPlan, IsSlotCounted, is_set};
+ghost use Rattle.fv_cp.specs.Planning.{AreCounted, AreTables, IsAdded, IsPlan, IsSlotCounted, is_set, no_holding};
 
 use crate::asking::blocks_asked;
 use fv_charge::overhead;
@@ -41,101 +43,138 @@ pub(crate) struct Plan {
     pub(crate) delays: [bool; 64],
 }
 
-/// What a point reclaims where an event wants so many blocks: the regions that are chosen for what the space rule lacks, or none where
-/// with these the volumes ask for more blocks than are free. Only of volumes that changed, or of which `delays` says that an entry may
-/// be delayed, the entries are counted.
+impl Plan {
+    /// The plan by which nothing is reclaimed.
+    pub(crate) fn new() -> Plan
+        ensures { (s : ℕ) → s < slot_count → is_set result.due s ≡ false }
+    {
+        Plan {
+            due: [false; 64],
+            starts: [Table::new().threshold(0); 64],
+            delays: [false; 64],
+        }
+    }
+}
+
+/// Plans what a point reclaims where an event wants so many blocks: the regions that are chosen for what the space rule lacks, or none
+/// where with these the volumes ask for more blocks than are free. Only of volumes that changed, or of which `delays` says that an entry
+/// may be delayed, the entries are counted.
 ///
 /// It takes no memory. Costs a step for each entry of these volumes, and up to 25 more for one that is no hole.
-pub(crate) fn choose(volumes: &Volumes, pool: &Pool, delays: &[bool; 64], want: u64) -> Plan
+pub(crate) fn choose(
+    volumes: &Volumes,
+    pool: &Pool,
+    delays: &[bool; 64],
+    want: u64,
+    plan: &mut Plan,
+)
     requires range { IsInRange pool.now.found }
     requires housed { AreHoused pool.now.containers volumes.now }
     ensures planned { AreCounted pool.now.containers volumes.now delays.now → asked_with (regions_chosen pool.now volumes.now want) volumes.now ≤ free_blocks pool.now.map
-        → IsPlan (holdings pool.now.containers volumes.now) (threshold_for (counts_of (holdings pool.now.containers volumes.now)) (missing_for pool.now volumes.now want)) result }
-    ensures fits { free_blocks pool.now.map < asked_marked (is_set result.due) volumes.now → asked_marked (is_set result.due) volumes.now ≡ blocks_asked volumes.now }
+        → IsPlan (holdings pool.now.containers volumes.now) (threshold_for (counts_of (holdings pool.now.containers volumes.now)) (missing_for pool.now volumes.now want)) plan.new }
+    ensures fits { free_blocks pool.now.map < asked_marked (is_set plan.new.due) volumes.now → asked_marked (is_set plan.new.due) volumes.now ≡ blocks_asked volumes.now }
 {
-    let mut plan = plan_for(volumes, pool, delays, want);
+    plan_for(volumes, pool, delays, want, plan);
     if u64::from(pool.map.free_count()) < blocks_asked(volumes, &plan.due) {
         plan.due = [false; 64];
     }
-    plan
 }
 
-/// What a point reclaims, whatever is free.
-fn plan_for(volumes: &Volumes, pool: &Pool, delays: &[bool; 64], want: u64) -> Plan
+/// Plans what a point reclaims, whatever is free.
+///
+/// The threshold comes of all regions. So they are counted first, in a table for each slot, and asked by these tables then. The tables stand
+/// in the frame of this call and are lent: each is filled where it stands.
+fn plan_for(volumes: &Volumes, pool: &Pool, delays: &[bool; 64], want: u64, plan: &mut Plan)
     requires range { IsInRange pool.now.found }
     requires housed { AreHoused pool.now.containers volumes.now }
     ensures { AreCounted pool.now.containers volumes.now delays.now
-        → IsPlan (holdings pool.now.containers volumes.now) (threshold_for (counts_of (holdings pool.now.containers volumes.now)) (missing_for pool.now volumes.now want)) result }
+        → IsPlan (holdings pool.now.containers volumes.now) (threshold_for (counts_of (holdings pool.now.containers volumes.now)) (missing_for pool.now volumes.now want)) plan.new }
 {
-    let tables = count_all(volumes, &pool.containers, delays);
-    let all = join_all(&tables);
+    let mut tables = [Table::new(); 64];
+    let mut all = Table::new();
+    count_all(volumes, &pool.containers, delays, &mut tables, &mut all);
     let missing = missing(volumes, all.total(), pool.found.blocks, want);
-    plan_by(&tables, all.threshold(missing))
+    plan_by(&tables, all.threshold(missing), plan);
 }
 
-/// The regions that a threshold takes of all volumes, by their tables.
-fn plan_by(tables: &[Table; 64], threshold: Threshold) -> Plan
+/// Plans to reclaim the regions that a threshold takes of all volumes, by their tables.
+fn plan_by(tables: &[Table; 64], threshold: Threshold, plan: &mut Plan)
     requires { threshold.count < full_count }
-    ensures { (volumes : ℕ → Option Holding) → AreTables volumes tables.now → IsPlan volumes threshold result }
+    ensures { (volumes : ℕ → Option Holding) → AreTables volumes tables.now → IsPlan volumes threshold plan.new }
 {
     let mut next = threshold;
-    let mut plan = Plan {
-        due: [false; 64],
-        starts: [threshold; 64],
-        delays: [false; 64],
-    };
     for slot in 0..SLOTS {
         let at = slot as usize;
         plan.starts[at] = next;
-        plan.due[at] = next.passes(&tables[at]);
+        plan.due[at] = ask(&mut next, &tables[at]);
         plan.delays[at] = 0 < tables[at].total();
     }
-    plan
+}
+
+/// Whether a threshold takes one of the regions of a table, which are the next ones and have delayed entries each.
+///
+/// A table of no region costs one step.
+fn ask(next: &mut Threshold, table: &Table) -> bool
+    requires { next.old.count < full_count }
+    ensures taken { (counts : List Count) → IsTable table.now counts → list_all has_some counts ≡ true → result ≡ takes_some next.old counts }
+    ensures passed { (counts : List Count) → IsTable table.now counts → list_all has_some counts ≡ true → next.new ≡ behind next.old counts }
+    ensures kept { next.new.count ≡ next.old.count }
+{
+    if table.total() == 0 {
+        return false;
+    }
+    next.passes(table)
 }
 
 // ---- the counts
 
-/// The tables of the volumes of all slots that changed or may have delayed entries; of another slot none is counted.
-fn count_all(volumes: &Volumes, containers: &Containers, delays: &[bool; 64]) -> [Table; 64]
+/// Counts the regions of the volumes of all slots that changed or may have delayed entries, of each in the table of its slot, and adds them
+/// to a table of all; of another slot none is counted.
+fn count_all(
+    volumes: &Volumes,
+    containers: &Containers,
+    delays: &[bool; 64],
+    tables: &mut [Table; 64],
+    all: &mut Table,
+)
     requires volumes { (s : ℕ) → IfSome (state_at volumes.now s) (IsLabelled s) }
     requires housed { (s : ℕ) → Houses (state_at volumes.now s) (container_at containers.now s) }
-    ensures { AreCounted containers.now volumes.now delays.now → AreTables (holdings containers.now volumes.now) result }
+    requires empty { AreTables no_holding tables.old }
+    ensures each { AreCounted containers.now volumes.now delays.now → AreTables (holdings containers.now volumes.now) tables.new }
+    ensures all { AreCounted containers.now volumes.now delays.now → IsTable all.old [] → IsTable all.new (counts_of (holdings containers.now volumes.now)) }
 {
-    let mut tables = [Table::new(); 64];
     for slot in 0..SLOTS {
-        tables[slot as usize] = count_slot(volumes, containers, slot, delays[slot as usize]);
+        let at = slot as usize;
+        count_slot(volumes, containers, slot, delays[at], &mut tables[at], all);
     }
-    tables
 }
 
-/// The table of the volume of a slot, if it changed or may have delayed entries.
-fn count_slot(volumes: &Volumes, containers: &Containers, slot: u8, may_delay: bool) -> Table
+/// Counts the regions of the volume of a slot in a table, and adds them to a table of all, if it changed or may have delayed entries.
+fn count_slot(
+    volumes: &Volumes,
+    containers: &Containers,
+    slot: u8,
+    may_delay: bool,
+    table: &mut Table,
+    all: &mut Table,
+)
     requires slot { slot < slot_count }
     requires labelled { IfSome (state_at volumes.now slot) (IsLabelled slot) }
     requires housed { Houses (state_at volumes.now slot) (container_at containers.now slot) }
-    ensures { IsSlotCounted containers.now volumes.now slot may_delay → IsTable result (counts_at slot (holdings containers.now volumes.now slot)) }
+    ensures { IsSlotCounted containers.now volumes.now slot may_delay → IsTable table.old []
+        → IsAdded (counts_at slot (holdings containers.now volumes.now slot)) table.new all.old all.new }
 {
     let Some(state) = volumes.get(slot) else {
-        return Table::new();
+        return;
     };
     let Some(container) = containers.get(slot) else {
-        return Table::new();
+        return;
     };
     if !may_delay && !state.is_changed() {
-        return Table::new();
+        return;
     }
-    table_of(container, &state.map)
-}
-
-/// The table of all slots' regions.
-fn join_all(tables: &[Table; 64]) -> Table
-    ensures { (volumes : ℕ → Option Holding) → AreTables volumes tables.now → IsTable result (counts_of volumes) }
-{
-    let mut all = Table::new();
-    for table in tables {
-        all.join(table);
-    }
-    all
+    *table = table_of(container, &state.map);
+    all.join(table);
 }
 
 // ---- what is missing

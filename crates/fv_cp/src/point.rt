@@ -80,7 +80,8 @@ pub fn consistency_point<D: Disk>(
     ensures counts { Counts (D.shown disk.old) (D.shown disk.new) result }
     ensures delays { OnErr result (delays.new ≡ delays.old) }
 {
-    let plan = choose(volumes, pool, delays, want);
+    let mut plan = Plan::new();
+    choose(volumes, pool, delays, want, &mut plan);
     let asked = blocks_asked(volumes, &plan.due);
     let free = u64::from(pool.map.free_count());
     if free < asked {

@@ -14,15 +14,15 @@ contrary lt first second le last = omega (arith, lt, first, second, le, last)
 pub returns-then-from-blocks_asked-clause-planned : goal.returns-then-from-blocks_asked-clause-planned
 returns-then-from-blocks_asked-clause-planned c counted room =
     let states = c.args.volumes.now in
-    let plan = c.plan_for-plan.result in
-    let same = asked_alike (is_set plan.due) (has_slot (regions_chosen c.args.pool.now states c.args.want)) states (due_alike c.args.pool.now states c.requires.housed c.args.want plan (c.plan_for-plan.ensures counted)) in
+    let plan = c.plan_for.new.plan in
+    let same = asked_alike (is_set plan.due) (has_slot (regions_chosen c.args.pool.now states c.args.want)) states (due_alike c.args.pool.now states c.requires.housed c.args.want plan (c.plan_for.ensures counted)) in
     absurd (contrary c.if-from-blocks_asked.true c.blocks_asked.ensures same room (c.from.ensures ∙ c.free_count.ensures.value))
 
 pub returns-then-from-blocks_asked-clause-fits : goal.returns-then-from-blocks_asked-clause-fits
 returns-then-from-blocks_asked-clause-fits c lt = asked_unmarked (is_set (replicate 64 false)) c.args.volumes.now c.requires.housed.long (λ s inside. get_or-replicate 64 s false false inside)
 
 pub returns-else-from-blocks_asked-clause-planned : goal.returns-else-from-blocks_asked-clause-planned
-returns-else-from-blocks_asked-clause-planned c counted room = c.plan_for-plan.ensures counted
+returns-else-from-blocks_asked-clause-planned c counted room = c.plan_for.ensures counted
 
 pub returns-else-from-blocks_asked-clause-fits : goal.returns-else-from-blocks_asked-clause-fits
 returns-else-from-blocks_asked-clause-fits c lt = absurd (omega (arith, lt, c.if-from-blocks_asked.false, c.blocks_asked.ensures, c.from.ensures, c.free_count.ensures.value))
