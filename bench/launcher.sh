@@ -37,6 +37,8 @@ lay_stand_ins() {
 if [ "${2:-}" = create ]; then
     [ "${PROGRAM_STATUS:-0}" = 0 ] && echo bytes >"$1"
     echo "created ${3} capacity 761"
+elif [ "${2:-}" = gen ]; then
+    echo "generated $4 of $3"
 else
     cat
 fi
@@ -127,7 +129,9 @@ test_words() {
     launch "$tree/flexvol"
     row "no words" ends_at_once 7 usage
     for words in x "x creat 1024" "x create" "x create 511" "x create 1048577" "x create 1e3" "x create +512" \
-        "x create 000000000000000001024" "x create 1024 run" "x run run" "x help"; do
+        "x create 000000000000000001024" "x create 1024 run" "x run run" "x help" "x gen" "x gen 7" "x gen 7 1000001" "x gen 7 1 1" \
+        "x gen -7 1" "x gen 7 1.0" "x gen 18446744073709551616 0" "x gen 99999999999999999999 0" "x gen 000000000000000000007 0" \
+        "x gen 7 000000000000000000000"; do
         # shellcheck disable=SC2086
         launch "$tree/flexvol" $words
         row "flexvol $words" ends_at_once 7 usage
@@ -232,6 +236,8 @@ test_unproved() {
     row "with nothing run" [ ! -s "$calls" ]
     launch "$tree/flexvol" "$file" create 1024 < <(sleep 60)
     row "create reads none" gives 0 "created 1024 capacity 761" unproved
+    launch "$tree/flexvol" "$file" gen 18446744073709551615 01000000 < <(sleep 60)
+    row "gen reads none, either" gives 0 "generated 01000000 of 18446744073709551615" unproved
     PROGRAM_STATUS=2 launch "$tree/flexvol" "$file" run </dev/null
     row "its status is the program's" tells 2 1 "is no aggregate"
     if ! PATH=/usr/bin:/bin command -v rt >/dev/null; then

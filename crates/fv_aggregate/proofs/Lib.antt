@@ -14,7 +14,7 @@ mod Admitting
 mod Beside
 mod Added
 mod Telling
-mod Charges
+pub mod Charges
 mod Opened
 mod Whole
 mod Applied

@@ -20,6 +20,8 @@ use Rattle.fv_run.specs.declared.ending.Fault.TheVariants.{Sink}
 use Rattle.fv_run.specs.Running.{asks_point, begun, pending_behind, rooms_along, HasFollowed, IsAfterSome, IsAtRest, Survives}
 use Rattle.fv_run.specs.Answering.{BeginsFor, HasAnswered, IsCounted, IsLine, StandsOnward}
 use Rattle.fv_run.proofs.Acked.{up_to_take}
+use Rattle.fv_run.proofs.Applying.{applied_one, next_point, none_applied, still_applied}
+use Rattle.fv_run.proofs.Applying as applying
 use Rattle.fv_run.proofs.Following.{follows_first, follows_part, one_more, one_text, taken_next, left_next, left_below}
 use Rattle.fv_run.proofs.Lines.{no_end}
 use Rattle.fv_run.proofs.Counted.{counted_none, counted_still}
@@ -37,14 +39,8 @@ none_answered m lines old session laws stands = record {
   allowed = tt;
   given = sym (append-nil old.given);
   answered = refl;
-  within = omega arith;
   left_over = refl;
-  point = 0;
-  least = up_to_take 0 lines (omega arith);
-  most = omega arith;
-  asked = inl (omega (arith, up_to_take 0 lines (omega arith)));
-  counted = counted_none (rooms_along m lines) lines old session stands.pending;
-  stands = stands.stands;
+  applied = none_applied m lines old session stands;
   crash = started old (Survives m lines old.given) laws
       (λ c now. survives m lines old.given c old.given [] (sym (append-nil old.given))
       (after_some m lines 0 0 [] c refl (omega arith) (up_to_take 0 lines (omega arith)) (omega arith) (omega arith) (images_stand old session m m stands.stands c now)));
@@ -58,19 +54,19 @@ module _ (m : Machine) (lines left : List Line) (old : Shown) (session : Session
   pub followed : (new : Shown) → new.given ≡ now.given → HasFollowed m lines old new
   followed new same = record { output = output; given = same ∙ so_far.given; follows = follows_first m lines count so_far.replies so_far.allowed }
 
-  here : (c : Image) (g : List ℕ) → machine_of c ≡ Some (after m lines so_far.point) → g ≡ now.given → Survives m lines old.given c g
+  here : (c : Image) (g : List ℕ) → machine_of c ≡ Some (after m lines so_far.applied.point) → g ≡ now.given → Survives m lines old.given c g
   here c g stands same = survives m lines old.given c g output (same ∙ so_far.given)
-      (after_some m lines count so_far.point output c so_far.answered so_far.within so_far.least (let most = so_far.most in omega (arith, most)) (let most = so_far.most in let within = so_far.within in omega (arith, most, within)) stands)
+      (after_some m lines count so_far.applied.point output c so_far.answered so_far.applied.within so_far.applied.least (let most = so_far.applied.most in omega (arith, most)) (let most = so_far.applied.most in let within = so_far.applied.within in omega (arith, most, within)) stands)
 
   -- nothing more was done
   pub rested_here : (new : Shown) → Rests now new → new.given ≡ now.given → (result : Result Unit Fault) → IsAtRest m lines result old new
-  rested_here new rests same result = rested m lines old new session (after m lines count) count so_far.point output (same ∙ so_far.given) so_far.answered so_far.within so_far.least so_far.most result
-      (asked_for m lines output result count so_far.point so_far.answered so_far.within so_far.asked) (rests_standing_for now new session (after m lines so_far.point) (after m lines count) rests so_far.stands)
+  rested_here new rests same result = rested m lines old new session (after m lines count) count so_far.applied.point output (same ∙ so_far.given) so_far.answered so_far.applied.within so_far.applied.least so_far.applied.most result
+      (asked_for m lines output result count so_far.applied.point so_far.answered so_far.applied.within so_far.applied.asked) (rests_standing_for now new session (after m lines so_far.applied.point) (after m lines count) rests so_far.applied.stands)
 
   -- while the source is asked
   pub crash_asked : (mid : Shown) → Leaves now mid (IsStill now) → Leaves old mid (Survives m lines old.given)
   crash_asked mid still = then old now mid (Survives m lines old.given) so_far.crash
-      (weaken now mid (IsStill now) (Survives m lines old.given) (λ (c : Image) (g : List ℕ) s. here c g (images_stand now session (after m lines so_far.point) (after m lines count) so_far.stands c s.0) s.1) still)
+      (weaken now mid (IsStill now) (Survives m lines old.given) (λ (c : Image) (g : List ℕ) s. here c g (images_stand now session (after m lines so_far.applied.point) (after m lines count) so_far.applied.stands c s.0) s.1) still)
 
   pub asked : (mid : Shown) → Rests now mid → mid.given ≡ now.given → Leaves now mid (IsStill now) → HasAnswered m lines left old session mid count
   asked mid rests same still = record {
@@ -78,14 +74,8 @@ module _ (m : Machine) (lines left : List Line) (old : Shown) (session : Session
     allowed = so_far.allowed;
     given = same ∙ so_far.given;
     answered = so_far.answered;
-    within = so_far.within;
     left_over = so_far.left_over;
-    point = so_far.point;
-    least = so_far.least;
-    most = so_far.most;
-    asked = so_far.asked;
-    counted = counted_still (rooms_along m lines) lines old session now count so_far.counted mid rests.stays.reads;
-    stands = rests_standing_for now mid session (after m lines so_far.point) (after m lines count) rests so_far.stands;
+    applied = still_applied m lines old session now count so_far.applied mid rests;
     crash = crash_asked mid still;
   }
 
@@ -95,31 +85,31 @@ left_as m lines left others old session now count is so_far = subst (λ (l : Lis
 
 -- the next line is applied, and then answered
 module _ (m : Machine) (lines : List Line) (line : Line) (rest : List Line) (old : Shown) (session : Session) (mid : Shown) (count : ℕ) (so_far : HasAnswered m lines (line ∷ rest) old session mid count)
-    (next_session : Session) (end : Shown) (meanwhile : Leaves mid end (λ c g. OneOf (after m lines so_far.point) (after m lines count) (after_line (after m lines count) line) c × (g ≡ mid.given))) (calm : asks_point (rooms_along m lines count) (pending_behind (rooms_along m lines) lines count) line ≡ false → end.reads ≡ mid.reads) where
+    (next_session : Session) (end : Shown) (meanwhile : Leaves mid end (λ c g. OneOf (after m lines so_far.applied.point) (after m lines count) (after_line (after m lines count) line) c × (g ≡ mid.given))) (calm : asks_point (rooms_along m lines count) (pending_behind (rooms_along m lines) lines count) line ≡ false → end.reads ≡ mid.reads) where
   abbrev given_so_far : List ℕ
   given_so_far = flat_map text so_far.replies
 
   -- while it is applied
   pub crash_applied : Leaves old end (Survives m lines old.given)
   crash_applied = then old mid end (Survives m lines old.given) so_far.crash
-      (weaken mid end (λ c g. OneOf (after m lines so_far.point) (after m lines count) (after_line (after m lines count) line) c × (g ≡ mid.given)) (Survives m lines old.given)
+      (weaken mid end (λ c g. OneOf (after m lines so_far.applied.point) (after m lines count) (after_line (after m lines count) line) c × (g ≡ mid.given)) (Survives m lines old.given)
       (λ (c : Image) (g : List ℕ) one. survives m lines old.given c g given_so_far (one.1 ∙ so_far.given)
-      (one_of m lines rest line count so_far.left_over so_far.point given_so_far c so_far.answered so_far.least so_far.most one.0)) meanwhile)
+      (one_of m lines rest line count so_far.left_over so_far.applied.point given_so_far c so_far.answered so_far.applied.least so_far.applied.most one.0)) meanwhile)
 
   -- the last point stays where the line asks for none
-  stays : (now : Machine) (stands : StandsAfter end next_session (after m lines so_far.point) (after m lines count) now) → asks_point (rooms_along m lines count) (pending_behind (rooms_along m lines) lines count) line ≡ false → stands.point ≡ after m lines so_far.point
-  stays now stands none = point_stays mid end session next_session (after m lines so_far.point) (after m lines count) (after m lines count) now (calm none) so_far.stands stands
+  stays : (now : Machine) (stands : StandsAfter end next_session (after m lines so_far.applied.point) (after m lines count) now) → asks_point (rooms_along m lines count) (pending_behind (rooms_along m lines) lines count) line ≡ false → stands.point ≡ after m lines so_far.applied.point
+  stays = applying.stays m lines line rest old session mid count so_far.left_over so_far.applied next_session end calm
 
   -- it wasn't applied
-  pub rested_unapplied : end.given ≡ mid.given → (result : Result Unit Fault) → begun result given_so_far ≡ whole given_so_far + 1 → StandsAfter end next_session (after m lines so_far.point) (after m lines count) (after m lines count) → IsAtRest m lines result old end
-  rested_unapplied same result began stands = rested_after m lines old end next_session (after m lines count) count so_far.point given_so_far (same ∙ so_far.given) so_far.answered so_far.within so_far.least so_far.most result so_far.asked stands (omega (arith, began, so_far.answered))
-      (which_point m lines rest line count so_far.left_over stands.point (after m lines so_far.point) (stays (after m lines count) stands))
+  pub rested_unapplied : end.given ≡ mid.given → (result : Result Unit Fault) → begun result given_so_far ≡ whole given_so_far + 1 → StandsAfter end next_session (after m lines so_far.applied.point) (after m lines count) (after m lines count) → IsAtRest m lines result old end
+  rested_unapplied same result began stands = rested_after m lines old end next_session (after m lines count) count so_far.applied.point given_so_far (same ∙ so_far.given) so_far.answered so_far.applied.within so_far.applied.least so_far.applied.most result so_far.applied.asked stands (omega (arith, began, so_far.answered))
+      (which_point m lines rest line count so_far.left_over stands.point (after m lines so_far.applied.point) (stays (after m lines count) stands))
 
   module _ (told : IsTrue end.tells) (same : end.given ≡ mid.given) (reply : Reply) (allowed : AllowsAt (after m lines count) line reply)
-      (stands : StandsOnward end next_session (after m lines so_far.point) (after m lines count) line)
+      (stands : StandsOnward end next_session (after m lines so_far.applied.point) (after m lines count) line)
       (new : Shown) (any_moment : Leaves end new (PartlyGiven end (text reply))) (one : whole (text reply) ≡ 1) where
     next : IsOnward m lines rest line count so_far.left_over end next_session
-    next = onward m lines rest line count so_far.left_over end next_session so_far.point so_far.least so_far.most so_far.asked stands (stays (after_line (after m lines count) line) stands.after)
+    next = next_point m lines line rest old session mid count so_far.left_over so_far.applied next_session end calm stands
 
     given_at : (k : ℕ) (g : List ℕ) → g ≡ end.given ++ take k (text reply) → g ≡ old.given ++ (given_so_far ++ take k (text reply))
     given_at k g is = is ∙ ap (λ (l : List ℕ). l ++ take k (text reply)) (same ∙ so_far.given) ∙ append_assoc old.given given_so_far (take k (text reply))
@@ -149,10 +139,10 @@ module _ (m : Machine) (lines : List Line) (line : Line) (rest : List Line) (old
     rested_part rests is part fault sink =
         let none : whole (take part.0 (text reply)) ≡ 0 = no_end (text reply) part.0 is part.1 in
         let counted : whole (given_so_far ++ take part.0 (text reply)) ≡ count = whole_append given_so_far (take part.0 (text reply)) ∙ rw (so_far.answered, none) (omega arith) in
-        rested_after m lines old new next_session (after_line (after m lines count) line) count so_far.point (given_so_far ++ take part.0 (text reply)) (given_at part.0 new.given part.2) counted so_far.within so_far.least so_far.most (Err fault) so_far.asked
+        rested_after m lines old new next_session (after_line (after m lines count) line) count so_far.applied.point (given_so_far ++ take part.0 (text reply)) (given_at part.0 new.given part.2) counted so_far.applied.within so_far.applied.least so_far.applied.most (Err fault) so_far.applied.asked
         (record { point = stands.after.point; one = stands.after.one; stands = rests_standing_for end new next_session stands.after.point (after_line (after m lines count) line) rests stands.after.stands })
         (subst (λ (f : Fault). count < begun (Err f) (given_so_far ++ take part.0 (text reply))) (sym sink) (omega (arith, counted)))
-        (which_point m lines rest line count so_far.left_over stands.after.point (after m lines so_far.point) (stays (after_line (after m lines count) line) stands.after))
+        (which_point m lines rest line count so_far.left_over stands.after.point (after m lines so_far.applied.point) (stays (after_line (after m lines count) line) stands.after))
 
     more_text : whole (flat_map text (so_far.replies ++ reply ∷ [])) ≡ count + 1
     more_text = ap whole (one_text so_far.replies reply) ∙ whole_append given_so_far (text reply) ∙ rw (so_far.answered, one) refl
@@ -164,13 +154,7 @@ module _ (m : Machine) (lines : List Line) (line : Line) (rest : List Line) (old
       allowed = all_allowed;
       given = given ∙ ap (λ (l : List ℕ). l ++ text reply) (same ∙ so_far.given) ∙ append_assoc old.given given_so_far (text reply) ∙ ap (λ (l : List ℕ). old.given ++ l) (sym (one_text so_far.replies reply));
       answered = more_text;
-      within = let below = left_below count lines rest line so_far.left_over in omega (arith, below);
       left_over = left_next count lines rest line so_far.left_over;
-      point = next.point;
-      least = next.least;
-      most = next.most;
-      asked = next.asked;
-      counted = counted;
-      stands = rests_standing_for end new next_session (after m lines next.point) (after m lines (count + 1)) rests next.stands;
+      applied = applied_one m lines line rest old session mid count so_far.left_over so_far.applied next_session end calm stands new rests counted;
       crash = crash_told;
     }

@@ -7,13 +7,14 @@ use Rattle.std.proofs.lemmas.Bool.Decides.{nat_tests}
 use Rattle.fv_disk.specs.Shown.{Shown}
 use Rattle.fv_root.specs.Formatted.{IsSize}
 use Rattle.fv_model.specs.Words.{is_number, value_of}
-use Rattle.fv_script.specs.CommandLine.{blocks_of, is_aggregate_size}
+use Rattle.fv_script.specs.CommandLine.{blocks_of, draws_of, is_aggregate_size, seed_of}
 use Rattle.fv_run.specs.declared.ending.Fault.{Fault}
 use Rattle.fv_run.specs.declared.ending.Fault.TheVariants.{Usage}
 use Rattle.fv_run.specs.declared.words.Order.{Order}
-use Rattle.fv_run.specs.declared.words.Order.TheVariants.{Create, Run}
-use Rattle.fv_run.specs.Meaning.{create, meaning}
+use Rattle.fv_run.specs.declared.words.Order.TheVariants.{Create, Gen, Run}
+use Rattle.fv_run.specs.Meaning.{create, generation, meaning}
 use Rattle.fv_run.specs.Creating.{Creates}
+use Rattle.fv_run.specs.Generating.{Generates, lines_drawn}
 use Rattle.fv_run.specs.Running.{Ran}
 use Rattle.fv_run.specs.Statuses.{Runs, most_bytes}
 use Rattle.fv_lines.proofs.Counting.{counts_none}
@@ -51,26 +52,39 @@ has_size (command ∷ []) blocks e = absurd (other (passed (bytes_eq command (co
     other e = cc
 has_size (command ∷ size ∷ []) blocks e =
     is_size size blocks (created_value (blocks_of size) blocks (passed (bytes_eq command (codes "create")) (option_map create (blocks_of size)) (Create blocks) e).1)
-has_size (command ∷ size ∷ other ∷ others) blocks e = absurd cc
+has_size (command ∷ seed ∷ count ∷ []) blocks e = absurd (other (seed_of seed) (draws_of count) (passed (bytes_eq command (codes "gen")) (generation (seed_of seed) (draws_of count)) (Create blocks) e).1)
+  where
+    other : (seed count : Option ℕ) → generation seed count ≡ Some (Create blocks) → ⊥
+    other (Some seed) (Some count) e = cc
+    other (Some seed) None e = cc
+    other None (Some count) e = cc
+    other None None e = cc
+has_size (command ∷ first ∷ second ∷ other ∷ others) blocks e = absurd cc
 
 pub asks_nothing : (asked : Option Order) (disk : Shown) → asked ≡ None → Runs asked disk disk (Err Usage)
-asks_nothing asked disk none = record { usage = λ e. (refl, counts_none disk); creates = λ blocks some. absurd (never asked blocks none some); runs = λ some. absurd (nothing asked none some) }
+asks_nothing asked disk none = record {
+  usage = λ e. (refl, counts_none disk);
+  creates = λ blocks some. absurd (never asked (Create blocks) none some);
+  runs = λ some. absurd (never asked Run none some);
+  generates = λ seed count some. absurd (never asked (Gen seed count) none some);
+}
   where
-    never : (asked : Option Order) (blocks : ℕ) → asked ≡ None → asked ≡ Some (Create blocks) → ⊥
-    never asked blocks none some = cc
-
-    nothing : (asked : Option Order) → asked ≡ None → asked ≡ Some Run → ⊥
-    nothing asked none some = cc
+    never : (asked : Option Order) (order : Order) → asked ≡ None → asked ≡ Some order → ⊥
+    never asked order none some = cc
 
 pub asks_create : (asked : Option Order) (blocks : ℕ) (old new : Shown) (result : Result Unit Fault) → asked ≡ Some (Create blocks) → Creates blocks old new result → Runs asked old new result
 asks_create asked blocks old new result some creates = record {
   usage = λ none. absurd (never none);
   creates = λ other also. subst (λ (n : ℕ). Creates n old new result) (same other also) creates;
   runs = λ run. absurd (other run);
+  generates = λ seed count gen. absurd (another seed count gen);
 }
   where
     other : asked ≡ Some Run → ⊥
     other run = cc
+
+    another : (seed count : ℕ) → asked ≡ Some (Gen seed count) → ⊥
+    another seed count gen = cc
 
     never : asked ≡ None → ⊥
     never none = cc
@@ -83,6 +97,7 @@ asks_run asked old new result some ran = record {
   usage = λ none. absurd (never none);
   creates = λ blocks also. absurd (other blocks also);
   runs = λ run. ran;
+  generates = λ seed count gen. absurd (another seed count gen);
 }
   where
     never : asked ≡ None → ⊥
@@ -90,3 +105,29 @@ asks_run asked old new result some ran = record {
 
     other : (blocks : ℕ) → asked ≡ Some (Create blocks) → ⊥
     other blocks also = cc
+
+    another : (seed count : ℕ) → asked ≡ Some (Gen seed count) → ⊥
+    another seed count gen = cc
+
+pub asks_gen : (asked : Option Order) (seed count : ℕ) (old new : Shown) (result : Result Unit Fault) → asked ≡ Some (Gen seed count) → Generates (lines_drawn seed count) old new result → Runs asked old new result
+asks_gen asked seed count old new result some holds = record {
+  usage = λ none. absurd (never none);
+  creates = λ blocks also. absurd (other blocks also);
+  runs = λ run. absurd (another run);
+  generates = λ x y also. subst (λ (n : ℕ). Generates (lines_drawn x n) old new result) (same_count x y also) (subst (λ (n : ℕ). Generates (lines_drawn n count) old new result) (same_seed x y also) holds);
+}
+  where
+    never : asked ≡ None → ⊥
+    never none = cc
+
+    other : (blocks : ℕ) → asked ≡ Some (Create blocks) → ⊥
+    other blocks also = cc
+
+    another : asked ≡ Some Run → ⊥
+    another run = cc
+
+    same_seed : (x y : ℕ) → asked ≡ Some (Gen x y) → seed ≡ x
+    same_seed x y also = cc
+
+    same_count : (x y : ℕ) → asked ≡ Some (Gen x y) → count ≡ y
+    same_count x y also = cc

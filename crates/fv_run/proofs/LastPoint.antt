@@ -78,15 +78,15 @@ module _ (limit : ℕ) (session : Session) (mid : Shown) (last : Session) (end :
   -- the consistency point
   module _ (next : Session) (point : Shown) (meanwhile : IsTrue end.tells → (before m : Machine) → StandsFor end last before m → Leaves end point (λ c g. OneOf before m m c × (g ≡ end.given))) (keeps : KeepsEnds end point) where
     point_image : (tells : IsTrue mid.tells) (m : Machine) (stands : BeginsFor mid session m) (c : Image) (g : List ℕ)
-        → OneOf (after m (lines_built mid.ends.left) (answers tells m stands).point) (after m (lines_built mid.ends.left) count) (after m (lines_built mid.ends.left) count) c × (g ≡ end.given) → Survives m (lines_built mid.ends.left) mid.given c g
+        → OneOf (after m (lines_built mid.ends.left) (answers tells m stands).applied.point) (after m (lines_built mid.ends.left) count) (after m (lines_built mid.ends.left) count) c × (g ≡ end.given) → Survives m (lines_built mid.ends.left) mid.given c g
     point_image tells m stands c g one =
         let L : List Line = lines_built mid.ends.left in
         let a = answers tells m stands in
-        let within = a.within in
-        let most = a.most in
+        let within = a.applied.within in
+        let most = a.applied.most in
         let now : machine_of c ≡ Some (after m L count) → Survives m L mid.given c g = λ is. survives m L mid.given c g (flat_map text a.replies) (one.1 ∙ a.given) (after_some m L count count (flat_map text a.replies) c a.answered within (up_to_take count L within) (omega arith) within is) in
         ⊎_elim
-        (λ (is : machine_of c ≡ Some (after m L a.point)). survives m L mid.given c g (flat_map text a.replies) (one.1 ∙ a.given) (after_some m L count a.point (flat_map text a.replies) c a.answered within a.least (omega (arith, most)) (omega (arith, most, within)) is))
+        (λ (is : machine_of c ≡ Some (after m L a.applied.point)). survives m L mid.given c g (flat_map text a.replies) (one.1 ∙ a.given) (after_some m L count a.applied.point (flat_map text a.replies) c a.answered within a.applied.least (omega (arith, most)) (omega (arith, most, within)) is))
         (λ (others : (machine_of c ≡ Some (after m L count)) ⊎ (machine_of c ≡ Some (after m L count))). ⊎_elim now now others)
         one.0
 
@@ -95,8 +95,8 @@ module _ (limit : ℕ) (session : Session) (mid : Shown) (last : Session) (end :
         let L : List Line = lines_built mid.ends.left in
         let a = answers tells m stands in
         then mid end point (Survives m L mid.given) a.crash
-        (weaken end point (λ c g. OneOf (after m L a.point) (after m L count) (after m L count) c × (g ≡ end.given)) (Survives m L mid.given) (point_image tells m stands)
-        (meanwhile (end_told tells) (after m L a.point) (after m L count) a.stands))
+        (weaken end point (λ c g. OneOf (after m L a.applied.point) (after m L count) (after m L count) c × (g ≡ end.given)) (Survives m L mid.given) (point_image tells m stands)
+        (meanwhile (end_told tells) (after m L a.applied.point) (after m L count) a.applied.stands))
 
     point_stopped : (fault : Fault) → Counts end point (count_of fault) → (IsTrue end.tells → (before m : Machine) → StandsFor end last before m → ¬ Rose end.write_faults point.write_faults → StandsFor point next before m)
         → (IsTrue mid.tells → (m : Machine) → BeginsFor mid session m → IsWholeFault fault) → IsEndOf limit session mid point fault → RanOpen limit session mid point (Err fault)
@@ -107,8 +107,8 @@ module _ (limit : ℕ) (session : Session) (mid : Shown) (last : Session) (end :
           record {
             replies = followed m L (lines_built (unread at_end.held end)) mid last end count a point keeps.given;
             crash = crash_point tells m stands;
-            at_rest = λ calm. rested m L mid point next (after m L count) count a.point (flat_map text a.replies) (keeps.given ∙ a.given) a.answered a.within a.least a.most (Err fault)
-                (asked_for m L (flat_map text a.replies) (Err fault) count a.point a.answered a.within a.asked) (still (end_told tells) (after m L a.point) (after m L count) a.stands (calm_since point calm));
+            at_rest = λ calm. rested m L mid point next (after m L count) count a.applied.point (flat_map text a.replies) (keeps.given ∙ a.given) a.answered a.applied.within a.applied.least a.applied.most (Err fault)
+                (asked_for m L (flat_map text a.replies) (Err fault) count a.applied.point a.answered a.applied.within a.applied.asked) (still (end_told tells) (after m L a.applied.point) (after m L count) a.applied.stands (calm_since point calm));
             quiet = never_quiet (rooms_along m L) point tells [] (keeps.given ∙ sym (append-nil end.given));
           };
       done = λ tells m stands. tt;
@@ -125,10 +125,10 @@ module _ (limit : ℕ) (session : Session) (mid : Shown) (last : Session) (end :
       point_told tells = rw keeps.tells (end_told tells)
 
       stands_point : (tells : IsTrue mid.tells) (m : Machine) → BeginsFor mid session m → StandsFor point next (after m (lines_built mid.ends.left) count) (after m (lines_built mid.ends.left) count)
-      stands_point tells m stands = let a = answers tells m stands in done (end_told tells) (after m (lines_built mid.ends.left) a.point) (after m (lines_built mid.ends.left) count) a.stands
+      stands_point tells m stands = let a = answers tells m stands in done (end_told tells) (after m (lines_built mid.ends.left) a.applied.point) (after m (lines_built mid.ends.left) count) a.applied.stands
 
       all_is : (tells : IsTrue mid.tells) (m : Machine) → BeginsFor mid session m → count ≡ length (lines_built mid.ends.left)
-      all_is tells m stands = let within = (answers tells m stands).within in omega (arith, within, all_answered tells m stands)
+      all_is tells m stands = let within = (answers tells m stands).applied.within in omega (arith, within, all_answered tells m stands)
 
       point_counts : Counts mid point None
       point_counts = counts_then mid end point None at_end.stands.counts
@@ -195,7 +195,7 @@ module _ (limit : ℕ) (session : Session) (mid : Shown) (last : Session) (end :
           let part = told.tells.gives.part (point_told tells) in
           let bytes : List ℕ = take part.0 (done_text count) in
           let counted : whole (flat_map text a.replies ++ bytes) ≡ count = whole_append (flat_map text a.replies) bytes ∙ rw (a.answered, no_end (done_text count) part.0 told.line part.1) (omega arith) in
-          rested m L mid new next (after m L count) count count (flat_map text a.replies ++ bytes) (given_at tells m stands new.given bytes part.2) counted a.within (up_to_take count L a.within) (omega arith) (Err fault)
+          rested m L mid new next (after m L count) count count (flat_map text a.replies ++ bytes) (given_at tells m stands new.given bytes part.2) counted a.applied.within (up_to_take count L a.applied.within) (omega arith) (Err fault)
           (inr (inr (record { sink = ap Err told.sink; answered = counted ∙ all_is tells m stands; all = all_is tells m stands }))) (rests_standing_for point new next (after m L count) (after m L count) told.tells.gives.rests (stands_point tells m stands))
 
       told_whole : (result : Result Unit Fault) → TellsLine point (done_text count) new result → RanOpen limit session mid new result
@@ -279,6 +279,6 @@ module _ (limit : ℕ) (session : Session) (mid : Shown) (last : Session) (end :
   point_failed next point (session_fault.Damaged at want found) goes goes_for kept wants = point_stopped next point (λ tells before m stands. (goes_for tells before m stands).any_moment) goes.ends Damaged
       (record { tells = goes.ends.tells; source = ap (λ (e : Ends). e.source_faults) goes.ends.ends; sink = ap (λ (e : Ends). e.sink_faults) goes.ends.ends; disk = goes.fault.counts.faults })
       (λ tells before m stands calm. absurd (goes_for tells before m stands).whole)
-      (λ tells m stands. let a = answers tells m stands in absurd (goes_for (end_told tells) (after m (lines_built mid.ends.left) a.point) (after m (lines_built mid.ends.left) count) a.stands).whole)
+      (λ tells m stands. let a = answers tells m stands in absurd (goes_for (end_told tells) (after m (lines_built mid.ends.left) a.applied.point) (after m (lines_built mid.ends.left) count) a.applied.stands).whole)
       (damaged point goes.ends (lacks end point last next at want found wants))
   point_failed next point (session_fault.Failed faults) goes goes_for kept wants = absurd (never_failed last.failed faults at_end.stands.ready.unfailed goes.fault.reason)

@@ -1,10 +1,14 @@
+mod Accepted
 mod Acked
 mod Admitted
 mod Answered
 mod Applied
+mod Applying
 mod Asked
 mod Created
+mod Drawn
 mod Following
+mod Generated
 mod LastPoint
 mod Limits
 mod Lines
@@ -17,5 +21,7 @@ mod Rooms
 mod Counted
 mod Sessions
 mod Stepped
+mod Summed
 mod Surviving
+mod Tallied
 mod Told

@@ -79,7 +79,7 @@ module _ (limit : ℕ) (first : Session) (old : Shown) (held : Held) (session : 
         replies = followed m _ _ old session now count answers mid given;
         crash = crash_asked m _ _ old session now count answers mid still;
         at_rest = λ calm. rested_here m _ _ old session now count answers mid rests given (Err fault);
-        quiet = quiet_so_far (rooms_along m script) answers.counted tells mid given rests.stays.reads;
+        quiet = quiet_so_far (rooms_along m script) answers.applied.counted tells mid given rests.stays.reads;
       }
 
   -- while the source is asked a session asks for what it did
@@ -221,7 +221,7 @@ module _ (limit : ℕ) (first : Session) (old : Shown) (held : Held) (session : 
         (asked m (lines_built old.ends.left) (lines_built (unread held now)) old session now count (so_far.answers tells m stands) mid finds.asks.rests finds.asks.given finds.asks.any_moment)
 
     bound_along : (tells : IsTrue old.tells) (m : Machine) → BeginsFor old first m → (c : Command) → room_by session.volumes c ≤ rooms_along m script count c
-    bound_along tells m stands c = let answers = found_next tells m stands in bound_for mid session (after m script answers.point) (after m script count) answers.stands c
+    bound_along tells m stands c = let answers = found_next tells m stands in bound_for mid session (after m script answers.applied.point) (after m script count) answers.applied.stands c
 
     calm_since : (new : Shown) → ¬ Rose old.write_faults new.write_faults → ¬ Rose mid.write_faults new.write_faults
     calm_since new calm rose = calm (subst (λ (n : ℕ). Rose n new.write_faults) mid_writes rose)
@@ -231,7 +231,7 @@ module _ (limit : ℕ) (first : Session) (old : Shown) (held : Held) (session : 
       calm_along : (result : Result Reply Fault) → Applies session (built (line_of bytes)) mid next_session end result → (tells : IsTrue old.tells) (m : Machine) → BeginsFor old first m
           → asks_point (rooms_along m script count) (pending_behind (rooms_along m script) script count) (built (line_of bytes)) ≡ false → end.reads ≡ mid.reads
       calm_along result applies tells m stands =
-          calm_next (rooms_along m script) script old session mid count (found_next tells m stands).counted (built (line_of bytes)) (line_is tells) (bound_along tells m stands) end applies.calm
+          calm_next (rooms_along m script) script old session mid count (found_next tells m stands).applied.counted (built (line_of bytes)) (line_is tells) (bound_along tells m stands) end applies.calm
 
       -- so it is while its reply isn't given whole
       stays_quiet : (rooms : ℕ → Command → ℕ) → IsCounted rooms script old session mid count → ((c : Command) → room_by session.volumes c ≤ rooms count c) → (result : Result Reply Fault) → Applies session (built (line_of bytes)) mid next_session end result
@@ -243,7 +243,7 @@ module _ (limit : ℕ) (first : Session) (old : Shown) (held : Held) (session : 
       crash_so_far result applies tells m stands =
           let answers = found_next tells m stands in
           crash_applied m (lines_built old.ends.left) (built (line_of bytes)) (lines_built (unread new_held mid)) old session mid count answers next_session end
-          (applies.any_moment (mid_told tells) (after m (lines_built old.ends.left) answers.point) (after m (lines_built old.ends.left) count) answers.stands) (calm_along result applies tells m stands)
+          (applies.any_moment (mid_told tells) (after m (lines_built old.ends.left) answers.applied.point) (after m (lines_built old.ends.left) count) answers.applied.stands) (calm_along result applies tells m stands)
 
       none_past : (new : Shown) (tells : IsTrue old.tells) → IsOverLimit limit old new → unread new_held mid ≡ [] → ⊥
       none_past new tells past none =
@@ -331,11 +331,11 @@ module _ (limit : ℕ) (first : Session) (old : Shown) (held : Held) (session : 
                 replies = followed m (lines_built old.ends.left) (built (line_of bytes) ∷ lines_built (unread new_held mid)) old session mid count answers end applies.given;
                 crash = crash_so_far (Err fault) applies tells m stands;
                 at_rest = λ calm. rested_unapplied m (lines_built old.ends.left) (built (line_of bytes)) (lines_built (unread new_held mid)) old session mid count answers next_session end
-                    (applies.any_moment (mid_told tells) (after m (lines_built old.ends.left) answers.point) (after m (lines_built old.ends.left) count) answers.stands) (calm_along (Err fault) applies tells m stands) applies.given (Err fault) (in_line fault applies.ends (flat_map text answers.replies))
-                    (applies.still (mid_told tells) (after m (lines_built old.ends.left) answers.point) (after m (lines_built old.ends.left) count) answers.stands (calm_since end calm));
-                quiet = stays_quiet (rooms_along m script) answers.counted (bound_along tells m stands) (Err fault) applies tells end refl (unanswered tells applies.given);
+                    (applies.any_moment (mid_told tells) (after m (lines_built old.ends.left) answers.applied.point) (after m (lines_built old.ends.left) count) answers.applied.stands) (calm_along (Err fault) applies tells m stands) applies.given (Err fault) (in_line fault applies.ends (flat_map text answers.replies))
+                    (applies.still (mid_told tells) (after m (lines_built old.ends.left) answers.applied.point) (after m (lines_built old.ends.left) count) answers.applied.stands (calm_since end calm));
+                quiet = stays_quiet (rooms_along m script) answers.applied.counted (bound_along tells m stands) (Err fault) applies tells end refl (unanswered tells applies.given);
               },
-              applies.no_damage (mid_told tells) (after m (lines_built old.ends.left) answers.point) (after m (lines_built old.ends.left) count) answers.stands,
+              applies.no_damage (mid_told tells) (after m (lines_built old.ends.left) answers.applied.point) (after m (lines_built old.ends.left) count) answers.applied.stands,
             );
         counts = counts_then old mid end (count_of fault) mid_counts applies.counts;
         reason = ends_so applies.given fault applies.ends;
@@ -363,8 +363,8 @@ module _ (limit : ℕ) (first : Session) (old : Shown) (held : Held) (session : 
         told_holds fault tells_it tells m stands =
             let L : List Line = lines_built old.ends.left in
             let answers = found_next tells m stands in
-            let done = applies.done (mid_told tells) (after m L answers.point) (after m L count) answers.stands in
-            let moments = applies.any_moment (mid_told tells) (after m L answers.point) (after m L count) answers.stands in
+            let done = applies.done (mid_told tells) (after m L answers.applied.point) (after m L count) answers.applied.stands in
+            let moments = applies.any_moment (mid_told tells) (after m L answers.applied.point) (after m L count) answers.applied.stands in
             let one : whole (text reply) ≡ 1 = one_end (text reply) tells_it.line in
             let part = tells_it.tells.gives.part (end_told tells) in
             record {
@@ -372,7 +372,7 @@ module _ (limit : ℕ) (first : Session) (old : Shown) (held : Held) (session : 
               crash = crash_told m L (built (line_of bytes)) (lines_built (unread new_held mid)) old session mid count answers next_session end moments (calm_along (Ok reply) applies tells m stands) (end_told tells) applies.given reply done.0 done.1 new tells_it.tells.any_moment one;
               at_rest = λ calm. rested_part m L (built (line_of bytes)) (lines_built (unread new_held mid)) old session mid count answers next_session end moments (calm_along (Ok reply) applies tells m stands) (end_told tells) applies.given reply done.0 done.1 new tells_it.tells.any_moment one
                   tells_it.tells.gives.rests tells_it.line part fault tells_it.sink;
-              quiet = stays_quiet (rooms_along m script) answers.counted (bound_along tells m stands) (Ok reply) applies tells new tells_it.tells.gives.rests.stays.reads (part_answered fault tells_it tells);
+              quiet = stays_quiet (rooms_along m script) answers.applied.counted (bound_along tells m stands) (Ok reply) applies tells new tells_it.tells.gives.rests.stays.reads (part_answered fault tells_it tells);
             }
 
         part_past : (fault : Fault) → TellsLine end (text reply) new (Err fault) → IsTrue old.tells → IsOverLimit limit old new → ⊥
@@ -444,11 +444,11 @@ module _ (limit : ℕ) (first : Session) (old : Shown) (held : Held) (session : 
           answers = λ tells m stands.
               let L : List Line = lines_built old.ends.left in
               let answers = found_next tells m stands in
-              let done = applies.done (mid_told tells) (after m L answers.point) (after m L count) answers.stands in
-              let moments = applies.any_moment (mid_told tells) (after m L answers.point) (after m L count) answers.stands in
+              let done = applies.done (mid_told tells) (after m L answers.applied.point) (after m L count) answers.applied.stands in
+              let moments = applies.any_moment (mid_told tells) (after m L answers.applied.point) (after m L count) answers.applied.stands in
               left_as m L (lines_built (unread new_held mid)) (lines_built (unread new_held new)) old next_session new (count + 1) (ap lines_built (sym (same_left tells_it)))
               (answered_one m L (built (line_of bytes)) (lines_built (unread new_held mid)) old session mid count answers next_session end moments (calm_along (Ok reply) applies tells m stands) (end_told tells) applies.given reply done.0 done.1 new tells_it.tells.any_moment
-              (one_end (text reply) tells_it.line) tells_it.tells.gives.rests (tells_it.tells.gives.all (end_told tells)) (next_counted (rooms_along m script) answers.counted (bound_along tells m stands) tells));
+              (one_end (text reply) tells_it.line) tells_it.tells.gives.rests (tells_it.tells.gives.all (end_told tells)) (next_counted (rooms_along m script) answers.applied.counted (bound_along tells m stands) tells));
         }
           where
             next_counted : (rooms : ℕ → Command → ℕ) → IsCounted rooms script old session mid count → ((c : Command) → room_by session.volumes c ≤ rooms count c) → IsTrue old.tells → IsCounted rooms script old next_session new (count + 1)

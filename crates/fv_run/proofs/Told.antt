@@ -6,9 +6,10 @@ use Rattle.fv_lines.specs.Counts.{Count, Counts, told_by}
 use Rattle.fv_run.specs.declared.ending.Fault.{Fault}
 use Rattle.fv_run.specs.declared.ending.Fault.TheVariants.{Usage, NotAggregate, Source, Sink, Disk, Memory, Damaged, Limit}
 use Rattle.fv_run.specs.declared.words.Order.{Order}
-use Rattle.fv_run.specs.declared.words.Order.TheVariants.{Create, Run}
+use Rattle.fv_run.specs.declared.words.Order.TheVariants.{Create, Gen, Run}
 use Rattle.fv_run.specs.Creating.{Creates}
 use Rattle.fv_run.specs.Endings.{raised_by, status_in}
+use Rattle.fv_run.specs.Generating.{Generates, lines_drawn}
 use Rattle.fv_run.specs.Running.{Ran}
 use Rattle.fv_run.specs.Statuses.{Runs, most_bytes}
 
@@ -39,6 +40,7 @@ same_count (Err Limit) = refl
 counted : (asked : Option Order) (old new : Shown) (result : Result Unit Fault) → Runs asked old new result → Counts old new (raised_by result)
 counted (Some Run) old new result runs = (runs.runs refl).counts
 counted (Some (Create blocks)) old new result runs = (runs.creates blocks refl).counts
+counted (Some (Gen seed count)) old new result runs = (runs.generates seed count refl).counts
 counted None old new result runs = let usage = runs.usage refl in subst (λ (r : Result Unit Fault). Counts old new (raised_by r)) (sym usage.0) usage.1
 
 pub counts_told : (asked : Option Order) (old new : Shown) (result : Result Unit Fault) → Runs asked old new result → Counts old new (told_by (status_in result))
@@ -60,6 +62,7 @@ usage_alone (Err Limit) e = absurd (omega (arith, e))
 asks_none : (asked : Option Order) (old new : Shown) (result : Result Unit Fault) → result ≡ Err Usage → Runs asked old new result → asked ≡ None
 asks_none None old new result is runs = refl
 asks_none (Some Run) old new result is runs = absurd (subst (λ (r : Result Unit Fault). Ran most_bytes old new r) is (runs.runs refl)).reason
+asks_none (Some (Gen seed count)) old new result is runs = absurd (subst (λ (r : Result Unit Fault). Generates (lines_drawn seed count) old new r) is (runs.generates seed count refl)).reason
 asks_none (Some (Create blocks)) old new result is runs = absurd (subst (λ (r : Result Unit Fault). Creates blocks old new r) is (runs.creates blocks refl)).only
 
 pub usage_told : (asked : Option Order) (old new : Shown) (result : Result Unit Fault) → Runs asked old new result → (status_in result ≡ 7) ↔ (asked ≡ None)

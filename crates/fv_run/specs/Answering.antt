@@ -115,21 +115,25 @@ pub record IsCounted (rooms : ℕ → Command → ℕ) (lines : List Line) (old 
   pub pending : session.pending ≤ pending_behind rooms lines count
   pub quiet : ((line : ℕ) → line < count → asks_behind rooms lines line ≡ false) → now.reads ≡ old.reads
 
--- The first `count` lines are answered, and `left` are the others. The session stands for the machine after them, and its last consistency
--- point for the one after `point` of them.
-pub record HasAnswered (m : Machine) (lines left : List Line) (old : Shown) (session : Session) (now : Shown) (count : ℕ) : Type 0 where
-  pub replies : List Reply
-  pub allowed : AnswersAll m (take count lines) replies
-  pub given : now.given ≡ old.given ++ flat_map text replies
-  pub answered : whole (flat_map text replies) ≡ count
+-- The first `count` of these lines are applied, whatever was said of them. The session stands for the machine after them, and its last
+-- consistency point for the one after `point` of them.
+pub record HasApplied (m : Machine) (lines : List Line) (old : Shown) (session : Session) (now : Shown) (count : ℕ) : Type 0 where
   pub within : count ≤ length lines
-  pub left_over : left ≡ drop count lines
   pub point : ℕ
   pub least : up_to_cp (take count lines) ≤ point
   pub most : point ≤ count
   pub asked : IsLastPoint m lines count point
   pub counted : IsCounted (rooms_along m lines) lines old session now count
   pub stands : StandsFor now session (after m lines point) (after m lines count)
+
+-- They are answered, too, and `left` are the others.
+pub record HasAnswered (m : Machine) (lines left : List Line) (old : Shown) (session : Session) (now : Shown) (count : ℕ) : Type 0 where
+  pub applied : HasApplied m lines old session now count
+  pub replies : List Reply
+  pub allowed : AnswersAll m (take count lines) replies
+  pub given : now.given ≡ old.given ++ flat_map text replies
+  pub answered : whole (flat_map text replies) ≡ count
+  pub left_over : left ≡ drop count lines
   pub crash : Leaves old now (Survives m lines old.given)
 
 -- so many lines of a script are answered, on a session that began at `old`

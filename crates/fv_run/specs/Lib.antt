@@ -2,6 +2,7 @@ pub mod Answering
 pub mod Built
 pub mod Creating
 pub mod Endings
+pub mod Generating
 pub mod Meaning
 pub mod Promises
 pub mod Running

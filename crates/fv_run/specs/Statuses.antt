@@ -5,8 +5,9 @@ use Rattle.fv_lines.specs.Counts.{Counts}
 use Rattle.fv_run.specs.declared.ending.Fault.{Fault}
 use Rattle.fv_run.specs.declared.ending.Fault.TheVariants.{Usage}
 use Rattle.fv_run.specs.declared.words.Order.{Order}
-use Rattle.fv_run.specs.declared.words.Order.TheVariants.{Create, Run}
+use Rattle.fv_run.specs.declared.words.Order.TheVariants.{Create, Gen, Run}
 use Rattle.fv_run.specs.Creating.{Creates}
+use Rattle.fv_run.specs.Generating.{Generates, lines_drawn}
 use Rattle.fv_run.specs.Running.{Ran}
 
 -- the most bytes of a script
@@ -18,3 +19,4 @@ pub record Runs (asked : Option Order) (old new : Shown) (result : Result Unit F
   pub usage : asked ≡ None → (result ≡ Err Usage) × Counts old new None
   pub creates : (blocks : ℕ) → asked ≡ Some (Create blocks) → Creates blocks old new result
   pub runs : asked ≡ Some Run → Ran most_bytes old new result
+  pub generates : (seed count : ℕ) → asked ≡ Some (Gen seed count) → Generates (lines_drawn seed count) old new result

@@ -5,10 +5,12 @@
 mod answering;
 mod create;
 mod ending;
+mod generating;
 mod program;
 mod running;
 mod words;
 
+pub use generating::run_generated;
 pub use program::flexvol;
 pub use running::run_script;
 pub use words::{Order, WordsFault, read_words};

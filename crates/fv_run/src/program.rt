@@ -4,11 +4,13 @@ ghost use Rattle.std.specs.Prelude.{◌≡◌, ◌∷◌, [], ◌↔◌, ℕ, ma
 ghost use Rattle.fv_lines.specs.Counts.{Counts, told_by};
 ghost use Rattle.fv_run.specs.Meaning.{meaning};
 ghost use Rattle.fv_run.specs.Creating.{IsCreation};
+ghost use Rattle.fv_run.specs.Generating.{IsGeneration};
 ghost use Rattle.fv_run.specs.Running.{IsRun};
 ghost use Rattle.fv_run.specs.Statuses.{Runs, most_bytes};
 
 use crate::create::create;
 use crate::ending::Fault;
+use crate::generating::generate;
 use crate::running::run;
 use crate::words::{Order, read_words};
 use fv_disk::Host;
@@ -27,6 +29,8 @@ const MOST_BYTES: u64 = 4_294_967_296;
 ///
 /// `run` is `run_script` with a limit of 4,294,967,296 bytes.
 ///
+/// `gen SEED COUNT` is `run_generated`, with a seed below 2^64 and at most 1,000,000 drawn commands.
+///
 /// The status is 7 where the words have no meaning. `docs/MACHINE.md` tells of the words and the statuses.
 pub fn flexvol<H: Host>(alloc: Global, words: &[String], host: &mut H) -> u8
     ensures statuses { Contains (0 ∷ 2 ∷ 3 ∷ 4 ∷ 5 ∷ 6 ∷ 7 ∷ 8 ∷ 9 ∷ []) result }
@@ -42,6 +46,10 @@ pub fn flexvol<H: Host>(alloc: Global, words: &[String], host: &mut H) -> u8
     // A new aggregate is made, and told of once it stands.
     ensures create { (blocks : ℕ) → meaning (map string_bytes words.now) ≡ Some (Order.Create blocks)
         → IsCreation blocks (H.shown host.old) (H.shown host.new) result }
+
+    // The script of a seed is run on the aggregate that the disk has, and told of in one line.
+    ensures generates { (seed : ℕ) → (count : ℕ) → meaning (map string_bytes words.now) ≡ Some (Order.Gen seed count)
+        → IsGeneration seed count (H.shown host.old) (H.shown host.new) result }
 {
     match obey(alloc, words, host) {
         Ok(()) => 0,
@@ -49,7 +57,7 @@ pub fn flexvol<H: Host>(alloc: Global, words: &[String], host: &mut H) -> u8
     }
 }
 
-#[tactic(auto, using(crate::proofs::Asked::has_size, crate::proofs::Asked::asks_nothing, crate::proofs::Asked::asks_create, crate::proofs::Asked::asks_run))]
+#[tactic(auto, using(crate::proofs::Asked::has_size, crate::proofs::Asked::asks_nothing, crate::proofs::Asked::asks_create, crate::proofs::Asked::asks_run, crate::proofs::Asked::asks_gen))]
 fn obey<H: Host>(alloc: Global, words: &[String], host: &mut H) -> Result<(), Fault>
     ensures runs { Runs (meaning (map string_bytes words.now)) (H.shown host.old) (H.shown host.new) result }
     ensures untouched { meaning (map string_bytes words.now) ≡ None → host.new ≡ host.old }
@@ -57,6 +65,7 @@ fn obey<H: Host>(alloc: Global, words: &[String], host: &mut H) -> Result<(), Fa
     match read_words(words) {
         Ok(Order::Create { blocks }) => create(host, blocks),
         Ok(Order::Run) => run(alloc, host, MOST_BYTES),
+        Ok(Order::Gen { seed, count }) => generate(alloc, host, seed, count),
         Err(_) => Err(Fault::Usage),
     }
 }

@@ -2,10 +2,10 @@
 
 ghost use Rattle.std.specs.Prelude.{◌≡◌, map, string_bytes};
 ghost use Rattle.std.specs.Option.{option_map};
-ghost use Rattle.fv_script.specs.CommandLine.{blocks_of};
-ghost use Rattle.fv_run.specs.Meaning.{create, Means};
+ghost use Rattle.fv_script.specs.CommandLine.{blocks_of, draws_of, seed_of};
+ghost use Rattle.fv_run.specs.Meaning.{create, generation, Means};
 
-use fv_script::read_blocks;
+use fv_script::{read_blocks, read_draws, read_seed};
 
 /// What the words of the command line ask for.
 #[derive(Clone, Copy, Debug, PartialEq, Eq)]
@@ -17,6 +17,13 @@ pub enum Order {
     },
     /// Run the script of the source.
     Run,
+    /// Run the script of a seed.
+    Gen {
+        /// The seed.
+        seed: u64,
+        /// How many commands are drawn, at most 1,000,000.
+        count: u32,
+    },
 }
 
 /// Why words ask for nothing.
@@ -26,9 +33,9 @@ pub enum WordsFault {
     Usage,
 }
 
-/// What the words of the command line mean: `create BLOCKS`, with a number of 1 to 20 decimal digits
-/// from 512 to 1,048,576, or `run`. Every other list of words is `Usage`. It costs by the words' bytes
-/// and takes no memory.
+/// What the words of the command line mean: `create BLOCKS`, with a number from 512 to 1,048,576; `run`; or
+/// `gen SEED COUNT`, with a seed below 2^64 and a number of drawn commands of at most 1,000,000. A number is 1 to 20 decimal
+/// digits. Every other list of words is `Usage`. It costs by the words' bytes and takes no memory.
 pub fn read_words(words: &[String]) -> Result<Order, WordsFault>
     ensures { Means (map string_bytes words.now) result }
 {
@@ -36,6 +43,9 @@ pub fn read_words(words: &[String]) -> Result<Order, WordsFault>
         [command] if command.as_str() == "run" => Ok(Order::Run),
         [command, size] if command.as_str() == "create" => {
             create(size.as_bytes()).ok_or(WordsFault::Usage)
+        }
+        [command, seed, count] if command.as_str() == "gen" => {
+            generation(seed.as_bytes(), count.as_bytes()).ok_or(WordsFault::Usage)
         }
         _ => Err(WordsFault::Usage),
     }
@@ -46,4 +56,12 @@ fn create(size: &[u8]) -> Option<Order>
 {
     let blocks = read_blocks(size)?;
     Some(Order::Create { blocks })
+}
+
+fn generation(seed: &[u8], count: &[u8]) -> Option<Order>
+    ensures { result ≡ generation (seed_of seed.now) (draws_of count.now) }
+{
+    let seed = read_seed(seed)?;
+    let count = read_draws(count)?;
+    Some(Order::Gen { seed, count })
 }

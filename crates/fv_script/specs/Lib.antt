@@ -3,4 +3,5 @@ pub mod Reading
 pub mod Parts
 pub mod Telling
 pub mod Spelled
+pub mod Summary
 pub mod Generated

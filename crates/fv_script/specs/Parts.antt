@@ -52,6 +52,10 @@ is_zero b = nat_eq b 0
 abbrev pub held : ℕ → ℕ → ℕ
 held value digit = min (min (value * 10) (2 ^ 32 - 1) + (digit - 48)) (2 ^ 32 - 1)
 
+-- the same, held at the greatest number of 128 bits
+abbrev pub held_wide : ℕ → ℕ → ℕ
+held_wide value digit = min (min (value * 10) (2 ^ 128 - 1) + (digit - 48)) (2 ^ 128 - 1)
+
 -- how many bytes stand before the first @, and the names around it
 abbrev pub is_at : ℕ → Bool
 is_at b = nat_eq b 64

@@ -12,7 +12,7 @@ use crate::LineFault;
 use fv_model::{Kind, Name, in_index, in_reserve, in_size, in_steps};
 
 /// The most digits that a number on a command line has.
-const MOST_DIGITS: usize = 20;
+pub(crate) const MOST_DIGITS: usize = 20;
 
 /// The least and the most blocks of an aggregate.
 const LEAST: u32 = 512;

@@ -15,8 +15,9 @@ pub struct Course {
     states: Vec<usize>,
     /// How many lines so many reply lines acknowledge: those up to the last `cp`.
     acknowledged: Vec<usize>,
-    /// Whether an aggregate is made. Then nothing can be said before the first byte, and afterwards the last state counts.
-    makes: bool,
+    /// Whether all is told at the end, as where an aggregate is made or a script is generated. Then each state may stand before the first byte,
+    /// and afterwards the last one alone.
+    late: bool,
 }
 
 pub fn no_course(alloc: Global) -> Course {
@@ -24,7 +25,7 @@ pub fn no_course(alloc: Global) -> Course {
         looks: Vec::new(alloc),
         states: Vec::new(alloc),
         acknowledged: Vec::new(alloc),
-        makes: false,
+        late: false,
     }
 }
 
@@ -42,6 +43,10 @@ pub fn course_of(bench: &Bench) -> Result<Course, AllocError> {
     match order_of(bench) {
         Some(Order::Create { blocks }) => course.make(bench, u64::from(blocks))?,
         Some(Order::Run) if bench.blocks != 0 => course.go_on(bench)?,
+        Some(Order::Gen { .. }) if bench.blocks != 0 => {
+            course.late = true;
+            course.go_on(bench)?;
+        }
         _ => {}
     }
     Ok(course)
@@ -50,7 +55,7 @@ pub fn course_of(bench: &Bench) -> Result<Course, AllocError> {
 impl Course {
     /// The states while an aggregate is made: as before, none, and the new one.
     fn make(&mut self, bench: &Bench, blocks: u64) -> Result<(), AllocError> {
-        self.makes = true;
+        self.late = true;
         if bench.blocks == 0 {
             self.add(Vec::from_slice(bench.alloc, SHUT)?)?;
         } else {
@@ -137,7 +142,7 @@ impl Course {
     /// The first and the last state that a crash may leave once this was given out.
     fn lawful(&self, given: &[u8]) -> (usize, usize) {
         let last = self.states.len().saturating_sub(1);
-        if self.makes {
+        if self.late {
             return (if given.is_empty() { 0 } else { last }, last);
         }
         let answered = lines_in(given) as usize;

@@ -16,6 +16,7 @@ mod failing;
 mod lines;
 mod playing;
 mod reading;
+mod summary;
 mod walking;
 
 use crate::bench::{Bench, clear, new_bench};

@@ -5,6 +5,7 @@ use crate::bench::{Bench, Program, clear, new_run};
 use crate::cause::{Cause, because};
 use crate::course::{course_of, order_of};
 use crate::lines::{add_word, first_difference, lines_in, number, split_lines};
+use crate::summary::plain_summary;
 use fv_run::Order;
 use std::alloc::AllocError;
 
@@ -98,7 +99,7 @@ fn judge_output(bench: &Bench) -> Result<(), Cause> {
     }
 }
 
-/// What the plain machine gives out for a script: its replies, and their number.
+/// What the plain machine gives out for a script: its replies and their number, or the line that tells of a generated one.
 fn plain_output(bench: &Bench) -> Result<Vec<u8>, Cause> {
     if bench.blocks == 0 {
         return Err(because("the plain machine isn't known", 0, 0));
@@ -106,6 +107,9 @@ fn plain_output(bench: &Bench) -> Result<Vec<u8>, Cause> {
     let script = bench.run.script.as_slice();
     let lines = bench.lines.as_slice();
     let mut output = plain_replies(bench.alloc, bench.blocks, lines, script)?;
+    if let Some(Order::Gen { .. }) = order_of(bench) {
+        return plain_summary(bench, output.as_slice());
+    }
     let count = lines_in(output.as_slice());
     output.extend_from_slice(format!(in bench.alloc; "done {count}\n")?.as_bytes())?;
     Ok(output)
@@ -123,7 +127,7 @@ fn settle(bench: &mut Bench) -> Result<(), AllocError> {
             };
             Ok(())
         }
-        Some(Order::Run) => {
+        Some(Order::Run | Order::Gen { .. }) => {
             let script = bench.run.script.as_slice();
             match bench.run.stands {
                 Some(lines) => add_lines(&mut bench.lines, split_lines(script, lines).0),

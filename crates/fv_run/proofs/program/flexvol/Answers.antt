@@ -29,3 +29,9 @@ returns-in-Err-clause-run g c = λ is. record { end = Err c.in-Err.fault; status
 
 pub returns-in-Err-clause-create : goal.returns-in-Err-clause-create
 returns-in-Err-clause-create g c = λ blocks is. record { end = Err c.in-Err.fault; status = c.status.ensures; holds = c.in-Err.ensures.runs.creates blocks is }
+
+pub returns-in-Ok-clause-generates : goal.returns-in-Ok-clause-generates
+returns-in-Ok-clause-generates g c = λ seed count is. record { end = Ok tt; status = refl; holds = c.in-Ok.ensures.runs.generates seed count is }
+
+pub returns-in-Err-clause-generates : goal.returns-in-Err-clause-generates
+returns-in-Err-clause-generates g c = λ seed count is. record { end = Err c.in-Err.fault; status = c.status.ensures; holds = c.in-Err.ensures.runs.generates seed count is }

@@ -1,9 +1,9 @@
-use Rattle.std.proofs.Common.{◌≡◌, ◌∙◌, true, false, string_bytes, refl, sym, ap}
+use Rattle.std.proofs.Common.{◌≡◌, ◌∙◌, true, false, string_bytes, List, ℕ, refl, sym, ap, ap₂}
 use Rattle.std.specs.Prelude.{codes, bytes_eq}
 use Rattle.std.specs.Option.{option_map}
-use Rattle.fv_script.specs.CommandLine.{blocks_of}
-use Rattle.fv_run.specs.Meaning.{create}
-use Rattle.fv_run.proofs.Phrases.{none, one, many, two, means_or_usage}
+use Rattle.fv_script.specs.CommandLine.{blocks_of, draws_of, seed_of}
+use Rattle.fv_run.specs.Meaning.{create, generation}
+use Rattle.fv_run.proofs.Phrases.{none, one, many, three, two, means_or_usage}
 use Rattle.fv_run.proofs.words.read_words.Goals as goal
 
 pub returns-in-len1 : goal.returns-in-len1
@@ -32,5 +32,18 @@ returns-in_default-3 c =
     let other : bytes_eq (string_bytes c.command-item-then-words-lt3.result) (codes "create") ≡ false = rw (← c.as_str-then-words-lt3.ensures.value) (sym c.if-eq-2.ensures) in
     two string_bytes c.args.words.now c.command-item-then-words-lt3.result c.size-item.result c.in-len2.len_at_least c.in-len2.len_below c.command-item-then-words-lt3.is c.size-item.is ∙ rw other refl
 
+pub returns-in-len3 : goal.returns-in-len3
+returns-in-len3 c =
+    let is_gen : bytes_eq (string_bytes c.command-item-then-words-lt4.result) (codes "gen") ≡ true = rw (← c.as_str-then-words-lt4.ensures.value) (sym c.if-eq-3.ensures) in
+    let numbers = ap₂ (λ (seed count : List ℕ). generation (seed_of seed) (draws_of count)) (sym c.as_bytes-in-len3.ensures.value) (sym c.as_bytes-in-len3-2.ensures.value) in
+    rw c.ok_or-in-len3.ensures.value (means_or_usage _ _
+    (three string_bytes c.args.words.now c.command-item-then-words-lt4.result c.seed-item.result c.count-item.result c.in-len3.len_at_least c.in-len3.len_below c.command-item-then-words-lt4.is c.seed-item.is c.count-item.is
+    ∙ rw is_gen numbers ∙ sym c.generation.ensures))
+
 pub returns-in_default-4 : goal.returns-in_default-4
-returns-in_default-4 c = many string_bytes c.args.words.now c.in_default.len_at_least
+returns-in_default-4 c =
+    let other : bytes_eq (string_bytes c.command-item-then-words-lt4.result) (codes "gen") ≡ false = rw (← c.as_str-then-words-lt4.ensures.value) (sym c.if-eq-3.ensures) in
+    three string_bytes c.args.words.now c.command-item-then-words-lt4.result c.seed-item.result c.count-item.result c.in-len3.len_at_least c.in-len3.len_below c.command-item-then-words-lt4.is c.seed-item.is c.count-item.is ∙ rw other refl
+
+pub returns-in_default-5 : goal.returns-in_default-5
+returns-in_default-5 c = many string_bytes c.args.words.now c.in_default.len_at_least
