@@ -20,11 +20,11 @@ use Rattle.fv_image_rows.proofs.Faults.{root_one, view_of}
 use Rattle.fv_image_rows.proofs.FileFaults.{with_block, first_blocks, second_pass, third_pass}
 
 -- an image of one file with another block
-abbrev changed : ℕ → List ℕ → Layout
+abbrev pub changed : ℕ → List ℕ → Layout
 changed at block = layout_at one_file_root (with_block at block one_file)
 
 -- Rule 1: a label with another mark.
-abbrev no_label : Layout
+abbrev pub no_label : Layout
 no_label = changed 13 (71 ∷ 86 ∷ 76 ∷ 65 ∷ 66 ∷ 69 ∷ 76 ∷ 48 ∷ (zeros 7 ++ (1 ∷ 97 ∷ (zeros 78 ++ (100 ∷ (zeros 7 ++ (200 ∷ (zeros 6 ++ (16 ∷ (zeros 8 ++ (2 ∷ (zeros 31 ++ (1 ∷ (zeros 7 ++ (12 ∷ (zeros 7 ++ (1 ∷ (zeros 23 ++ (7 ∷ (zeros 7 ++ (2 ∷ zeros 3896)))))))))))))))))))))
 
 no_label_refused : not (has_shapes no_label) ≡ true
@@ -32,7 +32,7 @@ unfolding bits_compute layouts_compute rules_compute has_wide_spans map_bit
 no_label_refused = refl
 
 -- Rule 1: a leaf with a kind that there isn't.
-abbrev no_kind : Layout
+abbrev pub no_kind : Layout
 no_kind = changed 10 (70 ∷ 86 ∷ 67 ∷ 76 ∷ 69 ∷ 65 ∷ 70 ∷ 48 ∷ (zeros 1023 ++ (7 ∷ 0 ∷ 0 ∷ 0 ∷ 5 ∷ (zeros 7 ++ (8 ∷ 0 ∷ 0 ∷ 0 ∷ 9 ∷ zeros 3048)))))
 
 no_kind_refused : not (has_shapes no_kind) ≡ true
@@ -40,7 +40,7 @@ unfolding bits_compute layouts_compute rules_compute has_wide_spans map_bit
 no_kind_refused = refl
 
 -- Rule 1: a container's root with another mark.
-abbrev no_inner : Layout
+abbrev pub no_inner : Layout
 no_inner = changed 12 (70 ∷ 86 ∷ 67 ∷ 73 ∷ 78 ∷ 78 ∷ 69 ∷ 83 ∷ (zeros 7 ++ (1 ∷ (zeros 1015 ++ (10 ∷ (zeros 127 ++ (11 ∷ zeros 2936)))))))
 
 no_inner_refused : not (has_shapes no_inner) ≡ true
@@ -48,7 +48,7 @@ unfolding bits_compute layouts_compute rules_compute has_wide_spans map_bit
 no_inner_refused = refl
 
 -- Rule 2: an entry in the last of the aggregate's own blocks.
-abbrev before_first : Layout
+abbrev pub before_first : Layout
 before_first = changed 10 (70 ∷ 86 ∷ 67 ∷ 76 ∷ 69 ∷ 65 ∷ 70 ∷ 48 ∷ (zeros 1023 ++ (7 ∷ 0 ∷ 0 ∷ 0 ∷ 5 ∷ (zeros 7 ++ (6 ∷ 0 ∷ 0 ∷ 0 ∷ 1 ∷ zeros 3048)))))
 
 before_first_refused : (has_shapes before_first && not (are_in_range before_first)) ≡ true
@@ -56,7 +56,7 @@ unfolding bits_compute layouts_compute rules_compute has_wide_spans map_bit
 before_first_refused = refl
 
 -- Rule 2: an entry past the last block.
-abbrev past_last : Layout
+abbrev pub past_last : Layout
 past_last = changed 10 (70 ∷ 86 ∷ 67 ∷ 76 ∷ 69 ∷ 65 ∷ 70 ∷ 48 ∷ (zeros 1023 ++ (7 ∷ 0 ∷ 0 ∷ 0 ∷ 5 ∷ (zeros 6 ++ (4 ∷ 8 ∷ 0 ∷ 0 ∷ 0 ∷ 1 ∷ zeros 3048)))))
 
 past_last_refused : (has_shapes past_last && not (are_in_range past_last)) ≡ true
@@ -64,7 +64,7 @@ unfolding bits_compute layouts_compute rules_compute has_wide_spans map_bit
 past_last_refused = refl
 
 -- Rule 4: leaf 1 where leaf 0 should be.
-abbrev other_leaf : Layout
+abbrev pub other_leaf : Layout
 other_leaf = changed 10 (70 ∷ 86 ∷ 67 ∷ 76 ∷ 69 ∷ 65 ∷ 70 ∷ 48 ∷ (zeros 7 ++ (1 ∷ (zeros 1015 ++ (7 ∷ 0 ∷ 0 ∷ 0 ∷ 5 ∷ (zeros 7 ++ (8 ∷ 0 ∷ 0 ∷ 0 ∷ 1 ∷ zeros 3048)))))))
 
 other_leaf_refused : (has_shapes other_leaf && (are_in_range other_leaf && not (is_in_position other_leaf))) ≡ true
@@ -72,7 +72,7 @@ unfolding bits_compute layouts_compute rules_compute has_wide_spans map_bit
 other_leaf_refused = refl
 
 -- Rule 4: a node of level 2 where the one of level 1 should be.
-abbrev other_level : Layout
+abbrev pub other_level : Layout
 other_level = changed 12 (70 ∷ 86 ∷ 67 ∷ 73 ∷ 78 ∷ 78 ∷ 69 ∷ 82 ∷ (zeros 7 ++ (2 ∷ (zeros 1015 ++ (10 ∷ (zeros 127 ++ (11 ∷ zeros 2936)))))))
 
 other_level_refused : (has_shapes other_level && (are_in_range other_level && not (is_in_position other_level))) ≡ true
@@ -80,7 +80,7 @@ unfolding bits_compute layouts_compute rules_compute has_wide_spans map_bit
 other_level_refused = refl
 
 -- Rule 4: two volumes of one name.
-abbrev one_name : Layout
+abbrev pub one_name : Layout
 one_name = layout_at clone_root (with_block 23 (70 ∷ 86 ∷ 76 ∷ 65 ∷ 66 ∷ 69 ∷ 76 ∷ 48 ∷ (zeros 7 ++ (1 ∷ 97 ∷ (zeros 70 ++ (2 ∷ (zeros 7 ++ (100 ∷ (zeros 7 ++ (200 ∷ (zeros 6 ++ (16 ∷ (zeros 8 ++ (4 ∷ (zeros 7 ++ (1 ∷ (zeros 7 ++ (1 ∷ (zeros 15 ++ (1 ∷ (zeros 7 ++ (22 ∷ (zeros 7 ++ (1 ∷ (zeros 15 ++ (1 ∷ (zeros 7 ++ (11 ∷ (zeros 7 ++ (4 ∷ zeros 3896))))))))))))))))))))))))))))) clone)
 
 one_name_refused : (has_shapes one_name && (are_in_range one_name && (is_in_position one_name && not (has_distinct_names one_name)))) ≡ true
@@ -88,7 +88,7 @@ unfolding bits_compute layouts_compute rules_compute has_wide_spans map_bit
 one_name_refused = refl
 
 -- Rule 7: two VVBNs of one block.
-abbrev one_block : Layout
+abbrev pub one_block : Layout
 one_block = changed 10 (70 ∷ 86 ∷ 67 ∷ 76 ∷ 69 ∷ 65 ∷ 70 ∷ 48 ∷ (zeros 1023 ++ (7 ∷ 0 ∷ 0 ∷ 0 ∷ 5 ∷ (zeros 7 ++ (7 ∷ 0 ∷ 0 ∷ 0 ∷ 1 ∷ zeros 3048)))))
 
 one_block_refused : (second_pass (seen one_block.view) && (first_blocks one_block && not (is_held_once one_block))) ≡ true
@@ -96,7 +96,7 @@ unfolding bits_compute layouts_compute rules_compute has_wide_spans map_bit
 one_block_refused = refl
 
 -- Rule 7: a delayed entry of a block that is held.
-abbrev held_and_delayed : Layout
+abbrev pub held_and_delayed : Layout
 held_and_delayed = changed 10 (70 ∷ 86 ∷ 67 ∷ 76 ∷ 69 ∷ 65 ∷ 70 ∷ 48 ∷ (zeros 1023 ++ (7 ∷ 0 ∷ 0 ∷ 0 ∷ 5 ∷ (zeros 7 ++ (8 ∷ 0 ∷ 0 ∷ 0 ∷ 1 ∷ (zeros 7 ++ (8 ∷ 0 ∷ 0 ∷ 0 ∷ 1 ∷ zeros 3036)))))))
 
 held_and_delayed_refused : (second_pass (seen held_and_delayed.view) && (first_blocks held_and_delayed && not (is_held_once held_and_delayed))) ≡ true
@@ -104,7 +104,7 @@ unfolding bits_compute layouts_compute rules_compute has_wide_spans map_bit
 held_and_delayed_refused = refl
 
 -- Rule 8: no bit of a block that is held.
-abbrev bit_too_few : Layout
+abbrev pub bit_too_few : Layout
 bit_too_few = changed 6 (128 ∷ 62 ∷ zeros 4094)
 
 bit_too_few_refused : (second_pass (seen bit_too_few.view) && (first_blocks bit_too_few && not (agree (bit_too_few.bit 8) (is_held bit_too_few 8)))) ≡ true
@@ -112,7 +112,7 @@ unfolding bits_compute layouts_compute rules_compute has_wide_spans map_bit
 bit_too_few_refused = refl
 
 -- Rule 8: a bit of a block that isn't.
-abbrev bit_too_many : Layout
+abbrev pub bit_too_many : Layout
 bit_too_many = changed 6 (128 ∷ 127 ∷ zeros 4094)
 
 bit_too_many_refused : (second_pass (seen bit_too_many.view) && (first_blocks bit_too_many && not (agree (bit_too_many.bit 14) (is_held bit_too_many 14)))) ≡ true
@@ -145,7 +145,7 @@ many_refused = not_true bit_too_many 14 (omega arith) (of_not (second_pass (seen
 -- ---- space
 
 -- an aggregate of 1024 blocks has 761 for its volumes, and a volume's overhead counts 40 of them
-abbrev of_size : ℕ → Layout
+abbrev pub of_size : ℕ → Layout
 of_size size = layout_at root_one (image_of (super_of 1024 ∷ open_gate ∷ open_gate ∷ root_with 1 0 0 0 ∷ root_with 2 10 0 0 ∷ zeros 4096 ∷ (128 ∷ 7 ∷ zeros 4094) ∷ zeros 4096 ∷ leaf_16 7 ∷ inner_over 8 ∷ label_of name_a 0 size 1000 9 ∷ []))
 
 commits_fit : (third_pass (seen (of_size 721).view) && has_commits_in_capacity (seen (of_size 721).view)) ≡ true
@@ -158,7 +158,7 @@ unfolding tables_compute rules_compute layouts_compute space_compute commits_see
 commits_pass = refl
 
 -- so many delayed entries; of 1017 blocks 40 are kept for the overheads and 256 beside them
-abbrev with_delayed : ℕ → View
+abbrev pub with_delayed : ℕ → View
 with_delayed count = view_of head_a (λ v. if v == 4096
     then Some (record { pvbn = 7; kind = 8; block = zeros 4096 })
     else (if nat_lt v count then Some (record { pvbn = 11 + v; kind = 1; block = [] }) else None))

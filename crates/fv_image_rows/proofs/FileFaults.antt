@@ -45,7 +45,7 @@ abbrev pub after_three : Layout → Bool
 after_three y = first_blocks y && (third_pass (seen y.view) && (is_held_once y && has_map_kinds y.view))
 
 -- Rule 1: an inode block with another mark.
-abbrev no_inode_block : Layout
+abbrev pub no_inode_block : Layout
 no_inode_block = layout_at one_file_root (with_block 7 (71 ∷ 86 ∷ 73 ∷ 78 ∷ 79 ∷ 68 ∷ 69 ∷ 83 ∷ (zeros 248 ++ (1 ∷ 102 ∷ (zeros 77 ++ (1 ∷ (zeros 23 ++ (1 ∷ (zeros 7 ++ (8 ∷ (zeros 7 ++ (2 ∷ zeros 3720))))))))))) one_file)
 
 no_inode_block_refused : (after_one no_inode_block && not (has_reached_shapes (seen no_inode_block.view))) ≡ true
@@ -53,7 +53,7 @@ unfolding layouts_compute rules_compute
 no_inode_block_refused = refl
 
 -- Rule 1: a record with a byte in its name that no name has.
-abbrev no_name : Layout
+abbrev pub no_name : Layout
 no_name = layout_at one_file_root (with_block 7 (70 ∷ 86 ∷ 73 ∷ 78 ∷ 79 ∷ 68 ∷ 69 ∷ 83 ∷ (zeros 248 ++ (1 ∷ 70 ∷ (zeros 77 ++ (1 ∷ (zeros 23 ++ (1 ∷ (zeros 7 ++ (8 ∷ (zeros 7 ++ (2 ∷ zeros 3720))))))))))) one_file)
 
 no_name_refused : (after_one no_name && not (has_reached_shapes (seen no_name.view))) ≡ true
@@ -61,7 +61,7 @@ unfolding layouts_compute rules_compute
 no_name_refused = refl
 
 -- Rule 2: a VVBN that is the span.
-abbrev past_span : Layout
+abbrev pub past_span : Layout
 past_span = layout_at one_file_root (with_block 7 (70 ∷ 86 ∷ 73 ∷ 78 ∷ 79 ∷ 68 ∷ 69 ∷ 83 ∷ (zeros 248 ++ (1 ∷ 102 ∷ (zeros 77 ++ (1 ∷ (zeros 22 ++ (16 ∷ (zeros 8 ++ (8 ∷ (zeros 7 ++ (2 ∷ zeros 3720))))))))))) one_file)
 
 past_span_refused : (after_one past_span && not (has_pointers_in_range (seen past_span.view))) ≡ true
@@ -69,7 +69,7 @@ unfolding layouts_compute rules_compute
 past_span_refused = refl
 
 -- Rule 2: a PVBN that is the number of blocks.
-abbrev past_blocks : Layout
+abbrev pub past_blocks : Layout
 past_blocks = layout_at one_file_root (with_block 7 (70 ∷ 86 ∷ 73 ∷ 78 ∷ 79 ∷ 68 ∷ 69 ∷ 83 ∷ (zeros 248 ++ (1 ∷ 102 ∷ (zeros 77 ++ (1 ∷ (zeros 23 ++ (1 ∷ (zeros 6 ++ (4 ∷ (zeros 8 ++ (2 ∷ zeros 3720))))))))))) one_file)
 
 past_blocks_refused : (after_one past_blocks && not (has_pointers_in_range (seen past_blocks.view))) ≡ true
@@ -77,7 +77,7 @@ unfolding layouts_compute rules_compute
 past_blocks_refused = refl
 
 -- Rule 3: a parent whose places aren't known.
-abbrev unknown_parent : Layout
+abbrev pub unknown_parent : Layout
 unknown_parent = layout_at clone_root (with_block 18 (70 ∷ 86 ∷ 76 ∷ 65 ∷ 66 ∷ 69 ∷ 76 ∷ 48 ∷ (zeros 7 ++ (1 ∷ 97 ∷ (zeros 78 ++ (100 ∷ (zeros 7 ++ (200 ∷ (zeros 6 ++ (16 ∷ (zeros 8 ++ (3 ∷ (zeros 39 ++ (17 ∷ (zeros 7 ++ (1 ∷ (zeros 15 ++ (1 ∷ (zeros 7 ++ (8 ∷ (zeros 7 ++ (3 ∷ (zeros 63 ++ (1 ∷ 115 ∷ (zeros 86 ++ (7 ∷ (zeros 7 ++ (2 ∷ zeros 3736))))))))))))))))))))))))))) clone)
 
 unknown_parent_refused : not (has_bases (seen unknown_parent.view)) ≡ true
@@ -85,7 +85,7 @@ unfolding layouts_compute rules_compute
 unknown_parent_refused = refl
 
 -- Rule 3: a base snapshot in a slot that is free.
-abbrev no_snapshot : Layout
+abbrev pub no_snapshot : Layout
 no_snapshot = layout_at clone_root (with_block 23 (70 ∷ 86 ∷ 76 ∷ 65 ∷ 66 ∷ 69 ∷ 76 ∷ 48 ∷ (zeros 7 ++ (1 ∷ 99 ∷ (zeros 70 ++ (2 ∷ (zeros 7 ++ (100 ∷ (zeros 7 ++ (200 ∷ (zeros 6 ++ (16 ∷ (zeros 8 ++ (4 ∷ (zeros 7 ++ (1 ∷ (zeros 7 ++ (2 ∷ (zeros 15 ++ (1 ∷ (zeros 7 ++ (22 ∷ (zeros 7 ++ (1 ∷ (zeros 15 ++ (1 ∷ (zeros 7 ++ (11 ∷ (zeros 7 ++ (4 ∷ zeros 3896))))))))))))))))))))))))))))) clone)
 
 no_snapshot_refused : not (has_bases (seen no_snapshot.view)) ≡ true
@@ -93,7 +93,7 @@ unfolding layouts_compute rules_compute
 no_snapshot_refused = refl
 
 -- Rule 4: an inode block with another index.
-abbrev other_index : Layout
+abbrev pub other_index : Layout
 other_index = layout_at one_file_root (with_block 7 (70 ∷ 86 ∷ 73 ∷ 78 ∷ 79 ∷ 68 ∷ 69 ∷ 83 ∷ (zeros 7 ++ (1 ∷ (zeros 240 ++ (1 ∷ 102 ∷ (zeros 77 ++ (1 ∷ (zeros 23 ++ (1 ∷ (zeros 7 ++ (8 ∷ (zeros 7 ++ (2 ∷ zeros 3720))))))))))))) one_file)
 
 other_index_refused : (after_one other_index && not (has_reached_positions (seen other_index.view))) ≡ true
@@ -101,7 +101,7 @@ unfolding layouts_compute rules_compute
 other_index_refused = refl
 
 -- Rule 4: two files of one name.
-abbrev two_names : Layout
+abbrev pub two_names : Layout
 two_names = layout_at one_file_root (with_block 7 (70 ∷ 86 ∷ 73 ∷ 78 ∷ 79 ∷ 68 ∷ 69 ∷ 83 ∷ (zeros 248 ++ (1 ∷ 102 ∷ (zeros 77 ++ (1 ∷ (zeros 23 ++ (1 ∷ (zeros 7 ++ (8 ∷ (zeros 7 ++ (2 ∷ (zeros 120 ++ (1 ∷ 102 ∷ zeros 3598))))))))))))) one_file)
 
 two_names_refused : (after_one two_names && not (has_distinct_files (seen two_names.view))) ≡ true
@@ -109,7 +109,7 @@ unfolding layouts_compute rules_compute
 two_names_refused = refl
 
 -- Rule 5: a file whose cell is its own inode block.
-abbrev reached_twice : Layout
+abbrev pub reached_twice : Layout
 reached_twice = layout_at one_file_root (with_block 7 (70 ∷ 86 ∷ 73 ∷ 78 ∷ 79 ∷ 68 ∷ 69 ∷ 83 ∷ (zeros 248 ++ (1 ∷ 102 ∷ (zeros 77 ++ (1 ∷ (zeros 31 ++ (8 ∷ (zeros 7 ++ (2 ∷ zeros 3720))))))))) one_file)
 
 reached_twice_refused : (after_one reached_twice && not (reaches_once (seen reached_twice.view))) ≡ true
@@ -117,7 +117,7 @@ unfolding layouts_compute rules_compute
 reached_twice_refused = refl
 
 -- Rule 5: a pointer to a hole.
-abbrev reached_hole : Layout
+abbrev pub reached_hole : Layout
 reached_hole = layout_at one_file_root (with_block 7 (70 ∷ 86 ∷ 73 ∷ 78 ∷ 79 ∷ 68 ∷ 69 ∷ 83 ∷ (zeros 248 ++ (1 ∷ 102 ∷ (zeros 77 ++ (1 ∷ (zeros 23 ++ (2 ∷ (zeros 7 ++ (8 ∷ (zeros 7 ++ (2 ∷ zeros 3720))))))))))) one_file)
 
 reached_hole_refused : (after_one reached_hole && not (reaches_once (seen reached_hole.view))) ≡ true
@@ -125,7 +125,7 @@ unfolding layouts_compute rules_compute
 reached_hole_refused = refl
 
 -- Rule 9: an inode block under an entry for data.
-abbrev inode_as_data : Layout
+abbrev pub inode_as_data : Layout
 inode_as_data = layout_at one_file_root (with_block 10 (70 ∷ 86 ∷ 67 ∷ 76 ∷ 69 ∷ 65 ∷ 70 ∷ 48 ∷ (zeros 1023 ++ (7 ∷ 0 ∷ 0 ∷ 0 ∷ 1 ∷ (zeros 7 ++ (8 ∷ 0 ∷ 0 ∷ 0 ∷ 1 ∷ zeros 3048))))) one_file)
 
 inode_as_data_refused : (after_two inode_as_data && not (has_reached_kinds (seen inode_as_data.view))) ≡ true
@@ -133,7 +133,7 @@ unfolding layouts_compute rules_compute
 inode_as_data_refused = refl
 
 -- Rule 9: data under an entry for a node.
-abbrev data_as_node : Layout
+abbrev pub data_as_node : Layout
 data_as_node = layout_at one_file_root (with_block 10 (70 ∷ 86 ∷ 67 ∷ 76 ∷ 69 ∷ 65 ∷ 70 ∷ 48 ∷ (zeros 1023 ++ (7 ∷ 0 ∷ 0 ∷ 0 ∷ 5 ∷ (zeros 7 ++ (8 ∷ 0 ∷ 0 ∷ 0 ∷ 2 ∷ zeros 3048))))) one_file)
 
 data_as_node_refused : (after_two data_as_node && not (has_reached_kinds (seen data_as_node.view))) ≡ true
@@ -141,7 +141,7 @@ unfolding layouts_compute rules_compute
 data_as_node_refused = refl
 
 -- Rule 10: a cell at the length.
-abbrev at_length : Layout
+abbrev pub at_length : Layout
 at_length = layout_at one_file_root (with_block 7 (70 ∷ 86 ∷ 73 ∷ 78 ∷ 79 ∷ 68 ∷ 69 ∷ 83 ∷ (zeros 248 ++ (1 ∷ 102 ∷ (zeros 101 ++ (1 ∷ (zeros 7 ++ (8 ∷ (zeros 7 ++ (2 ∷ zeros 3720))))))))) one_file)
 
 at_length_refused : (after_two at_length && not (has_cells_within (seen at_length.view))) ≡ true
@@ -149,7 +149,7 @@ unfolding layouts_compute rules_compute
 at_length_refused = refl
 
 -- Rule 10: a stamp above the last.
-abbrev past_now : Layout
+abbrev pub past_now : Layout
 past_now = layout_at one_file_root (with_block 13 (70 ∷ 86 ∷ 76 ∷ 65 ∷ 66 ∷ 69 ∷ 76 ∷ 48 ∷ (zeros 7 ++ (1 ∷ 97 ∷ (zeros 78 ++ (100 ∷ (zeros 7 ++ (200 ∷ (zeros 6 ++ (16 ∷ (zeros 8 ++ (1 ∷ (zeros 31 ++ (1 ∷ (zeros 7 ++ (12 ∷ (zeros 7 ++ (1 ∷ (zeros 23 ++ (7 ∷ (zeros 7 ++ (2 ∷ zeros 3896))))))))))))))))))))) one_file)
 
 past_now_refused : (after_two past_now && not (has_stamps_past (seen past_now.view))) ≡ true
@@ -157,7 +157,7 @@ unfolding layouts_compute rules_compute
 past_now_refused = refl
 
 -- Rule 10: levels below those of the reserve.
-abbrev below_start : Layout
+abbrev pub below_start : Layout
 below_start = layout_at one_file_root (with_block 7 (70 ∷ 86 ∷ 73 ∷ 78 ∷ 79 ∷ 68 ∷ 69 ∷ 83 ∷ (zeros 248 ++ (1 ∷ 102 ∷ (zeros 77 ++ (1 ∷ (zeros 7 ++ (200 ∷ (zeros 15 ++ (1 ∷ (zeros 7 ++ (8 ∷ (zeros 7 ++ (2 ∷ zeros 3720))))))))))))) one_file)
 
 below_start_refused : (after_two below_start && not (has_levels (seen below_start.view))) ≡ true
@@ -165,7 +165,7 @@ unfolding layouts_compute rules_compute
 below_start_refused = refl
 
 -- Rule 10: a file with levels and without cells.
-abbrev no_cells : Layout
+abbrev pub no_cells : Layout
 no_cells = layout_at one_file_root (with_block 7 (70 ∷ 86 ∷ 73 ∷ 78 ∷ 79 ∷ 68 ∷ 69 ∷ 83 ∷ (zeros 248 ++ (1 ∷ 102 ∷ (zeros 77 ++ (1 ∷ (zeros 15 ++ (1 ∷ zeros 3744))))))) one_file)
 
 no_cells_refused : (after_two no_cells && not (has_levels (seen no_cells.view))) ≡ true
@@ -173,7 +173,7 @@ unfolding layouts_compute rules_compute
 no_cells_refused = refl
 
 -- Rule 10: one id under two VVBNs, in the active table and in a snapshot.
-abbrev one_id : Layout
+abbrev pub one_id : Layout
 one_id = layout_at snapshot_root (with_block 8 (70 ∷ 86 ∷ 73 ∷ 78 ∷ 79 ∷ 68 ∷ 69 ∷ 83 ∷ (zeros 248 ++ (1 ∷ 102 ∷ (zeros 77 ++ (1 ∷ (zeros 23 ++ (3 ∷ (zeros 7 ++ (10 ∷ (zeros 7 ++ (2 ∷ zeros 3720))))))))))) snapshot)
 
 one_id_refused : (after_two one_id && not (has_one_to_one (seen one_id.view))) ≡ true
@@ -181,7 +181,7 @@ unfolding layouts_compute rules_compute
 one_id_refused = refl
 
 -- Rule 10: two ids under one VVBN, in the active table and in a snapshot.
-abbrev two_ids : Layout
+abbrev pub two_ids : Layout
 two_ids = layout_at mirror_root (with_block 16 (70 ∷ 86 ∷ 76 ∷ 65 ∷ 66 ∷ 69 ∷ 76 ∷ 48 ∷ (zeros 7 ++ (1 ∷ 97 ∷ (zeros 78 ++ (100 ∷ (zeros 7 ++ (200 ∷ (zeros 6 ++ (16 ∷ (zeros 8 ++ (2 ∷ (zeros 31 ++ (1 ∷ (zeros 7 ++ (15 ∷ (zeros 7 ++ (1 ∷ (zeros 23 ++ (7 ∷ (zeros 7 ++ (2 ∷ (zeros 63 ++ (1 ∷ 115 ∷ (zeros 86 ++ (7 ∷ (zeros 7 ++ (1 ∷ zeros 3736))))))))))))))))))))))))))) mirror)
 
 two_ids_refused : (after_two two_ids && not (has_one_to_one (seen two_ids.view))) ≡ true
@@ -189,7 +189,7 @@ unfolding layouts_compute rules_compute
 two_ids_refused = refl
 
 -- Rule 11: a hint to another block.
-abbrev other_place : Layout
+abbrev pub other_place : Layout
 other_place = layout_at one_file_root (with_block 7 (70 ∷ 86 ∷ 73 ∷ 78 ∷ 79 ∷ 68 ∷ 69 ∷ 83 ∷ (zeros 248 ++ (1 ∷ 102 ∷ (zeros 77 ++ (1 ∷ (zeros 23 ++ (1 ∷ (zeros 7 ++ (9 ∷ (zeros 7 ++ (2 ∷ zeros 3720))))))))))) one_file)
 
 other_place_refused : (after_three other_place && not (has_true_hints (seen other_place.view))) ≡ true
@@ -197,7 +197,7 @@ unfolding layouts_compute rules_compute
 other_place_refused = refl
 
 -- Rule 11: a root with a hint to another block.
-abbrev other_root : Layout
+abbrev pub other_root : Layout
 other_root = layout_at one_file_root (with_block 13 (70 ∷ 86 ∷ 76 ∷ 65 ∷ 66 ∷ 69 ∷ 76 ∷ 48 ∷ (zeros 7 ++ (1 ∷ 97 ∷ (zeros 78 ++ (100 ∷ (zeros 7 ++ (200 ∷ (zeros 6 ++ (16 ∷ (zeros 8 ++ (2 ∷ (zeros 31 ++ (1 ∷ (zeros 7 ++ (12 ∷ (zeros 7 ++ (1 ∷ (zeros 23 ++ (8 ∷ (zeros 7 ++ (2 ∷ zeros 3896))))))))))))))))))))) one_file)
 
 other_root_refused : (after_three other_root && not (has_true_hints (seen other_root.view))) ≡ true
@@ -205,7 +205,7 @@ unfolding layouts_compute rules_compute
 other_root_refused = refl
 
 -- Rule 12: a known root of an inode block with an unknown pointer.
-abbrev over_unknown : Layout
+abbrev pub over_unknown : Layout
 over_unknown = layout_at one_file_root (with_block 7 (70 ∷ 86 ∷ 73 ∷ 78 ∷ 79 ∷ 68 ∷ 69 ∷ 83 ∷ (zeros 248 ++ (1 ∷ 102 ∷ (zeros 77 ++ (1 ∷ (zeros 23 ++ (1 ∷ (zeros 15 ++ (2 ∷ zeros 3720))))))))) one_file)
 
 over_unknown_refused : (after_three over_unknown && not (leads_unknown (seen over_unknown.view))) ≡ true
@@ -213,7 +213,7 @@ unfolding layouts_compute rules_compute
 over_unknown_refused = refl
 
 -- Rule 12: the same, in a mirror.
-abbrev known_root : Layout
+abbrev pub known_root : Layout
 known_root = layout_at mirror_root (with_block 21 (70 ∷ 86 ∷ 76 ∷ 65 ∷ 66 ∷ 69 ∷ 76 ∷ 48 ∷ (zeros 7 ++ (1 ∷ 119 ∷ (zeros 70 ++ (2 ∷ (zeros 7 ++ (100 ∷ (zeros 7 ++ (200 ∷ (zeros 6 ++ (16 ∷ (zeros 8 ++ (2 ∷ (zeros 39 ++ (20 ∷ (zeros 7 ++ (1 ∷ (zeros 23 ++ (9 ∷ (zeros 7 ++ (2 ∷ zeros 3896))))))))))))))))))))) mirror)
 
 known_root_refused : (after_three known_root && not (leads_unknown (seen known_root.view))) ≡ true
@@ -221,7 +221,7 @@ unfolding layouts_compute rules_compute
 known_root_refused = refl
 
 -- Rule 13: an unknown pointer where all places are said to be known.
-abbrev not_known : Layout
+abbrev pub not_known : Layout
 not_known = layout_at one_file_root (with_block 7 (70 ∷ 86 ∷ 73 ∷ 78 ∷ 79 ∷ 68 ∷ 69 ∷ 83 ∷ (zeros 248 ++ (1 ∷ 102 ∷ (zeros 77 ++ (1 ∷ (zeros 23 ++ (1 ∷ (zeros 15 ++ (2 ∷ zeros 3720))))))))) one_file)
 
 not_known_refused : (after_three not_known && not (has_known_places (seen not_known.view))) ≡ true
@@ -229,7 +229,7 @@ unfolding layouts_compute rules_compute
 not_known_refused = refl
 
 -- Rule 13: a known pointer in the label of a volume that is being split.
-abbrev split_label : Layout
+abbrev pub split_label : Layout
 split_label = layout_at splitting_root (with_block 20 (70 ∷ 86 ∷ 76 ∷ 65 ∷ 66 ∷ 69 ∷ 76 ∷ 48 ∷ (zeros 7 ++ (1 ∷ 99 ∷ (zeros 70 ++ (2 ∷ (zeros 7 ++ (100 ∷ (zeros 7 ++ (200 ∷ (zeros 6 ++ (16 ∷ (zeros 8 ++ (3 ∷ (zeros 7 ++ (1 ∷ (zeros 7 ++ (1 ∷ (zeros 7 ++ (1 ∷ (zeros 15 ++ (19 ∷ (zeros 7 ++ (1 ∷ (zeros 23 ++ (7 ∷ (zeros 7 ++ (2 ∷ zeros 3896))))))))))))))))))))))))))) splitting)
 
 split_label_refused : (after_three split_label && not (has_split_places (seen split_label.view))) ≡ true
@@ -237,7 +237,7 @@ unfolding layouts_compute rules_compute
 split_label_refused = refl
 
 -- Rule 13: a clone with an entry under what its base reaches. (That block has no bit in the aggregate map, of which this row says nothing.)
-abbrev own_under_base : Layout
+abbrev pub own_under_base : Layout
 own_under_base = layout_at clone_root (with_block 20 (70 ∷ 86 ∷ 67 ∷ 76 ∷ 69 ∷ 65 ∷ 70 ∷ 48 ∷ (zeros 1023 ++ (24 ∷ 0 ∷ 0 ∷ 0 ∷ 5 ∷ (zeros 7 ++ (11 ∷ 0 ∷ 0 ∷ 0 ∷ 5 ∷ (zeros 19 ++ (12 ∷ 0 ∷ 0 ∷ 0 ∷ 1 ∷ zeros 3024))))))) clone)
 
 own_under_base_refused : (after_three own_under_base && not (leaves_base (seen own_under_base.view))) ≡ true
@@ -245,7 +245,7 @@ unfolding layouts_compute rules_compute
 own_under_base_refused = refl
 
 -- Rule 13: a clone on a block that only its parent's active table holds. (Its own entry went, and the bits of both maps stay.)
-abbrev on_active : Layout
+abbrev pub on_active : Layout
 on_active = layout_at clone_root (with_block 20 (70 ∷ 86 ∷ 67 ∷ 76 ∷ 69 ∷ 65 ∷ 70 ∷ 48 ∷ (zeros 1035 ++ (11 ∷ 0 ∷ 0 ∷ 0 ∷ 5 ∷ zeros 3048))) (with_block 11 (70 ∷ 86 ∷ 73 ∷ 78 ∷ 79 ∷ 68 ∷ 69 ∷ 83 ∷ (zeros 248 ++ (1 ∷ 102 ∷ (zeros 77 ++ (1 ∷ (zeros 23 ++ (3 ∷ (zeros 7 ++ (10 ∷ (zeros 7 ++ (4 ∷ zeros 3720))))))))))) clone))
 
 on_active_refused : (after_three on_active && not (rests_on_base (seen on_active.view))) ≡ true
@@ -255,7 +255,7 @@ on_active_refused = refl
 -- ---- volume maps
 
 -- Rule 6: a bit of a VVBN that isn't reached.
-abbrev bit_too_many : Layout
+abbrev pub bit_too_many : Layout
 bit_too_many = layout_at one_file_root (with_block 9 (7 ∷ zeros 4095) one_file)
 
 bit_too_many_refused : (after_two bit_too_many && not (has_maps_of_reach bit_too_many.view)) ≡ true
@@ -263,7 +263,7 @@ unfolding bits_compute layouts_compute rules_compute has_maps_of_reach
 bit_too_many_refused = refl
 
 -- Rule 6: no bit of a VVBN that is.
-abbrev bit_too_few : Layout
+abbrev pub bit_too_few : Layout
 bit_too_few = layout_at one_file_root (with_block 9 (1 ∷ zeros 4095) one_file)
 
 bit_too_few_refused : (after_two bit_too_few && not (has_maps_of_reach bit_too_few.view)) ≡ true
@@ -271,7 +271,7 @@ unfolding bits_compute layouts_compute rules_compute has_maps_of_reach
 bit_too_few_refused = refl
 
 -- Rule 6: the map of a snapshot in place of the active one.
-abbrev other_map : Layout
+abbrev pub other_map : Layout
 other_map = layout_at snapshot_root (with_block 11 (5 ∷ zeros 4095) snapshot)
 
 other_map_refused : (after_two other_map && not (has_maps_of_reach other_map.view)) ≡ true
@@ -294,7 +294,7 @@ unfolding layouts_compute
 entry_past = refl
 
 -- Rule 2: a node past the last one of its container.
-abbrev child_past : Layout
+abbrev pub child_past : Layout
 child_past = layout_at one_file_root (with_block 12 (70 ∷ 86 ∷ 67 ∷ 73 ∷ 78 ∷ 78 ∷ 69 ∷ 82 ∷ (zeros 7 ++ (1 ∷ (zeros 1015 ++ (10 ∷ (zeros 127 ++ (11 ∷ (zeros 7 ++ (24 ∷ zeros 2928))))))))) one_file)
 
 child_past_refused : (has_shapes child_past && (are_in_range child_past && not (has_entries_within child_past))) ≡ true

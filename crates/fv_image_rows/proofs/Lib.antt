@@ -7,12 +7,12 @@ mod Samples
 mod Faults
 mod PlainVolumes
 mod PlainImages
-mod Computing
-mod FileVectors
-mod SmallImages
+pub mod Computing
+pub mod FileVectors
+pub mod SmallImages
 mod FileRows
-mod FileFaults
-mod BlockFaults
+pub mod FileFaults
+pub mod BlockFaults
 mod SoundFiles
 mod DeepTrees
 mod DeepFiles

@@ -96,7 +96,7 @@ unfolding has_true_map layout_at view_at
 map_is_true t i x y z places single block are holds =
     all_of_range (λ b. agree (map_bit t i b) (is_held (layout_at t i) b)) (λ b. rw (map_bit_is t i x y z places single block are b, holds) (agree_itself (list_any (λ m. m == b) places))) 0 (area_bits t.blocks)
 
-volume_bit_is : (w : View) (s : ℕ) (h : Head) (slot x y z : ℕ) (vvbns : List ℕ) → map_blocks h.span ≡ 1 → block_in (w.entry s (map_vvbn h.span slot 0)) ≡ three_bytes x y z → are_bits x y z vvbns ≡ true
+pub volume_bit_is : (w : View) (s : ℕ) (h : Head) (slot x y z : ℕ) (vvbns : List ℕ) → map_blocks h.span ≡ 1 → block_in (w.entry s (map_vvbn h.span slot 0)) ≡ three_bytes x y z → are_bits x y z vvbns ≡ true
     → (v : ℕ) → volume_bit w s h.span slot v ≡ list_any (λ m. m == v) vvbns
 unfolding volume_bit
 volume_bit_is w s h slot x y z vvbns single block are v =

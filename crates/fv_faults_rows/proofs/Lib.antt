@@ -1,0 +1,4 @@
+mod Computing
+mod EarlyRows
+mod LateRows
+mod WholeRow
