@@ -134,12 +134,6 @@ module _ (g : Ground) (says heard : Item → Bool)
       ))
       all
 
-  -- along a hole nothing is met
-  hole_met : (cell : Item → Placed → List Spot) (k : ℕ) (c : Item) (b : ℕ) (test : Item → Bool) → c.pointer.stamp ≡ 0 → all_met test (plain g cell k c b) ≡ true
-  unfolding plain
-  hole_met cell zero c b test none = let hole_is : (c.pointer.stamp == 0) ≡ true = grind (arith, nat_tests, none) in ap (λ (h : Bool). all_met test (if h then [] else (c, b) ∷ option_map_or (cell c) (place_at g c) [])) hole_is
-  hole_met cell (suc k) c b test none = let hole_is : (c.pointer.stamp == 0) ≡ true = grind (arith, nat_tests, none) in ap (λ (h : Bool). all_met test (if h then [] else (c, b) ∷ option_map_or (λ x. flat_map (λ d. plain g cell k d x.pvbn) (pointers_under c x)) (place_at g c) [])) hole_is
-
   up_data : (e : Item) (block : ℕ) → e.level ≡ 0 → e.owner ≢ greatest_word → all_met heard (plain g no_more zero e block) ≡ true → all_met says (plain g no_more zero e block) ≡ true
   unfolding plain
   up_data e block level other all =

@@ -14,7 +14,7 @@ use Rattle.fv_image.specs.ReachRules.{is_hint}
 use Rattle.fv_faults.specs.declared.fault.Fault.{Fault}
 use Rattle.fv_faults.specs.Lines.{says, within, leads}
 use Rattle.fv_faults.specs.Walks.{Ground, pointer_lines, pointers_under, root_item}
-use Rattle.fv_faults.proofs.Clean.{parts_nil, nil_parts}
+use Rattle.fv_faults.proofs.Clean.{parts_nil, nil_parts, none_of_each, each_none}
 use Rattle.fv_faults.proofs.Plain.{place_at, met}
 use Rattle.fv_faults.proofs.Members.{all_met}
 use Rattle.fv_faults.proofs.Bridge.{met_down, met_up}
@@ -84,15 +84,6 @@ module _ (blocks span : ℕ) (some_span : 0 < span) (some_blocks : 0 < blocks) w
 
   -- ---- of the pointers in a block
 
-  none_of : (block : ℕ) (cs : List Item) → flat_map (λ c. pointer_lines blocks span block c.pointer) cs ≡ [] → (c : Item) → In c cs → pointer_lines blocks span block c.pointer ≡ []
-  none_of block [] none c there = absurd there
-  none_of block (d ∷ ds) none c (inl is) = subst (λ (e : Item). pointer_lines blocks span block e.pointer ≡ []) is (parts_nil (pointer_lines blocks span block d.pointer) _ none).0
-  none_of block (d ∷ ds) none c (inr there) = none_of block ds (parts_nil (pointer_lines blocks span block d.pointer) _ none).1 c there
-
-  all_none : (block : ℕ) (cs : List Item) → ((c : Item) → In c cs → pointer_lines blocks span block c.pointer ≡ []) → flat_map (λ c. pointer_lines blocks span block c.pointer) cs ≡ []
-  all_none block [] each = refl
-  all_none block (d ∷ ds) each = nil_parts (pointer_lines blocks span block d.pointer) _ (each d (inl refl)) (all_none block ds (λ c there. each c (inr there)))
-
   abbrev pub no_lines : List Fault → Bool
   no_lines [] = true
   no_lines (f ∷ fs) = false
@@ -112,13 +103,13 @@ module _ (blocks span : ℕ) (some_span : 0 < span) (some_blocks : 0 < blocks) w
     down e x some found holds c there = ⊎_elim
         (λ (none : c.pointer.stamp ≡ 0). or_left (c.pointer.stamp == 0) _ (let hole_is : (c.pointer.stamp == 0) ≡ true = grind (arith, nat_tests, none) in hole_is))
         (λ (stands : c.pointer.stamp ≢ 0). or_right (c.pointer.stamp == 0) _ (from_lines x.pvbn c.pointer stands
-        (none_of x.pvbn (pointers_under e x) (nil_is _ (sym (ap (λ (o : Option Placed). option_map_or (λ x. no_lines (flat_map (λ c. pointer_lines blocks span x.pvbn c.pointer) (pointers_under e x))) o true) found) ∙ holds)) c there)))
+        (none_of_each (λ c. pointer_lines blocks span x.pvbn c.pointer) (pointers_under e x) (nil_is _ (sym (ap (λ (o : Option Placed). option_map_or (λ x. no_lines (flat_map (λ c. pointer_lines blocks span x.pvbn c.pointer) (pointers_under e x))) o true) found) ∙ holds)) c there)))
         (cases_eq c.pointer.stamp 0)
 
     back : (e : Item) (x : Placed) → e.pointer.stamp ≢ 0 → place_at g e ≡ Some x → ((c : Item) → In c (pointers_under e x) → c.pointer.stamp ≢ 0 → is_ranged c ≡ true) → holds_pointers e ≡ true
     back e x some found each =
         ap (λ (o : Option Placed). option_map_or (λ x. no_lines (flat_map (λ c. pointer_lines blocks span x.pvbn c.pointer) (pointers_under e x))) o true) found
-        ∙ ap no_lines (all_none x.pvbn (pointers_under e x) (λ c there. to_lines x.pvbn c.pointer (λ stands. so c.pointer (c.pointer.stamp == 0) refl stands (each c there stands))))
+        ∙ ap no_lines (each_none (λ c. pointer_lines blocks span x.pvbn c.pointer) (pointers_under e x) (λ c there. to_lines x.pvbn c.pointer (λ stands. so c.pointer (c.pointer.stamp == 0) refl stands (each c there stands))))
       where
         so : (p : Pointer) (b : Bool) → (p.stamp == 0) ≡ b → p.stamp ≢ 0 → (b || is_pointer p) ≡ true → is_pointer p ≡ true
         so p true e stands is = absurd (let none : p.stamp ≡ 0 = grind (arith, nat_tests, e) in stands none)

@@ -5,9 +5,10 @@ use Rattle.std.specs.List.{list_all, list_any, range_with_len}
 use Rattle.std.specs.Option.{is_some, is_none, option_map_or}
 use Rattle.std.proofs.lemmas.Bool.{and_parts, and_from, or_left, or_right}
 use Rattle.std.proofs.lemmas.Bool.Decides.{nat_tests}
-use Rattle.std.proofs.lemmas.List.Folds.{list_all-append}
+use Rattle.std.proofs.lemmas.List.Folds.{list_all-map, list_all-append}
 use Rattle.std.proofs.lemmas.List.Sums.{length-filter}
 use Rattle.fv_laws.proofs.Lists.{In, in_range}
+use Rattle.fv_laws.proofs.Tests.{from_all, to_all}
 use Rattle.fv_tables.specs.Reached.{Item, items, is_listed}
 use Rattle.fv_image.specs.Views.{Placed, Rooted, Footing, Head, View}
 use Rattle.fv_image.specs.Volumes.{standing_of}
@@ -17,7 +18,6 @@ use Rattle.fv_image.specs.Staying.{items_of, own_items, base_items}
 use Rattle.fv_image.specs.HintRules.{is_splitting}
 use Rattle.fv_image.specs.Places.{Held, once_each, is_one_pointer}
 use Rattle.fv_faults.specs.FourthPass.{all_held, how_many, unknown_in, is_copy, own_over_base, rests_elsewhere, not_on_base}
-use Rattle.fv_faults.proofs.Reached.{all_mapped}
 
 -- ---- none of a list passes
 
@@ -60,7 +60,7 @@ module _ (w : View) (s : ℕ) (h : Head) where
   held_by test [] = refl
   held_by test (r ∷ rs) =
       list_all-append (λ (p : Held). test p.item) (held_of r) (flat_map held_of rs)
-      ∙ ap (λ b. b && list_all (λ (p : Held). test p.item) (flat_map held_of rs)) (all_mapped (λ (p : Held). test p.item) (λ (e : Item). record { map = r.0; item = e }) (items (standing_of w s r.1)))
+      ∙ ap (λ b. b && list_all (λ (p : Held). test p.item) (flat_map held_of rs)) (list_all-map (λ (p : Held). test p.item) (λ (e : Item). record { map = r.0; item = e }) (items (standing_of w s r.1)))
       ∙ ap (λ b. list_all test (items (standing_of w s r.1)) && b) (held_by test rs)
 
   -- None is counted exactly where each fails the test.
@@ -79,7 +79,7 @@ module _ (w : View) (s : ℕ) (h : Head) where
   unfolding root_seen
   seen_by test [] = refl
   seen_by test (r ∷ rs) =
-      ap (λ b. b && list_all (λ (r : Root). list_all test r.reached) (map (λ r. root_seen w s r.0 r.1) rs)) (all_mapped test (reached_at w s) (items (standing_of w s r.1)))
+      ap (λ b. b && list_all (λ (r : Root). list_all test r.reached) (map (λ r. root_seen w s r.0 r.1) rs)) (list_all-map test (reached_at w s) (items (standing_of w s r.1)))
       ∙ ap (λ b. list_all (λ e. test (reached_at w s e)) (items (standing_of w s r.1)) && b) (seen_by test rs)
 
   by_each : (p q : Item → Bool) → ((e : Item) → p e ≡ true → q e ≡ true) → (rs : List (ℕ × Rooted)) → by_roots p rs ≡ true → by_roots q rs ≡ true
@@ -130,15 +130,6 @@ no_count test xs none = none_passes test xs (nothing (filter test xs) (length-fi
 
 count_no : {X : Type 0} (test : X → Bool) (xs : List X) → list_all (λ x. not (test x)) xs ≡ true → count_by test xs ≡ 0
 count_no {X = X} test xs all = sym (length-filter test xs) ∙ ap (λ (ys : List X). length ys) (passes_none test xs all)
-
-pub one_of : {X : Type 0} (test : X → Bool) (xs : List X) (x : X) → list_all test xs ≡ true → In x xs → test x ≡ true
-one_of test [] x all there = absurd there
-one_of test (y ∷ ys) x all (inl is) = subst (λ z. test z ≡ true) is (and_parts (test y) _ all).0
-one_of test (y ∷ ys) x all (inr there) = one_of test ys x (and_parts (test y) _ all).1 there
-
-pub all_of : {X : Type 0} (test : X → Bool) (xs : List X) → ((x : X) → In x xs → test x ≡ true) → list_all test xs ≡ true
-all_of test [] each = refl
-all_of test (x ∷ xs) each = and_from (test x) _ (each x (inl refl)) (all_of test xs (λ y there. each y (inr there)))
 
 pub listed : (es : List Item) (e : Item) → In e es → is_listed es e.pointer.vvbn ≡ true
 listed [] e there = absurd there
@@ -226,9 +217,9 @@ module _ (w : View) (s : ℕ) (h : Head) where
             let nowhere = no_count (rests_elsewhere w s h) (range_with_len 0 h.span) none in
             seen_by w s h rest_test (roots_of h)
             ∙ sym (own_by (λ e. rest_test (reached_at w s e)) (roots_of h))
-            ∙ all_of (λ e. rest_test (reached_at w s e)) (own_items w s h) (λ e there.
+            ∙ to_all (λ e. rest_test (reached_at w s e)) (own_items w s h) (λ e there.
             told e ∙ not_elsewhere e.pointer.vvbn (listed (own_items w s h) e there)
-            (one_of (λ v. not (rests_elsewhere w s h v)) (range_with_len 0 h.span) e.pointer.vvbn nowhere
+            (from_all (λ v. not (rests_elsewhere w s h v)) (range_with_len 0 h.span) nowhere e.pointer.vvbn
             (in_range 0 h.span e.pointer.vvbn (omega arith) (let low = below e there in omega (arith, low)))))
 
   pub none_elsewhere : RootsRest → not_on_base w s h ≡ 0
@@ -239,9 +230,9 @@ module _ (w : View) (s : ℕ) (h : Head) where
       so false all =
           let each = own_by (λ e. rest_test (reached_at w s e)) (roots_of h) ∙ sym (seen_by w s h rest_test (roots_of h)) ∙ all in
           count_no (rests_elsewhere w s h) (range_with_len 0 h.span)
-          (all_of (λ v. not (rests_elsewhere w s h v)) (range_with_len 0 h.span) (λ v there. elsewhere v (λ own.
+          (to_all (λ v. not (rests_elsewhere w s h v)) (range_with_len 0 h.span) (λ v there. elsewhere v (λ own.
           let from = from_listed (own_items w s h) v own in
-          ap rests (sym from.2) ∙ sym (told from.0) ∙ one_of (λ e. rest_test (reached_at w s e)) (own_items w s h) from.0 each from.1)))
+          ap rests (sym from.2) ∙ sym (told from.0) ∙ from_all (λ e. rest_test (reached_at w s e)) (own_items w s h) each from.0 from.1)))
 
   -- ---- a clone that isn't being split has no entry of its own under what its base table reaches
 
@@ -259,7 +250,7 @@ module _ (w : View) (s : ℕ) (h : Head) where
       on : (o : Option Rooted) → list_all (λ (b : Based). not b.own) (option_map_or (based_on w s b) o [])
           ≡ list_all (λ (e : Item). not (not b.splitting && is_some (w.entry s e.pointer.vvbn))) (option_map_or (λ r. items (standing_of w b.parent r)) o [])
       on None = refl
-      on (Some r) = all_mapped (λ (b : Based). not b.own) (based_at w s b.splitting) (items (standing_of w b.parent r))
+      on (Some r) = list_all-map (λ (b : Based). not b.own) (based_at w s b.splitting) (items (standing_of w b.parent r))
 
   always : (es : List Item) → list_all (λ (e : Item). true) es ≡ true
   always [] = refl
@@ -277,9 +268,9 @@ module _ (w : View) (s : ℕ) (h : Head) where
       so true none = always (base_items w h.base)
       so false none =
           let nowhere = no_count (is_copy w s h) (range_with_len 0 h.span) none in
-          all_of (λ (e : Item). not (is_some (w.entry s e.pointer.vvbn))) (base_items w h.base) (λ e there.
+          to_all (λ (e : Item). not (is_some (w.entry s e.pointer.vvbn))) (base_items w h.base) (λ e there.
           here (is_listed (base_items w h.base) e.pointer.vvbn) (is_some (w.entry s e.pointer.vvbn)) (listed (base_items w h.base) e there)
-          (one_of (λ v. not (is_copy w s h v)) (range_with_len 0 h.span) e.pointer.vvbn nowhere
+          (from_all (λ v. not (is_copy w s h v)) (range_with_len 0 h.span) nowhere e.pointer.vvbn
           (in_range 0 h.span e.pointer.vvbn (omega arith) (let low = below e there in omega (arith, low)))))
 
   pub none_over_base : LeavesBase → own_over_base w s h ≡ 0
@@ -293,6 +284,6 @@ module _ (w : View) (s : ℕ) (h : Head) where
       so : (b : Bool) → list_all (λ (e : Item). not (not b && is_some (w.entry s e.pointer.vvbn))) (base_items w h.base) ≡ true → (if b then 0 else count_by (is_copy w s h) (range_with_len 0 h.span)) ≡ 0
       so true all = refl
       so false all = count_no (is_copy w s h) (range_with_len 0 h.span)
-          (all_of (λ v. not (is_copy w s h v)) (range_with_len 0 h.span) (λ v there. here (is_listed (base_items w h.base) v) (is_some (w.entry s v)) (λ on.
+          (to_all (λ v. not (is_copy w s h v)) (range_with_len 0 h.span) (λ v there. here (is_listed (base_items w h.base) v) (is_some (w.entry s v)) (λ on.
           let from = from_listed (base_items w h.base) v on in
-          ap bare (sym from.2) ∙ one_of (λ (e : Item). not (is_some (w.entry s e.pointer.vvbn))) (base_items w h.base) from.0 all from.1)))
+          ap bare (sym from.2) ∙ from_all (λ (e : Item). not (is_some (w.entry s e.pointer.vvbn))) (base_items w h.base) all from.0 from.1)))

@@ -8,8 +8,8 @@ pub mod TableMembers
 pub mod Reached
 pub mod Third
 pub mod Unknown
-pub mod Twelve
 pub mod Bridge
+pub mod Twelve
 pub mod Positions
 pub mod TablePositions
 pub mod OnceSilent

@@ -4,6 +4,7 @@ use Rattle.std.specs.Prelude.{Option, Some, None, flat_map, ◌||◌, ◌==◌, 
 use Rattle.std.specs.List.{list_all}
 use Rattle.std.specs.Option.{option_map_or}
 use Rattle.std.proofs.lemmas.Bool.{and_parts, and_from}
+use Rattle.std.proofs.lemmas.List.Folds.{list_all-map}
 use Rattle.std.proofs.lemmas.Bool.Decides.{nat_tests}
 use Rattle.fv_laws.proofs.Lists.{In}
 use Rattle.fv_tables.specs.Reached.{Item, items}
@@ -18,7 +19,7 @@ use Rattle.fv_faults.proofs.Clean.{holds_from, none_from}
 use Rattle.fv_faults.proofs.Plain.{Spot, place_at, plain_one, plain, no_more, files_met, met, IsClean}
 use Rattle.fv_faults.proofs.Members.{all_met, met_both}
 use Rattle.fv_faults.proofs.TableMembers.{reached_from, reached_to}
-use Rattle.fv_faults.proofs.Reached.{passes, silent_where, all_mapped, reached}
+use Rattle.fv_faults.proofs.Reached.{passes, silent_where, reached}
 use Rattle.fv_faults.proofs.Marks.{at_cell, in_node, rises_over, stays_under, marks_down, marks_up}
 
 -- ---- what holds of a root and is handed on to each pointer in a block holds of all that the root meets
@@ -122,7 +123,7 @@ module _ (g : Ground) where
   pub marks_true : (label : ℕ) (r : Rooted) → IsClean (steps g label r) → flat_map mark_lines (steps g label r) ≡ [] → list_all (λ e. stays_under g e.item) (reached g r) ≡ true
   unfolding mark_lines
   marks_true label r clean none =
-      all_mapped (λ e. stays_under g e.item) (reached_at g.view g.slot) (items (standing_of g.view g.slot r))
+      list_all-map (λ e. stays_under g e.item) (reached_at g.view g.slot) (items (standing_of g.view g.slot r))
       ∙ reached_from (stays_under g) g r label (marks_down g label r (weaker (met g label r) (reached_to mark_test g r label (passes g marks_of mark_test mark_says mark_silent label r clean none))))
 
   pub no_mark_lines : (label : ℕ) (r : Rooted) → r.levels ≤ 2 → IsClean (steps g label r) → list_all (λ e. stays_under g e.item) (reached g r) ≡ true → flat_map mark_lines (steps g label r) ≡ []
@@ -130,4 +131,4 @@ module _ (g : Ground) where
   no_mark_lines label r fits clean all =
       silent_where g marks_of mark_test mark_says mark_silent label r clean
       (reached_from mark_test g r label (stronger (met g label r) (kept_met g is_within hands_within label r (within_root r))
-      (marks_up g label r fits (reached_to (stays_under g) g r label (sym (all_mapped (λ e. stays_under g e.item) (reached_at g.view g.slot) (items (standing_of g.view g.slot r))) ∙ all)))))
+      (marks_up g label r fits (reached_to (stays_under g) g r label (sym (list_all-map (λ e. stays_under g e.item) (reached_at g.view g.slot) (items (standing_of g.view g.slot r))) ∙ all)))))

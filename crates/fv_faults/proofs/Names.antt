@@ -9,6 +9,7 @@ use Rattle.std.proofs.lemmas.List.{append-nil}
 use Rattle.std.proofs.lemmas.List.Concat.{flat_map-append}
 use Rattle.fv_codec.specs.declared.inode.InodeRecord.{InodeRecord}
 use Rattle.fv_laws.proofs.Lists.{In, from_range, from_flat_map}
+use Rattle.fv_laws.proofs.Tests.{from_all, to_all}
 use Rattle.fv_tables.specs.Told.{listed, entry_or, records, file_at}
 use Rattle.fv_image.specs.Views.{Placed, Rooted}
 use Rattle.fv_image.specs.Volumes.{standing_of}
@@ -24,7 +25,6 @@ use Rattle.fv_faults.proofs.Reached.{AreFresh, all_fresh}
 use Rattle.fv_faults.proofs.Twins.{IsSame, agree_from}
 use Rattle.fv_faults.specs.ThirdPass.{twins}
 use Rattle.fv_faults.specs.Lines.{line, unless}
-use Rattle.fv_faults.proofs.Labels.{all_of, one_of}
 use Rattle.fv_faults.proofs.Files.{files_from}
 
 abbrev File : Type 0
@@ -115,7 +115,7 @@ module _ (g : Ground) where
 
   records_agreed : (r : Rooted) (label : ℕ) → IsClean (steps g label r) → AreAgreed (records (standing_of g.view g.slot r))
   unfolding run
-  records_agreed r label clean a b first second same = from_apart a b (one_of (apart a) rs b (one_of (λ a. list_all (apart a) rs) rs a crossed first) second) same
+  records_agreed r label clean a b first second same = from_apart a b (from_all (apart a) rs (from_all (λ a. list_all (apart a) rs) rs crossed a first) b second) same
     where
       rs : List File
       rs = records (standing_of g.view g.slot r)
@@ -128,8 +128,8 @@ module _ (g : Ground) where
           (agreed [] (met g label r) (all_fresh g [] (met g label r) (subst IsClean (steps_are g label r clean) clean)) (λ a b first second same. absurd first))
 
       crossed : list_all (λ a. list_all (apart a) rs) rs ≡ true
-      crossed = files_from g (λ a. list_all (apart a) rs) r label clean (all_of (λ a. list_all (apart a) rs) fs (λ a first.
-          files_from g (apart a) r label clean (all_of (apart a) fs (λ b second. to_apart a b (alike a b first second)))))
+      crossed = files_from g (λ a. list_all (apart a) rs) r label clean (to_all (λ a. list_all (apart a) rs) fs (λ a first.
+          files_from g (apart a) r label clean (to_all (apart a) fs (λ b second. to_apart a b (alike a b first second)))))
 
   -- ---- numbers of records rise
 

@@ -5,7 +5,7 @@ use Rattle.std.specs.Prelude.{Option, Some, flat_map, ◌&&◌, ◌||◌, ◌==�
 use Rattle.std.specs.List.{list_all}
 use Rattle.std.specs.Option.{is_some, option_map_or}
 use Rattle.std.proofs.lemmas.Bool.{and_parts, and_from}
-use Rattle.std.proofs.lemmas.List.Folds.{list_any-append}
+use Rattle.std.proofs.lemmas.List.Folds.{list_all-map, list_any-append}
 use Rattle.fv_tables.specs.Reached.{Item, items}
 use Rattle.fv_image.specs.Views.{Placed, Rooted}
 use Rattle.fv_image.specs.Volumes.{standing_of}
@@ -18,7 +18,7 @@ use Rattle.fv_faults.proofs.Members.{all_met}
 use Rattle.fv_faults.proofs.TableMembers.{reached_to}
 use Rattle.fv_faults.proofs.Positions.{IsDistinct}
 use Rattle.fv_faults.proofs.TablePositions.{met_once}
-use Rattle.fv_faults.proofs.Reached.{AreNew, apart, reached, all_mapped, reaches_once_from}
+use Rattle.fv_faults.proofs.Reached.{AreNew, apart, reached, reaches_once_from}
 
 module _ (g : Ground) where
   -- of two that differ in their position the VVBNs differ
@@ -99,13 +99,13 @@ module _ (g : Ground) where
   items_to_spots label r (p ∷ ps) all =
       let parts = and_parts (list_all (λ b. apart g p.0 b.item) (reached g r)) _ all in
       and_from (all_met (apart g p.0) (met g label r)) _
-      (reached_to (apart g p.0) g r label (sym (all_mapped (λ b. apart g p.0 b.item) (reached_at g.view g.slot) (items (standing_of g.view g.slot r))) ∙ parts.0))
+      (reached_to (apart g p.0) g r label (sym (list_all-map (λ b. apart g p.0 b.item) (reached_at g.view g.slot) (items (standing_of g.view g.slot r))) ∙ parts.0))
       (items_to_spots label r ps parts.1)
 
   pub once_new : (label : ℕ) (r : Rooted) → r.levels ≤ 2 → reaches_once_from g (reached g r) ≡ true → AreNew g [] (met g label r)
   once_new label r fits all =
       let test = λ (e : Item). is_some (place_at g e) && list_all (λ b. apart g e b.item) (reached g r) in
-      let spots = reached_to test g r label (sym (all_mapped (λ a. is_some a.at && list_all (λ b. apart g a.item b.item) (reached g r)) (reached_at g.view g.slot) (items (standing_of g.view g.slot r))) ∙ all) in
+      let spots = reached_to test g r label (sym (list_all-map (λ a. is_some a.at && list_all (λ b. apart g a.item b.item) (reached g r)) (reached_at g.view g.slot) (items (standing_of g.view g.slot r))) ∙ all) in
       let parts = each_part (λ e. is_some (place_at g e)) (λ e. list_all (λ b. apart g e b.item) (reached g r)) (met g label r) spots in
       all_new [] (met g label r) (none_yet (met g label r)) parts.0 (all_differ (met g label r) (items_to_spots label r (met g label r) parts.1) (met_once g r fits label))
 

@@ -7,7 +7,7 @@ use Rattle.std.proofs.lemmas.Bool.{and_parts, and_from, or_left, or_right}
 use Rattle.std.proofs.lemmas.Bool.Decides.{nat_tests}
 use Rattle.std.proofs.lemmas.List.{append_assoc}
 use Rattle.std.proofs.lemmas.List.Concat.{flat_map-append}
-use Rattle.std.proofs.lemmas.List.Folds.{list_all-append}
+use Rattle.std.proofs.lemmas.List.Folds.{list_all-map, list_all-append}
 use Rattle.fv_laws.proofs.Lists.{In, in_right, in_map}
 use Rattle.fv_laws.proofs.Tests.{from_all, to_all, none_of}
 use Rattle.fv_tables.specs.Told.{records}
@@ -24,7 +24,7 @@ use Rattle.fv_faults.proofs.Clean.{nil_parts}
 use Rattle.fv_faults.proofs.Plain.{Spot, place_at, met, run, IsClean, steps_from}
 use Rattle.fv_faults.proofs.Members.{all_met}
 use Rattle.fv_faults.proofs.TableMembers.{reached_to}
-use Rattle.fv_faults.proofs.Reached.{AreNew, all_mapped, reached, reaches_once_from}
+use Rattle.fv_faults.proofs.Reached.{AreNew, reached, reaches_once_from}
 use Rattle.fv_faults.proofs.OnceSilent.{once_new, says_block}
 use Rattle.fv_faults.proofs.TablePositions.{met_once}
 use Rattle.fv_faults.proofs.Shapes.{fine_shape}
@@ -175,7 +175,7 @@ module _ (g : Ground) (some_span : 0 < g.span) (some_blocks : 0 < g.view.blocks)
     spots = met g label r
 
     to_spots : (test : Reached → Bool) → list_all test (reached g r) ≡ true → all_met (λ e. test (reached_at g.view g.slot e)) spots ≡ true
-    to_spots test all = reached_to (λ e. test (reached_at g.view g.slot e)) g r label (sym (all_mapped test (reached_at g.view g.slot) (items (standing_of g.view g.slot r))) ∙ all)
+    to_spots test all = reached_to (λ e. test (reached_at g.view g.slot e)) g r label (sym (list_all-map test (reached_at g.view g.slot) (items (standing_of g.view g.slot r))) ∙ all)
 
     ranged : (ps : List Spot) → all_met (λ e. nat_lt e.pointer.vvbn g.span && is_hint g.view.blocks e.pointer.pvbn) ps ≡ true → all_met (is_ranged g.view.blocks g.span some_span some_blocks g) ps ≡ true
     ranged [] all = refl

@@ -6,7 +6,7 @@ use Rattle.std.specs.Option.{is_some, option_map_or}
 use Rattle.std.proofs.lemmas.Bool.{and_parts, and_from, or_left, or_right}
 use Rattle.std.proofs.lemmas.Bool.Decides.{nat_tests}
 use Rattle.std.proofs.lemmas.List.{append_assoc, append-nil}
-use Rattle.std.proofs.lemmas.List.Folds.{list_any-append}
+use Rattle.std.proofs.lemmas.List.Folds.{list_all-map, list_any-append}
 use Rattle.std.proofs.lemmas.List.Concat.{flat_map-append}
 use Rattle.fv_tables.specs.Reached.{Item, items}
 use Rattle.fv_image.specs.Views.{Placed, Rooted}
@@ -23,10 +23,6 @@ use Rattle.fv_faults.proofs.Clean.{parts_nil, nil_parts, holds_from, none_from}
 use Rattle.fv_faults.proofs.Plain.{Spot, place_at, met, run, run_keeps, IsClean, steps_are}
 use Rattle.fv_faults.proofs.Members.{all_met}
 use Rattle.fv_faults.proofs.TableMembers.{reached_from, reached_to}
-
-pub all_mapped : {X Y : Type 0} (p : Y → Bool) (f : X → Y) (xs : List X) → list_all p (map f xs) ≡ list_all (λ x. p (f x)) xs
-all_mapped p f [] = refl
-all_mapped p f (x ∷ xs) = ap (λ b. p (f x) && b) (all_mapped p f xs)
 
 -- ---- lines of a step by its pointer, its block and its place alone
 
@@ -78,13 +74,13 @@ module _ (g : Ground) where
 
   pub hints_true : (label : ℕ) (r : Rooted) → IsClean (steps g label r) → flat_map hint_lines (steps g label r) ≡ [] → list_all (λ e. is_true_hint e.item.pointer e.at) (reached r) ≡ true
   unfolding hint_lines
-  hints_true label r clean none = all_mapped (λ e. is_true_hint e.item.pointer e.at) (reached_at g.view g.slot) (items (standing_of g.view g.slot r))
+  hints_true label r clean none = list_all-map (λ e. is_true_hint e.item.pointer e.at) (reached_at g.view g.slot) (items (standing_of g.view g.slot r))
       ∙ passes g hints_of hint_test (λ e b. holds_from (hint_test e) _) (λ e b. none_from (hint_test e) _) label r clean none
 
   pub no_hint_lines : (label : ℕ) (r : Rooted) → IsClean (steps g label r) → list_all (λ e. is_true_hint e.item.pointer e.at) (reached r) ≡ true → flat_map hint_lines (steps g label r) ≡ []
   unfolding hint_lines
   no_hint_lines label r clean all = silent_where g hints_of hint_test (λ e b. holds_from (hint_test e) _) (λ e b. none_from (hint_test e) _) label r clean
-      (sym (all_mapped (λ e. is_true_hint e.item.pointer e.at) (reached_at g.view g.slot) (items (standing_of g.view g.slot r))) ∙ all)
+      (sym (list_all-map (λ e. is_true_hint e.item.pointer e.at) (reached_at g.view g.slot) (items (standing_of g.view g.slot r))) ∙ all)
 
   -- ---- rule 5
 
@@ -196,7 +192,7 @@ module _ (g : Ground) where
   spots_to_items label r (p ∷ ps) all =
       let parts = and_parts (all_met (apart p.0) (met g label r)) _ all in
       and_from (list_all (λ b. apart p.0 b.item) (reached r)) _
-      (all_mapped (λ b. apart p.0 b.item) (reached_at g.view g.slot) (items (standing_of g.view g.slot r)) ∙ reached_from (apart p.0) g r label parts.0)
+      (list_all-map (λ b. apart p.0 b.item) (reached_at g.view g.slot) (items (standing_of g.view g.slot r)) ∙ reached_from (apart p.0) g r label parts.0)
       (spots_to_items label r ps parts.1)
 
   -- Where the walk of a root finds nothing, the root reaches each VVBN once and none that is a hole.
@@ -205,5 +201,5 @@ module _ (g : Ground) where
       let are = all_fresh [] (met g label r) (subst IsClean (steps_are g label r clean) clean) in
       let all = both_pass (λ e. is_some (place_at g e)) (λ a. list_all (λ b. apart a b.item) (reached r)) (met g label r) (placed_all [] (met g label r) are)
       (spots_to_items label r (met g label r) (all_apart [] (met g label r) are)) in
-      all_mapped (λ a. is_some a.at && list_all (λ b. apart a.item b.item) (reached r)) (reached_at g.view g.slot) (items (standing_of g.view g.slot r))
+      list_all-map (λ a. is_some a.at && list_all (λ b. apart a.item b.item) (reached r)) (reached_at g.view g.slot) (items (standing_of g.view g.slot r))
       ∙ reached_from (λ e. is_some (place_at g e) && list_all (λ b. apart e b.item) (reached r)) g r label all

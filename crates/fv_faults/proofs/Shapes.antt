@@ -3,6 +3,7 @@ use Rattle.std.proofs.Common.{◌≡◌, ℕ, Bool, true, false, not, List, [], 
 use Rattle.std.specs.Prelude.{◌||◌, ◌==◌, nat_lt, if◌then◌else◌}
 use Rattle.std.specs.List.{list_all}
 use Rattle.std.proofs.lemmas.Bool.{and_from}
+use Rattle.std.proofs.lemmas.List.Folds.{list_all-map}
 use Rattle.std.proofs.lemmas.Bool.Decides.{nat_tests}
 use Rattle.fv_codec.specs.declared.shape.Shape.{Shape}
 use Rattle.fv_codec.specs.declared.node.Node.{Node}
@@ -21,7 +22,7 @@ use Rattle.fv_faults.proofs.Clean.{parts_nil, nil_parts, holds_from, none_from}
 use Rattle.fv_faults.proofs.Plain.{Spot, place_at, met, IsClean, steps_are}
 use Rattle.fv_faults.proofs.Members.{all_met}
 use Rattle.fv_faults.proofs.TableMembers.{reached_from}
-use Rattle.fv_faults.proofs.Reached.{all_mapped, reached, IsFresh, AreFresh, all_fresh}
+use Rattle.fv_faults.proofs.Reached.{reached, IsFresh, AreFresh, all_fresh}
 
 -- a number that is the wanted one
 pub fine_one : (w f : ℕ) → (w == f) ≡ true → in_range w w f ≡ Ok tt
@@ -115,8 +116,8 @@ module _ (g : Ground) where
   unfolding has_shape in_place
   shapes_and_positions label r clean =
       let are = all_fresh g [] (met g label r) (subst IsClean (steps_are g label r clean) clean) in (
-        all_mapped (λ e. block_is (λ block. is_fine (shape_for e.item block)) e.at) (reached_at g.view g.slot) (items (standing_of g.view g.slot r))
+        list_all-map (λ e. block_is (λ block. is_fine (shape_for e.item block)) e.at) (reached_at g.view g.slot) (items (standing_of g.view g.slot r))
             ∙ reached_from has_shape g r label (fresh_all has_shape (λ done p is. ap (block_is (λ block. is_fine (shape_for p.0 block))) is.found ∙ (shape_fine p.0 is.at (of_shape done p is)).0) [] (met g label r) are),
-        all_mapped (λ e. block_is (is_of_position e.item) e.at) (reached_at g.view g.slot) (items (standing_of g.view g.slot r))
+        list_all-map (λ e. block_is (is_of_position e.item) e.at) (reached_at g.view g.slot) (items (standing_of g.view g.slot r))
             ∙ reached_from in_place g r label (fresh_all in_place (λ done p is. ap (block_is (is_of_position p.0)) is.found ∙ (shape_fine p.0 is.at (of_shape done p is)).1) [] (met g label r) are),
       )

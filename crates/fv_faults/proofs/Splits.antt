@@ -6,6 +6,7 @@ use Rattle.std.specs.Option.{is_some}
 use Rattle.std.proofs.lemmas.Bool.{or_right}
 use Rattle.std.proofs.lemmas.Bool.Decides.{nat_tests}
 use Rattle.fv_laws.proofs.Lists.{In}
+use Rattle.fv_laws.proofs.Tests.{from_all, to_all}
 use Rattle.fv_tables.specs.Reached.{Item, items, is_listed}
 use Rattle.fv_image.specs.Views.{Placed, Rooted, Head, View}
 use Rattle.fv_image.specs.Volumes.{standing_of}
@@ -18,7 +19,7 @@ use Rattle.fv_faults.proofs.Plain.{place_at}
 use Rattle.fv_faults.proofs.TableMembers.{reached_from, reached_to}
 use Rattle.fv_faults.proofs.Unknown.{under_holder}
 use Rattle.fv_faults.proofs.Bridge.{met_down}
-use Rattle.fv_faults.proofs.Labels.{all_of, one_of, listed, on_base, based_same, by_roots, none_held, held_none}
+use Rattle.fv_faults.proofs.Labels.{listed, on_base, based_same, by_roots, none_held, held_none}
 
 -- ---- a block that leads to what a root reaches is the label, or reached itself
 
@@ -36,7 +37,7 @@ module _ (g : Ground) (r : Rooted) where
   led e x some found is c there = or_right (is_in_label c) _ (ap (λ p. is_listed reach p.vvbn) (under_holder e c x there) ∙ is)
 
   pub holders_reached : list_all is_led reach ≡ true
-  holders_reached = reached_from is_led g r 0 (met_down g says is_led led 0 r refl (reached_to says g r 0 (all_of says reach (λ e there. listed reach e there))))
+  holders_reached = reached_from is_led g r 0 (met_down g says is_led led 0 r refl (reached_to says g r 0 (to_all says reach (λ e there. listed reach e there))))
 
 -- ---- copies
 
@@ -72,7 +73,7 @@ module _ (w : View) (s : ℕ) (h : Head) where
   one_same : (r : ℕ × Rooted) (e : Item) → In e (items (standing_of w s r.1)) → split_test r (reached_at w s e) ≡ not (is_split_fault w s h e)
   one_same r e there = so (is_known e.pointer) (is_in_label e) (copied r e.pointer.vvbn) (is_copy w s h e.pointer.vvbn) (copied r e.holder.vvbn) (is_copy w s h e.holder.vvbn)
       (copied_same r e.pointer.vvbn (listed (items (standing_of w s r.1)) e there))
-      (λ inside. copied_same r e.holder.vvbn (sym (ap (λ b. b || is_listed (items (standing_of w s r.1)) e.holder.vvbn) inside) ∙ one_of (is_led (ground w s h) r.1) (items (standing_of w s r.1)) e (holders_reached (ground w s h) r.1) there))
+      (λ inside. copied_same r e.holder.vvbn (sym (ap (λ b. b || is_listed (items (standing_of w s r.1)) e.holder.vvbn) inside) ∙ from_all (is_led (ground w s h) r.1) (items (standing_of w s r.1)) (holders_reached (ground w s h) r.1) e there))
     where
       so : (known label a b c d : Bool) → a ≡ b → (label ≡ false → c ≡ d) → (not known || not (label || (a || c))) ≡ not (known && (label || (b || d)))
       so false label a b c d same other = refl

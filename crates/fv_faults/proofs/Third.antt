@@ -3,7 +3,7 @@ use Rattle.std.proofs.Common.{◌≡◌, ℕ, ◌*◌, ◌/◌, Bool, true, fals
 use Rattle.std.specs.Prelude.{Option, flat_map, ◌&&◌, ◌||◌, ◌==◌, nat_le, nat_lt, if◌then◌else◌}
 use Rattle.std.specs.List.{list_all, list_any, range_with_len}
 use Rattle.std.proofs.lemmas.Bool.Decides.{nat_tests}
-use Rattle.std.proofs.lemmas.List.Folds.{list_any-append}
+use Rattle.std.proofs.lemmas.List.Folds.{list_all-map, list_any-append}
 use Rattle.fv_codec.specs.Fields.{in_range}
 use Rattle.fv_model.specs.Space.{map_blocks}
 use Rattle.fv_tables.specs.Reached.{Item, items, is_listed}
@@ -22,7 +22,7 @@ use Rattle.fv_faults.specs.ThirdPass.{bit_lines, pvbn_at, reach_lines, kind_line
 use Rattle.fv_faults.proofs.Clean.{all_from, clean_from, holds_from, none_from}
 use Rattle.fv_faults.proofs.Plain.{Spot, place_at, met, run, IsClean, steps_are}
 use Rattle.fv_faults.proofs.TableMembers.{reached_from, reached_to}
-use Rattle.fv_faults.proofs.Reached.{passes, silent_where, all_mapped, reached}
+use Rattle.fv_faults.proofs.Reached.{passes, silent_where, reached}
 
 module _ (g : Ground) where
   -- ---- rule 9
@@ -44,11 +44,11 @@ module _ (g : Ground) where
 
   pub kinds_true : (label : ℕ) (r : Rooted) → IsClean (steps g label r) → flat_map kind_lines (steps g label r) ≡ [] → list_all (λ e. kind_at e.at == kind_of e.item) (reached g r) ≡ true
   unfolding kind_lines
-  kinds_true label r clean none = all_mapped (λ e. kind_at e.at == kind_of e.item) (reached_at g.view g.slot) (items (standing_of g.view g.slot r)) ∙ passes g kinds_of kind_test kind_says kind_silent label r clean none
+  kinds_true label r clean none = list_all-map (λ e. kind_at e.at == kind_of e.item) (reached_at g.view g.slot) (items (standing_of g.view g.slot r)) ∙ passes g kinds_of kind_test kind_says kind_silent label r clean none
 
   pub no_kind_lines : (label : ℕ) (r : Rooted) → IsClean (steps g label r) → list_all (λ e. kind_at e.at == kind_of e.item) (reached g r) ≡ true → flat_map kind_lines (steps g label r) ≡ []
   unfolding kind_lines
-  no_kind_lines label r clean all = silent_where g kinds_of kind_test kind_says kind_silent label r clean (sym (all_mapped (λ e. kind_at e.at == kind_of e.item) (reached_at g.view g.slot) (items (standing_of g.view g.slot r))) ∙ all)
+  no_kind_lines label r clean all = silent_where g kinds_of kind_test kind_says kind_silent label r clean (sym (list_all-map (λ e. kind_at e.at == kind_of e.item) (reached_at g.view g.slot) (items (standing_of g.view g.slot r))) ∙ all)
 
   -- ---- rule 10, stamps
 

@@ -18,8 +18,7 @@ use Rattle.fv_image.specs.HintRules.{is_unknown}
 use Rattle.fv_image.specs.HintRules.{is_known, is_in_label}
 use Rattle.fv_faults.specs.Walks.{Ground, child_of, children_of, file_root, files_of, files_under, pointers_under}
 use Rattle.fv_faults.specs.FourthPass.{unknown_under}
-use Rattle.fv_faults.proofs.Plain.{Spot, place_at, plain_one}
-use Rattle.fv_faults.proofs.Members.{all_met, both_met, met_both}
+use Rattle.fv_faults.proofs.Plain.{place_at}
 
 -- ---- what stands in a block
 
@@ -131,54 +130,6 @@ module _ (g : Ground) where
           let all : unknown_under e (place_at g e) ≡ 0 = ap (λ (o : Option Placed). unknown_under e o) found ∙ none in
           or_right (not (is_known e.pointer)) _ (let test : (unknown_under e (place_at g e) == 0) ≡ true = grind (arith, nat_tests, all) in test)
 
-  -- ---- along lists of children
-
-  pub down_each : (f : Item → List Spot) (cs : List Item) → ((c : Item) → In c cs → all_met leads_on (f c) ≡ true → is_led_to c ≡ true → all_met is_led_to (f c) ≡ true) → ((c : Item) → In c cs → is_led_to c ≡ true) → all_met leads_on (flat_map f cs) ≡ true → all_met is_led_to (flat_map f cs) ≡ true
-  down_each f [] each led all = refl
-  down_each f (c ∷ cs) each led all =
-      let parts = both_met leads_on (f c) (flat_map f cs) all in
-      met_both is_led_to (f c) (flat_map f cs) (each c (inl refl) parts.0 (led c (inl refl))) (down_each f cs (λ d there. each d (inr there)) (λ d there. led d (inr there)) parts.1)
-
-  pub up_each : (f : Item → List Spot) (cs : List Item) → ((c : Item) → In c cs → all_met is_led_to (f c) ≡ true → all_met leads_on (f c) ≡ true) → all_met is_led_to (flat_map f cs) ≡ true → all_met leads_on (flat_map f cs) ≡ true
-  up_each f [] each all = refl
-  up_each f (c ∷ cs) each all =
-      let parts = both_met is_led_to (f c) (flat_map f cs) all in
-      met_both leads_on (f c) (flat_map f cs) (each c (inl refl) parts.0) (up_each f cs (λ d there. each d (inr there)) parts.1)
-
-  pub part_of : (f : Item → List Spot) (cs : List Item) (test : Item → Bool) → all_met test (flat_map f cs) ≡ true → (c : Item) → In c cs → all_met test (f c) ≡ true
-  part_of f [] test all c there = absurd there
-  part_of f (d ∷ ds) test all c (inl is) = subst (λ e. all_met test (f e) ≡ true) is (both_met test (f d) (flat_map f ds) all).0
-  part_of f (d ∷ ds) test all c (inr there) = part_of f ds test (both_met test (f d) (flat_map f ds) all).1 c there
-
-  pub first_met : (below : Item → Placed → List Spot) (e : Item) (block : ℕ) (test : Item → Bool) → e.pointer.stamp ≢ 0 → all_met test (plain_one g below e block) ≡ true → (test e ≡ true) × (all_met test (option_map_or (below e) (place_at g e) []) ≡ true)
-  first_met below e block test some all =
-      and_parts (test e) _ (sym (ap (λ (b : Bool). all_met test (if b then [] else (e, block) ∷ option_map_or (below e) (place_at g e) [])) (standing e some)) ∙ all)
-
-  -- ---- one pointer with what is below it
-
-  pub down_one : (below : Item → Placed → List Spot) (e : Item) (block : ℕ) → ((x : Placed) → e.pointer.stamp ≢ 0 → place_at g e ≡ Some x → leads_on e ≡ true → all_met leads_on (below e x) ≡ true → all_met is_led_to (below e x) ≡ true)
-      → all_met leads_on (plain_one g below e block) ≡ true → is_led_to e ≡ true → all_met is_led_to (plain_one g below e block) ≡ true
-  down_one below e block rest all led = so (e.pointer.stamp == 0) refl (place_at g e) refl all
-    where
-      so : (b : Bool) → (e.pointer.stamp == 0) ≡ b → (o : Option Placed) → place_at g e ≡ o → all_met leads_on (if b then [] else (e, block) ∷ option_map_or (below e) o []) ≡ true → all_met is_led_to (if b then [] else (e, block) ∷ option_map_or (below e) o []) ≡ true
-      so true is o found all = refl
-      so false is None found all = and_from (is_led_to e) true led refl
-      so false is (Some x) found all =
-          let parts = and_parts (leads_on e) _ all in
-          let some : e.pointer.stamp ≢ 0 = grind (arith, nat_tests, is) in
-          and_from (is_led_to e) _ led (rest x some found parts.0 parts.1)
-
-  pub up_one : (below : Item → Placed → List Spot) (e : Item) (block : ℕ) → ((x : Placed) → e.pointer.stamp ≢ 0 → place_at g e ≡ Some x → all_met is_led_to (below e x) ≡ true → (leads_on e ≡ true) × (all_met leads_on (below e x) ≡ true))
-      → all_met is_led_to (plain_one g below e block) ≡ true → all_met leads_on (plain_one g below e block) ≡ true
-  up_one below e block rest all = so (e.pointer.stamp == 0) refl (place_at g e) refl all
-    where
-      alone : place_at g e ≡ None → leads_on e ≡ true
-      alone none = or_right (not (is_known e.pointer)) _ (ap (λ (o : Option Placed). unknown_under e o == 0) none)
-
-      so : (b : Bool) → (e.pointer.stamp == 0) ≡ b → (o : Option Placed) → place_at g e ≡ o → all_met is_led_to (if b then [] else (e, block) ∷ option_map_or (below e) o []) ≡ true → all_met leads_on (if b then [] else (e, block) ∷ option_map_or (below e) o []) ≡ true
-      so true is o found all = refl
-      so false is None found all = and_from (leads_on e) true (alone found) refl
-      so false is (Some x) found all =
-          let some : e.pointer.stamp ≢ 0 = grind (arith, nat_tests, is) in
-          let both = rest x some found (and_parts (is_led_to e) _ all).1 in
-          and_from (leads_on e) _ both.0 both.1
+  -- a pointer without a block leads to none that is unknown
+  pub leads_alone : (e : Item) → place_at g e ≡ None → leads_on e ≡ true
+  leads_alone e none = or_right (not (is_known e.pointer)) _ (ap (λ (o : Option Placed). unknown_under e o == 0) none)

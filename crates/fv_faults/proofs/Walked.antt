@@ -4,6 +4,8 @@ use Rattle.std.specs.Prelude.{Option, flat_map, ◌&&◌, ◌||◌, ◌==◌, na
 use Rattle.std.specs.List.{list_all}
 use Rattle.std.specs.Option.{option_map_or}
 use Rattle.std.proofs.lemmas.Bool.Decides.{nat_tests}
+use Rattle.std.proofs.lemmas.List.Folds.{list_all-map}
+use Rattle.fv_laws.proofs.Tests.{from_all, to_all}
 use Rattle.fv_tables.specs.Reached.{Item, items}
 use Rattle.fv_tables.proofs.Items.{from_trees}
 use Rattle.fv_image.specs.Views.{Placed, Rooted}
@@ -14,10 +16,9 @@ use Rattle.fv_faults.proofs.Clean.{parts_nil}
 use Rattle.fv_faults.proofs.Plain.{Spot, met, IsClean, steps_are}
 use Rattle.fv_faults.proofs.Members.{all_met}
 use Rattle.fv_faults.proofs.TableMembers.{reached_from}
-use Rattle.fv_faults.proofs.Reached.{IsFresh, all_fresh, all_mapped, reached_once}
+use Rattle.fv_faults.proofs.Reached.{IsFresh, all_fresh, reached_once}
 use Rattle.fv_faults.proofs.Shapes.{fresh_all, shapes_and_positions}
 use Rattle.fv_faults.proofs.InRange.{no_lines, holds_pointers, is_ranged, ranged}
-use Rattle.fv_faults.proofs.Labels.{all_of, one_of}
 use Rattle.fv_faults.proofs.Names.{files_distinct}
 use Rattle.fv_faults.proofs.Quiet.{IsWalked}
 use Rattle.fv_image.specs.Seen.{reached_at}
@@ -51,8 +52,8 @@ module _ (g : Ground) (some_span : 0 < g.span) (some_blocks : 0 < g.view.blocks)
   pub pointers_in_range : fits (root_item r) ≡ true → list_all (λ (e : Item). nat_lt e.pointer.vvbn g.span && is_hint g.view.blocks e.pointer.pvbn) reach ≡ true
   pointers_in_range root =
       let all = reached_from fits g r label (ranged g.view.blocks g.span some_span some_blocks g label r root all_hold) in
-      all_of (λ (e : Item). nat_lt e.pointer.vvbn g.span && is_hint g.view.blocks e.pointer.pvbn) reach (λ e there.
-      so (e.pointer.stamp == 0) (nat_lt e.pointer.vvbn g.span && is_hint g.view.blocks e.pointer.pvbn) (one_of (λ (e : Item). not (e.pointer.stamp == 0)) reach e all_stand there) (one_of fits reach e all there))
+      to_all (λ (e : Item). nat_lt e.pointer.vvbn g.span && is_hint g.view.blocks e.pointer.pvbn) reach (λ e there.
+      so (e.pointer.stamp == 0) (nat_lt e.pointer.vvbn g.span && is_hint g.view.blocks e.pointer.pvbn) (from_all (λ (e : Item). not (e.pointer.stamp == 0)) reach all_stand e there) (from_all fits reach all e there))
     where
       so : (a b : Bool) → not a ≡ true → (a || b) ≡ true → b ≡ true
       so true b stands is = absurd cc
@@ -65,7 +66,7 @@ module _ (g : Ground) (some_span : 0 < g.span) (some_blocks : 0 < g.view.blocks)
       record {
         shapes = two.0;
         positions = two.1;
-        ranges = all_mapped (λ e. nat_lt e.item.pointer.vvbn g.span && is_hint g.view.blocks e.item.pointer.pvbn) (reached_at g.view g.slot) reach ∙ pointers_in_range root;
+        ranges = list_all-map (λ e. nat_lt e.item.pointer.vvbn g.span && is_hint g.view.blocks e.item.pointer.pvbn) (reached_at g.view g.slot) reach ∙ pointers_in_range root;
         once = reached_once g label r clean;
         names = files_distinct g r label clean;
       }

@@ -1,6 +1,6 @@
 //! Lines as a check collects them.
 
-ghost use Rattle.std.specs.Prelude.{◌≡◌, OnOk, []};
+ghost use Rattle.std.specs.Prelude.{◌≡◌, OnErr, OnOk, []};
 ghost use Rattle.fv_faults.specs.Lines.{put};
 
 use crate::fault::Fault;
@@ -24,10 +24,11 @@ impl Lines {
         }
     }
 
-    /// Notes a line at its place among the others; a line that is noted already stays once. It is refused where memory is, and takes
-    /// time by the logarithm of the number of lines.
+    /// Notes a line at its place among the others; a line that is noted already stays once. It is refused where memory is, and the
+    /// lines then stay as they were. It takes time by the logarithm of the number of lines.
     pub fn note(&mut self, fault: Fault) -> Result<(), AllocError>
         ensures noted { OnOk result (self.new.lines.keys ≡ put fault self.old.lines.keys) }
+        ensures failed { OnErr result (self.new.lines.keys ≡ self.old.lines.keys) }
     {
         match self.lines.insert(fault) {
             Ok(_) => Ok(()),
