@@ -17,6 +17,7 @@ ghost use Rattle.fv_aggregate.specs.Commands.{dirty_limit, is_refusal, most_over
 ghost use Rattle.fv_aggregate.specs.Standing.{Stands, StandsFor};
 
 use crate::fault::Fault;
+use crate::replies::{done, refuse};
 use crate::session::Session;
 use fv_charge::overhead;
 use fv_disk::Disk;
@@ -50,7 +51,7 @@ impl Session {
         match self.volumes.admit(self.pool.found.blocks, name, size, kind) {
             Ok(admitted) => return self.make(disk, name, size, kind, admitted, into),
             Err(refusal) => {
-                *into = Reply::Refused(refusal);
+                refuse(into, refusal);
                 return Ok(());
             }
         }
@@ -82,7 +83,7 @@ impl Session {
         let room = u64::from(overhead(admitted.span()));
         self.make_room(disk, room)?;
         self.add(name, size, kind, admitted, room)?;
-        *into = Reply::Done;
+        done(into);
         Ok(())
     }
 

@@ -13,6 +13,7 @@ ghost use Rattle.fv_aggregate.specs.Applying.{HasApplied};
 ghost use Rattle.fv_aggregate.specs.Standing.{Stands};
 
 use crate::fault::Fault;
+use crate::replies::refuse;
 use crate::session::Session;
 use fv_container::Steps;
 use fv_disk::Disk;
@@ -59,7 +60,7 @@ impl Session {
         match self.aim(command) {
             Ok(aim) => return self.carry(disk, aim, command, steps, into),
             Err(refusal) => {
-                *into = Reply::Refused(refusal);
+                refuse(into, refusal);
                 return Ok(());
             }
         }

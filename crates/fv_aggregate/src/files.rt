@@ -13,6 +13,7 @@ ghost use Rattle.fv_aggregate.specs.Standing.{Stands};
 
 use crate::aiming::volume_at;
 use crate::fault::Fault;
+use crate::replies::done;
 use crate::session::Session;
 use fv_disk::Disk;
 use fv_model::{Command, Refusal, Reply};
@@ -90,7 +91,7 @@ impl Session {
         let made = state.change(self.alloc, &mut self.pool, disk, others, command);
         let more = added(before, state.pending());
         self.pending += more;
-        *into = Reply::Done;
+        done(into);
         self.replied(disk, made, into)
     }
 
@@ -111,7 +112,7 @@ impl Session {
         let others = self.volumes.commits_beside(slot);
         let state = volume_at(&mut self.volumes, slot);
         let judged = state.judge(self.alloc, &mut self.pool, disk, others, command);
-        *into = Reply::Done;
+        done(into);
         self.replied(disk, judged, into)
     }
 }

@@ -10,9 +10,11 @@ mod numbers;
 mod opening;
 mod points;
 mod reading;
+mod replies;
 mod session;
 mod snapshots;
 mod volumes;
 
 pub use fault::{Fault, OpenFault};
+pub use replies::refuse;
 pub use session::Session;

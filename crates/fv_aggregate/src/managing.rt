@@ -7,6 +7,7 @@ ghost use Rattle.fv_volume.specs.States.{state_at};
 ghost use Rattle.fv_aggregate.specs.Managing.{Manages, told_as};
 
 use crate::aiming::volume_in;
+use crate::replies::{done, refuse, stat};
 use crate::session::Session;
 use fv_model::{Kind, Name, Refusal, Reply};
 
@@ -49,8 +50,8 @@ impl Session {
         ensures { Manages self.entry.now (VolStat volume.entry.now) self.entry.now into.new }
     {
         match self.volumes.find(volume) {
-            Some(slot) => *into = Reply::Stat(volume_in(&self.volumes, slot).stat()),
-            None => *into = Reply::Refused(Refusal::NoVolume),
+            Some(slot) => stat(into, volume_in(&self.volumes, slot).stat()),
+            None => refuse(into, Refusal::NoVolume),
         }
     }
 }
@@ -60,7 +61,7 @@ fn tell(made: Result<(), Refusal>, into: &mut Reply)
     ensures { into.new ≡ told_as made }
 {
     match made {
-        Ok(()) => *into = Reply::Done,
-        Err(refusal) => *into = Reply::Refused(refusal),
+        Ok(()) => done(into),
+        Err(refusal) => refuse(into, refusal),
     }
 }

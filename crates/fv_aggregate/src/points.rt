@@ -16,6 +16,7 @@ ghost use Rattle.fv_aggregate.specs.Reclaiming.{HasPointed, Points};
 ghost use Rattle.fv_aggregate.specs.Standing.{IsWithoutFiles, Stands, StandsFor};
 
 use crate::fault::Fault;
+use crate::replies::done;
 use crate::session::Session;
 use fv_cp::full_point;
 use fv_disk::Disk;
@@ -69,7 +70,7 @@ impl Session {
         ensures files { IsTrue (D.shown disk.old).tells → OnOk (answer into.new result) (IsWithoutFiles self.new) }
     {
         self.point(disk, 0)?;
-        *into = Reply::Done;
+        done(into);
         Ok(())
     }
 

@@ -18,9 +18,10 @@ ghost use Rattle.fv_aggregate.specs.Standing.{Stands, StandsFor};
 use crate::aiming::volume_at;
 use crate::fault::Fault;
 use crate::points::failure;
+use crate::replies::{count, list, make_content, refuse};
 use crate::session::Session;
 use fv_container::Steps;
-use fv_disk::{Block, Disk};
+use fv_disk::Disk;
 use fv_model::{Command, Refusal, Reply};
 use fv_volume::{Pool, VolumeFault, VolumeState};
 use std::alloc::Global;
@@ -100,7 +101,7 @@ impl Session {
         match asked {
             Ok(()) => return Ok(()),
             Err(VolumeFault::Refused(refusal)) => {
-                *into = Reply::Refused(refusal);
+                refuse(into, refusal);
                 return Ok(());
             }
             Err(fault) => return Err(self.fault_of(disk, fault)),
@@ -162,7 +163,10 @@ fn ask_state<D: Disk, L: Ledger>(
             index,
             ..
         } => {
-            let mut block: Block = [0; 4096];
+            make_content(into);
+            let Reply::Content(block) = into else {
+                unreachable!();
+            };
             match state.get(
                 alloc,
                 pool,
@@ -170,20 +174,17 @@ fn ask_state<D: Disk, L: Ledger>(
                 snapshot.as_ref(),
                 file,
                 *index,
-                &mut block,
+                block,
                 steps,
             ) {
-                Ok(()) => {
-                    *into = Reply::Content(block);
-                    return Ok(());
-                }
+                Ok(()) => return Ok(()),
                 Err(fault) => return Err(fault),
             }
         }
         Command::Len { snapshot, file, .. } => {
             match state.length(alloc, pool, disk, snapshot.as_ref(), file) {
                 Ok(length) => {
-                    *into = Reply::Number(u64::from(length));
+                    count(into, u64::from(length));
                     return Ok(());
                 }
                 Err(fault) => return Err(fault),
@@ -192,7 +193,7 @@ fn ask_state<D: Disk, L: Ledger>(
         Command::Ls { snapshot, .. } => {
             match state.list(alloc, pool, disk, snapshot.as_ref()) {
                 Ok(names) => {
-                    *into = Reply::Names(names);
+                    list(into, names);
                     return Ok(());
                 }
                 Err(fault) => return Err(fault),

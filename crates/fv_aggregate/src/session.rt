@@ -21,6 +21,7 @@ ghost use Rattle.fv_aggregate.specs.Telling.{charged_from};
 
 use crate::fault::{Fault, OpenFault};
 use crate::opening::load;
+use crate::replies::list;
 use crate::volumes::{names_of, sum_charges};
 use fv_container::Steps;
 use fv_disk::Disk;
@@ -155,7 +156,7 @@ impl Session {
                 return self.create(disk, volume, *size, *kind, into);
             }
             Command::VolList => {
-                *into = Reply::Names(names_of(self.alloc, &self.volumes)?);
+                list(into, names_of(self.alloc, &self.volumes)?);
                 return Ok(());
             }
             Command::Cp => return self.reclaim(disk, into),

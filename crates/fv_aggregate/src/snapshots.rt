@@ -20,6 +20,7 @@ ghost use Rattle.fv_aggregate.specs.Standing.{Stands};
 
 use crate::aiming::{volume_at, volume_in};
 use crate::fault::Fault;
+use crate::replies::{done, list, refuse};
 use crate::session::Session;
 use fv_disk::Disk;
 use fv_model::{Command, Name, Refusal, Reply};
@@ -50,7 +51,7 @@ impl Session {
         match judge_snap(state, self.pool.found.blocks, others, command) {
             Ok(granted) => return self.snap_with(disk, slot, others, granted, command, into),
             Err(refusal) => {
-                *into = Reply::Refused(refusal);
+                refuse(into, refusal);
                 return Ok(());
             }
         }
@@ -107,7 +108,7 @@ impl Session {
         if made.is_ok() {
             self.pending += granted.room;
         }
-        *into = Reply::Done;
+        done(into);
         self.replied(disk, made, into)
     }
 
@@ -117,11 +118,11 @@ impl Session {
         ensures { IfOk (answer into.new result) (TellsSnapshots self.entry.now volume.entry.now) }
     {
         let Some(slot) = self.volumes.find(volume) else {
-            *into = Reply::Refused(Refusal::NoVolume);
+            refuse(into, Refusal::NoVolume);
             return Ok(());
         };
         let names = volume_in(&self.volumes, slot).snapshot_names(self.alloc)?;
-        *into = Reply::Names(names);
+        list(into, names);
         Ok(())
     }
 }

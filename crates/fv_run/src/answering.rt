@@ -10,7 +10,7 @@ ghost use Rattle.fv_run.specs.Built.{built};
 ghost use Rattle.fv_run.specs.Answering.{AnswersLines, Applies, IsLine, IsReady, TellsLine};
 
 use crate::ending::Fault;
-use fv_aggregate::Session;
+use fv_aggregate::{Session, refuse};
 use fv_container::Steps;
 use fv_disk::{Failed, Host};
 use fv_lines::{Found, Script, next_line};
@@ -75,11 +75,11 @@ fn apply<H: Host, L: Ledger>(
             return Ok(());
         }
         Err(LineFault::Syntax) => {
-            *reply = Reply::Refused(Refusal::Syntax);
+            refuse(reply, Refusal::Syntax);
             return Ok(());
         }
         Err(LineFault::Range) => {
-            *reply = Reply::Refused(Refusal::Range);
+            refuse(reply, Refusal::Range);
             return Ok(());
         }
     }

@@ -1,6 +1,7 @@
 use Rattle.std.proofs.Common.{◌≡◌, Ok, rules, refl, ap, sym, subst, ◌∙◌, option_copied}
 use Rattle.std.specs.Prelude.{ℕ}
 use Rattle.fv_model.specs.Numbers.{is_index}
+use Rattle.fv_model.specs.declared.answers.Reply.{Reply}
 use Rattle.fv_model.specs.declared.answers.Reply.TheVariants.{Content, Number, Names}
 use Rattle.fv_model.specs.declared.commands.Command.TheVariants.{Get, Len, Ls}
 use Rattle.fv_volumes.proofs.KnownSteps.{known_get}
@@ -35,7 +36,7 @@ returns-in-Ok-length-clause-asks g c =
     let snapshot = option_copied c.as_ref-in-Len.result in
     let of = of_len c.args.command.now x.name c.in-Len.volume snapshot c.in-Len.file (c.in-Len.is ∙ ap (λ s. Len c.in-Len.volume s c.in-Len.file) (sym c.as_ref-in-Len.ensures.value)) c.requires.asks in
     let same : c.from.result ≡ c.in-Ok-length.length = search rules in
-    subst (λ (n : ℕ). AsksState (g.D.Disk.shown c.args.disk.now) c.args.pool.now x c.args.command.now c.args.steps.now (g.D.Disk.shown c.length.new.disk) c.length.new.pool c.args.steps.now (Ok (Number n))) (sym same)
+    subst (λ (z : Reply). AsksState (g.D.Disk.shown c.args.disk.now) c.args.pool.now x c.args.command.now c.args.steps.now (g.D.Disk.shown c.length.new.disk) c.length.new.pool c.args.steps.now (Ok z)) (sym (c.count.ensures ∙ ap Number same))
     (state_answered (g.D.Disk.shown c.args.disk.now) (g.D.Disk.shown c.length.new.disk) c.args.pool.now c.length.new.pool x c.length.ensures.reads (Len x.name snapshot c.in-Len.file) c.args.command.now of c.args.steps.now c.args.steps.now
     (λ n. Number n) c.in-Ok-length.length c.in-Ok-length.ensures.asked c.in-Ok-length.ensures.cause (λ is well m there accepted. refl))
 
@@ -51,8 +52,9 @@ pub returns-in-Ok-list-clause-asks : goal.returns-in-Ok-list-clause-asks
 returns-in-Ok-list-clause-asks g c =
     let x = c.args.state.now in let snapshot = option_copied c.as_ref-in-Ls.result in
     let of = of_ls c.args.command.now x.name c.in-Ls.volume snapshot (c.in-Ls.is ∙ ap (λ s. Ls c.in-Ls.volume s) (sym c.as_ref-in-Ls.ensures.value)) c.requires.asks in
-    state_answered (g.D.Disk.shown c.args.disk.now) (g.D.Disk.shown c.list.new.disk) c.args.pool.now c.list.new.pool x c.list.ensures.reads (Ls x.name snapshot) c.args.command.now of c.args.steps.now c.args.steps.now
-    (λ names. Names names) c.in-Ok-list.names c.in-Ok-list.ensures.asked c.in-Ok-list.ensures.cause (λ is well m there accepted. refl)
+    subst (λ (z : Reply). AsksState (g.D.Disk.shown c.args.disk.now) c.args.pool.now x c.args.command.now c.args.steps.now (g.D.Disk.shown c.list.new.disk) c.list.new.pool c.args.steps.now (Ok z)) (sym c.list-in-Ok-list.ensures)
+    (state_answered (g.D.Disk.shown c.args.disk.now) (g.D.Disk.shown c.list.new.disk) c.args.pool.now c.list.new.pool x c.list.ensures.reads (Ls x.name snapshot) c.args.command.now of c.args.steps.now c.args.steps.now
+    (λ names. Names names) c.in-Ok-list.names c.in-Ok-list.ensures.asked c.in-Ok-list.ensures.cause (λ is well m there accepted. refl))
 
 pub returns-in-Err-list-clause-asks : goal.returns-in-Err-list-clause-asks
 returns-in-Err-list-clause-asks g c =

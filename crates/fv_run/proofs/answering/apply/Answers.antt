@@ -1,5 +1,5 @@
 use Rattle.std.proofs.Common.{◌≡◌, ◌∙◌, sym, subst, ap, rules}
-use Rattle.std.specs.Prelude.{Result, Err}
+use Rattle.std.specs.Prelude.{Result, Ok, Err}
 use Rattle.fv_model.specs.declared.answers.Reply.{Reply}
 use Rattle.fv_model.specs.Lines.{line_of}
 use Rattle.fv_script.specs.declared.fault.LineFault.{LineFault}
@@ -26,7 +26,11 @@ returns-in-Ok g c =
     applied _ _ (line_of c.args.line.now) c.read_into.new.into _ _ (said _ _ (sym (ap (λ (r : Result Unit LineFault). handed r c.read_into.new.into) c.in-Ok.is) ∙ c.read_into.ensures)) c.requires _ (λ other few. (done.calm other few).stays.reads) done.goes done.asks done.files done.goes_for done.reply (λ tells last m stands cp. (done.point tells last m stands cp).stands) (λ cp. ((done.plain (cp_reads_none c.read_into.new.into cp)).pointed cp).pending)
 
 pub returns-in-Err-Syntax : goal.returns-in-Err-Syntax
-returns-in-Err-Syntax g c = applied_none _ _ _ (g.met.H.Disk.laws c.args.host.now) c.requires (said_none _ (ap Err (sym c.in-Err-Syntax.field-0-is) ∙ sym (ap (λ (r : Result Unit LineFault). handed r c.read_into.new.into) c.in-Err-Syntax.is) ∙ c.read_into.ensures))
+returns-in-Err-Syntax g c =
+    subst (λ (z : Reply). Applies c.args.session.now (built (line_of c.args.line.now)) (g.H.Disk.shown c.args.host.now) c.args.session.now (g.H.Disk.shown c.args.host.now) (Ok z)) (sym c.refuse.ensures)
+    (applied_none _ _ _ (g.met.H.Disk.laws c.args.host.now) c.requires (said_none _ (ap Err (sym c.in-Err-Syntax.field-0-is) ∙ sym (ap (λ (r : Result Unit LineFault). handed r c.read_into.new.into) c.in-Err-Syntax.is) ∙ c.read_into.ensures)))
 
 pub returns-in-Err-Range : goal.returns-in-Err-Range
-returns-in-Err-Range g c = applied_range _ _ _ (g.met.H.Disk.laws c.args.host.now) c.requires (said_range _ (ap Err (sym c.in-Err-Range.field-0-is) ∙ sym (ap (λ (r : Result Unit LineFault). handed r c.read_into.new.into) c.in-Err-Range.is) ∙ c.read_into.ensures))
+returns-in-Err-Range g c =
+    subst (λ (z : Reply). Applies c.args.session.now (built (line_of c.args.line.now)) (g.H.Disk.shown c.args.host.now) c.args.session.now (g.H.Disk.shown c.args.host.now) (Ok z)) (sym c.refuse-in-Err-Range.ensures)
+    (applied_range _ _ _ (g.met.H.Disk.laws c.args.host.now) c.requires (said_range _ (ap Err (sym c.in-Err-Range.field-0-is) ∙ sym (ap (λ (r : Result Unit LineFault). handed r c.read_into.new.into) c.in-Err-Range.is) ∙ c.read_into.ensures)))

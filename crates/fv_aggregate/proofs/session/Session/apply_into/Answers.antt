@@ -1,5 +1,7 @@
-use Rattle.std.proofs.Common.{◌≡◌, ◌≤◌, ◌+◌, ◌⊎◌, ℕ, length, rules, refl, sym, ap, subst, ◌∙◌, ⊎_elim}
+use Rattle.std.proofs.Common.{◌≡◌, ◌≤◌, ◌+◌, ◌⊎◌, ℕ, Ok, length, rules, refl, sym, ap, subst, ◌∙◌, ⊎_elim}
 use Rattle.std.specs.Prelude.{IsNone, Some}
+use Rattle.fv_aggregate.specs.Applying.{HasApplied}
+use Rattle.fv_model.specs.declared.answers.Reply.{Reply}
 use Rattle.fv_model.specs.Space.{overhead, span_of}
 use Rattle.fv_aggregate.specs.Answers.{answer}
 use Rattle.fv_aggregate.specs.declared.fault.Fault.TheVariants.{Memory}
@@ -111,9 +113,10 @@ returns-in-VolList g c =
     let d = g.D.Disk.shown c.args.disk.now in
     let fresh : IsNone c.args.self.now.failed = subst (λ (k : Session). IsNone k.failed) c.self.view_is (subst IsNone (sym c.in_default.is) refl) in
     let listed = subst (λ (k : Session). c.in_ok-names_of-in-VolList.field-0 ≡ names_from k.volumes 0 64) c.self.view_is c.in_ok-names_of-in-VolList.ensures in
-    rests_answers c.args.command.now d c.args.disk.now c.args.self.now c.args.steps.now (g.met.D.Disk.laws c.args.disk.now) (Names c.in_ok-names_of-in-VolList.field-0) fresh (c.requires.stands fresh) (no_files c.args.command.now (ap volume_asked c.in-VolList.is) (ap changed_by c.in-VolList.is)) (list_no_point _ c.args.command.now c.in-VolList.is)
+    subst (λ (z : Reply). HasApplied c.args.command.now d c.args.disk.now c.args.self.now c.args.steps.now d c.args.disk.now c.args.self.now c.args.steps.now (Ok z)) (sym c.list.ensures)
+    (rests_answers c.args.command.now d c.args.disk.now c.args.self.now c.args.steps.now (g.met.D.Disk.laws c.args.disk.now) (Names c.in_ok-names_of-in-VolList.field-0) fresh (c.requires.stands fresh) (no_files c.args.command.now (ap volume_asked c.in-VolList.is) (ap changed_by c.in-VolList.is)) (list_no_point _ c.args.command.now c.in-VolList.is)
     (λ m. list_after c.args.command.now m c.in-VolList.is) (λ tells last m stands. list_replies c.args.command.now c.in-VolList.is d c.args.self.now last m stands c.in_ok-names_of-in-VolList.field-0 listed)
-    (list_done c.args.command.now c.in-VolList.is d c.args.disk.now c.args.self.now c.in_ok-names_of-in-VolList.field-0 listed)
+    (list_done c.args.command.now c.in-VolList.is d c.args.disk.now c.args.self.now c.in_ok-names_of-in-VolList.field-0 listed))
 
 pub returns-in_err-snapshots-in-SnapList : goal.returns-in_err-snapshots-in-SnapList
 returns-in_err-snapshots-in-SnapList g c =

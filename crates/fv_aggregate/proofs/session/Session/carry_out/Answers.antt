@@ -1,6 +1,6 @@
-use Rattle.std.proofs.Common.{◌≡◌, ◌-◌, false, Some, length, refl, sym, ap, subst, ◌∙◌, arith}
+use Rattle.std.proofs.Common.{◌≡◌, ◌-◌, false, Some, length, sym, ap, subst, ◌∙◌, arith}
 use Rattle.std.specs.Prelude.{min}
-use Rattle.fv_model.specs.declared.answers.Reply.TheVariants.{Done}
+use Rattle.fv_model.specs.declared.answers.Reply.{Reply}
 use Rattle.fv_volume.specs.Changing.{keeps_numbers}
 use Rattle.fv_pool.specs.Tables.{pending_of}
 use Rattle.fv_volume.specs.States.{with_state}
@@ -33,7 +33,7 @@ returns-clause-makes g c =
     let y = c.change-made.new.self in
     let more : c.added-more.result ≡ counted (pending_of x.files) (pending_of y.files) = c.added-more.ensures ∙ (λ j. min (c.pending.ensures j - c.pending-before.ensures j) 16) in
     makes_lent (g.D.Disk.shown c.args.disk.now) (g.D.Disk.shown c.change-made.new.disk) (g.met.D.Disk.laws c.args.disk.now) _ _ c.self.view_is c.self.invariant c.requires.fresh c.requires.stands c.args.command.now c.args.slot
-    x c.volume_at-state.ensures.state c.commits_beside-others.result c.commits_beside-others.ensures.sum c.change-made.new.pool y c.change-made.result (answer Done c.change-made.result) refl c.replied.new.self (answer c.replied.new.into c.replied.result)
+    x c.volume_at-state.ensures.state c.commits_beside-others.result c.commits_beside-others.ensures.sum c.change-made.new.pool y c.change-made.result (answer c.done.new.into c.change-made.result) (ap (λ (z : Reply). answer z c.change-made.result) c.done.ensures) c.replied.new.self (answer c.replied.new.into c.replied.result)
     c.added-more.result more (let few = c.requires.few in omega (arith, few)) (change_lent _ _ c.self.view_is c.args.slot x c.volume_at-state.ensures.state c.args.command.now c.requires.aimed)
     (record { reads = said.reads; changes = said.changes; standing = said.standing; table = said.table; ready = said.ready; head = said.head; numbers = said.numbers; cause = said.cause }) c.replied.ensures
 
@@ -50,6 +50,6 @@ returns-clause-kept g c =
     let there = lent_there _ _ c.self.view_is slot x c.volume_at-state.ensures.state in
     let long = subst (λ (n : Session). length n.volumes ≡ 64) c.self.view_is (long_lent _ _ c.self.view_is c.self.invariant c.requires.fresh) in
     let volumes : c.replied.new.self.volumes ≡ with_state s.volumes slot (Some y) =
-    replied_volumes (g.D.Disk.shown c.change-made.new.disk) (answer Done c.change-made.result) _ c.replied.new.self (answer c.replied.new.into c.replied.result) c.replied.ensures ∙ ap (λ (n : Session). with_state n.volumes slot (Some y)) c.self.view_is in
+    replied_volumes (g.D.Disk.shown c.change-made.new.disk) (answer c.done.new.into c.change-made.result) _ c.replied.new.self (answer c.replied.new.into c.replied.result) c.replied.ensures ∙ ap (λ (n : Session). with_state n.volumes slot (Some y)) c.self.view_is in
     subst (KeepsNumbersBut (λ k. (k ≡ slot) × (keeps_numbers command ≡ false)) s.volumes) (sym volumes)
     (keeps_with _ s.volumes slot (Some y) (let low = c.requires.aimed.within in omega (arith, low, long)) (λ known stays. keeps_changed command x y slot c.change-made.ensures.numbers (subst KnowsNumbers there known) stays))

@@ -1,7 +1,9 @@
-use Rattle.std.proofs.Common.{ℕ, length, refl, sym, ap, subst, ◌∙◌}
+use Rattle.std.proofs.Common.{ℕ, Ok, length, refl, sym, ap, subst, ◌∙◌}
 use Rattle.std.specs.Prelude.{IsNone}
+use Rattle.fv_model.specs.declared.answers.Reply.{Reply}
 use Rattle.fv_model.specs.Space.{overhead, span_of}
 use Rattle.fv_model.specs.Refusals.{next}
+use Rattle.fv_model.specs.Replies.{Allows}
 use Rattle.fv_model.specs.declared.answers.Reply.TheVariants.{Refused}
 use Rattle.fv_model.specs.declared.commands.Command.TheVariants.{VolCreate}
 use Rattle.fv_volumes.specs.Creating.{Admits, Refuses}
@@ -32,13 +34,13 @@ returns-in-Err-clause-runs g c =
     let long = ap (λ (s : Session). length s.volumes) (sym c.self.view_is) ∙ (c.self.invariant (subst (λ (s : Session). IsNone s.failed) (sym c.self.view_is) c.requires.fresh)).housed.long in
     let r = c.in-Err.refusal in
     let why = subst (λ (s : Session). Refuses s.volumes s.pool.found.blocks c.args.name.now c.args.size c.args.kind r) c.self.view_is c.in-Err.ensures.why in
-    record {
+    subst (λ (z : Reply). Runs (overhead (span_of c.args.size 0 0)) (λ m. next m (VolCreate c.args.name.now c.args.size c.args.kind)) d s d s (Ok z)) (sym c.refuse.ensures) (record {
       goes = rests_done (Refused r) (overhead (span_of c.args.size 0 0)) d s c.requires.fresh c.requires.stands;
       asks = rests_asks (overhead (span_of c.args.size 0 0)) d s;
       damage = tt;
       goes_for = λ tells last m stands. refused_for d s last m c.args.name.now c.args.size c.args.kind r (g.met.D.Disk.laws c.args.disk.now) stands (refused_as d s last m long stands c.args.name.now c.args.size c.args.kind r why);
       numbers = λ alive k known. known;
-    }
+    })
 
 pub returns-in-Err-clause-holding : goal.returns-in-Err-clause-holding
 returns-in-Err-clause-holding g c = record { files = λ tells without. without; same = λ tells same. same }
@@ -48,7 +50,7 @@ returns-in-Err-clause-reply g c = λ tells last m stands.
     let long = ap (λ (s : Session). length s.volumes) (sym c.self.view_is) ∙ (c.self.invariant (subst (λ (s : Session). IsNone s.failed) (sym c.self.view_is) c.requires.fresh)).housed.long in
     let r = c.in-Err.refusal in
     let why = subst (λ (s : Session). Refuses s.volumes s.pool.found.blocks c.args.name.now c.args.size c.args.kind r) c.self.view_is c.in-Err.ensures.why in
-    refusal_allowed m c.args.name.now c.args.size c.args.kind r (refused_as (g.D.Disk.shown c.args.disk.now) c.args.self.now last m long stands c.args.name.now c.args.size c.args.kind r why)
+    subst (Allows m (VolCreate c.args.name.now c.args.size c.args.kind)) (sym c.refuse.ensures) (refusal_allowed m c.args.name.now c.args.size c.args.kind r (refused_as (g.D.Disk.shown c.args.disk.now) c.args.self.now last m long stands c.args.name.now c.args.size c.args.kind r why))
 
 pub returns-in-Err-clause-entries : goal.returns-in-Err-clause-entries
 returns-in-Err-clause-entries g c = λ few. no_holes c.args.self.now c.args.self.now (kept_entries c.args.self.now c.args.self.now refl)

@@ -1,5 +1,5 @@
-use Rattle.std.proofs.Common.{refl, ◌∙◌}
-use Rattle.fv_model.specs.declared.answers.Reply.TheVariants.{Done}
+use Rattle.std.proofs.Common.{ap, ◌∙◌}
+use Rattle.fv_model.specs.declared.answers.Reply.{Reply}
 use Rattle.fv_aggregate.specs.Answers.{answer}
 use Rattle.fv_aggregate.proofs.Carried.{change_lent, judged_lent}
 use Rattle.fv_aggregate.proofs.Looked.{fit_lent}
@@ -21,11 +21,11 @@ pub returns-clause-judged : goal.returns-clause-judged
 returns-clause-judged g c =
     let said = c.judge-judged.ensures in
     judged_lent (g.D.Disk.shown c.args.disk.now) (g.D.Disk.shown c.judge-judged.new.disk) (g.met.D.Disk.laws c.args.disk.now) _ _ c.self.view_is c.self.invariant c.requires.fresh c.requires.stands c.args.command.now c.args.slot
-    c.volume_at-state.result.now c.volume_at-state.ensures.state c.commits_beside-others.result c.commits_beside-others.ensures.sum c.judge-judged.new.pool c.judge-judged.new.self c.judge-judged.result (answer Done c.judge-judged.result) refl
+    c.volume_at-state.result.now c.volume_at-state.ensures.state c.commits_beside-others.result c.commits_beside-others.ensures.sum c.judge-judged.new.pool c.judge-judged.new.self c.judge-judged.result (answer c.done.new.into c.judge-judged.result) (ap (λ (z : Reply). answer z c.judge-judged.result) c.done.ensures)
     c.replied.new.self (answer c.replied.new.into c.replied.result) said.same (record { reads = said.reads; agrees = said.agrees; cause = said.cause }) c.replied.ensures
 
 -- it leaves the volumes
 pub returns-clause-volumes : goal.returns-clause-volumes
 returns-clause-volumes g c =
-    replied_volumes (g.D.Disk.shown c.judge-judged.new.disk) (answer Done c.judge-judged.result) _ c.replied.new.self (answer c.replied.new.into c.replied.result) c.replied.ensures
+    replied_volumes (g.D.Disk.shown c.judge-judged.new.disk) (answer c.done.new.into c.judge-judged.result) _ c.replied.new.self (answer c.replied.new.into c.replied.result) c.replied.ensures
     ∙ volumes_lent _ _ c.self.view_is c.args.slot c.volume_at-state.result.now c.volume_at-state.ensures.state c.judge-judged.new.self c.judge-judged.ensures.same

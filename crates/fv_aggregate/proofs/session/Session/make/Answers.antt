@@ -70,7 +70,8 @@ returns-clause-runs g c =
     let old = g.D.Disk.shown c.args.disk.now in let mid = g.D.Disk.shown c.make_room.new.disk in let s = c.args.self.now in
     let n = c.make_room.new.self in let made = c.in_ok-make_room.ensures in let runs = made.runs in let added = c.in_ok-add.ensures.added in
     let room : c.from-room.result ≡ overhead c.args.admitted.span = search rules in
-    subst (λ (k : ℕ). Runs k (λ m. next m (VolCreate c.args.name.now c.args.size c.args.kind)) old s mid c.add.new.self (Ok Done)) room (record {
+    subst (λ (r : Reply). Runs (overhead c.args.admitted.span) (λ m. next m (VolCreate c.args.name.now c.args.size c.args.kind)) old s mid c.add.new.self (Ok r)) (sym c.done.ensures)
+    (subst (λ (k : ℕ). Runs k (λ m. next m (VolCreate c.args.name.now c.args.size c.args.kind)) old s mid c.add.new.self (Ok Done)) room (record {
       goes = added_goes old s mid n c.args.name.now c.args.size c.args.kind c.from-room.result runs.goes made.pending made.few c.add.new.self added c.in_ok-add.ensures.pending;
       asks = added_asks old s mid n c.args.name.now c.args.size c.args.kind c.from-room.result runs.goes runs.asks made.few c.add.new.self added c.in_ok-add.ensures.pending;
       damage = tt;
@@ -80,7 +81,7 @@ returns-clause-runs g c =
           last m (runs.goes_for tells last m stands) (room ∙ ap overhead c.requires.admitted.span_is)
           (made.room tells last m stands fits) c.add.new.self added c.in_ok-add.ensures.pending;
       numbers = λ alive k known. keeps_added n c.args.name.now c.args.size c.args.kind c.from-room.result c.add.new.self added k (runs.numbers (subst IsNone added.failed alive) k known);
-    })
+    }))
 
 pub returns-clause-holding : goal.returns-clause-holding
 returns-clause-holding g c =

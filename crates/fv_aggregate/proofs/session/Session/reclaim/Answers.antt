@@ -1,4 +1,4 @@
-use Rattle.std.proofs.Common.{◌≡◌, rules, Result, Err, sym, ap, subst}
+use Rattle.std.proofs.Common.{◌≡◌, rules, Result, Ok, Err, sym, ap, subst}
 use Rattle.fv_model.specs.declared.answers.Reply.{Reply}
 use Rattle.fv_model.specs.declared.answers.Reply.TheVariants.{Done}
 use Rattle.fv_aggregate.specs.declared.fault.Fault.{Fault}
@@ -32,13 +32,13 @@ returns-in_err-point-clause-points g c =
 pub returns-clause-runs : goal.returns-clause-runs
 returns-clause-runs g c =
     let old = g.D.Disk.shown c.args.disk.now in let new = g.D.Disk.shown c.point.new.disk in let did = c.in_ok-point.ensures in
-    record {
+    subst (λ (z : Reply). Runs 0 (λ m. m) old c.args.self.now new c.point.new.self (Ok z)) (sym c.done.ensures) (record {
       goes = replies_done Done 0 old c.args.self.now new c.point.new.self did.goes;
       asks = did.asks;
       damage = tt;
       goes_for = λ tells last m stands. replies_for Done old last m m new c.point.new.self (did.goes_for tells last m stands);
       numbers = did.numbers;
-    }
+    })
 
 pub returns-clause-points : goal.returns-clause-points
 returns-clause-points g c =

@@ -1,9 +1,11 @@
 use Rattle.std.proofs.Common.{◌≡◌, ◌-◌, length, Ok, Some, Err, Option, sym, subst}
 use Rattle.std.specs.Prelude.{IsNone}
+use Rattle.fv_model.specs.declared.answers.Reply.{Reply}
 use Rattle.fv_volume.specs.declared.state.VolumeState.{VolumeState}
 use Rattle.fv_volume.specs.Slots.{committed_by, sum_of}
 use Rattle.fv_volume.specs.States.{state_at}
 use Rattle.fv_aggregate.specs.declared.session.Session.{Session}
+use Rattle.fv_aggregate.specs.Looking.{HasSnapped}
 use Rattle.fv_aggregate.specs.Snapping.{HasGrant, JudgesSnap}
 use Rattle.fv_aggregate.proofs.Returned.{same_there}
 use Rattle.fv_aggregate.proofs.SnapDone.{refused_snapped}
@@ -34,6 +36,6 @@ returns-in-Err g c =
     let others = subst (λ (n : Session). c.commits_beside-others.result ≡ sum_of n.volumes - committed_by (state_at n.volumes slot)) c.self.view_is c.commits_beside-others.ensures.sum in
     let said = subst (λ (n : Session). JudgesSnap x n.pool.found.blocks c.commits_beside-others.result command (Err c.in-Err.refusal)) c.self.view_is c.in-Err.ensures in
     record {
-      snapped = refused_snapped d c.args.disk.now (g.met.D.Disk.laws c.args.disk.now) s c.requires.fresh c.requires.stands command c.in-Err.refusal
-          (refused_given d s long slot aimed.state aimed.there c.commits_beside-others.result others c.in-Err.refusal command aimed.snaps (subst (λ (z : VolumeState). JudgesSnap z s.pool.found.blocks c.commits_beside-others.result command (Err c.in-Err.refusal)) (same_there _ _ _ there aimed.there) said));
+      snapped = subst (λ (z : Reply). HasSnapped d c.args.disk.now s command d c.args.disk.now s (Ok z)) (sym c.refuse.ensures) (refused_snapped d c.args.disk.now (g.met.D.Disk.laws c.args.disk.now) s c.requires.fresh c.requires.stands command c.in-Err.refusal
+          (refused_given d s long slot aimed.state aimed.there c.commits_beside-others.result others c.in-Err.refusal command aimed.snaps (subst (λ (z : VolumeState). JudgesSnap z s.pool.found.blocks c.commits_beside-others.result command (Err c.in-Err.refusal)) (same_there _ _ _ there aimed.there) said)));
     }

@@ -1,6 +1,7 @@
-use Rattle.std.proofs.Common.{◌≡◌, ◌≤◌, ◌+◌, ◌-◌, ◌⊎◌, cond, Option, Some, refl, sym, ap, subst, ◌∙◌}
+use Rattle.std.proofs.Common.{◌≡◌, ◌≤◌, ◌+◌, ◌-◌, ◌⊎◌, cond, Option, Some, sym, ap, subst, ◌∙◌}
 use Rattle.std.specs.Prelude.{IsNone}
 use Rattle.std.specs.Result.{is_ok}
+use Rattle.fv_model.specs.declared.answers.Reply.{Reply}
 use Rattle.fv_model.specs.declared.answers.Reply.TheVariants.{Done}
 use Rattle.fv_volume.specs.Slots.{committed_by, sum_of}
 use Rattle.fv_volume.specs.States.{state_at}
@@ -72,6 +73,6 @@ returns g c =
       | else-is_ok w ↦ w.self-is ∙ (λ j. record v { volumes = with_state v.volumes slot (Some y); pool = q; pending = cond (w.if-is_ok.ensures.value j) (v.pending + room) v.pending })
     ] in
     let carried = carried_now d c.args.disk.now (g.met.D.Disk.laws c.args.disk.now) v fresh stands (c.self.invariant fresh) slot command aimed x c.volume_at-state.ensures.state of c.args.others others c.args.granted few grant
-    q y c.change_snaps-made.ensures.ready r c.change_snaps-made.ensures.snaps c.if-is_ok.self before (answer Done c.change_snaps-made.result) refl c.replied.new.self (answer c.replied.new.into c.replied.result) c.replied.ensures in
+    q y c.change_snaps-made.ensures.ready r c.change_snaps-made.ensures.snaps c.if-is_ok.self before (answer c.done.new.into c.change_snaps-made.result) (ap (λ (z : Reply). answer z c.change_snaps-made.result) c.done.ensures) c.replied.new.self (answer c.replied.new.into c.replied.result) c.replied.ensures in
     let it = subst (λ (n : Session). IsCarried d c.args.disk.now n command room c.replied.new.self (answer c.replied.new.into c.replied.result)) c.self.view_is carried in
     record { snapped = it.snapped; placed = it.placed; accepted = it.accepted }
