@@ -1,6 +1,6 @@
 mod Zeros
-mod Hexes
-mod Written
-mod Spaced
-mod Shown
+pub mod Hexes
+pub mod Written
+pub mod Spaced
+pub mod Shown
 mod Told

@@ -1,0 +1,3 @@
+mod Written
+mod Clear
+pub mod ReadsBack
