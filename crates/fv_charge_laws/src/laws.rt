@@ -4,7 +4,8 @@ ghost use Rattle.std.specs.Prelude.{◌≡◌, ℕ, Bool, List, Option};
 ghost use Rattle.fv_model.specs.Volumes.{Volume};
 ghost use Rattle.fv_charge.specs.Counted.{charge_counted};
 ghost use Rattle.fv_charge.specs.Ledgers.{IsLedgerOf};
-ghost use Rattle.fv_charge_laws.specs.Many.{AreChanges, AreCounted, CanAll, IsPath};
+ghost use Rattle.fv_charge.specs.declared.ledger.Ledger.{Ledger};
+ghost use Rattle.fv_charge_laws.specs.Many.{AreChanges, AreCounted, AreSteps, CanAll, IsPath, Step};
 
 use fv_charge::{Delta, Ledger};
 
@@ -24,3 +25,12 @@ pub fn change_all(ledger: &mut Ledger, deltas: &[Delta])
         ledger.change(delta);
     }
 }
+
+/// A law: whatever calls are made on a volume, of which each changes its ledger by a delta or counts it anew, the ledger has the numbers of the
+/// volume in the end, and its charge is the count from scratch by that volume's maps. It does nothing.
+#[tactic(auto, using(crate::proofs::Many::all_kept, crate::proofs::Many::all_counted))]
+pub fn calls_keep_it()
+    ensures kept { (x : Volume) → (y : Volume) → (l : Ledger) → (last : Ledger) → (steps : List Step) → IsLedgerOf x l → AreSteps x l steps y last → IsLedgerOf y last }
+    ensures counted { (x : Volume) → (y : Volume) → (l : Ledger) → (last : Ledger) → (steps : List Step) → (held : List Bool) → (base : Option (List Bool)) → (snapshots : ℕ)
+        → IsLedgerOf x l → AreSteps x l steps y last → AreCounted y held base snapshots → last.charge ≡ charge_counted held base snapshots y.span }
+{}

@@ -3,4 +3,4 @@
 
 mod laws;
 
-pub use laws::change_all;
+pub use laws::{calls_keep_it, change_all};
