@@ -44,6 +44,21 @@ is_blocks() { # WORD
     [ ${#digits} -ge 3 ] && [ ${#digits} -le 7 ] && [ "$digits" -ge 512 ] && [ "$digits" -le 1048576 ]
 }
 
+# A seed is below 2^64, and at most 1000000 commands are drawn; both are 1 to 20 digits.
+is_seed() { # WORD
+    local LC_ALL=C digits
+    [[ $1 =~ ^[0-9]{1,20}$ ]] || return 1
+    digits=${1#"${1%%[!0]*}"}
+    [ ${#digits} -lt 20 ] || [[ ! $digits > 18446744073709551615 ]]
+}
+
+is_draws() { # WORD
+    local LC_ALL=C digits
+    [[ $1 =~ ^[0-9]{1,20}$ ]] || return 1
+    digits=${1#"${1%%[!0]*}"}
+    [ ${#digits} -lt 8 ] && [ "${digits:-0}" -le 1000000 ]
+}
+
 program_of() { # NAME
     echo "$top/crates/$1/out/$1"
 }

@@ -39,6 +39,8 @@ if [ "${2:-}" = create ]; then
     echo "created ${3} capacity 761"
 elif [ "${2:-}" = gen ]; then
     echo "generated $4 of $3"
+elif [ "$1" = gen ]; then
+    echo "lines of $2, $3 drawn"
 else
     cat
 fi
@@ -144,7 +146,7 @@ test_words() {
     row "a word that isn't UTF-8" ends_at_once 12 UTF-8
     launch "$tree/flexvol" "" run
     row "a file without a name" ends_at_once 5 "no name"
-    for words in "" 511 1048577 "1024 1024" x; do
+    for words in "" 511 1048577 "1024 1024" x gen "gen 7" "gen 7 1000001" "gen 7 1 1" "gen -7 1" "gen 18446744073709551616 0" "Gen 7 1"; do
         # shellcheck disable=SC2086
         launch "$tree/reference" $words
         row "reference $words" ends_at_once 7 usage
@@ -246,6 +248,8 @@ test_unproved() {
     fi
     launch "$tree/reference" 1024 < <(echo ok)
     row "reference is run at once, too" gives 0 ok unproved
+    launch "$tree/reference" gen 00000000000000000007 1000000 < <(echo no)
+    row "its gen reads none" gives 0 "lines of 00000000000000000007, 1000000 drawn" unproved
 }
 
 test_limits() {

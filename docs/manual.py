@@ -22,7 +22,9 @@ SYNOPSIS = """\
 .nf
 .B flexvol \\fIFILE\\fB create \\fIBLOCKS\\fR
 .B flexvol \\fIFILE\\fB run < \\fISCRIPT\\fR
+.B flexvol \\fIFILE\\fB gen \\fISEED COUNT\\fR
 .B reference \\fIBLOCKS\\fB < \\fISCRIPT\\fR
+.B reference gen \\fISEED COUNT\\fR
 .fi
 """
 

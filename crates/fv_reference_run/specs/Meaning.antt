@@ -1,15 +1,29 @@
 -- What the words of the command line mean.
-use Rattle.std.specs.Prelude.{◌≡◌, ℕ, List, [], ◌∷◌, Option, Some, None, Result, Ok, Err}
-use Rattle.fv_script.specs.CommandLine.{blocks_of}
+use Rattle.std.specs.Prelude.{◌≡◌, ℕ, List, [], ◌∷◌, codes, bytes_eq, Option, Some, None, Result, Ok, Err, if◌then◌else◌}
+use Rattle.std.specs.Option.{option_map}
+use Rattle.fv_script.specs.CommandLine.{blocks_of, draws_of, seed_of}
+use Rattle.fv_reference_run.specs.declared.words.Order.{Order}
+use Rattle.fv_reference_run.specs.declared.words.Order.TheVariants.{Answer, Gen}
 use Rattle.fv_reference_run.specs.declared.words.WordsFault.{WordsFault}
 
--- a number of blocks from 512 to 1,048,576; every other list of words has no meaning
-unfoldable pub meaning : List (List ℕ) → Option ℕ
-meaning [] = None
-meaning (size ∷ []) = blocks_of size
-meaning (size ∷ other ∷ others) = None
+abbrev pub answer : ℕ → Order
+answer blocks = Answer blocks
 
--- the number that the words mean, and a fault exactly where they mean none
-abbrev pub Means : List (List ℕ) → Result ℕ WordsFault → Type 0
-Means words (Ok blocks) = meaning words ≡ Some blocks
+-- a seed and a number of drawn commands
+abbrev pub printed : Option ℕ → Option ℕ → Option Order
+printed (Some seed) (Some count) = Some (Gen seed count)
+printed seed count = None
+
+-- a number of blocks from 512 to 1,048,576; or `gen`, a seed below 2^64 and a number of commands of at most 1,000,000. Every other list of words has
+-- no meaning.
+unfoldable pub meaning : List (List ℕ) → Option Order
+meaning [] = None
+meaning (size ∷ []) = option_map answer (blocks_of size)
+meaning (first ∷ second ∷ []) = None
+meaning (command ∷ seed ∷ count ∷ []) = if bytes_eq command (codes "gen") then printed (seed_of seed) (draws_of count) else None
+meaning (command ∷ first ∷ second ∷ other ∷ others) = None
+
+-- the order that the words mean, and a fault exactly where they mean none
+abbrev pub Means : List (List ℕ) → Result Order WordsFault → Type 0
+Means words (Ok order) = meaning words ≡ Some order
 Means words (Err fault) = meaning words ≡ None

@@ -1,5 +1,5 @@
 -- Answering a script.
-use Rattle.std.specs.Prelude.{◌≡◌, ℕ, List, [], ◌∷◌, ◌++◌, take, IsTrue, Option, Some, None, Result, Err, IfOk, OnErr}
+use Rattle.std.specs.Prelude.{◌≡◌, ℕ, List, [], ◌∷◌, ◌++◌, take, IsTrue, Option, Some, None, Result, Err, IfErr, IfOk, OnErr}
 use Rattle.fv_disk.specs.Shown.{Shown}
 use Rattle.fv_disk.specs.HostCalls.{Rests}
 use Rattle.fv_lines.specs.Held.{Held}
@@ -8,10 +8,15 @@ use Rattle.fv_model.specs.Machines.{Machine, empty_machine}
 use Rattle.fv_model.specs.Runs.{Line, after_line}
 use Rattle.fv_model.specs.Lines.{lines}
 use Rattle.fv_reference_run.specs.declared.ending.Fault.{Fault}
-use Rattle.fv_reference_run.specs.declared.ending.Fault.TheVariants.{Usage}
+use Rattle.fv_reference_run.specs.declared.ending.Fault.TheVariants.{Sink, Usage}
+use Rattle.fv_reference_run.specs.declared.words.Order.{Order}
+use Rattle.fv_reference_run.specs.declared.words.Order.TheVariants.{Answer, Gen}
 use Rattle.fv_reference_run.specs.declared.program.Turn.{Turn}
 use Rattle.fv_reference_run.specs.declared.program.Turn.TheVariants.{Answered, Ended}
 use Rattle.fv_lines.specs.Counts.{Counts}
+use Rattle.fv_script.specs.Generated.{generated}
+use Rattle.fv_script.specs.Telling.{Tells, unnamed}
+use Rattle.fv_saying.specs.Saying.{script_text}
 use Rattle.fv_reference_run.specs.Endings.{fault_in, raised_by, Ends, IsGiven}
 use Rattle.fv_reference_run.specs.Output.{line_text, replies_text, output}
 
@@ -30,9 +35,15 @@ pub record Runs (m : Machine) (lines : List Line) (old new : Shown) (result : Re
   pub given : IsTrue old.tells → IsGiven (fault_in result) old.given (output m lines) new.given
   pub ends : Ends old new (fault_in result)
 
+-- The script of a seed is given, or a part of it where the sink failed. Nothing of the source is taken.
+pub record Prints (seed count : ℕ) (old new : Shown) (result : Result Unit Fault) : Type 0 where
+  pub tells : Tells old (script_text (generated seed count)) new (unnamed result)
+  pub sink : IfErr result (λ fault. fault ≡ Sink)
+
 -- What was asked is done, and nothing else than a fault of usage comes of words that ask for nothing.
-pub record Asked (blocks : Option ℕ) (old new : Shown) (result : Result Unit Fault) : Type 0 where
-  pub usage : blocks ≡ None → result ≡ Err Usage
+pub record Asked (order : Option Order) (old new : Shown) (result : Result Unit Fault) : Type 0 where
+  pub usage : order ≡ None → result ≡ Err Usage
   pub counts : Counts old new (raised_by (fault_in result))
   pub disk : Rests old new
-  pub runs : (p : ℕ) → blocks ≡ Some p → Runs (empty_machine p) (lines old.ends.left) old new result
+  pub runs : (blocks : ℕ) → order ≡ Some (Answer blocks) → Runs (empty_machine blocks) (lines old.ends.left) old new result
+  pub prints : (seed count : ℕ) → order ≡ Some (Gen seed count) → Prints seed count old new result

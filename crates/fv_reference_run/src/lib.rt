@@ -1,5 +1,5 @@
 //! The plain machine as a program: a script's lines are applied to a fresh machine, one as it comes, and
-//! each is answered before the next.
+//! each is answered before the next. It prints the script of a seed, too.
 #![tactic(auto)]
 
 mod answering;
@@ -10,4 +10,4 @@ mod words;
 
 pub use laws::output_is_allowed;
 pub use program::reference;
-pub use words::{WordsFault, read_words};
+pub use words::{Order, WordsFault, read_words};

@@ -1,4 +1,4 @@
-//! The program: `reference BLOCKS`, with a script on standard input. It makes the host over the standard
+//! The program: `reference BLOCKS`, with a script on standard input, or `reference gen SEED COUNT`. It makes the host over the standard
 //! streams, hands it with the words to the top call, and ends with the status that this answers.
 #![tactic(auto)]
 

@@ -25,3 +25,18 @@ returns-in-Err-clause-partly g c = rw c.status.ensures (tells _ _ _ (Err c.in-Er
 
 pub returns-in-Err-clause-disk : goal.returns-in-Err-clause-disk
 returns-in-Err-clause-disk g c = (tells _ _ _ (Err c.in-Err.fault) c.in-Err.ensures.runs).disk
+
+pub returns-in-Ok-clause-cut : goal.returns-in-Ok-clause-cut
+returns-in-Ok-clause-cut g c = (tells _ _ _ (Ok tt) c.in-Ok.ensures.runs).cut
+
+pub returns-in-Ok-clause-left : goal.returns-in-Ok-clause-left
+returns-in-Ok-clause-left g c = (tells _ _ _ (Ok tt) c.in-Ok.ensures.runs).left
+
+pub returns-in-Err-clause-printed : goal.returns-in-Err-clause-printed
+returns-in-Err-clause-printed g c = rw c.status.ensures (tells _ _ _ (Err c.in-Err.fault) c.in-Err.ensures.runs).printed
+
+pub returns-in-Err-clause-cut : goal.returns-in-Err-clause-cut
+returns-in-Err-clause-cut g c = rw c.status.ensures (tells _ _ _ (Err c.in-Err.fault) c.in-Err.ensures.runs).cut
+
+pub returns-in-Err-clause-left : goal.returns-in-Err-clause-left
+returns-in-Err-clause-left g c = (tells _ _ _ (Err c.in-Err.fault) c.in-Err.ensures.runs).left
