@@ -1,4 +1,4 @@
-use Rattle.std.proofs.Common.{◌≡◌, ◌∙◌, true, false, string_bytes, List, ℕ, sym, ap, ap₂}
+use Rattle.std.proofs.Common.{◌≡◌, ◌∙◌, true, false, string_bytes, List, ℕ, refl, sym, ap, ap₂}
 use Rattle.std.specs.Prelude.{codes, bytes_eq}
 use Rattle.std.specs.Option.{option_map}
 use Rattle.fv_script.specs.CommandLine.{blocks_of, draws_of, seed_of}
