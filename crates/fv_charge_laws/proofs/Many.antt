@@ -9,7 +9,7 @@ use Rattle.fv_charge.specs.Changes.{IsChanged}
 use Rattle.fv_charge.specs.Counted.{charge_counted}
 use Rattle.fv_charge.specs.Ledgers.{IsLedgerOf}
 use Rattle.fv_charge.proofs.Admissions.{changed_ledger}
-use Rattle.fv_charge_laws.specs.Many.{AreChanges, AreCounted, AreSteps, ByCount, ByDelta, CanAll, counted_ledger, IsPath, IsStep, left_by, Step}
+use Rattle.fv_charge_laws.specs.Many.{AreChanges, AreCounted, AreSteps, ByCount, ByDelta, CanAll, IsPath, IsStep, left_by, Step}
 
 pub along : (x y : Volume) (l last : Ledger) (deltas : List Delta) (path : List Volume) → IsLedgerOf x l → IsPath x deltas path y → AreChanges l deltas last → IsLedgerOf y last
 along x y l last [] [] is same none = subst (λ (v : Volume). IsLedgerOf v last) same (subst (λ (k : Ledger). IsLedgerOf x k) (sym none) is)
