@@ -1,5 +1,6 @@
 pub mod Clean
 pub mod Ordered
+pub mod Adding
 pub mod BlockLines
 pub mod Twins
 pub mod Plain

@@ -5,6 +5,8 @@ use Rattle.std.specs.Ordering.{nat_cmp, ordering_reverse, match_ordering}
 use Rattle.std.specs.Cmp.{IsTotalOrder}
 use Rattle.std.specs.Cmp.Rules.{comparing}
 use Rattle.std.specs.FinMap as fin
+use Rattle.std.specs.List.{AllByRecursion}
+use Rattle.std.specs.List.Sorted.{IsStrictlySortedBy}
 use Rattle.fv_laws.proofs.Lists.{In}
 use Rattle.fv_laws.proofs.Orders.{both_equal}
 use Rattle.fv_faults.specs.declared.fault.Fault.{Fault}
@@ -47,7 +49,7 @@ not_both f g a b = never f (fault_total.trans f g f a b)
 
 -- ---- what an ordered list has
 
-in_put : (f : Fault) (gs : List Fault) (x : Fault) → (f ≡ x) ⊎ In x gs → In x (put f gs)
+pub in_put : (f : Fault) (gs : List Fault) (x : Fault) → (f ≡ x) ⊎ In x gs → In x (put f gs)
 in_put f [] x (inl e) = inl e
 in_put f [] x (inr there) = absurd there
 in_put f (g ∷ gs) x there = so (in_put f gs x) (fault_cmp f g) refl there
@@ -60,7 +62,7 @@ in_put f (g ∷ gs) x there = so (in_put f gs x) (fault_cmp f g) refl there
     so rest Greater e (inr (inl is)) = inl is
     so rest Greater e (inr (inr there)) = inr (rest (inr there))
 
-from_put : (f : Fault) (gs : List Fault) (x : Fault) → In x (put f gs) → (f ≡ x) ⊎ In x gs
+pub from_put : (f : Fault) (gs : List Fault) (x : Fault) → In x (put f gs) → (f ≡ x) ⊎ In x gs
 from_put f [] x (inl e) = inl e
 from_put f [] x (inr there) = absurd there
 from_put f (g ∷ gs) x there = so (from_put f gs x) (fault_cmp f g) there
@@ -124,3 +126,18 @@ same_strict (x ∷ xs) (y ∷ ys) a b there back =
 pub ordered_same : (fs gs : List Fault) → ((f : Fault) → In f fs → In f gs) → ((f : Fault) → In f gs → In f fs) → ordered fs ≡ ordered gs
 ordered_same fs gs there back = same_strict (ordered fs) (ordered gs) (ordered_strict fs) (ordered_strict gs)
     (λ f is. in_ordered gs f (there f (from_ordered fs f is))) (λ f is. in_ordered fs f (back f (from_ordered gs f is)))
+
+-- the keys of a set are strict
+pub strict_keys : (keys : List Fault) → IsStrictlySortedBy fault_cmp keys → IsStrict keys
+unfolding IsStrictlySortedBy
+strict_keys [] sorted = tt
+strict_keys (k ∷ ks) sorted = (below ks sorted.0, strict_keys ks sorted.1)
+  where
+    below : (gs : List Fault) → AllByRecursion (λ g. fault_cmp k g ≡ Less) gs → (g : Fault) → In g gs → fault_cmp k g ≡ Less
+    below [] all g there = absurd there
+    below (h ∷ hs) all g there = ⊎_elim (λ (here : h ≡ g). subst (λ f. fault_cmp k f ≡ Less) here all.0) (λ later. below hs all.1 g later) there
+
+-- A strict list of just these lines is the list of them in their order.
+pub ordered_as : (fs keys : List Fault) → IsStrict keys → ((f : Fault) → In f keys → In f fs) → ((f : Fault) → In f fs → In f keys) → keys ≡ ordered fs
+ordered_as fs keys strict there back = same_strict keys (ordered fs) strict (ordered_strict fs)
+    (λ f is. in_ordered fs f (there f is)) (λ f is. back f (from_ordered fs f is))

@@ -1,7 +1,9 @@
 //! Lines as a check collects them.
 
-ghost use Rattle.std.specs.Prelude.{◌≡◌, OnErr, OnOk, []};
-ghost use Rattle.fv_faults.specs.Lines.{put};
+ghost use Rattle.std.specs.Prelude.{◌≡◌, ◌↔◌, IsTrue, OnOk, OnErr, [], ◌∷◌};
+ghost use Rattle.std.specs.List.Sorted.{IsStrictlySortedBy};
+ghost use Rattle.fv_faults.specs.Lines.{fault_cmp, put};
+ghost use Rattle.fv_faults.specs.Adding.{Adds};
 
 use crate::fault::Fault;
 use std::alloc::{AllocError, Global};
@@ -24,11 +26,21 @@ impl Lines {
         }
     }
 
-    /// Notes a line at its place among the others; a line that is noted already stays once. It is refused where memory is, and the
-    /// lines then stay as they were. It takes time by the logarithm of the number of lines.
+    /// Whether no line is noted.
+    pub fn is_empty(&self) -> bool
+        ensures { IsTrue result ↔ (self.now.lines.keys ≡ []) }
+    {
+        self.lines.is_empty()
+    }
+
+    /// Notes a line at its place among the others; a line that is noted already stays once. It is refused where memory is, and then the
+    /// lines stay. It takes time by the logarithm of the number of lines.
+    #[tactic(auto, using(crate::proofs::Adding::adds_one))]
     pub fn note(&mut self, fault: Fault) -> Result<(), AllocError>
         ensures noted { OnOk result (self.new.lines.keys ≡ put fault self.old.lines.keys) }
+        ensures adds { OnOk result (Adds (fault ∷ []) self.old self.new) }
         ensures failed { OnErr result (self.new.lines.keys ≡ self.old.lines.keys) }
+        ensures ordered { IsStrictlySortedBy fault_cmp self.new.lines.keys }
     {
         match self.lines.insert(fault) {
             Ok(_) => Ok(()),
