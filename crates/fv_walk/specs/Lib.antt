@@ -1,0 +1,5 @@
+pub mod Causes
+pub mod Sources
+pub mod Visits
+pub mod Sights
+pub mod Meetings

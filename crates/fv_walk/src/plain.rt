@@ -1,0 +1,69 @@
+//! The walk without stops.
+
+ghost use Rattle.std.specs.Prelude.{◌≡◌, ◌≤◌, ◌++◌, map, OnOk};
+ghost use Rattle.fv_faults.specs.Met.{met};
+ghost use Rattle.fv_walk.specs.Causes.{HasWalkCause};
+ghost use Rattle.fv_walk.specs.Meetings.{met_from};
+ghost use Rattle.fv_walk.specs.Sights.{sight_of};
+ghost use Rattle.fv_walk.specs.Visits.{IsVisit, item_of, rooted};
+
+use crate::below::read_below;
+use crate::children::children;
+use crate::fault::WalkFault;
+use crate::source::Source;
+use crate::visit::{Table, Visit};
+use crate::visitor::Visitor;
+use std::alloc::Global;
+
+/// Walks along the pointers of a table, whose root stands in the label at a place, and shows each that isn't a hole to a visitor: depth
+/// first, the pointers of a block in their order, those of files below their records.
+///
+/// It goes below each pointer that leads on, also below one whose VVBN it came to before. So it is for a table on which the walk with
+/// stops finds nothing: there it comes to each VVBN once, and costs one read for each node and inode block and a step for each pointer.
+/// The one other error is want of memory.
+pub fn walk<S: Source, V: Visitor>(
+    alloc: Global,
+    source: &mut S,
+    visitor: &mut V,
+    label: u64,
+    table: &Table,
+) -> Result<(), WalkFault>
+    requires { table.now.levels ≤ 3 }
+    ensures saw { S.fits source.old → OnOk result (V.saw visitor.new ≡ V.saw visitor.old ++ map (sight_of (S.volume source.old)) (met (S.volume source.old) label (rooted table.now))) }
+    ensures reads { S.reads source.old source.new }
+    ensures cause { HasWalkCause (S.faults source.old) (S.faults source.new) result }
+{
+    walk_from(alloc, source, visitor, &Visit::root(table, label), true)
+}
+
+/// Walks from a pointer on, in the tree of an inode file or of another file.
+fn walk_from<S: Source, V: Visitor>(
+    alloc: Global,
+    source: &mut S,
+    visitor: &mut V,
+    visit: &Visit,
+    of_inodes: bool,
+) -> Result<(), WalkFault>
+    requires { IsVisit visit.now }
+    ensures saw { S.fits source.old → OnOk result (V.saw visitor.new ≡ V.saw visitor.old ++ map (sight_of (S.volume source.old)) (met_from (S.volume source.old) of_inodes (item_of visit.now) visit.now.block)) }
+    ensures reads { S.reads source.old source.new }
+    ensures cause { HasWalkCause (S.faults source.old) (S.faults source.new) result }
+{
+    if visit.pointer.stamp == 0 {
+        return Ok(());
+    }
+    let at = source.find(visit.pointer.vvbn);
+    let below = read_below(source, visit, at)?;
+    visitor.see(visit, at, &below)?;
+    let Some(found) = at else {
+        return Ok(());
+    };
+    if visit.ends(of_inodes) {
+        return Ok(());
+    }
+    let children = children(alloc, visit, &below, found.pvbn)?;
+    for child in &children {
+        walk_from(alloc, source, visitor, child, of_inodes && visit.level != 0)?;
+    }
+    Ok(())
+}
