@@ -57,7 +57,7 @@ module _ (limit : ℕ) (session : Session) (mid : Shown) (last : Session) (end :
   all_answered tells m stands = none_left (lines_built mid.ends.left) count (sym (ap lines_built (at_end.none tells) ∙ no_lines) ∙ (answers tells m stands).left_over)
 
   -- no line is left
-  all_lines : IsTrue mid.tells → length (lines_built mid.ends.left) ≤ count
+  pub all_lines : IsTrue mid.tells → length (lines_built mid.ends.left) ≤ count
   all_lines tells = none_left (lines_built mid.ends.left) count (sym (ap lines_built (at_end.none tells) ∙ no_lines) ∙ at_end.stands.behind tells)
 
   never_quiet : (rooms : ℕ → Command → ℕ) (new : Shown) → IsTrue mid.tells → (more : List ℕ) → new.given ≡ end.given ++ more → IsQuiet rooms (lines_built mid.ends.left) mid new

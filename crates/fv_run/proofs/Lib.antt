@@ -7,6 +7,7 @@ mod Applying
 mod Asked
 mod Created
 mod Drawn
+mod EndPoint
 mod Following
 mod Generated
 mod LastPoint

@@ -72,6 +72,7 @@ module _ (limit : ℕ) (old mid : Shown) (laws : IsDisk old) (unwritten : IsUnwr
       crash = λ tells m is settled. crash_opened m is settled;
       crash_from = λ tells m is. crash_unsettled m;
       at_rest = λ tells m is calm. rested m (Err fault) is (rest tells calm);
+      pointed = λ tells. tt;
       no_damage = no_damage;
       isolated = λ tells m is. are_isolated m script (image_is_admitted old.reads m is);
       guaranteed = λ tells m is. are_guaranteed m script (image_is_admitted old.reads m is);

@@ -1,16 +1,17 @@
 -- A run of a session that was opened, as one from its beginning.
-use Rattle.std.proofs.Common.{◌≡◌, ◌⊎◌, inl, inr, ⊎_elim, true, ℕ, ◌+◌, ◌<◌, ◌≤◌, ◌++◌, List, length, take, sym, ap, subst, ◌∙◌}
+use Rattle.std.proofs.Common.{◌≡◌, ◌⊎◌, inl, inr, ⊎_elim, true, false, ℕ, ◌+◌, ◌<◌, ◌≤◌, ◌++◌, List, length, take, sym, ap, subst, ◌∙◌}
 use Rattle.std.specs.Prelude.{Some, None, Result, Ok, Err, IsTrue, IfErr, OnOk}
 use Rattle.fv_disk.specs.Shown.{Ends, Image, Shown, IsDisk, IsSettled, Rose}
 use Rattle.fv_disk.specs.Crash.{Leaves}
 use Rattle.fv_disk.proofs.Moments.{then, weaken}
 use Rattle.fv_model.specs.declared.commands.Command.{Command}
 use Rattle.fv_model.specs.Machines.{Machine}
-use Rattle.fv_model.specs.Runs.{after, acked, Full, Follows, whole}
+use Rattle.fv_model.specs.Runs.{after, acked, Full, Follows, Line, whole}
 use Rattle.fv_image.specs.WholeMachine.{machine_of}
 use Rattle.fv_lines.specs.Counts.{Counts}
 use Rattle.fv_lines.proofs.Counting.{counts_then}
 use Rattle.fv_aggregate.specs.declared.session.Session.{Session}
+use Rattle.fv_aggregate.specs.Adding.{IsPointed}
 use Rattle.fv_aggregate.specs.Asking.{AsksWithin}
 use Rattle.fv_aggregate.specs.Calls.{SameCounts}
 use Rattle.fv_aggregate.specs.Opening.{IsOpened}
@@ -21,7 +22,7 @@ use Rattle.fv_run.specs.declared.ending.Fault.TheVariants.{Usage, NotAggregate, 
 use Rattle.fv_run.specs.Built.{lines_built}
 use Rattle.fv_run.specs.Endings.{IsWholeFault, raised_by}
 use Rattle.fv_run.specs.Promises.{line_at}
-use Rattle.fv_run.specs.Running.{HasAnsweredAll, HasChanged, HasFollowed, HasReason, Holds, IsAskedFor, IsAtRest, IsFileDamage, IsLacking, IsOverLimit, IsPastLimit, most_rooms, rooms_along, IsSessionDamage, Ran, reads_blocks, Survives, SurvivesFrom, AsksNone, IsQuiet}
+use Rattle.fv_run.specs.Running.{asks_behind, EndsInPoint, HasAnsweredAll, HasChanged, HasFollowed, HasReason, Holds, IsAskedFor, IsAtRest, IsFileDamage, IsLacking, IsLastFor, IsOverLimit, IsPastLimit, most_rooms, rooms_along, IsSessionDamage, Ran, reads_blocks, Survives, SurvivesFrom, AsksNone, IsQuiet}
 use Rattle.fv_run.specs.Answering.{IsEndOf, Stopped, BeginsFor}
 use Rattle.fv_run.proofs.Admitted.{image_is_admitted}
 use Rattle.fv_run.proofs.Sessions.{not_opened}
@@ -37,6 +38,16 @@ pub record RanOpen (limit : ℕ) (session : Session) (mid new : Shown) (result :
   pub reason : IfErr result (IsEndOf limit session mid new)
   pub cut_off : IsTrue mid.tells → IsOverLimit limit mid new → result ≡ Err Limit
   pub quiet : IsTrue mid.tells → session.pending ≡ 0 → IsQuiet most_rooms (lines_built mid.ends.left) mid new
+
+-- the last point of such a run
+pub record PointedOpen (session : Session) (mid new : Shown) : Type 0 where
+  pub before : Image
+  pub last : Session
+  pub next : Session
+  pub quiet : ((line : ℕ) → asks_behind most_rooms (lines_built mid.ends.left) line ≡ false) → before ≡ mid.reads
+  pub left : IsPointed new last next
+  pub stands : Stands new next
+  pub machine : (m : Machine) → BeginsFor mid session m → IsLastFor m (lines_built mid.ends.left) mid.reads before last new next
 
 pub stopped_open : (limit : ℕ) (session : Session) (mid new : Shown) (fault : Fault) → Stopped limit session mid new fault → RanOpen limit session mid new (Err fault)
 stopped_open limit session mid new fault stopped = record {
@@ -152,13 +163,30 @@ module _ (limit : ℕ) (session : Session) (old mid new : Shown) (laws : IsDisk 
   quiet_since rooms quiet output given asks =
       quiet output (given ∙ ap (λ (l : List ℕ). l ++ output) (sym unwritten.kept.given)) (subst (λ (l : List ℕ). AsksNone (rooms l) (lines_built l) output) (sym same_left) asks) ∙ unwritten.reads
 
-  pub ran : (result : Result Unit Fault) → RanOpen limit session mid new result → Ran limit old new result
-  ran result r = record {
+  pointed_lines : (lines : List Line) → IsTrue old.tells → PointedOpen session mid new → lines_built mid.ends.left ≡ lines → EndsInPoint lines old new
+  pointed_lines lines tells p same = record {
+    before = p.before;
+    last = p.last;
+    next = p.next;
+    quiet = λ none. p.quiet (λ line. ap (λ (l : List Line). asks_behind most_rooms l line) same ∙ none line) ∙ unwritten.reads;
+    left = p.left;
+    stands = p.stands;
+    machine = λ m is. subst (λ (i : Image). IsLastFor m lines i p.before p.last new p.next) unwritten.reads
+        (subst (λ (l : List Line). IsLastFor m l mid.reads p.before p.last new p.next) same (p.machine m (machine tells m is)));
+  }
+
+  pointed_since : (result : Result Unit Fault) → IsTrue old.tells → OnOk result (PointedOpen session mid new) → OnOk result (EndsInPoint (lines_built old.ends.left) old new)
+  pointed_since (Ok done) tells p = pointed_lines (lines_built old.ends.left) tells p (ap lines_built same_left)
+  pointed_since (Err fault) tells p = tt
+
+  pub ran : (result : Result Unit Fault) → RanOpen limit session mid new result → (IsTrue mid.tells → session.pending ≡ 0 → OnOk result (PointedOpen session mid new)) → Ran limit old new result
+  ran result r last = record {
     replies = λ tells m is. followed_since m (r.holds (mid_told tells) m (machine tells m is)).replies;
     done = λ tells m is. dones_since m result (r.done (mid_told tells) m (machine tells m is));
     crash = λ tells m is settled. crash_since m is settled (r.holds (mid_told tells) m (machine tells m is)).crash;
     crash_from = λ tells m is. crash_from m (r.holds (mid_told tells) m (machine tells m is)).crash;
     at_rest = λ tells m is none. rested_since m result ((r.holds (mid_told tells) m (machine tells m is)).at_rest (calm_since none));
+    pointed = λ tells. pointed_since result tells (last (mid_told tells) begins);
     no_damage = λ tells m is. r.no_damage (mid_told tells) m (machine tells m is);
     isolated = λ tells m is. are_isolated m (lines_built old.ends.left) (image_is_admitted old.reads m is);
     guaranteed = λ tells m is. are_guaranteed m (lines_built old.ends.left) (image_is_admitted old.reads m is);

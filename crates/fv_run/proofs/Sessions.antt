@@ -2,6 +2,7 @@
 use Rattle.std.proofs.Common.{◌≡◌, ◌<◌, ⊎_elim, ℕ, suc, zero, true, false, refl, sym, ap, subst, ◌∙◌, arith}
 use Rattle.std.specs.Prelude.{Some, None, Option, Result, Ok, Err, IsNone, IsOk, IsErr, IsTrue}
 use Rattle.fv_disk.specs.Shown.{Image, Shown}
+use Rattle.fv_disk.specs.DiskCalls.{Stays}
 use Rattle.fv_disk.specs.HostCalls.{Rests}
 use Rattle.fv_codec.specs.declared.shape.Shape.{Shape}
 use Rattle.fv_codec.specs.declared.superblock.Super.{Super}
@@ -63,17 +64,20 @@ rests_standing old new session rests stands = record {
 pub rests_asking : (old new : Shown) (session : Session) (room : ℕ) → Rests old new → AsksWithin old session room → AsksWithin new session room
 rests_asking old new session room rests asks = record { asked = rw rests.stays.reads asks.asked; pending = asks.pending }
 
-pub rests_standing_for : (old new : Shown) (session : Session) (last m : Machine) → Rests old new → StandsFor old session last m → StandsFor new session last m
-rests_standing_for old new session last m rests stands = record {
-  held = held_still old new rests.stays session.pool session.volumes last stands.held;
-  machine = machine_rests old new rests.stays session.pool session.volumes ∙ stands.machine;
-  settled = λ c now a. rw rests.stays.reads (stands.settled c (rests.stays.no_more c now) a);
-  delays = rw rests.stays.reads stands.delays;
-  pending = rw rests.stays.reads stands.pending;
+pub stays_standing_for : (old new : Shown) (session : Session) (last m : Machine) → Stays old new → StandsFor old session last m → StandsFor new session last m
+stays_standing_for old new session last m stays stands = record {
+  held = held_still old new stays session.pool session.volumes last stands.held;
+  machine = machine_rests old new stays session.pool session.volumes ∙ stands.machine;
+  settled = λ c now a. rw stays.reads (stands.settled c (stays.no_more c now) a);
+  delays = rw stays.reads stands.delays;
+  pending = rw stays.reads stands.pending;
   files = stands.files;
   few = stands.few;
-  room = rw rests.stays.reads stands.room;
+  room = rw stays.reads stands.room;
 }
+
+pub rests_standing_for : (old new : Shown) (session : Session) (last m : Machine) → Rests old new → StandsFor old session last m → StandsFor new session last m
+rests_standing_for old new session last m rests stands = stays_standing_for old new session last m rests.stays stands
 
 pub never_failed : (failed : Option ℕ) (faults : ℕ) → IsNone failed → failed ≡ Some faults → ⊥
 never_failed None faults none some = cc

@@ -1,5 +1,5 @@
 -- Running a script on an aggregate: the headline, clause by clause.
-use Rattle.std.specs.Prelude.{◌≡◌, ◌⊎◌, ◌<◌, ◌≤◌, ◌+◌, ◌||◌, ◌&&◌, ℕ, zero, suc, nat_lt, if◌then◌else◌, Bool, true, false, List, ◌++◌, length, take, get_or, Some, Contains, IsTrue, Result, Err, IsErr, IfErr, OnOk}
+use Rattle.std.specs.Prelude.{◌≡◌, ◌⊎◌, ◌<◌, ◌≤◌, ◌+◌, ◌||◌, ◌&&◌, ℕ, zero, suc, nat_lt, if◌then◌else◌, Bool, true, false, List, [], ◌++◌, length, take, get_or, Some, Contains, IsTrue, Result, Err, IsErr, IfErr, OnOk}
 use Rattle.fv_disk.specs.Shown.{Image, Shown, IsSettled, Rose}
 use Rattle.fv_disk.specs.Crash.{Leaves}
 use Rattle.fv_lines.specs.Counts.{Counts}
@@ -10,10 +10,13 @@ use Rattle.fv_image.specs.WholeMachine.{machine_of}
 use Rattle.fv_root.specs.Finding.{IsNoAggregate}
 use Rattle.fv_aggregate.specs.declared.fault.OpenFault.TheVariants as opening
 use Rattle.fv_aggregate.specs.declared.session.Session.{Session}
+use Rattle.fv_aggregate.specs.Adding.{IsPointed}
 use Rattle.fv_aggregate.specs.Asking.{IsShort}
 use Rattle.fv_aggregate.specs.Causes.{IsOpenFault, IsUnwritten}
 use Rattle.fv_aggregate.specs.Commands.{changes_volume, dirty_limit, most_room, reads_files, room_of}
 use Rattle.fv_aggregate.specs.Opening.{IsOpened}
+use Rattle.fv_aggregate.specs.Reclaiming.{HasPointed}
+use Rattle.fv_aggregate.specs.Standing.{Stands, StandsFor}
 use Rattle.fv_run.specs.declared.ending.Fault.{Fault}
 use Rattle.fv_run.specs.declared.ending.Fault.TheVariants.{Usage, NotAggregate, Source, Sink, Disk, Memory, Damaged, Limit}
 use Rattle.fv_run.specs.Endings.{EndsWith, IsWholeFault, raised_by}
@@ -131,6 +134,33 @@ pub record IsAtRest (m : Machine) (lines : List Line) (result : Result Unit Faul
   pub machine : machine_of new.reads ≡ Some (after m lines count)
   pub settled : IsSettled new
 
+-- ---- the last point
+
+-- a settled disk with an image, of which all is told
+abbrev pub still_disk : Image → Shown
+still_disk i = record { tells = true; reads = i; images = λ c. c ≡ i; moment = 0; since = λ t c given. (c ≡ i) × (given ≡ []); given = []; faults = 0; write_faults = 0; ends = record { left = []; source_faults = 0; sink_faults = 0 } }
+
+-- The last point of a run over the image `first` of a machine. A session stood for the machine after all lines, over the image `before`, which stood for
+-- the one after the first `count` of them: the beginning's own image where no line asks for a point. What a point without room leaves of that session
+-- it left: the machine on the disk, the space rule as far as the commits leave it, and each delayed entry of a chosen region a hole in the image.
+pub record IsLastFor (m : Machine) (lines : List Line) (first before : Image) (last : Session) (new : Shown) (next : Session) : Type 0 where
+  pub count : ℕ
+  pub all : count ≤ length lines
+  pub stood : StandsFor (still_disk before) last (after m lines count) (after m lines (length lines))
+  pub quiet : ((line : ℕ) → line < length lines → asks_behind (rooms_along m lines) lines line ≡ false) → before ≡ first
+  pub pointed : HasPointed 0 last new next (after m lines (length lines))
+
+-- A run ended in a consistency point: of the session `last`, over the image `before`. It left the session `next`, which stands on the disk, with nothing
+-- pending and no file in memory.
+pub record EndsInPoint (lines : List Line) (old new : Shown) : Type 0 where
+  pub before : Image
+  pub last : Session
+  pub next : Session
+  pub quiet : ((line : ℕ) → asks_behind most_rooms lines line ≡ false) → before ≡ old.reads
+  pub left : IsPointed new last next
+  pub stands : Stands new next
+  pub machine : (m : Machine) → machine_of old.reads ≡ Some m → IsLastFor m lines old.reads before last new next
+
 -- ---- causes
 
 -- the source gave a byte past the limit, and each line that ends before it was answered
@@ -246,6 +276,8 @@ pub record Ran (limit : ℕ) (old new : Shown) (result : Result Unit Fault) : Ty
   -- Where no write and no barrier failed, the disk is settled, and has the image of the last point that the lines or their end asked for. So
   -- after a fault between lines, or in a line that asks for no point, no further one was made.
   pub at_rest : IsTrue old.tells → (m : Machine) → machine_of old.reads ≡ Some m → ¬ Rose old.write_faults new.write_faults → IsAtRest m (lines_built old.ends.left) result old new
+  -- At Ok a consistency point is behind all lines, whatever they were.
+  pub pointed : IsTrue old.tells → OnOk result (EndsInPoint (lines_built old.ends.left) old new)
   pub no_damage : IsTrue old.tells → (m : Machine) → machine_of old.reads ≡ Some m → IfErr result IsWholeFault
   -- Its lines are isolated by their homes, and in a volume of kind `volume` the size is guaranteed.
   pub isolated : IsTrue old.tells → (m : Machine) → machine_of old.reads ≡ Some m → AreIsolated m (lines_built old.ends.left)

@@ -1,0 +1,112 @@
+-- The last consistency point of a run that ended well, as the run has it.
+use Rattle.std.proofs.Common.{◌≡◌, ℕ, List, length, refl, sym, subst, arith}
+use Rattle.std.specs.Prelude.{Ok, IsTrue}
+use Rattle.fv_disk.specs.Shown.{Image, IsDisk, IsSettled, Shown}
+use Rattle.fv_disk.specs.DiskCalls.{Stays}
+use Rattle.fv_disk.specs.HostCalls.{Rests}
+use Rattle.fv_disk.proofs.Resting.{settled_image}
+use Rattle.fv_model.specs.Machines.{Machine}
+use Rattle.fv_model.specs.Runs.{after, Line}
+use Rattle.fv_lines.specs.Reading.{unread}
+use Rattle.fv_image.specs.Held.{view_at}
+use Rattle.fv_root.specs.Finding.{root_found}
+use Rattle.fv_cp.specs.Choosing.{LeavesRoom}
+use Rattle.fv_aggregate.specs.declared.session.Session.{Session}
+use Rattle.fv_aggregate.specs.Adding.{IsPointed}
+use Rattle.fv_aggregate.specs.Calls.{Goes}
+use Rattle.fv_aggregate.specs.Reclaiming.{HasPointed, Points, ReclaimsEntries}
+use Rattle.fv_aggregate.specs.Standing.{StandsFor}
+use Rattle.fv_run.specs.Answering.{BeginsFor, HasAnswered, IsAtEnd}
+use Rattle.fv_run.specs.Built.{lines_built}
+use Rattle.fv_run.specs.Running.{still_disk, IsLastFor}
+use Rattle.fv_run.proofs.LastPoint.{all_lines}
+use Rattle.fv_run.proofs.Ran.{PointedOpen}
+use Rattle.fv_run.proofs.Sessions.{rests_standing, rests_standing_for, stays_standing_for}
+
+-- a disk that is settled has its image alone
+still : (disk : Shown) → IsDisk disk → IsTrue disk.tells → IsSettled disk → Stays disk (still_disk disk.reads)
+still disk laws tells settled = record {
+  tells = sym tells;
+  reads = refl;
+  no_more = λ c is. subst disk.images (sym is) (laws.read_is_image tells);
+  no_fewer = λ c now. settled_image disk c settled now;
+}
+
+-- ---- what a point left is there still while the disk rests
+
+-- what it made of the entries, by what reads give
+by_reads : (want : ℕ) (last next : Session) (point new : Shown) → ReclaimsEntries want last point next → ReclaimsEntries want last (record new { reads = point.reads }) next
+by_reads want last next point new is = record {
+  mid = is.mid;
+  between = is.between;
+  found = is.found;
+  same = is.same;
+  maps = is.maps;
+  placed = is.placed;
+  unused = is.unused;
+  rest = is.rest;
+  chosen = is.chosen;
+  missing = is.missing;
+  there = is.there;
+  written = is.written;
+  others = is.others;
+}
+
+entries_still : (want : ℕ) (last next : Session) (point new : Shown) → new.reads ≡ point.reads → ReclaimsEntries want last point next → ReclaimsEntries want last new next
+entries_still want last next point new same is = subst (λ (i : Image). ReclaimsEntries want last (record new { reads = i }) next) (sym same) (by_reads want last next point new is)
+
+pointed_still : (want : ℕ) (last next : Session) (point new : Shown) (m : Machine) → Rests point new → HasPointed want last point next m → HasPointed want last new next m
+pointed_still want last next point new m rests is = record {
+  stands = rests_standing_for point new next m m rests is.stands;
+  room = subst (λ (i : Image). LeavesRoom (view_at (root_found next.pool.found) i) want) (sym rests.stays.reads) is.room;
+  entries = entries_still want last next point new rests.stays.reads is.entries;
+}
+
+-- ---- the point behind all lines
+
+module _ (limit : ℕ) (session : Session) (mid : Shown) (last : Session) (end : Shown) (count : ℕ) (at_end : IsAtEnd limit session mid last end count) (laws : IsDisk end) (next : Session) (point : Shown)
+    (goes : Goes {T = Unit {0}} 0 end last point next (Ok tt)) (points : Points {T = Unit {0}} 0 end last point next (Ok tt)) (new : Shown) (rests : Rests point new) (tells : IsTrue mid.tells) (begins : session.pending ≡ 0) where
+  abbrev L : List Line
+  L = lines_built mid.ends.left
+
+  end_tells : IsTrue end.tells
+  end_tells = subst IsTrue (sym at_end.stands.counts.tells) tells
+
+  for_machine : (m : Machine) → BeginsFor mid session m → IsLastFor m L mid.reads end.reads last new next
+  for_machine m stands = record {
+    count = a.applied.point;
+    all = let most = a.applied.most in let within = a.applied.within in omega (arith, most, within);
+    stood = subst (λ (n : ℕ). StandsFor (still_disk end.reads) last (after m L a.applied.point) (after m L n)) all
+        (stays_standing_for end (still_disk end.reads) last (after m L a.applied.point) (after m L count) (still end laws end_tells a.applied.stands.settled) a.applied.stands);
+    quiet = λ none. a.applied.counted.quiet (λ line low. none line (let same = all in omega (arith, low, same)));
+    pointed = subst (λ (n : ℕ). HasPointed 0 last new next (after m L n)) all
+        (pointed_still 0 last next point new (after m L count) rests (points.point end_tells (after m L a.applied.point) (after m L count) a.applied.stands));
+  }
+    where
+      a : HasAnswered m L (lines_built (unread at_end.held end)) mid last end count
+      a = at_end.stands.answers tells m stands
+
+      all : count ≡ length L
+      all = let within = a.applied.within in let most = all_lines limit session mid last end count at_end tells in omega (arith, within, most)
+
+  left_still : IsPointed end last next → IsPointed new last next
+  left_still is = record {
+    pending = is.pending;
+    files = λ told. is.files end_tells;
+    same = λ told. is.same end_tells;
+    cores = is.cores;
+    admits = is.admits;
+    none = is.none;
+    blocks = is.blocks;
+  }
+
+  pub pointed_open : PointedOpen session mid new
+  pointed_open = record {
+    before = end.reads;
+    last = last;
+    next = next;
+    quiet = λ none. (at_end.stands.counted tells begins).quiet (λ line low. none line);
+    left = left_still points.left;
+    stands = rests_standing point new next rests (goes.stands goes.done.goes_on);
+    machine = for_machine;
+  }
