@@ -121,8 +121,8 @@ abbrev pub IsAskedFor : Machine → List Line → List ℕ → Result Unit Fault
 IsAskedFor m lines output result count = (count ≡ acked lines output) ⊎ (((count < begun result output) × (asks_behind (rooms_along m lines) lines count ≡ true)) ⊎ IsUntold lines output result count)
 
 -- The disk once a run has ended: nothing is in flight, and the image stands for the machine after
--- the first `count` lines: at least those that the output acknowledges, and none that it doesn't answer. It is that of the last point that
--- was asked for.
+-- the first `count` lines: at least those that the output acknowledges, and none that it doesn't answer. It is that of the last acknowledged
+-- point, or of one that a later line asked for.
 pub record IsAtRest (m : Machine) (lines : List Line) (result : Result Unit Fault) (old new : Shown) : Type 0 where
   pub output : List ℕ
   pub given : new.given ≡ old.given ++ output
@@ -273,8 +273,8 @@ pub record Ran (limit : ℕ) (old new : Shown) (result : Result Unit Fault) : Ty
   pub crash : IsTrue old.tells → (m : Machine) → machine_of old.reads ≡ Some m → IsSettled old → Leaves old new (Survives m (lines_built old.ends.left) old.given)
   -- the same where writes are in flight when it begins
   pub crash_from : IsTrue old.tells → (m : Machine) → machine_of old.reads ≡ Some m → Leaves old new (SurvivesFrom m (lines_built old.ends.left) old)
-  -- Where no write and no barrier failed, the disk is settled, and has the image of the last point that the lines or their end asked for. So
-  -- after a fault between lines, or in a line that asks for no point, no further one was made.
+  -- Where no write and no barrier failed, the disk is settled, and has the image of the last acknowledged point, or of one that a later line or
+  -- the end asked for. So after a fault between lines, or in a line that asks for no point, no further one was made.
   pub at_rest : IsTrue old.tells → (m : Machine) → machine_of old.reads ≡ Some m → ¬ Rose old.write_faults new.write_faults → IsAtRest m (lines_built old.ends.left) result old new
   -- At Ok a consistency point is behind all lines, whatever they were.
   pub pointed : IsTrue old.tells → OnOk result (EndsInPoint (lines_built old.ends.left) old new)

@@ -24,8 +24,9 @@ use std::sync::ledger::{Blank, Ledger};
 /// where the source, the sink or the disk failed, 6 where memory ran out, 8 where a block isn't as it has to
 /// be, a label is of a form that can't be loaded yet or fewer blocks or numbers are free than a consistency point asks for,
 /// and 9 where the source gave byte `limit + 1` of the script. The first of these ends the call at once, without a
-/// further consistency point: where no write and no barrier failed the disk is settled then, with the image of the last point that
-/// was asked for: by a `cp`, by a line whose room passes the dirty limit with the rooms behind the last `cp`, or by the end of the script.
+/// further consistency point: where no write and no barrier failed the disk is settled then, with the image of the last acknowledged
+/// point, or of one that a later line asked for: a `cp`, a line whose room passes the dirty limit with the rooms behind the last `cp`, or
+/// the end of the script.
 /// That each reply comes before the next line is applied, and that no point follows a fault in a line that asks for one, the tests show.
 /// It holds 98,304 bytes of the script beside the session, and costs for each line what `Session::apply` does.
 pub fn run_script<H: Host>(alloc: Global, host: &mut H, limit: u64) -> u8
