@@ -3,6 +3,8 @@ use Rattle.std.proofs.Common.{◌≡◌, ℕ, zero, suc, ◌+◌, ◌<◌, ◌�
 use Rattle.std.specs.Prelude.{slice_index_or}
 use Rattle.std.specs.FinMap as fin
 use Rattle.fv_disk.specs.Shown.{Shown as Disk}
+use Rattle.std.proofs.lemmas.Bool.{true≢false}
+use Rattle.fv_model.specs.declared.answers.Refusal.{Refusal}
 use Rattle.fv_model.specs.declared.answers.Refusal.TheVariants.{NoSnapshot, SnapshotInUse}
 use Rattle.fv_model.specs.declared.commands.Command.TheVariants.{SnapDelete}
 use Rattle.fv_model.specs.Effects.{Becomes}
@@ -81,12 +83,20 @@ module _ (d : Disk) (p : Pool) (x : VolumeState) (name : List ℕ) (ready : IsRe
     refused = λ s e. (refl, refl);
     held = λ held. held;
     cause = tt;
+    lost = record { lost = λ none. refl; only = λ r e. (refused_as r e, found_nowhere name x.snapshots nowhere) };
   }
+    where
+      refused_as : (r : Refusal) → ◌≡◌ {A = VolumeFault} (Refused NoSnapshot) (Refused r) → r ≡ NoSnapshot
+      refused_as r e = cc
+
+  -- one that was found is there
+  never_lost : (at : ℕ) → FindsSnap x.snapshots name (Some at) → snap_named x.snapshots name ≡ None → ⊥
+  never_lost at finds gone = true≢false (sym (found_there name x.snapshots at finds) ∙ ap (λ (o : Option Snap). is_some o) gone)
 
   module _ (left : Pool) (mid : VolumeState) (placed : IsPlacedAs d p x d left mid) where
     -- or what changed of the files isn't placed,
-    pub failed_deletes : (e : VolumeFault) → IsPlaceFault e → MayFail d p (Some x) e → Deletes d p x name left mid (Err e)
-    failed_deletes e calm may = record { changes = λ held. place_changes _ (SnapDelete x.name name) x.name _ _ e calm (placed.volume held.stands); done = tt; failed = placed; refused = λ r is. absurd (never_refused e calm r is); held = placed_held d p left x mid placed; cause = place_fails d p x e calm may }
+    pub failed_deletes : (at : ℕ) → FindsSnap x.snapshots name (Some at) → (e : VolumeFault) → IsPlaceFault e → MayFail d p (Some x) e → Deletes d p x name left mid (Err e)
+    failed_deletes at finds e calm may = record { changes = λ held. place_changes _ (SnapDelete x.name name) x.name _ _ e calm (placed.volume held.stands); done = tt; failed = placed; refused = λ r is. absurd (never_refused e calm r is); held = placed_held d p left x mid placed; cause = place_fails d p x e calm may; lost = record { lost = λ gone. absurd (never_lost at finds gone); only = λ r is. absurd (never_refused e calm r is) } }
 
     module _ (none : mid.files ≡ None) (whole : IsVolume mid.map) (at : ℕ) (finds : FindsSnap x.snapshots name (Some at)) (some : Snap) (ledger : Ledger) where
       same_snaps : mid.snapshots ≡ x.snapshots
@@ -176,6 +186,7 @@ module _ (d : Disk) (p : Pool) (x : VolumeState) (name : List ℕ) (ready : IsRe
           refused = tt;
           held = λ held. subst (λ (s : ℕ). IsHeldIn d left s left_volume) (slot_is held) (held_now held);
           cause = tt;
+          lost = record { lost = λ gone. absurd (never_lost at finds gone); only = tt };
         })
           where
             isnt_none : (o : Option Table) → is_some o ≡ true → is_none o ≡ false

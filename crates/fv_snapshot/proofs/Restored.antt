@@ -3,6 +3,9 @@ use Rattle.std.proofs.Common.{◌≡◌, ℕ, ◌≤◌, cond, List, length, Opt
 use Rattle.std.specs.Option.{option_map}
 use Rattle.std.specs.FinMap as fin
 use Rattle.fv_disk.specs.Shown.{Shown as Disk}
+use Rattle.std.proofs.lemmas.Option.{none-some}
+use Rattle.fv_pool.specs.declared.fault.VolumeFault.{VolumeFault}
+use Rattle.fv_model.specs.declared.answers.Refusal.{Refusal}
 use Rattle.fv_model.specs.declared.answers.Refusal.TheVariants.{NoSnapshot}
 use Rattle.fv_model.specs.declared.commands.Command.TheVariants.{SnapRestore}
 use Rattle.fv_model.specs.Effects.{Becomes}
@@ -51,7 +54,11 @@ module _ (d : Disk) (p : Pool) (x : VolumeState) (others : ℕ) (name : List ℕ
     failed = refl;
     held = λ held. held;
     cause = refl;
+    lost = record { lost = λ gone. refl; only = λ r e. (refused_as r e, none) };
   }
+    where
+      refused_as : (r : Refusal) → ◌≡◌ {A = VolumeFault} (Refused NoSnapshot) (Refused r) → r ≡ NoSnapshot
+      refused_as r e = cc
 
   module _ (ready : IsReady d p x) (whole : IsVolume x.map) (q : Snap) (found : snap_named x.snapshots name ≡ Some q) (ledger : Ledger) where
     pub labelled : IsLabelled x.slot x
@@ -115,6 +122,7 @@ module _ (d : Disk) (p : Pool) (x : VolumeState) (others : ℕ) (name : List ℕ
         failed = tt;
         held = λ held. turned.turned_held x whole labelled name q found ledger d p held.stands held booked (right held) (fits held);
         cause = tt;
+        lost = record { lost = λ gone. absurd (none-some q (sym gone ∙ found)); only = tt };
       }
 
   -- So the calls leave it.

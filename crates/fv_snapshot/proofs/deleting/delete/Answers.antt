@@ -15,7 +15,7 @@ returns-in_err-place_files-clause-deletes g c =
     let failed : c.from_residual.result ≡ Err c.in_err-place_files.field-0.0 = search rules in
     let did = c.in_err-place_files.ensures in
     subst (λ (r : Result Unit VolumeFault). Deletes (g.D.Disk.shown c.args.disk.now) c.args.pool.now c.args.volume.now c.args.name.now c.place_files.new.pool c.place_files.new.self r) (sym failed)
-    (failed_deletes (g.D.Disk.shown c.args.disk.now) c.args.pool.now c.args.volume.now c.args.name.now c.requires.ready c.place_files.new.pool c.place_files.new.self did.placed c.in_err-place_files.field-0.0 did.cause did.fails)
+    (failed_deletes (g.D.Disk.shown c.args.disk.now) c.args.pool.now c.args.volume.now c.args.name.now c.requires.ready c.place_files.new.pool c.place_files.new.self did.placed c.in-Some.at c.in-Some.ensures c.in_err-place_files.field-0.0 did.cause did.fails)
 
 pub remove_snapshot-requires-clause-above : goal.remove_snapshot-requires-clause-above
 remove_snapshot-requires-clause-above g c = (index_slot (g.D.Disk.shown c.args.disk.now) c.args.pool.now c.args.volume.now c.args.name.now c.place_files.new.pool c.place_files.new.self c.place_files.ensures.placed c.in-Some.at c.in-Some.ensures c.as_slice.result.now c.as_slice.ensures _).0
