@@ -1,6 +1,6 @@
 -- The plan of a point takes just the regions that are chosen.
 use Rattle.std.proofs.Common.{◌≡◌, ◌≢◌, ℕ, ◌+◌, ◌<◌, ◌⊎◌, inl, inr, Bool, true, false, ◌&&◌, List, [], length, get_or, refl, sym, ap, subst, ◌∙◌, ⊎_elim, arith}
-use Rattle.std.specs.Prelude.{Option, Some, slice_set}
+use Rattle.std.specs.Prelude.{Option, Some, None, slice_set}
 use Rattle.std.proofs.lemmas.List.{get_or-set_same, get_or-set_other}
 use Rattle.std.proofs.lemmas.Bool.{both_ways, cases_eq}
 use Rattle.fv_image.specs.Containers.{level_width}
@@ -83,3 +83,16 @@ delays_set plan s x old left within due all = record {
   known = λ off. inr (due, all (sym (get_or-set_same old s left true within) ∙ off));
   others = λ k other. get_or-set_other old s k left true other;
 }
+
+-- ---- where nothing is reclaimed
+
+takes_due : (plan : Plan) (s : ℕ) (volume : Option Holding) → TakesAllOf plan s volume → is_set plan.due s ≡ true
+takes_due plan s None all = absurd all
+takes_due plan s (Some x) all = all.0
+
+-- a slot that isn't marked then wasn't marked by the plan
+pub marks_left : (plan : Plan) (volumes : ℕ → Option Holding) (delays : List Bool) → LeaveDelays plan volumes 64 plan.delays delays → ((s : ℕ) → s < 64 → is_set plan.due s ≡ false) → (s : ℕ) → s < 64 → get_or delays s true ≡ false → get_or plan.delays s true ≡ false
+marks_left plan volumes delays leave none s inside off = ⊎_elim
+    (λ (was : get_or plan.delays s true ≡ false). was)
+    (λ (all : TakesAllOf plan s (volumes s)). absurd (both_ways _ (none s inside) (takes_due plan s (volumes s) all)))
+    (leave.done s inside off)

@@ -41,6 +41,10 @@ IsSlotCounted containers states s may_delay = may_delay ≡ false → IfSome (st
 abbrev pub AreCounted : Slots → States → List Bool → Type 0
 AreCounted containers states delays = (s : ℕ) → s < 64 → IsSlotCounted containers states s (get_or delays s true)
 
+-- a slot that isn't marked has no volume with delayed entries
+abbrev pub FlagsDelayed : Slots → States → List Bool → Type 0
+FlagsDelayed containers states delays = (s : ℕ) → s < 64 → get_or delays s true ≡ false → counts_at s (holdings containers states s) ≡ []
+
 -- Regions have a table of their own, and are added to another one.
 pub record IsAdded (counts : List Count) (table old new : Table) : Type 0 where
   pub own : IsTable table counts

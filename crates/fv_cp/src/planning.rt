@@ -18,7 +18,7 @@ ghost use Rattle.fv_volume.specs.Loading.{Houses};
 ghost use Rattle.fv_volume.specs.States.{state_at};
 ghost use Rattle.fv_cp.specs.Lent.{blocks_asked};
 ghost use Rattle.fv_cp.specs.Choosing.{asked_marked, asked_with, counts_at, greatest_number, holdings, missing_for, needs, needs_by, regions_chosen};
-ghost use Rattle.fv_cp.specs.Planning.{AreCounted, AreTables, IsAdded, IsPlan, IsSlotCounted, is_set, no_holding};
+ghost use Rattle.fv_cp.specs.Planning.{AreCounted, AreTables, FlagsDelayed, IsAdded, IsPlan, IsSlotCounted, is_set, no_holding};
 
 use crate::asking::blocks_asked;
 use fv_charge::overhead;
@@ -57,8 +57,8 @@ impl Plan {
 }
 
 /// Plans what a point reclaims where an event wants so many blocks: the regions that are chosen for what the space rule lacks, or none
-/// where with these the volumes ask for more blocks than are free. Only of volumes that changed, or of which `delays` says that an entry
-/// may be delayed, the entries are counted.
+/// where with these the volumes ask for more blocks than are free. Each volume with delayed entries is told of in the plan, also where none
+/// is reclaimed. Only of volumes that changed, or of which `delays` says that an entry may be delayed, the entries are counted.
 ///
 /// It takes no memory. Costs a step for each entry of these volumes, and up to 25 more for one that is no hole.
 pub(crate) fn choose(
@@ -73,6 +73,9 @@ pub(crate) fn choose(
     ensures planned { AreCounted pool.now.containers volumes.now delays.now → asked_with (regions_chosen pool.now volumes.now want) volumes.now ≤ free_blocks pool.now.map
         → IsPlan (holdings pool.now.containers volumes.now) (threshold_for (counts_of (holdings pool.now.containers volumes.now)) (missing_for pool.now volumes.now want)) plan.new }
     ensures fits { free_blocks pool.now.map < asked_marked (is_set plan.new.due) volumes.now → asked_marked (is_set plan.new.due) volumes.now ≡ blocks_asked volumes.now }
+    ensures flags { AreCounted pool.now.containers volumes.now delays.now → FlagsDelayed pool.now.containers volumes.now plan.new.delays }
+    ensures none { AreCounted pool.now.containers volumes.now delays.now → free_blocks pool.now.map < asked_with (regions_chosen pool.now volumes.now want) volumes.now
+        → (s : ℕ) → s < slot_count → is_set plan.new.due s ≡ false }
 {
     plan_for(volumes, pool, delays, want, plan);
     if u64::from(pool.map.free_count()) < blocks_asked(volumes, &plan.due) {

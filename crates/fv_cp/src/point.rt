@@ -21,8 +21,8 @@ ghost use Rattle.fv_cp.specs.Points.{Counts, GoesOn, IsCalm, IsPoint, IsSwitched
 ghost use Rattle.fv_volume.specs.Writing.{IsTaken, on_disk};
 ghost use Rattle.fv_codec.specs.Blocks.{last_place};
 ghost use Rattle.fv_cp.specs.Course.{AreNamedFor, GoesPast, HasCome, label_lent};
-ghost use Rattle.fv_cp.specs.Choosing.{CanChoose, holdings};
-ghost use Rattle.fv_cp.specs.Planning.{LeaveDelays, LeavesDelays, taken};
+ghost use Rattle.fv_cp.specs.Choosing.{CanChoose, asked_with, holdings, regions_chosen};
+ghost use Rattle.fv_cp.specs.Planning.{AreCounted, FlagsDelayed, LeaveDelays, LeavesDelays, taken};
 
 use crate::asking::blocks_asked;
 use crate::fault::CpFault;
@@ -42,8 +42,8 @@ use fv_volumes::{Volumes, write_volume};
 ///
 /// Of the containers it reclaims the regions with 64 or more delayed entries, and then those with most while the space rule lacks blocks for
 /// what is used, delayed and wanted; a volume with such a region is written, too. Where with these the volumes ask for more blocks than are
-/// free it reclaims none. `delays` says by slot of which volumes an entry may be delayed though they haven't changed, and after `Ok` of which
-/// one may be that the new root names. Where no point is done it stays.
+/// free it reclaims none, and still marks each volume with delayed entries. `delays` says by slot of which volumes an entry may be delayed
+/// though they haven't changed, and after `Ok` of which one may be that the new root names. Where no point is done it stays.
 ///
 /// Where `delays` is right and there is room for the volumes that changed or have a chosen region, a crash at any moment leaves an image that
 /// stands for the machine of before, with each block that the root on the disk holds as it was; or one in which the new root counts and that stands
@@ -79,6 +79,8 @@ pub fn consistency_point<D: Disk>(
     ensures calm { IfErr result (IsCalm disk.old disk.new) }
     ensures counts { Counts (D.shown disk.old) (D.shown disk.new) result }
     ensures delays { OnErr result (delays.new ≡ delays.old) }
+    ensures flags { AreCounted pool.old.containers volumes.old delays.old → free_blocks pool.old.map < asked_with (regions_chosen pool.old volumes.old want) volumes.old
+        → OnOk result (FlagsDelayed pool.old.containers volumes.old delays.new) }
 {
     let mut plan = Plan::new();
     choose(volumes, pool, delays, want, &mut plan);

@@ -5,6 +5,7 @@ use Rattle.fv_cp.proofs.ByPlan.{moments_by, point_by}
 use Rattle.fv_cp.proofs.Crashing.{rests, writing}
 use Rattle.fv_cp.proofs.Ending.{found_left, goes_on}
 use Rattle.fv_cp.proofs.Marking.{asked_now, fit_marked}
+use Rattle.fv_cp.proofs.Plans.{marks_left}
 use Rattle.fv_cp.proofs.point.consistency_point.Goals as goal
 
 -- as many blocks are free as were asked for
@@ -71,3 +72,8 @@ returns-clause-goes_on g c =
     goes_on (taken plan (holdings c.args.pool.now.containers c.mark.new.volumes)) (g.D.Disk.shown c.args.disk.now) c.args.pool.now c.mark.new.volumes fit c.write_volumes.new.labels c.write_volumes.new.pool (g.D.Disk.shown c.write_volumes.new.disk)
     c.in_ok-write_volumes.ensures.come (g.D.Disk.shown c.switch.new.disk)
     c.switch.new.pool c.settle.new.volumes did.switched did.containers did.kept c.settle.ensures.settled c.args.volumes.now (is_set plan.due) marked did.committed did.stands c.settle.ensures.long
+
+pub returns-clause-flags : goal.returns-clause-flags
+returns-clause-flags g c counted few = λ s inside off.
+    c.choose.ensures.flags counted s inside
+    (marks_left c.choose.new.plan (holdings c.args.pool.now.containers c.mark.new.volumes) c.write_volumes.new.delays c.in_ok-write_volumes.ensures.delays (c.choose.ensures.none counted few) s inside off)
