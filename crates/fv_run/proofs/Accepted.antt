@@ -1,11 +1,11 @@
 -- A reply is a refusal exactly where the machine refuses the line.
-use Rattle.std.proofs.Common.{◌≡◌, ◌+◌, ℕ, Bool, true, false, not, List, [], ◌∷◌, ◌++◌, refl, sym, ap, subst, ◌∙◌, arith, cond}
-use Rattle.std.specs.Prelude.{Option, Some, None, unwrap_or, fold}
+use Rattle.std.proofs.Common.{◌≡◌, ◌+◌, ℕ, Bool, true, false, not, List, [], ◌∷◌, ◌++◌, refl, ap, ◌∙◌, arith, cond}
+use Rattle.std.specs.Prelude.{Option, Some, None, fold}
 use Rattle.std.specs.Option.{is_some, option_map_or}
 use Rattle.std.specs.FinMap as fin
 use Rattle.fv_model.specs.declared.answers.Refusal.{Refusal}
 use Rattle.fv_model.specs.declared.answers.Reply.{Reply}
-use Rattle.fv_model.specs.declared.answers.Reply.TheVariants.{Done, Content, Number, Names, Stat as Numbers, Refused}
+use Rattle.fv_model.specs.declared.answers.Reply.TheVariants.{Done, Content, Number, Names, Stat as Numbers}
 use Rattle.fv_model.specs.declared.commands.Command.{Command}
 use Rattle.fv_model.specs.declared.commands.Command.TheVariants.{VolList, VolStat, Get, Len, Ls, SnapList, Probe}
 use Rattle.fv_model.specs.Machines.{Machine}

@@ -1,5 +1,5 @@
 -- Lines are applied, one after another, whatever is said of them.
-use Rattle.std.proofs.Common.{◌≡◌, inl, false, ℕ, ◌+◌, List, ◌∷◌, drop, sym, subst, arith}
+use Rattle.std.proofs.Common.{◌≡◌, inl, false, ℕ, ◌+◌, List, ◌∷◌, drop, arith}
 use Rattle.fv_disk.specs.Shown.{Shown}
 use Rattle.fv_disk.specs.HostCalls.{Rests}
 use Rattle.fv_model.specs.Machines.{Machine}

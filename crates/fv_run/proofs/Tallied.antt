@@ -1,7 +1,7 @@
 -- The lines of a script are applied and counted, and nothing is given.
-use Rattle.std.proofs.Common.{◌≡◌, ⊎_elim, ◌⊎◌, ℕ, zero, suc, ◌+◌, ◌<◌, ◌≤◌, ◌^◌, ◌++◌, Bool, true, false, cond, List, [], ◌∷◌, length, map, take, drop, refl, sym, ap, ap₂, subst, ◌∙◌, arith}
+use Rattle.std.proofs.Common.{◌≡◌, ⊎_elim, ◌⊎◌, ℕ, ◌+◌, ◌<◌, ◌≤◌, Bool, true, false, cond, List, [], ◌∷◌, length, take, drop, refl, sym, ap, ap₂, subst, ◌∙◌, arith}
 use Rattle.std.specs.Prelude.{Some, None, IsTrue, Result, Ok, Err}
-use Rattle.std.proofs.lemmas.List.{length-append, length-drop}
+use Rattle.std.proofs.lemmas.List.{length-drop}
 use Rattle.fv_disk.specs.Shown.{Image, Shown, IsDisk, Rose}
 use Rattle.fv_disk.specs.Crash.{Leaves}
 use Rattle.fv_disk.proofs.Moments.{started, then, weaken}
@@ -9,7 +9,7 @@ use Rattle.fv_disk.proofs.Resting.{rests_itself}
 use Rattle.fv_model.specs.declared.answers.Reply.{Reply}
 use Rattle.fv_model.specs.declared.commands.Command.{Command}
 use Rattle.fv_model.specs.Machines.{Machine}
-use Rattle.fv_model.specs.Runs.{Line, Says, after, after_line, AllowsAt}
+use Rattle.fv_model.specs.Runs.{Line, Says, after, after_line}
 use Rattle.fv_image.specs.WholeMachine.{machine_of}
 use Rattle.fv_lines.proofs.Counting.{counts_none, counts_then}
 use Rattle.fv_aggregate.specs.declared.session.Session.{Session}
@@ -20,7 +20,7 @@ use Rattle.fv_run.specs.declared.generating.Tally.{Tally}
 use Rattle.fv_run.specs.Answering.{Applies, BeginsFor, HasApplied, IsReady, IsSessionFault}
 use Rattle.fv_run.specs.Built.{built}
 use Rattle.fv_run.specs.Endings.{count_of}
-use Rattle.fv_run.specs.Generating.{accepted, accepts, AppliedAt, AppliesAll, is_accepted, IsAfterFirst, IsAtRestAfter, IsCallFault, lines_said, Silent, WasCut}
+use Rattle.fv_run.specs.Generating.{accepted, AppliedAt, AppliesAll, is_accepted, IsAfterFirst, IsAtRestAfter, IsCallFault, lines_said, Silent, WasCut}
 use Rattle.fv_run.specs.Promises.{line_at}
 use Rattle.fv_run.specs.Running.{rooms_along}
 use Rattle.fv_run.proofs.Accepted.{accepted_more, as_accepted}

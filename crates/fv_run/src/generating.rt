@@ -77,7 +77,8 @@ fn run_with<H: Host, L: Ledger>(
     tell_all(tally, session.charged(), host)
 }
 
-/// Applies the commands of a script, one after another, and tells how many there were. Each is answered in the same reply.
+/// Applies the commands of a script, one after another, and tells how many there were. Each is drawn into the same command and answered in
+/// the same reply.
 fn apply_all<H: Host, L: Ledger>(
     session: &mut Session,
     steps: &mut Steps<L>,
@@ -88,12 +89,13 @@ fn apply_all<H: Host, L: Ledger>(
     requires few { length script.old < 2 ^ 63 }
     ensures { AppliesAll (lines_said script.old) session.old (H.shown host.old) session.new (H.shown host.new) result }
 {
+    let mut command = Command::Cp;
     let mut reply = Reply::Done;
     let mut tally = Tally {
         lines: 0,
         accepted: 0,
     };
-    while let Some(command) = script.next() {
+    while script.next_into(&mut command) {
         apply(session, steps, &command, host, &mut reply)?;
         tally.lines += 1;
         tally.accepted += count_accepted(&reply);

@@ -9,6 +9,7 @@ ghost use Rattle.fv_saying.specs.Saying.{script_text};
 
 use crate::write::write_command;
 use fv_disk::{Failed, Host};
+use fv_model::Command;
 use fv_script::Generator;
 
 /// Gives out the script of a seed with `count` drawn commands, a line for each command, as `write_command` does; its lines read as those
@@ -18,7 +19,8 @@ pub fn write_generated<H: Host>(seed: u64, count: u32, host: &mut H) -> Result<(
     ensures { Tells (H.shown host.old) (script_text (generated seed count)) (H.shown host.new) result }
 {
     let mut script = Generator::new(seed, count);
-    while let Some(command) = script.next() {
+    let mut command = Command::Cp;
+    while script.next_into(&mut command) {
         write_command(&command, host)?;
     }
     Ok(())

@@ -12,3 +12,4 @@ pub mod NamesTold
 pub mod ScriptLines
 pub mod Generating
 pub mod Befores
+pub mod Taken

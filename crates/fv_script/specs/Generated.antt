@@ -1,5 +1,5 @@
 -- The generated script: commands over one volume with eight files, drawn from a seed.
-use Rattle.std.specs.Prelude.{◌≡◌, ℕ, zero, suc, ◌+◌, ◌*◌, ◌/◌, ◌%◌, ◌^◌, nat_lt, nat_eq, List, [], ◌∷◌, ◌++◌, codes, Option, Some, None, if◌then◌else◌}
+use Rattle.std.specs.Prelude.{◌≡◌, ℕ, zero, suc, ◌+◌, ◌*◌, ◌/◌, ◌%◌, ◌^◌, nat_lt, nat_eq, Bool, true, false, List, [], ◌∷◌, ◌++◌, codes, Option, Some, None, if◌then◌else◌}
 use Rattle.std.specs.Int.{w32, to_be_bytes}
 use Rattle.fv_model.specs.declared.commands.Kind.TheVariants.{Thin}
 use Rattle.fv_model.specs.declared.commands.Command.{Command}
@@ -68,6 +68,11 @@ drawn (suc count) x = (command_from x).0 ∷ drawn count (command_from x).1
 -- the script of a seed
 abbrev pub generated : ℕ → ℕ → List Command
 generated seed count = opening ++ drawn count seed
+
+-- the command that a call left in the place lent, where it answers that there is one
+abbrev pub taken : Bool → Command → Option Command
+taken true command = Some command
+taken false command = None
 
 -- a call took the first of the commands that were to come, or there was none
 abbrev pub Takes : List Command → Option Command → List Command → Type 0

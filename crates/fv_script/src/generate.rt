@@ -3,7 +3,9 @@
 ghost use Rattle.std.specs.Prelude.{◌≡◌, ◌<◌, ◌≤◌, ◌+◌, ◌^◌, ◌∷◌, [], Some, IsSome, drop};
 ghost use Rattle.std.specs.Int.{w32, to_be_bytes};
 ghost use Rattle.fv_model.specs.Words.{padded};
-ghost use Rattle.fv_script.specs.Generated.{Takes, after, below, chosen, command_from, cut_from, drawn, file, generated, get_from, opening, put_from, snap_from, snapshot, volume};
+ghost use Rattle.fv_script.specs.Generated.{Takes, after, below, chosen, command_from, cut_from, drawn, file, generated, get_from, opening, put_from, snap_from, snapshot, taken, volume};
+ghost use Rattle.fv_model.specs.declared.commands.Command.TheVariants.{Cp, New, SnapCreate, SnapDelete, VolCreate};
+ghost use Rattle.fv_model.specs.declared.commands.Kind.TheVariants.{Thin};
 
 use fv_model::{Block, Command, Kind, Name};
 use std::marker::Model;
@@ -51,43 +53,73 @@ impl Generator {
         }
     }
 
-    /// The next command, and `None` exactly after the last. It takes no memory. Costs one step, and a block
-    /// for a write.
-    #[tactic(auto, using(crate::proofs::Generating::none_left, crate::proofs::Generating::one_left))]
+    /// The next command, and `None` exactly after the last. It takes no memory. Costs a step and what the command fills, twice 4 KB.
     pub fn next(&mut self) -> Option<Command>
         ensures { Takes self.old result self.new }
     {
+        let mut command = Command::Cp;
+        if self.next_into(&mut command) {
+            Some(command)
+        } else {
+            None
+        }
+    }
+
+    /// As `next`, with the command in the place lent; false exactly after the last, and then what the place holds is open. A command has
+    /// the size of a block, so none is moved: it fills the place once, 4 KB.
+    #[tactic(auto, using(crate::proofs::Generating::none_left, crate::proofs::Generating::one_left))]
+    pub fn next_into(&mut self, into: &mut Command) -> bool
+        ensures { Takes self.old (taken result into.new) self.new }
+    {
         if self.opened <= FILES {
-            let command = opening_command(self.opened);
+            open(self.opened, into);
             self.opened += 1;
-            return Some(command);
+            return true;
         }
         if self.left == 0 {
-            return None;
+            return false;
         }
         self.left -= 1;
-        Some(command(&mut self.state))
+        command(&mut self.state, into);
+        true
     }
 }
 
 /// A command of the opening, from 0 to 8.
 #[tactic(auto, unfolding(crate::specs::Generated::opening))]
-fn opening_command(at: u32) -> Command
+fn open(at: u32, into: &mut Command)
     requires { at < 9 }
-    ensures { drop at opening ≡ result ∷ drop (at + 1) opening }
+    ensures { drop at opening ≡ into.new ∷ drop (at + 1) opening }
 {
     if at == 0 {
-        return Command::VolCreate {
-            volume: volume(),
-            size: 2000,
-            kind: Kind::Thin,
-        };
+        make_volume(into);
+    } else {
+        make_file(at - 1, into);
     }
-    Command::New {
+}
+
+/// The volume is made.
+#[tactic(auto, unfolding(crate::specs::Generated::volume))]
+fn make_volume(into: &mut Command)
+    ensures { into.new ≡ VolCreate volume 2000 Thin }
+{
+    *into = Command::VolCreate {
         volume: volume(),
-        file: file(at - 1),
+        size: 2000,
+        kind: Kind::Thin,
+    };
+}
+
+/// A file of it is made.
+fn make_file(number: u32, into: &mut Command)
+    requires { number < 8 }
+    ensures { into.new ≡ New volume (file number) 0 }
+{
+    *into = Command::New {
+        volume: volume(),
+        file: file(number),
         reserve: 0,
-    }
+    };
 }
 
 /// Draws a number below `most`.
@@ -102,69 +134,93 @@ fn draw(state: &mut u64, most: u64) -> u32
     ((*state >> 32) % most) as u32
 }
 
+/// Draws a command.
 #[tactic(auto, unfolding(crate::specs::Generated::command_from, crate::specs::Generated::chosen))]
-fn command(state: &mut u64) -> Command
-    ensures { (result, state.new) ≡ command_from state.old }
+fn command(state: &mut u64, into: &mut Command)
+    ensures { (into.new, state.new) ≡ command_from state.old }
 {
     match draw(state, 8) {
-        0..=3 => put(state),
-        4 => get(state),
-        5 => cut(state),
-        6 => snap(state),
-        _ => Command::Cp,
+        0..=3 => put(state, into),
+        4 => get(state, into),
+        5 => cut(state, into),
+        6 => snap(state, into),
+        _ => ask_for_point(into),
     }
 }
 
 #[tactic(auto, unfolding(crate::specs::Generated::put_from))]
-fn put(state: &mut u64) -> Command
-    ensures { (result, state.new) ≡ put_from state.old }
+fn put(state: &mut u64, into: &mut Command)
+    ensures { (into.new, state.new) ≡ put_from state.old }
 {
     let number = draw(state, 8);
     let index = draw(state, 300);
     let block = block(draw(state, 1 << 32));
-    Command::Put {
+    *into = Command::Put {
         volume: volume(),
         file: file(number),
         index,
         block,
-    }
+    };
 }
 
 #[tactic(auto, unfolding(crate::specs::Generated::get_from))]
-fn get(state: &mut u64) -> Command
-    ensures { (result, state.new) ≡ get_from state.old }
+fn get(state: &mut u64, into: &mut Command)
+    ensures { (into.new, state.new) ≡ get_from state.old }
 {
-    Command::Get {
+    *into = Command::Get {
         volume: volume(),
         snapshot: None,
         file: file(draw(state, 8)),
         index: draw(state, 300),
-    }
+    };
 }
 
 #[tactic(auto, unfolding(crate::specs::Generated::cut_from))]
-fn cut(state: &mut u64) -> Command
-    ensures { (result, state.new) ≡ cut_from state.old }
+fn cut(state: &mut u64, into: &mut Command)
+    ensures { (into.new, state.new) ≡ cut_from state.old }
 {
-    Command::Cut {
+    *into = Command::Cut {
         volume: volume(),
         file: file(draw(state, 8)),
         length: draw(state, 300),
-    }
+    };
 }
 
 #[tactic(auto, unfolding(crate::specs::Generated::snap_from))]
-fn snap(state: &mut u64) -> Command
-    ensures { (result, state.new) ≡ snap_from state.old }
+fn snap(state: &mut u64, into: &mut Command)
+    ensures { (into.new, state.new) ≡ snap_from state.old }
 {
     let made = draw(state, 2) == 0;
     let snapshot = snapshot(draw(state, 4));
-    let volume = volume();
     if made {
-        Command::SnapCreate { volume, snapshot }
+        make_snapshot(snapshot, into);
     } else {
-        Command::SnapDelete { volume, snapshot }
+        delete_snapshot(snapshot, into);
     }
+}
+
+fn make_snapshot(snapshot: Name, into: &mut Command)
+    ensures { into.new ≡ SnapCreate volume snapshot }
+{
+    *into = Command::SnapCreate {
+        volume: volume(),
+        snapshot,
+    };
+}
+
+fn delete_snapshot(snapshot: Name, into: &mut Command)
+    ensures { into.new ≡ SnapDelete volume snapshot }
+{
+    *into = Command::SnapDelete {
+        volume: volume(),
+        snapshot,
+    };
+}
+
+fn ask_for_point(into: &mut Command)
+    ensures { into.new ≡ Cp }
+{
+    *into = Command::Cp;
 }
 
 #[tactic(auto, unfolding(crate::specs::Generated::volume))]
