@@ -3,3 +3,13 @@ pub mod Lists
 pub mod Spelled
 pub mod Meetings
 pub mod Seeing
+pub mod Noting
+pub mod RecordNames
+pub mod Naming
+pub mod Blocks
+pub mod Goings
+pub mod Steps
+pub mod Along
+pub mod Stepping
+pub mod Starting
+pub mod Gatherings

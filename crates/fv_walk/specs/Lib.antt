@@ -3,3 +3,10 @@ pub mod Sources
 pub mod Visits
 pub mod Sights
 pub mod Meetings
+pub mod Noting
+pub mod Naming
+pub mod Limiting
+pub mod Looks
+pub mod Gathering
+pub mod Blocks
+pub mod Goings

@@ -65,4 +65,12 @@ impl Visit {
     {
         self.level == 0 && !of_inodes
     }
+
+    /// Whether the pointers below it are of the tree of the inode file, where it is in the tree of an inode file or of another file: those
+    /// of a node are, and those of an inode block are roots of files.
+    pub(crate) fn stays(&self, of_inodes: bool) -> bool
+        ensures { result ≡ (of_inodes && not (self.now.level == 0)) }
+    {
+        of_inodes && self.level != 0
+    }
 }
