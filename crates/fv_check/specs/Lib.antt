@@ -6,3 +6,4 @@ pub mod Filled
 pub mod Heads
 pub mod Known
 pub mod Passed
+pub mod Verdicts

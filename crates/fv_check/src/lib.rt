@@ -18,6 +18,7 @@ mod said;
 mod site;
 mod slots;
 mod tree;
+mod verdict;
 mod volume_names;
 
 pub use against::{note_base, note_stops};
@@ -27,3 +28,4 @@ pub use first::{Known, pass_one};
 pub use labels::read_labels;
 pub use roots::note_roots;
 pub use site::Site;
+pub use verdict::Verdict;

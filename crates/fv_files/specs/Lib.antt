@@ -1,6 +1,7 @@
 pub mod Trees
 pub mod Apart
 pub mod Tables
+pub mod Right
 pub mod Failing
 pub mod Pending
 pub mod Calls

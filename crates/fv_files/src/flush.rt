@@ -4,6 +4,7 @@ ghost use Rattle.std.specs.Prelude.{◌≡◌, ◌≤◌, ◌+◌, ◌-◌, ℕ,
 ghost use Rattle.std.specs.Ordering.{nat_cmp};
 ghost use Rattle.std.specs.BTreeMap as maps;
 ghost use Rattle.fv_tables.specs.Told.{file_at};
+ghost use Rattle.fv_tree.specs.Places.{TrustsAll};
 ghost use Rattle.fv_tree.specs.declared.kept.Tree as kept;
 ghost use Rattle.fv_tree.specs.Sources.{WasFree};
 ghost use Rattle.fv_tree.specs.Standing.{under};
@@ -35,6 +36,7 @@ impl Files {
     ///
     /// As `place` of the `Blocks` answers them, and as `InodeFile::set_root`.
     pub fn flush<B: Blocks>(&mut self, blocks: &mut B) -> Result<Pointer, FilesFault>
+        requires right { B.told → TrustsAll B.shown }
         ensures flushes { FlushesTable B.told (B.shown blocks.old) (B.shown blocks.new) self.old self.new result }
         ensures places { FlushesPlaces B.told (WasFree B.shown B.goes blocks.old blocks.new) (B.shown blocks.old) (B.shown blocks.new) self.old self.new }
         ensures stored_well { B.told → B.known → KeepsStored (B.shown blocks.old) (B.shown blocks.new) self.old self.new }
@@ -49,6 +51,7 @@ impl Files {
 
 /// Places the trees of all files that are in memory.
 fn flush_trees<B: Blocks>(files: &mut Files, blocks: &mut B) -> Result<(), FilesFault>
+    requires right { B.told → TrustsAll B.shown }
     ensures lays { LaysTrees B.told (B.shown blocks.old) (B.shown blocks.new) files.old files.new result }
     ensures places { FlushesPlaces B.told (WasFree B.shown B.goes blocks.old blocks.new) (B.shown blocks.old) (B.shown blocks.new) files.old files.new }
     ensures keeps { FlushesKeep B.told (λ v. B.keeps v blocks.old blocks.new) (B.shown blocks.old) (B.shown blocks.new) files.old files.new }
@@ -64,6 +67,7 @@ fn flush_trees<B: Blocks>(files: &mut Files, blocks: &mut B) -> Result<(), Files
 
 /// Places the tree in memory with the least number.
 fn flush_first<B: Blocks>(files: &mut Files, blocks: &mut B) -> Result<(), FilesFault>
+    requires right { B.told → TrustsAll B.shown }
     ensures lays { LaysTrees B.told (B.shown blocks.old) (B.shown blocks.new) files.old files.new result }
     ensures places { FlushesPlaces B.told (WasFree B.shown B.goes blocks.old blocks.new) (B.shown blocks.old) (B.shown blocks.new) files.old files.new }
     ensures keeps { FlushesKeep B.told (λ v. B.keeps v blocks.old blocks.new) (B.shown blocks.old) (B.shown blocks.new) files.old files.new }
@@ -92,6 +96,7 @@ fn first_number(trees: &BTreeMap<u32, Tree>) -> Option<u32>
 /// table that stands on its blocks doesn't have.
 fn flush_file<B: Blocks>(files: &mut Files, blocks: &mut B, number: u32) -> Result<(), FilesFault>
     requires kept { is_some (tree_in files.old number) ≡ true }
+    requires right { B.told → TrustsAll B.shown }
     ensures lays { LaysTrees B.told (B.shown blocks.old) (B.shown blocks.new) files.old files.new result }
     ensures places { FlushesPlaces B.told (WasFree B.shown B.goes blocks.old blocks.new) (B.shown blocks.old) (B.shown blocks.new) files.old files.new }
     ensures keeps { FlushesKeep B.told (λ v. B.keeps v blocks.old blocks.new) (B.shown blocks.old) (B.shown blocks.new) files.old files.new }
@@ -118,6 +123,7 @@ fn lay_file<B: Blocks>(
 ) -> Result<(), FilesFault>
     requires kept { is_some (tree_in files.old number) ≡ true }
     requires there { B.told → HasRoot (file_at (rooted (B.shown blocks.old) files.old.inode) number) info.now.levels info.now.root }
+    requires right { B.told → TrustsAll B.shown }
     ensures lays { LaysTrees B.told (B.shown blocks.old) (B.shown blocks.new) files.old files.new result }
     ensures places { FlushesPlaces B.told (WasFree B.shown B.goes blocks.old blocks.new) (B.shown blocks.old) (B.shown blocks.new) files.old files.new }
     ensures keeps { FlushesKeep B.told (λ v. B.keeps v blocks.old blocks.new) (B.shown blocks.old) (B.shown blocks.new) files.old files.new }

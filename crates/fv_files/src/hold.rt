@@ -5,12 +5,13 @@ ghost use Rattle.std.specs.Ordering.{nat_cmp};
 ghost use Rattle.std.specs.BTreeMap as maps;
 ghost use Rattle.fv_disk.specs.declared.fault.BlockFault.TheVariants.{Memory};
 ghost use Rattle.fv_tables.specs.Spelled.{Under, stored};
+ghost use Rattle.fv_files.specs.Right.{HasRightKept, HasRightTrees};
 ghost use Rattle.fv_tree.specs.Sources.{Use};
 ghost use Rattle.fv_tree.specs.Standing.{standing};
 ghost use Rattle.fv_tree.specs.Costs.{pending};
 ghost use Rattle.fv_tree.specs.Flushing.{loaded_over, IsSound, ReachesOnce};
 ghost use Rattle.fv_inode.specs.Files.{rooted, IsInfo};
-ghost use Rattle.fv_files.specs.Tables.{IsInfoOf};
+ghost use Rattle.fv_files.specs.Tables.{IsInfoOf, tree_in};
 ghost use Rattle.fv_files.specs.Calls.{Holds, Prepares};
 ghost use Rattle.fv_files.specs.Pending.{pending_in, pending_trees, root_cost, tree_cost};
 
@@ -29,7 +30,9 @@ pub fn prepare<B: Blocks>(
 ) -> Result<bool, FilesFault>
     requires range { IsInfo info.now }
     requires there { B.told → IsInfoOf (rooted (B.shown blocks.old) files.old.inode) info.now }
+    requires right { B.told → HasRightTrees (B.shown blocks.old) files.old }
     ensures prepares { Prepares B.told (B.shown blocks.old) (B.shown blocks.new) files.old files.new info.now result }
+    ensures right { B.told → HasRightKept (B.shown blocks.new) (tree_in files.new info.now.number) }
     ensures pending { pending_in files.new ≤ pending_in files.old + 4 }
     ensures reads { B.reads blocks.old blocks.new }
 {

@@ -5,10 +5,11 @@ ghost use Rattle.std.specs.Ordering.{nat_cmp};
 ghost use Rattle.std.specs.BTreeMap as maps;
 ghost use Rattle.fv_laws.specs.WellFormed.{IsWellTable};
 ghost use Rattle.fv_tables.specs.Told.{table_told};
+ghost use Rattle.fv_files.specs.Right.{HasRightKept, HasRightTrees};
 ghost use Rattle.fv_tree.specs.declared.kept.Tree as kept;
 ghost use Rattle.fv_tree.specs.Erasing.{HoldsCells};
 ghost use Rattle.fv_inode.specs.Files.{rooted, IsInfo};
-ghost use Rattle.fv_files.specs.Tables.{table_in, AreStanding, IsInfoOf};
+ghost use Rattle.fv_files.specs.Tables.{table_in, AreStanding, IsInfoOf, tree_in};
 ghost use Rattle.fv_files.specs.Failing.{FilesFail};
 ghost use Rattle.fv_files.specs.Calls.{IsPrepared, Changes, KeepsLed, KeptFails, RemovesFile, TakesByRemoval};
 ghost use Rattle.fv_files.specs.Pending.{pending_in, pending_trees, tree_cost};
@@ -41,6 +42,7 @@ impl Files {
         requires stamp { 1 ≤ stamp }
         requires range { IsInfo info.now }
         requires there { B.told → IsInfoOf (rooted (B.shown blocks.old) self.old.inode) info.now }
+        requires right { B.told → HasRightTrees (B.shown blocks.old) self.old }
         ensures removed { B.told → OnOk result (AreStanding (B.shown blocks.old) self.old → RemovesFile (table_in (B.shown blocks.old) self.old) (table_in (B.shown blocks.new) self.new) info.now.number stamp) }
         ensures counted { B.told → IfOk result (λ count. AreStanding (B.shown blocks.old) self.old → TakesByRemoval (table_in (B.shown blocks.old) self.old) info.now.number stamp count) }
         ensures led { B.told → (now : ℕ) → IsWellTable now (table_told (table_in (B.shown blocks.old) self.old)) → KeepsLed (B.shown blocks.old) (B.shown blocks.new) self.old self.new }
@@ -65,6 +67,7 @@ fn remove_ready<B: Blocks>(
 ) -> Result<u32, FilesFault>
     requires stamp { 1 ≤ stamp }
     requires prepared { IsPrepared B.told (B.shown blocks.old) files.old info.now }
+    requires right { B.told → HasRightKept (B.shown blocks.old) (tree_in files.old info.now.number) }
     ensures removed { B.told → OnOk result (AreStanding (B.shown blocks.old) files.old → RemovesFile (table_in (B.shown blocks.old) files.old) (table_in (B.shown blocks.new) files.new) info.now.number stamp) }
     ensures counted { B.told → IfOk result (λ count. AreStanding (B.shown blocks.old) files.old → TakesByRemoval (table_in (B.shown blocks.old) files.old) info.now.number stamp count) }
     ensures led { B.told → (now : ℕ) → IsWellTable now (table_told (table_in (B.shown blocks.old) files.old)) → KeepsLed (B.shown blocks.old) (B.shown blocks.new) files.old files.new }

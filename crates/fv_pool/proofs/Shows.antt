@@ -157,15 +157,6 @@ loose_none entry label DiskFault loose damaged = absurd damaged
 loose_none entry label (Damaged at want found) loose damaged = loose.none
 loose_none entry label Memory loose damaged = absurd damaged
 
--- a load answers the place of the entry
-pub read_place : (o : Option Entry) (b : ℕ) → place_of o ≡ Some b → b ≡ (use_of o).pvbn
-read_place None b is = let wrong : false ≡ true = ap is_some is in cc
-read_place (Some e) b is = sym (ap place is)
-  where
-    place : Option ℕ → ℕ
-    place None = b
-    place (Some x) = x
-
 use_same : (map after : Volume) (slots new : Slots) (slot v : ℕ) → is_member (active_of after) v ≡ is_member (active_of map) v → held_entry after new slot v ≡ held_entry map slots slot v
     → use_under after new slot v ≡ use_under map slots slot v
 use_same map after slots new slot v member entry = ap₂ (λ t e. cond t (Some (use_of e)) None) member entry

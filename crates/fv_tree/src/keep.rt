@@ -4,6 +4,7 @@ ghost use Rattle.std.specs.Prelude.{◌≡◌, ◌≢◌, ◌≤◌, ◌<◌, �
 ghost use Rattle.std.specs.List.{All};
 ghost use Rattle.fv_codec.specs.Blocks.{IsPointer};
 ghost use Rattle.fv_model.specs.Trees.{fan};
+ghost use Rattle.fv_tree.specs.Places.{HasRightPlaces, MayLoad};
 ghost use Rattle.fv_tree.specs.Spelled.{hole, pointer_at};
 ghost use Rattle.fv_tree.specs.Standing.{standing, under, node_in, IsSameBut, LoadFails};
 ghost use Rattle.fv_tree.specs.Keeping.{IsKept, Keeps, KeepsBelow, Spells};
@@ -30,6 +31,7 @@ pub fn keep_path<B: Blocks>(
     index: u32,
 ) -> Result<Pointer, TreeFault>
     requires index { index < fan ^ tree.old.levels }
+    requires right { B.told → HasRightPlaces (B.shown blocks.old) tree.old }
     ensures pointer { B.told → IfOk result (λ p. p ≡ pointer_at (standing (under (B.shown blocks.old)) tree.old) 0 index) }
     ensures kept { B.told → OnOk result ((level : ℕ) → 1 ≤ level → level ≤ tree.old.levels → IsKept (standing (under (B.shown blocks.new)) tree.new) level (index / fan ^ level)) }
     ensures unplaced { B.told → OnOk result ((level : ℕ) → 1 ≤ level → level ≤ tree.old.levels → (pointer_at (standing (under (B.shown blocks.old)) tree.old) level (index / fan ^ level)).stamp ≡ 0 → placed_in tree.new.nodes level (index / fan ^ level) ≡ false) }
@@ -59,6 +61,7 @@ fn keep_step<B: Blocks>(
     requires low { 1 ≤ level }
     requires high { level ≤ tree.old.levels }
     requires pointer { B.told → pointer.now ≡ pointer_at (standing (under (B.shown blocks.old)) tree.old) level (index / fan ^ level) }
+    requires right { B.told → HasRightPlaces (B.shown blocks.old) tree.old }
     ensures below { B.told → IfOk result (λ p. p ≡ pointer_at (standing (under (B.shown blocks.old)) tree.old) (level - 1) (index / fan ^ (level - 1))) }
     ensures keeps { B.told → OnOk result (IsKept (standing (under (B.shown blocks.new)) tree.new) level (index / fan ^ level)) }
     ensures brings { B.told → Brings (under (B.shown blocks.old)) tree.old tree.new level (index / fan ^ level) pointer.now }
@@ -82,6 +85,7 @@ pub fn keep_node<B: Blocks>(
     place: u32,
     pointer: &Pointer,
 ) -> Result<(), TreeFault>
+    requires right { B.told → MayLoad (B.shown blocks.old) (is_some (node_in tree.old level place)) pointer.now }
     ensures keeps { B.told → Keeps (standing (under (B.shown blocks.old)) tree.old) (standing (under (B.shown blocks.new)) tree.new) level place pointer.now }
     ensures spells { OnOk result (Spells B.told (standing (under (B.shown blocks.old)) tree.old) (standing (under (B.shown blocks.new)) tree.new) level place pointer.now) }
     ensures brings { B.told → Brings (under (B.shown blocks.old)) tree.old tree.new level place pointer.now }

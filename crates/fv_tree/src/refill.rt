@@ -5,6 +5,7 @@ ghost use Rattle.std.specs.BTreeMap as maps;
 ghost use Rattle.fv_codec.specs.declared.pointer.Pointer.{Pointer};
 ghost use Rattle.fv_codec.specs.Blocks.{all_holes};
 ghost use Rattle.fv_model.specs.Trees.{spot_cmp};
+ghost use Rattle.fv_tree.specs.Places.{HasRightPlaces};
 ghost use Rattle.fv_tree.specs.Standing.{standing, under, node_in, children_in, IsSameBut};
 ghost use Rattle.fv_tree.specs.Writing.{Remains};
 ghost use Rattle.fv_disk.specs.declared.fault.BlockFault.TheVariants.{Memory};
@@ -39,6 +40,7 @@ impl Tree {
         index: u32,
         block: &[u8; 4096],
     ) -> Result<bool, TreeFault>
+        requires right { B.told → HasRightPlaces (B.shown blocks.old) self.old }
         ensures refilled { B.told → IfOk result (Refills (standing (under (B.shown blocks.old)) self.old) (standing (under (B.shown blocks.new)) self.new) index block.now) }
         ensures place_by_place { B.told → IfOk result (IsRefilled (standing (under (B.shown blocks.old)) self.old) (standing (under (B.shown blocks.new)) self.new) index block.now) }
         ensures failed { B.told → OnErr result (Remains (standing (under (B.shown blocks.old)) self.old) (standing (under (B.shown blocks.new)) self.new)) }

@@ -5,6 +5,7 @@ ghost use Rattle.std.specs.BTreeMap as maps;
 ghost use Rattle.std.specs.Ordering.{nat_cmp};
 ghost use Rattle.std.specs.Option.{option_map};
 ghost use Rattle.fv_model.specs.Trees.{fan, spot_cmp};
+ghost use Rattle.fv_tree.specs.Places.{HasRightPlaces};
 ghost use Rattle.fv_tree.specs.declared.kept.KeptCell.{KeptCell};
 ghost use Rattle.fv_tree.specs.Standing.{standing, under, children_in, cell_in, IsSameButCells};
 ghost use Rattle.fv_tree.specs.Spelled.{Under};
@@ -183,6 +184,7 @@ pub fn write_within<B: Blocks>(
 ) -> Result<(), TreeFault>
     requires index { index < fan ^ tree.old.levels }
     requires stamp { 1 ≤ stamp }
+    requires right { B.told → HasRightPlaces (B.shown blocks.old) tree.old }
     ensures done { B.told → OnOk result (IsWritten (standing (under (B.shown blocks.old)) tree.old) (standing (under (B.shown blocks.new)) tree.new) index stamp block.now) }
     ensures failed { B.told → OnErr result (IsAlike (standing (under (B.shown blocks.old)) tree.old) (standing (under (B.shown blocks.new)) tree.new)) }
     ensures alters { B.told → Alters stamp (loaded (B.shown blocks.old) tree.old) (loaded (B.shown blocks.new) tree.new) }

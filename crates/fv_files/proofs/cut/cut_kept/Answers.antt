@@ -1,4 +1,4 @@
-use Rattle.std.proofs.Common.{IsSome, subst, refl}
+use Rattle.std.proofs.Common.{IsSome, subst, refl, sym}
 use Rattle.fv_files.proofs.Sums.{becomes_set}
 use Rattle.fv_files.proofs.cut.cut_kept.Goals as goal
 
@@ -12,3 +12,6 @@ returns-in-Some g c =
       pending = c.cut.ensures.pending;
       removal = c.cut.ensures.removal;
     }
+
+pub cut-requires-clause-right : goal.cut-requires-clause-right
+cut-requires-clause-right g c = λ told. c.requires.right told c.in-Some.tree.now (sym c.in-Some.ensures.value)

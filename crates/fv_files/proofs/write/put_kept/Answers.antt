@@ -1,4 +1,4 @@
-use Rattle.std.proofs.Common.{IsSome, subst, refl}
+use Rattle.std.proofs.Common.{IsSome, subst, refl, sym}
 use Rattle.fv_files.proofs.Sums.{becomes_set}
 use Rattle.fv_files.proofs.write.put_kept.Goals as goal
 
@@ -23,3 +23,6 @@ returns-in-Some-clause-puts g c =
       counts = c.put.ensures.steady.counts;
       cause = c.put.ensures.steady.cause;
     }
+
+pub put-requires-clause-right : goal.put-requires-clause-right
+put-requires-clause-right g c = λ told. c.requires.right told c.in-Some.tree.now (sym c.in-Some.ensures.value)

@@ -15,5 +15,5 @@ returns-in-Some-clause-number g c = λ is.
     c.free_number.ensures.number (standing_for d c.args.pool.now c.args.volume.now) (subst (λ (o : Option FileNumbers). AreNumbersIf o (table_for d c.args.pool.now c.args.volume.now)) c.in-Some.is is.numbers)
 
 pub returns-clause-cause : goal.returns-clause-cause
-returns-clause-cause g c = told_cause (g.D.Disk.shown c.args.disk.now) c.args.pool.now c.args.volume.now c.take_table-files.result c.take_table-files.ensures.table
+returns-clause-cause g c = told_cause (g.D.Disk.shown c.args.disk.now) c.args.pool.now c.args.volume.now c.take_table-files.result c.take_table-files.ensures.table c.take_table-files.ensures.trees
     (g.D.Disk.shown c.number_told-answer.new.disk).faults c.number_told-answer.result c.number_told-answer.ensures.cause
