@@ -18,8 +18,8 @@ lay_tree() {
     rm -rf "$tree"
     mkdir -p "$tree"
     cp -r "$top/launch.sh" "$top/flexvol" "$top/reference" "$top/prove" "$top/install" "$top/docs" "$top/man" "$top/examples" "$tree"
-    printf '%s\n' 'flexvol: low lower' 'low: lower' 'lower:' 'reference: lower' 'beside:' >"$tree/crates.txt"
-    for crate in flexvol low lower reference beside; do
+    printf '%s\n' 'flexvol: low lower' 'low: lower' 'lower:' 'reference: lower' 'dump: low lower' 'beside:' >"$tree/crates.txt"
+    for crate in flexvol low lower reference dump beside; do
         mkdir -p "$tree/crates/$crate/src" "$tree/crates/$crate/proofs"
         touch "$tree/crates/$crate/src/main.rt" "$tree/crates/$crate/proofs/Lib.antt" "$tree/crates/$crate/proofs/Old.antt"
     done
@@ -34,7 +34,9 @@ lay_stand_ins() {
     cat >"$scratch/program" <<'END'
 #!/usr/bin/env bash
 [ $# = 0 ] && exit 7
-if [ "${2:-}" = create ]; then
+if [ "${0##*/}" = dump ] || [ "${PWD##*/}" = dump ]; then
+    echo "a look at $*"
+elif [ "${2:-}" = create ]; then
     [ "${PROGRAM_STATUS:-0}" = 0 ] && echo bytes >"$1"
     echo "created ${3} capacity 761"
 elif [ "${2:-}" = gen ]; then
@@ -133,7 +135,7 @@ test_words() {
     for words in x "x creat 1024" "x create" "x create 511" "x create 1048577" "x create 1e3" "x create +512" \
         "x create 000000000000000001024" "x create 1024 run" "x run run" "x help" "x gen" "x gen 7" "x gen 7 1000001" "x gen 7 1 1" \
         "x gen -7 1" "x gen 7 1.0" "x gen 18446744073709551616 0" "x gen 99999999999999999999 0" "x gen 000000000000000000007 0" \
-        "x gen 7 000000000000000000000"; do
+        "x gen 7 000000000000000000000" "x dump block" "x dump entries" "x dump entries a b" "x dump blocks a"; do
         # shellcheck disable=SC2086
         launch "$tree/flexvol" $words
         row "flexvol $words" ends_at_once 7 usage
@@ -178,6 +180,9 @@ leaves_no() { # FILE
 }
 
 test_files() {
+    launch "$tree/flexvol" "$scratch/missing" dump
+    row "(f) a missing file to look at" ends_at_once 5 "missing isn't there"
+    row "(f) a look makes no file" leaves_no "$scratch/missing"
     launch "$tree/flexvol" "$scratch/missing" run
     row "(f) a missing file" ends_at_once 5 "missing isn't there"
     row "(f) a run makes no file" leaves_no "$scratch/missing"
@@ -205,6 +210,8 @@ test_rights() {
     row "(f) a file without the right to read" ends_at_once 5 "right to read"
     launch "${without[@]}" "$tree/flexvol" "$scratch/unwritten" run
     row "(f) a file without the right to write" ends_at_once 5 "right to write"
+    launch "$tree/flexvol" "$scratch/unwritten" dump
+    row "(f) it can be looked at" gives 0 "a look at $scratch/unwritten" unproved
     launch "${without[@]}" "$tree/flexvol" "$scratch/closed/other" create 1024
     row "(f) a folder without the right to make a file" ends_at_once 5 "right to make a file"
 }
@@ -289,12 +296,16 @@ test_build() {
     row "install wants the built programs" ends 70 "prove does that"
     RT_SAYS="$(printf 'a line %d\\n' {1..50})" launch "$tree/prove"
     row "a build that fails says so, with ten lines" tells 70 10 "^a line"
-    row "prove builds both" proves
+    row "prove builds all" proves
     launch "$tree/flexvol" "$file" create 1024
     row "once built, the program is run as it stands" gives 0 "created 1024 capacity 761" ""
     row "without rt" [ ! -s "$calls" ]
     launch "$tree/reference" 1024 < <(echo ok)
     row "reference, too" gives 0 ok ""
+    launch "$tree/flexvol" "$file" dump entries home < <(sleep 60)
+    row "dump is a program of its own, which gets the words behind its own" gives 0 "a look at $file entries home" ""
+    DISK_KIB=0 launch "$tree/flexvol" "$file" dump
+    row "a full disk is no matter for a look" gives 0 "a look at $file" ""
     PROGRAM_STATUS=8 launch "$tree/flexvol" "$file" run </dev/null
     row "a status is told in words" gives 8 "" "is damaged"
 }
@@ -363,6 +374,8 @@ test_lock() {
     row "(g) so is a create" ends_at_once 75 "in use by another run"
     launch "$tree/flexvol" "$scratch/link" run </dev/null
     row "(g) also by another name of the file" ends_at_once 75 "in use by another run"
+    launch "$tree/flexvol" "$file" dump
+    row "(g) nor is it looked at meanwhile" ends_at_once 75 "in use by another run"
     launch "$tree/flexvol" "$scratch/other" create 1024
     row "(g) another file isn't locked" ends 0 ""
     kill -9 $waiting
@@ -373,6 +386,13 @@ test_lock() {
     row "(g) and goes with it" waits_for flock -n "$file" true
     launch "$tree/flexvol" "$file" run </dev/null
     row "(g) then a run goes on" ends 0 ""
+    start_waiting "$file" dump
+    launch "$tree/flexvol" "$file" dump blocks
+    row "(g) two looks go on at once" gives 0 "a look at $file blocks" ""
+    launch "$tree/flexvol" "$file" run </dev/null
+    row "(g) and no run beside them" ends_at_once 75 "in use by another run"
+    rm "$scratch/waits"
+    wait $waiting
     start_waiting "$scratch/made" create 1024
     launch "$tree/flexvol" "$scratch/made" create 1024
     row "(g) a file that is being made is locked, too" ends_at_once 75 "in use by another run"
@@ -388,7 +408,8 @@ test_install() {
     launch "$tree/install" "$scratch/prefix"
     row "install copies" ends 0 ""
     row "the programs" cmp -s "$scratch/program" "$scratch/prefix/bin/flexvol"
-    row "both" [ -x "$scratch/prefix/bin/reference" ]
+    row "reference" [ -x "$scratch/prefix/bin/reference" ]
+    row "and dump, as flexvol-dump" [ -x "$scratch/prefix/bin/flexvol-dump" ]
     row "the manual" cmp -s "$top/man/flexvol.1" "$scratch/prefix/share/man/man1/flexvol.1"
     row "of the format, too" cmp -s "$top/man/flexvol.5" "$scratch/prefix/share/man/man5/flexvol.5"
     row "the examples" diff -r "$top/examples" "$scratch/prefix/share/flexvol/examples"

@@ -23,6 +23,7 @@ SYNOPSIS = """\
 .B flexvol \\fIFILE\\fB create \\fIBLOCKS\\fR
 .B flexvol \\fIFILE\\fB run < \\fISCRIPT\\fR
 .B flexvol \\fIFILE\\fB gen \\fISEED COUNT\\fR
+.B flexvol \\fIFILE\\fB dump\\fR [\\fBblocks\\fR | \\fBentries \\fIV\\fR]
 .B reference \\fIBLOCKS\\fB < \\fISCRIPT\\fR
 .B reference gen \\fISEED COUNT\\fR
 .fi

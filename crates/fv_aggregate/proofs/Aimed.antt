@@ -18,7 +18,7 @@ use Rattle.fv_aggregate.specs.declared.fault.Fault.{Fault}
 use Rattle.fv_aggregate.specs.declared.session.Session.{Session}
 use Rattle.fv_aggregate.specs.Aiming.{Aims, AimsAt, IsAimed, IsAimless, IsServed, Suits}
 use Rattle.fv_aggregate.specs.Applying.{HasApplied}
-use Rattle.fv_aggregate.specs.Commands.{has_range, is_built, managed_by, snapped_by}
+use Rattle.fv_aggregate.specs.Commands.{file_room, has_range, is_built, managed_by, room_by, snapped_by}
 use Rattle.fv_aggregate.specs.Managing.{Manages}
 use Rattle.fv_aggregate.specs.Standing.{Stands}
 use Rattle.fv_aggregate.proofs.Applied.{managed_or_unbuilt, no_files}
@@ -28,6 +28,8 @@ use Rattle.fv_aggregate.proofs.Carried.{refused_at_once, refused_missing}
 use Rattle.fv_aggregate.proofs.Looked.{reads_alone}
 use Rattle.fv_aggregate.proofs.Missing.{asked_far, far_change, refused_allows}
 use Rattle.fv_aggregate.proofs.Serving.{look_applied, make_applied, managed_applied, not_none, snap_applied}
+use Rattle.fv_aggregate.proofs.MadeRoom.{refused_roomy}
+use Rattle.fv_aggregate.proofs.SnapLost.{needs_volume}
 use Rattle.fv_aggregate.proofs.SnapApplied.{snap_refused}
 use Rattle.fv_aggregate.proofs.SnapCommands.{snap_cases}
 use Rattle.fv_aggregate.proofs.SnapDone.{refused_snapped}
@@ -109,7 +111,7 @@ module _ {D : Type 0} (shown : D → Shown) (at : D) (laws : IsDisk (shown at)) 
         finds = λ finds near. absurd (true≢false (sym near ∙ far));
       })
   refused_far task.Change name change far = make_applied c name change d at s d at s steps (Ok (Refused Range)) fresh
-      (refused_at_once d laws s fresh stands c Range (λ last m is. far_change m name c change far))
+      (refused_at_once d laws s fresh stands c Range (λ last m is. far_change m name c change far)) (refused_roomy file_room d s d Range)
       (record {
         range = λ far. (refl, (refl, refl));
         missing = λ near none. absurd (true≢false (sym near ∙ far));
@@ -133,7 +135,7 @@ module _ {D : Type 0} (shown : D → Shown) (at : D) (laws : IsDisk (shown at)) 
         finds = λ finds near slot within named. not_none _ s.volumes slot name within named none;
       })
   refused_none task.Change name change near none = make_applied c name change d at s d at s steps (Ok (Refused NoVolume)) fresh
-      (refused_at_once d laws s fresh stands c NoVolume (refused_missing d s fit.housed.long name c none change near))
+      (refused_at_once d laws s fresh stands c NoVolume (refused_missing d s fit.housed.long name c none change near)) (refused_roomy file_room d s d NoVolume)
       (record {
         range = λ far. absurd (true≢false (sym near ∙ far));
         missing = λ near none. (refl, (refl, refl));
@@ -141,7 +143,7 @@ module _ {D : Type 0} (shown : D → Shown) (at : D) (laws : IsDisk (shown at)) 
         finds = λ finds near slot within named. not_none _ s.volumes slot name within named none;
       })
   refused_none task.Snap name of near none = snap_applied c name of shown at s at s steps (Ok (Refused NoVolume)) fresh
-      (refused_snapped d at laws s fresh stands c NoVolume (snap_refused d s fit.housed.long name c none of)) (λ none. refl)
+      (refused_snapped d at laws s fresh stands c NoVolume (snap_refused d s fit.housed.long name c none of)) (λ none. refl) (needs_volume s.volumes name c of none) (refused_roomy (room_by s.volumes c) d s d NoVolume)
 
   -- a command that is refused before a volume is asked leaves all as it was
   pub refused_applied : IsServed c → (r : Refusal) → Aims s.volumes c (Err r) → Refuses r

@@ -1,5 +1,5 @@
 -- Where no consistency point runs no entry of a volume becomes a hole: each stays, or leads to a block that the last root doesn't hold.
-use Rattle.std.proofs.Common.{◌≡◌, ◌≢◌, ◌≤◌, ◌<◌, ◌+◌, ◌⊎◌, ℕ, Bool, false, List, Option, None, inl, inr, true≢false, sym, ap, subst, ◌∙◌, arith, get_or-set_other}
+use Rattle.std.proofs.Common.{◌≡◌, ◌≢◌, ◌≤◌, ◌<◌, ◌+◌, ◌⊎◌, ℕ, Bool, true, false, List, Option, None, inl, inr, true≢false, sym, ap, subst, ◌∙◌, arith, get_or-set_other}
 use Rattle.std.specs.Prelude.{IsSome, nat_le}
 use Rattle.std.proofs.lemmas.Bool.Decides.{nat_tests}
 use Rattle.fv_model.specs.declared.commands.Kind.{Kind}
@@ -41,6 +41,10 @@ no_holes old new keeps s there v = keeps s v
 -- a room that doesn't fit passes the dirty limit
 pub passes_limit : (pending room : ℕ) (fits : Bool) → fits ≡ nat_le (pending + room) 256 → fits ≡ false → 256 < pending + room
 passes_limit pending room fits is none = let full : nat_le (pending + room) 256 ≡ false = sym is ∙ none in grind (arith, nat_tests, full)
+
+-- and it does
+pub keeps_limit : (pending room : ℕ) (fits : Bool) → fits ≡ nat_le (pending + room) 256 → fits ≡ true → pending + room ≤ 256
+keeps_limit pending room fits is some = let within : nat_le (pending + room) 256 ≡ true = sym is ∙ some in grind (arith, nat_tests, within)
 
 -- no room had to be made where room had to be made
 pub never_within : {X : Type 0} (room pending : ℕ) → (room ≡ 0 → ⊥) → 256 < pending + room → (room ≡ 0) ⊎ (pending + room ≤ 256) → X

@@ -37,6 +37,7 @@ mod Having
 mod Resized
 mod Removing
 mod Replaced
+pub mod MadeRoom
 mod Managed
 mod ManagedCalls
 mod Keeping
@@ -48,6 +49,7 @@ mod SnapCommands
 mod SnapCarried
 mod SnapRoom
 mod SnapListed
+mod SnapLost
 mod SnapApplied
 mod SnapFits
 mod SnapNow

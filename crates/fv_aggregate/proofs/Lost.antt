@@ -121,7 +121,7 @@ none_lost (Some x) c active X = active_there X x c active
 -- ---- the volume of a name
 
 -- a name finds one slot
-same_slot : (states : States) (name : List ℕ) (a b : ℕ) → HasName states a name → HasName states b name → a ≡ b
+pub same_slot : (states : States) (name : List ℕ) (a b : ℕ) → HasName states a name → HasName states b name → a ≡ b
 same_slot states name a b one other = ⊎_elim
     (λ (less : a < b). absurd (true≢false (sym one.named ∙ other.first a less)))
     (λ most. ⊎_elim (λ (less : b < a). absurd (true≢false (sym other.named ∙ one.first b less))) (λ least. omega (arith, most, least)) (cases_lt b a))

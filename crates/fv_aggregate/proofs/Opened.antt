@@ -1,5 +1,5 @@
 -- A session that was just opened.
-use Rattle.std.proofs.Common.{◌≡◌, ◌≤◌, ℕ, Bool, List, length, Option, Some, refl, sym, ap, subst, ◌∙◌, inl, inr, arith, Result, Ok, Err, true}
+use Rattle.std.proofs.Common.{◌≡◌, ◌≤◌, ℕ, Bool, List, length, Option, Some, refl, sym, ap, subst, ◌∙◌, inr, arith, Result, Ok, Err, true}
 use Rattle.std.specs.Prelude.{IfOk, IfSome, IsTrue, None, get_or, replicate}
 use Rattle.std.specs.Ordering.{nat_cmp}
 use Rattle.std.specs.FinMap as fin
@@ -19,7 +19,6 @@ use Rattle.fv_root.specs.declared.find.Found.{Found}
 use Rattle.fv_root.specs.Finding.{IsFound, IsInRange, root_found}
 use Rattle.fv_root.specs.Commits.{IsFoundOn}
 use Rattle.fv_store.specs.Held.{StandsOn}
-use Rattle.fv_aggmap.specs.Loading.{IsFault as IsMapFault}
 use Rattle.fv_container.specs.Chains.{slot_count}
 use Rattle.fv_cp.specs.Held.{IsHeld}
 use Rattle.fv_cp.specs.Known.{AreKnown}

@@ -11,7 +11,6 @@ use Rattle.fv_disk.specs.Shown.{Shown}
 use Rattle.fv_model.specs.declared.commands.Command.{Command}
 use Rattle.fv_model.specs.declared.commands.Command.TheVariants.{SnapCreate}
 use Rattle.fv_model.specs.Machines.{Machine}
-use Rattle.fv_model.specs.Numbers.{greatest_span}
 use Rattle.fv_model.specs.Space.{map_blocks}
 use Rattle.fv_model.specs.Spelling.{is_same_name, name_cmp}
 use Rattle.fv_model.specs.Volumes.{Volume}

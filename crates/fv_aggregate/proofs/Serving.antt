@@ -19,19 +19,21 @@ use Rattle.fv_aggregate.specs.declared.fault.Fault.{Fault}
 use Rattle.fv_aggregate.specs.declared.fault.Fault.TheVariants.{Failed, Memory}
 use Rattle.fv_aggregate.specs.declared.session.Session.{Session}
 use Rattle.fv_aggregate.specs.Applying.{HasApplied}
-use Rattle.fv_aggregate.specs.Calls.{Goes, GoesFor, IsPlain, IsUntouched, LacksSnapshot}
+use Rattle.fv_aggregate.specs.Calls.{Goes, GoesFor, IsPlain, IsUntouched, LacksSnapshot, NeedsSnapshot}
 use Rattle.fv_aggregate.specs.Commands.{changed_by, file_room, finds_file, has_range, is_built, is_get, machine_after, managed_by, reads_files, room_by, snapped_by, volume_asked, Replies}
 use Rattle.fv_aggregate.specs.Known.{KeepsNumbers, KeepsNumbersBut, KnowsNamed, KnowsNumbers, MayLose}
 use Rattle.fv_aggregate.specs.Looking.{HasSnapped, Looks, Makes}
 use Rattle.fv_aggregate.specs.Managing.{Manages}
+use Rattle.fv_aggregate.specs.Reclaiming.{MakesRoom}
 use Rattle.fv_aggregate.specs.Standing.{Stands, StandsFor}
 use Rattle.fv_aggregate.proofs.Applied.{fault_plain, no_files, rests_for, rests_for_fault}
 use Rattle.fv_aggregate.proofs.Applying.{look_asks, look_files, look_goes, look_goes_for, look_name, look_no_point, look_refused, look_reply, look_same, make_asks, make_calm, make_entries, make_goes, make_goes_for, make_name, make_no_point, make_reply, make_unasked, make_unchanged, no_step, not_dead, rests_as, same_map}
 use Rattle.fv_aggregate.proofs.Calls.{reads_itself, rests_asks, rests_done, rests_wanting, stays_failed}
-use Rattle.fv_aggregate.proofs.Changing.{change_of_volume, change_reads, look_reads}
+use Rattle.fv_aggregate.proofs.Changing.{change_of_volume, change_reads, change_room, look_reads, look_room}
 use Rattle.fv_aggregate.proofs.Holes.{kept_entries, no_holes}
 use Rattle.fv_aggregate.proofs.Keeping.{keeps_but, keeps_managed, knows_named, may_lose, named_as}
 use Rattle.fv_aggregate.proofs.Managed.{manages_over}
+use Rattle.fv_aggregate.proofs.MadeRoom.{managed_room, none_roomy}
 use Rattle.fv_aggregate.proofs.ManagedCalls.{managed_asks, managed_for, managed_goes, managed_plain}
 use Rattle.fv_aggregate.proofs.SnapApplied.{applied_for, applied_plain, applied_reply}
 use Rattle.fv_aggregate.proofs.SnapCommands.{snap_changes, snap_other, snap_reads}
@@ -51,10 +53,11 @@ not_none X states slot name within named none = absurd (true≢false (sym named.
 
 module _ {D : Type 0} (c : Command) (d : Shown) (at : D) (s : Session) (steps : ℕ) where
   -- a command that reads no file, and is no `cp`
-  rests_applied : (r : Result Reply Fault) → IsNone s.failed → reads_files c ≡ false → c ≢ Cp → Goes (room_by s.volumes c) d s d s r
+  rests_applied : (r : Result Reply Fault) → IsNone s.failed → reads_files c ≡ false → c ≢ Cp → room_by s.volumes c ≡ 0 → Goes (room_by s.volumes c) d s d s r
       → (IsTrue d.tells → (last m : Machine) → StandsFor d s last m → GoesFor d last m (machine_after m c) d s r) → (IsTrue d.tells → (last m : Machine) → StandsFor d s last m → IfOk r (Replies m c)) → IsPlain c d at s d at s r
       → HasApplied c d at s steps d at s steps r
-  rests_applied r fresh reads other goes goes_for reply plain = record {
+  rests_applied r fresh reads other none goes goes_for reply plain = record {
+    roomy = none_roomy (room_by s.volumes c) d s d r none;
     goes = goes;
     asks = λ none. rests_asks (room_by s.volumes c) d s;
     goes_for = goes_for;
@@ -73,15 +76,15 @@ module _ {D : Type 0} (c : Command) (d : Shown) (at : D) (s : Session) (steps : 
   }
 
   -- one that is answered, which leaves the machine,
-  pub rests_answers : IsDisk d → (y : Reply) → IsNone s.failed → Stands d s → reads_files c ≡ false → c ≢ Cp → ((m : Machine) → machine_after m c ≡ m)
+  pub rests_answers : IsDisk d → (y : Reply) → IsNone s.failed → Stands d s → reads_files c ≡ false → c ≢ Cp → room_by s.volumes c ≡ 0 → ((m : Machine) → machine_after m c ≡ m)
       → (IsTrue d.tells → (last m : Machine) → StandsFor d s last m → Replies m c y) → IsPlain c d at s d at s (Ok y) → HasApplied c d at s steps d at s steps (Ok y)
-  rests_answers laws y fresh stands reads other after replies plain =
-      rests_applied (Ok y) fresh reads other (rests_done y (room_by s.volumes c) d s fresh stands) (λ tells last m held. rests_for y d s last m (machine_after m c) laws (after m) held) replies plain
+  rests_answers laws y fresh stands reads other none after replies plain =
+      rests_applied (Ok y) fresh reads other none (rests_done y (room_by s.volumes c) d s fresh stands) (λ tells last m held. rests_for y d s last m (machine_after m c) laws (after m) held) replies plain
 
   -- and one for which memory lacks
-  pub rests_lacks : IsDisk d → IsNone s.failed → Stands d s → reads_files c ≡ false → c ≢ Cp → IsPlain c d at s d at s (Err Memory) → (r : Result Reply Fault) → r ≡ Err Memory → HasApplied c d at s steps d at s steps r
-  rests_lacks laws fresh stands reads other plain r is =
-      subst (HasApplied c d at s steps d at s steps) (sym is) (rests_applied (Err Memory) fresh reads other (rests_wanting (room_by s.volumes c) d s fresh stands)
+  pub rests_lacks : IsDisk d → IsNone s.failed → Stands d s → reads_files c ≡ false → c ≢ Cp → room_by s.volumes c ≡ 0 → IsPlain c d at s d at s (Err Memory) → (r : Result Reply Fault) → r ≡ Err Memory → HasApplied c d at s steps d at s steps r
+  rests_lacks laws fresh stands reads other none plain r is =
+      subst (HasApplied c d at s steps d at s steps) (sym is) (rests_applied (Err Memory) fresh reads other none (rests_wanting (room_by s.volumes c) d s fresh stands)
       (λ tells last m held. rests_for_fault Memory d s last m (machine_after m c) laws tt held) (λ tells last m held. tt) plain)
 
   -- a session that has failed
@@ -104,6 +107,7 @@ module _ {D : Type 0} (c : Command) (d : Shown) (at : D) (s : Session) (steps : 
     };
     point = λ tells last m stands cp. tt;
     sides = λ tells last m stands cp. resting d s.pool s.volumes last laws stands.held;
+    roomy = λ tells last m stands some past. tt;
     calm = λ other few. reads_itself d;
     entries = λ other few stays. no_holes s s (kept_entries s s refl);
     files = λ tells none without. tt;
@@ -131,6 +135,7 @@ managed_applied c d laws at old fit fresh stands steps new reply either manages 
       on_files = λ files. absurd (true≢false (sym files ∙ reads));
       point = λ tells last m held cp. absurd (no_point cp);
       sides = λ tells last m held cp. absurd (no_point cp);
+      roomy = none_roomy (room_by old.volumes c) d old d (Ok reply) (managed_room _ c either);
       calm = λ other few. reads_itself d;
       entries = λ other few stays. no_holes old new (kept_entries old new (over.containers stays));
       files = λ tells none without. over.files without;
@@ -186,6 +191,7 @@ look_applied c name asks d at s start e left n steps r fresh looks beside = reco
   };
   point = λ tells last m stands cp. look_no_point c name asks d s e n r looks _ cp;
   sides = λ tells last m stands cp. look_no_point c name asks d s e n r looks _ cp;
+  roomy = none_roomy (room_by s.volumes c) d s e r (look_room c name asks s.volumes);
   calm = λ other few. looks.only_reads;
   entries = λ other few stays. no_holes s n looks.entries;
   files = λ tells none without. look_files c name asks d s e n r looks without;
@@ -204,8 +210,9 @@ pub record MakesBeside {D : Type 0} (c : Command) (name : List ℕ) (at : D) (s 
   pub finds : finds_file c ≡ true → has_range c ≡ true → OnOk r (KnowsNamed s.volumes name n.volumes)
 
 pub make_applied : {D : Type 0} (c : Command) (name : List ℕ) → changed_by c ≡ Some name → (d : Shown) (at : D) (s : Session) (e : Shown) (left : D) (n : Session) (steps : ℕ) (r : Result Reply Fault)
-    → IsNone s.failed → Makes file_room d s c e n r → MakesBeside c name at s left n r → HasApplied c d at s steps e left n steps r
-make_applied c name of d at s e left n steps r fresh makes beside = record {
+    → IsNone s.failed → Makes file_room d s c e n r → MakesRoom file_room d s e r → MakesBeside c name at s left n r → HasApplied c d at s steps e left n steps r
+make_applied c name of d at s e left n steps r fresh makes roomy beside = record {
+  roomy = subst (λ (k : ℕ). MakesRoom k d s e r) (sym (change_room name c (change_of_volume name c of) s.volumes)) roomy;
   goes = make_goes c name of d s e n r makes;
   asks = make_asks c name of d s e n r makes;
   goes_for = make_goes_for c name of d s e n r makes;
@@ -234,13 +241,14 @@ make_applied c name of d at s e left n steps r fresh makes beside = record {
 -- ---- a command on snapshots
 
 pub snap_applied : {D : Type 0} (c : Command) (name : List ℕ) → snapped_by c ≡ Some name → (shown : D → Shown) (at : D) (s : Session) (left : D) (n : Session) (steps : ℕ) (r : Result Reply Fault)
-    → IsNone s.failed → HasSnapped (shown at) at s c (shown left) left n r → (NoneHasName s.volumes name → r ≡ Ok (Refused NoVolume)) → HasApplied c (shown at) at s steps (shown left) left n steps r
-snap_applied c name of shown at s left n steps r fresh did missing = record {
+    → IsNone s.failed → HasSnapped (shown at) at s c (shown left) left n r → (NoneHasName s.volumes name → r ≡ Ok (Refused NoVolume)) → NeedsSnapshot s.volumes c r → MakesRoom (room_by s.volumes c) (shown at) s (shown left) r → HasApplied c (shown at) at s steps (shown left) left n steps r
+snap_applied c name of shown at s left n steps r fresh did missing needs roomy = record {
+  roomy = roomy;
   goes = did.makes.goes;
   asks = λ none. absurd (true≢false (sym (snap_changes name c of) ∙ none));
   goes_for = applied_for c name of (shown at) at s (shown left) left n r did;
   reply = applied_reply c name of (shown at) at s (shown left) left n r did;
-  plain = λ plain. applied_plain c name of (shown at) at s (shown left) left n r did missing;
+  plain = λ plain. applied_plain c name of (shown at) at s (shown left) left n r did missing needs;
   on_files = λ files. absurd (true≢false (sym files ∙ snap_reads name c of));
   point = λ tells last m stands cp. absurd (snap_other name c of Cp refl cp);
   sides = λ tells last m stands cp. absurd (snap_other name c of Cp refl cp);

@@ -1,5 +1,5 @@
 -- The commands that make, remove or restore a snapshot, as `apply` has them.
-use Rattle.std.proofs.Common.{◌≡◌, ◌<◌, ℕ, true, length, List, Option, Some, None, Result, Ok, Err, true≢false, refl, sym, ap, subst, ◌∙◌}
+use Rattle.std.proofs.Common.{◌≡◌, ◌<◌, ℕ, length, List, Option, Some, None, Result, Ok, Err, true≢false, refl, sym, ap, subst, ◌∙◌}
 use Rattle.std.specs.Prelude.{IfErr, IfOk, IsTrue}
 use Rattle.std.specs.FinMap as fin
 use Rattle.fv_disk.specs.Shown.{Shown}
@@ -10,12 +10,12 @@ use Rattle.fv_model.specs.declared.commands.Command.{Command}
 use Rattle.fv_model.specs.declared.commands.Command.TheVariants.{Cp, SnapList, VolList}
 use Rattle.fv_model.specs.Machines.{Machine}
 use Rattle.fv_model.specs.Refusals.{refusal}
-use Rattle.fv_volume.specs.Slots.{is_named, HasName, NoneHasName}
+use Rattle.fv_volume.specs.Slots.{HasName, NoneHasName}
 use Rattle.fv_volume.specs.States.{state_at, States}
 use Rattle.fv_aggregate.specs.declared.fault.Fault.{Fault}
 use Rattle.fv_aggregate.specs.declared.fault.Fault.TheVariants.{Memory}
 use Rattle.fv_aggregate.specs.declared.session.Session.{Session}
-use Rattle.fv_aggregate.specs.Calls.{GoesFor, IsPlain}
+use Rattle.fv_aggregate.specs.Calls.{GoesFor, IsPlain, NeedsSnapshot}
 use Rattle.fv_aggregate.specs.Commands.{machine_after, snapped_by, Replies}
 use Rattle.fv_aggregate.specs.Looking.{HasSnapped, IsSnapAimed}
 use Rattle.fv_aggregate.specs.Standing.{StandsFor}
@@ -54,8 +54,8 @@ module _ {D : Type 0} (c : Command) (v : List ℕ) (of : snapped_by c ≡ Some v
   sure_memory (Ok y) never = tt
   sure_memory (Err f) never = absurd never
 
-  pub applied_plain : (NoneHasName s.volumes v → r ≡ Ok (Refused NoVolume)) → IsPlain c d disk s e left n r
-  applied_plain missing = record {
+  pub applied_plain : (NoneHasName s.volumes v → r ≡ Ok (Refused NoVolume)) → NeedsSnapshot s.volumes c r → IsPlain c d disk s e left n r
+  applied_plain missing needs = record {
     refused = did.refused;
     calm = λ other few. did.calm few;
     map = λ other stays none few. did.map none;
@@ -67,6 +67,6 @@ module _ {D : Type 0} (c : Command) (v : List ℕ) (of : snapped_by c ≡ Some v
     pointed = λ cp. absurd (snap_other v c of Cp refl cp);
     memory = λ cp. absurd (snap_other v c of Cp refl cp);
     managed = λ fresh name whole. absurd (none_some name (sym (snap_whole v c of) ∙ whole));
-    snapped = λ fresh name its none. missing (subst (NoneHasName s.volumes) (same_names name v (sym its ∙ of)) none);
+    snapped = λ fresh name its. record { missing = λ none. missing (subst (NoneHasName s.volumes) (same_names name v (sym its ∙ of)) none); needs = needs };
     snapshots = λ fresh name list. absurd (snap_other v c of (SnapList name) refl list);
   }

@@ -13,7 +13,7 @@ use Rattle.fv_model.specs.Replies.{Allows}
 use Rattle.fv_image.specs.Views.{slots}
 use Rattle.fv_volume.specs.declared.state.VolumeState.{VolumeState}
 use Rattle.fv_volume.specs.States.{state_at, States}
-use Rattle.fv_aggregate.specs.Commands.{changes_volume, is_built, machine_after, managed_by, reads_files, map_among, map_at, most_room, removes_volume, room_by, room_with, snapped_by, Replies, RepliesBy}
+use Rattle.fv_aggregate.specs.Commands.{changes_volume, is_built, machine_after, managed_by, reads_files, map_among, map_at, most_room, room_by, room_with, snapped_by, Replies, RepliesBy}
 use Rattle.fv_aggregate.specs.Looking.{IsSnapAimed}
 use Rattle.fv_aggregate.specs.Snapping.{snap_blocks}
 use Rattle.fv_aggregate.proofs.Rooms.{map_there}

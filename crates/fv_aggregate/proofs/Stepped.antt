@@ -28,7 +28,7 @@ use Rattle.fv_volume.specs.Writing.{map_wait}
 use Rattle.fv_volumes.proofs.Told.{ledger_commit}
 use Rattle.fv_cp.specs.Held.{machine_held, IsHeld, IsHeldIn}
 use Rattle.fv_cp.specs.Lent.{maps_waiting, waiting_by, FitTogether}
-use Rattle.fv_cp.specs.Placing.{pending_by, pending_files, AreReady, HaveNoFiles, HasNoFiles, IsReadyIn}
+use Rattle.fv_cp.specs.Placing.{pending_by, pending_files, AreReady, IsReadyIn}
 use Rattle.fv_aggregate.specs.Standing.{overhead_by, overheads_in}
 use Rattle.fv_aggregate.proofs.Becoming.{machine_becomes}
 use Rattle.fv_aggregate.proofs.Calls.{reads_itself}

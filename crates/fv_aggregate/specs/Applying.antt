@@ -13,7 +13,7 @@ use Rattle.fv_aggregate.specs.declared.session.Session.{Session}
 use Rattle.fv_aggregate.specs.Calls.{CountsSteps, Goes, GoesFor, IsOnFiles, IsPlain, IsWithinLimit, KeepsAsking, MakesNoHoles}
 use Rattle.fv_aggregate.specs.Commands.{changed_by, changes_volume, machine_after, places_files, reads_files, removes_volume, room_by, Replies}
 use Rattle.fv_aggregate.specs.Known.{KeepsNumbersBut, MayLose}
-use Rattle.fv_aggregate.specs.Reclaiming.{HasPointed}
+use Rattle.fv_aggregate.specs.Reclaiming.{HasPointed, MakesRoom}
 use Rattle.fv_aggregate.specs.Standing.{HoldsAsCommitted, IsWithoutFiles, StandsFor}
 
 -- A command was applied, or not. Whatever the disk holds: what every call does (`goes`), and what a command that reads files does beside
@@ -33,6 +33,8 @@ pub record HasApplied {D : Type 0} (command : Command) (shown : Shown) (before :
       → OnOk result (HasPointed 0 old shown_after new m)
   pub sides : IsTrue shown.tells → (last m : Machine) → StandsFor shown old last m → command ≡ Cp
       → Leaves shown shown_after (OldOrHeld shown old.pool old.volumes last)
+  -- a point that makes room for a command is one, too, for its room
+  pub roomy : MakesRoom (room_by old.volumes command) shown old shown_after result
   -- with room within the dirty limit each other one writes nothing, and makes no entry of a volume that stays a hole
   pub calm : command ≢ Cp → IsWithinLimit old command → OnlyReads shown shown_after
   pub entries : command ≢ Cp → IsWithinLimit old command → removes_volume command ≡ false → MakesNoHoles old new

@@ -13,7 +13,7 @@ use Rattle.fv_model.specs.Machines.{Machine}
 use Rattle.fv_image.specs.Layout.{root_place}
 use Rattle.fv_aggmap.specs.Space.{free_blocks}
 use Rattle.fv_container.specs.Chains.{container_at, own_entry, slot_count}
-use Rattle.fv_volume.specs.Asking.{table_named}
+use Rattle.fv_volume.specs.Asking.{snap_named, table_named}
 use Rattle.fv_pool.specs.BlocksOver.{LeavesPool}
 use Rattle.fv_volume.specs.declared.state.VolumeState.{VolumeState}
 use Rattle.fv_volume.specs.Slots.{HasName, NoneHasName}
@@ -27,7 +27,7 @@ use Rattle.fv_aggregate.specs.declared.session.Session.{Session}
 use Rattle.fv_aggregate.specs.Adding.{IsPointed}
 use Rattle.fv_aggregate.specs.Asking.{AsksWithin, IsShort}
 use Rattle.fv_aggregate.specs.Causes.{KeepsEnds}
-use Rattle.fv_aggregate.specs.Commands.{changed_by, dirty_limit, finds_file, has_range, is_built, is_get, is_refusal, managed_by, places_files, removes_volume, room_by, snapped_by, snapshot_asked, volume_asked}
+use Rattle.fv_aggregate.specs.Commands.{changed_by, dirty_limit, finds_file, has_range, is_built, is_get, is_refusal, managed_by, places_files, removes_volume, room_by, snapped_by, snapshot_asked, snapshot_needed, volume_asked}
 use Rattle.fv_aggregate.specs.Known.{KeepsNumbers, KnowsNamed}
 use Rattle.fv_aggregate.specs.Managing.{IsManaged}
 use Rattle.fv_aggregate.specs.Standing.{taken_since, HoldsAsCommitted, IsWithoutFiles, OneOf, Stands, StandsAfter, StandsFor}
@@ -203,12 +203,31 @@ TellsSnapshots session name reply =
     (NoneHasName session.volumes name × (reply ≡ Refused NoVolume))
     ⊎ ((slot : ℕ) × ((slot < slot_count) × (HasName session.volumes slot name × IfSome (state_at session.volumes slot) (λ x. reply ≡ Names (names_kept x.snapshots)))))
 
+-- the volume of a name is there, and has no snapshot of this name
+pub record LacksKept (states : States) (name snapshot : List ℕ) : Type 0 where
+  pub slot : ℕ
+  pub within : slot < slot_count
+  pub named : HasName states slot name
+  pub state : VolumeState
+  pub there : state_at states slot ≡ Some state
+  pub none : snap_named state.snapshots snapshot ≡ None
+
+-- A command that removes or restores a snapshot is refused for want of it exactly where its volume lacks that snapshot.
+pub record NeedsSnapshot (states : States) (command : Command) (result : Result Reply Fault) : Type 0 where
+  pub lost : (name snapshot : List ℕ) → snapshot_needed command ≡ Some (name, snapshot) → LacksKept states name snapshot → result ≡ Ok (Refused NoSnapshot)
+  pub only : (name snapshot : List ℕ) → snapshot_needed command ≡ Some (name, snapshot) → result ≡ Ok (Refused NoSnapshot) → LacksKept states name snapshot
+
+-- A command that makes, removes or restores a snapshot of the volume of a name is refused without the volume, and without the snapshot that it needs.
+pub record FindsVolume (states : States) (command : Command) (name : List ℕ) (result : Result Reply Fault) : Type 0 where
+  pub missing : NoneHasName states name → result ≡ Ok (Refused NoVolume)
+  pub needs : NeedsSnapshot states command result
+
 -- What a command that reads no file does beside, whatever the disk holds. Refused it leaves all as it was, and one that isn't built is refused as no
 -- command. One that adds no block, or whose room stays within the dirty limit, doesn't reach the disk, but for a `cp`; and then it leaves the session
 -- where memory ran out, and takes no block and gives none back, but for a removal and for one that places files. `vol list` answers the names of the
 -- session's volumes, and `snap list` those of a volume's snapshots, and both leave all as it was. A `cp` that is done leaves nothing pending and no
 -- file in memory; where none was there it has no want of memory. Damage comes for want of blocks alone. A command on a whole volume is answered,
--- without a fault.
+-- without a fault. One on snapshots is refused without its volume, and one that removes or restores a snapshot exactly where that isn't there.
 pub record IsPlain {D : Type 0} (command : Command) (shown : Shown) (before : D) (old : Session) (shown_after : Shown) (after : D) (new : Session) (result : Result Reply Fault) : Type 0 where
   pub refused : IfOk result (λ reply. IsTrue (is_refusal reply) → IsUntouched before old after new)
   pub calm : command ≢ Cp → IsWithinLimit old command → after ≡ before
@@ -221,7 +240,7 @@ pub record IsPlain {D : Type 0} (command : Command) (shown : Shown) (before : D)
   pub pointed : command ≡ Cp → OnOk result (IsPointed shown old new)
   pub memory : command ≡ Cp → HaveNoFiles old.volumes → IfErr result (λ e. e ≢ Memory)
   pub managed : IsNone old.failed → (name : List ℕ) → managed_by command ≡ Some name → IsAnswered old command name new result
-  pub snapped : IsNone old.failed → (name : List ℕ) → snapped_by command ≡ Some name → NoneHasName old.volumes name → result ≡ Ok (Refused NoVolume)
+  pub snapped : IsNone old.failed → (name : List ℕ) → snapped_by command ≡ Some name → FindsVolume old.volumes command name result
   pub snapshots : IsNone old.failed → (name : List ℕ) → command ≡ SnapList name → IsUntouched before old after new × IfOk result (TellsSnapshots old name)
 
 -- the volume of a name hasn't the snapshot that a command asks

@@ -74,6 +74,12 @@ snapped_by (SnapDelete volume snapshot) = Some volume
 snapped_by (SnapRestore volume snapshot) = Some volume
 snapped_by command = None
 
+-- the volume and the snapshot of it that a command removes, or makes the active table
+abbrev pub snapshot_needed : Command → Option (List ℕ × List ℕ)
+snapshot_needed (SnapDelete volume snapshot) = Some (volume, snapshot)
+snapshot_needed (SnapRestore volume snapshot) = Some (volume, snapshot)
+snapshot_needed command = None
+
 -- whether a command places what changed of a volume's files, for which it takes blocks and numbers
 abbrev pub places_files : Command → Bool
 places_files (SnapCreate volume snapshot) = true

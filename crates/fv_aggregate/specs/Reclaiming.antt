@@ -1,9 +1,10 @@
 -- What a consistency point makes of the entries of a session's volumes, as the image shows them.
-use Rattle.std.specs.Prelude.{◌≡◌, ◌≢◌, ◌<◌, ◌&&◌, ℕ, Bool, true, false, List, Option, Some, None, Result, OnOk, IfErr, IsTrue, if◌then◌else◌}
+use Rattle.std.specs.Prelude.{◌≡◌, ◌≢◌, ◌<◌, ◌+◌, ◌&&◌, ℕ, Bool, true, false, List, Option, Some, None, Result, OnOk, IfErr, IfOk, IsTrue, if◌then◌else◌}
 use Rattle.std.specs.Option.{option_map}
 use Rattle.std.specs.FinMap as fin
 use Rattle.fv_disk.specs.Shown.{Shown}
 use Rattle.fv_bits.specs.Members.{is_member}
+use Rattle.fv_model.specs.declared.answers.Reply.{Reply}
 use Rattle.fv_model.specs.Machines.{Machine}
 use Rattle.fv_image.specs.Held.{view_at}
 use Rattle.fv_image.specs.Views.{Placed}
@@ -14,6 +15,7 @@ use Rattle.fv_container.specs.Mapped.{Mapped, entry_under}
 use Rattle.fv_delay.specs.declared.regions.Region.{Region}
 use Rattle.fv_delay.specs.Holding.{has_region}
 use Rattle.fv_delay.specs.Reclaims.{goes_with}
+use Rattle.fv_pool.specs.BlocksOver.{LeavesPool}
 use Rattle.fv_pool.specs.declared.pool.Pool.{Pool}
 use Rattle.fv_volume.specs.declared.state.VolumeState.{VolumeState}
 use Rattle.fv_volume.specs.States.{States, placed_in, state_at}
@@ -27,6 +29,8 @@ use Rattle.fv_aggregate.specs.declared.fault.Fault.{Fault}
 use Rattle.fv_aggregate.specs.declared.fault.Fault.TheVariants.{Memory}
 use Rattle.fv_aggregate.specs.declared.session.Session.{Session}
 use Rattle.fv_aggregate.specs.Adding.{IsPointed}
+use Rattle.fv_aggregate.specs.Calls.{SameButNumbers}
+use Rattle.fv_aggregate.specs.Commands.{dirty_limit, is_refusal}
 use Rattle.fv_aggregate.specs.Standing.{StandsFor}
 
 -- the entry under a VVBN of the volume of a slot, as an image shows it under the root of a session
@@ -73,6 +77,21 @@ pub record HasPointed (want : ℕ) (old : Session) (after : Shown) (new : Sessio
   pub stands : StandsFor after new m m
   pub room : LeavesRoom (view_at (root_found new.pool.found) after.reads) want
   pub entries : ReclaimsEntries want old after new
+
+-- A point made room for a command. What the command read before it changed the cache and the numbers of files in memory alone, so that the session
+-- was `first` then. Of that the point left what a point leaves, for the room of the command, and the session `mid`, on which the command was
+-- carried out.
+pub record HasMadeRoom (room : ℕ) (old : Session) (after : Shown) (m : Machine) : Type 0 where
+  pub first : Session
+  pub read : LeavesPool old.pool first.pool
+  pub same : SameButNumbers old.volumes first.volumes
+  pub mid : Session
+  pub pointed : HasPointed room first after mid m
+
+-- So it is where the room of a command that isn't refused passes the dirty limit with what is pending, and the session stands for a machine.
+abbrev pub MakesRoom : ℕ → Shown → Session → Shown → Result Reply Fault → Type 0
+MakesRoom room before old after result = IsTrue before.tells → (last m : Machine) → StandsFor before old last m → room ≢ 0 → dirty_limit < old.pending + room
+    → IfOk result (λ reply. is_refusal reply ≡ false → HasMadeRoom room old after m)
 
 -- A consistency point ran for an event of this room, or not. Without a file in memory no memory lacks. Done, it is what is said of one;
 -- and each image on its way is of one side of it.

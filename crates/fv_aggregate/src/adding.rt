@@ -14,6 +14,7 @@ ghost use Rattle.fv_aggregate.specs.Adding.{IsAdded};
 ghost use Rattle.fv_aggregate.specs.Answers.{answer};
 ghost use Rattle.fv_aggregate.specs.Calls.{KeepsHolding, MakesNoHoles, Runs};
 ghost use Rattle.fv_aggregate.specs.Commands.{dirty_limit, is_refusal, most_overhead};
+ghost use Rattle.fv_aggregate.specs.Reclaiming.{MakesRoom};
 ghost use Rattle.fv_aggregate.specs.Standing.{Stands, StandsFor};
 
 use crate::fault::Fault;
@@ -47,6 +48,7 @@ impl Session {
         ensures entries { self.old.pending + overhead (span_of size 0 0) ≤ dirty_limit → MakesNoHoles self.old self.new }
         ensures holding { KeepsHolding (D.shown disk.old) self.old self.new (answer into.new result) }
         ensures wanting { self.old.pending + overhead (span_of size 0 0) ≤ dirty_limit → IfErr (answer into.new result) (λ e. e ≡ Memory → self.new ≡ self.old) }
+        ensures roomy { MakesRoom (overhead (span_of size 0 0)) (D.shown disk.old) self.old (D.shown disk.new) (answer into.new result) }
     {
         match self.volumes.admit(self.pool.found.blocks, name, size, kind) {
             Ok(admitted) => return self.make(disk, name, size, kind, admitted, into),
@@ -79,6 +81,7 @@ impl Session {
         ensures entries { self.old.pending + overhead admitted.span ≤ dirty_limit → MakesNoHoles self.old self.new }
         ensures holding { KeepsHolding (D.shown disk.old) self.old self.new (answer into.new result) }
         ensures wanting { self.old.pending + overhead admitted.span ≤ dirty_limit → IfErr (answer into.new result) (λ e. e ≡ Memory → self.new ≡ self.old) }
+        ensures roomy { MakesRoom (overhead admitted.span) (D.shown disk.old) self.old (D.shown disk.new) (answer into.new result) }
     {
         let room = u64::from(overhead(admitted.span()));
         self.make_room(disk, room)?;

@@ -9,6 +9,7 @@ ghost use Rattle.fv_aggregate.specs.Answers.{answer};
 ghost use Rattle.fv_aggregate.specs.Commands.{dirty_limit, file_room, finds_file};
 ghost use Rattle.fv_aggregate.specs.Known.{KeepsNumbersBut, KnowsNumbers};
 ghost use Rattle.fv_aggregate.specs.Looking.{HasJudged, IsChangeAt, Makes, refusal_in};
+ghost use Rattle.fv_aggregate.specs.Reclaiming.{MakesRoom};
 ghost use Rattle.fv_aggregate.specs.Standing.{Stands};
 
 use crate::aiming::volume_at;
@@ -34,6 +35,7 @@ impl Session {
         requires stands { Stands (D.shown disk.old) self.old }
         requires aimed { IsChangeAt self.old.volumes slot command.now }
         ensures makes { Makes file_room (D.shown disk.old) self.old command.now (D.shown disk.new) self.new (answer into.new result) }
+        ensures roomy { MakesRoom file_room (D.shown disk.old) self.old (D.shown disk.new) (answer into.new result) }
         ensures kept { IsNone self.new.failed → KeepsNumbersBut (λ s. (s ≡ slot) × (keeps_numbers command.now ≡ false)) self.old.volumes self.new.volumes }
         ensures finds { finds_file command.now ≡ true → OnOk (answer into.new result) (KnowsNumbers (state_at self.new.volumes slot)) }
     {
@@ -54,6 +56,7 @@ impl Session {
         requires stands { Stands (D.shown disk.old) self.old }
         requires aimed { IsChangeAt self.old.volumes slot command.now }
         ensures makes { Makes file_room (D.shown disk.old) self.old command.now (D.shown disk.new) self.new (answer into.new result) }
+        ensures roomy { MakesRoom file_room (D.shown disk.old) self.old (D.shown disk.new) (answer into.new result) }
         ensures kept { IsNone self.new.failed → KeepsNumbersBut (λ s. (s ≡ slot) × (keeps_numbers command.now ≡ false)) self.old.volumes self.new.volumes }
     {
         if self.has_room(FILE_ROOM) {

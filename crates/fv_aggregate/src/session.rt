@@ -108,10 +108,10 @@ impl Session {
     /// image that stands for a machine it never comes; over another one contracts tell its reason for commands that read no files, and
     /// without a file in memory. After these, and after a read that failed, the session goes on and stands for the machine of before.
     ///
-    /// Costs a step for each slot, and memory for the names in `vol list`. A command on files costs what the call of `VolumeState` does, and
-    /// one that changes them a step for each node in memory, too. The first one that names a file of a volume costs a block for each inode
-    /// block and each node over them, and the session then holds each name with its number, and each free number below the greatest that
-    /// is taken; a later one finds its file by these, and costs nothing for the others, unless memory lacked when a file was made or removed.
+    /// Costs a step for each slot, and memory for the names in `vol list`. A command on files costs what the call of `VolumeState` does.
+    /// The first one that names a file of a volume costs a block for each inode block and each node over them, and the session
+    /// then holds each name with its number, and each free number below the greatest that is taken; a later one finds its file by
+    /// these, and costs nothing for the others, unless memory lacked when a file was made or removed.
     /// Where room has to be made the command is judged first, which costs its reads twice, from the cache where they fit there. `vol create`
     /// costs a step for each VVBN of the new volume, and holds an entry for each. `vol stat`, `vol resize` and `vol guarantee` take no memory
     /// and walk nothing but the slots; `vol destroy` takes none, either, and costs a step for each entry and each node of the volume's

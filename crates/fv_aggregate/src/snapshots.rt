@@ -12,9 +12,10 @@ ghost use Rattle.fv_volume.specs.Slots.{committed_by, sum_of};
 ghost use Rattle.fv_volume.specs.States.{state_at};
 ghost use Rattle.fv_aggregate.specs.declared.fault.Fault.TheVariants.{Memory};
 ghost use Rattle.fv_aggregate.specs.Answers.{answer};
-ghost use Rattle.fv_aggregate.specs.Calls.{TellsSnapshots};
-ghost use Rattle.fv_aggregate.specs.Commands.{dirty_limit, is_refusal, snapped_by};
+ghost use Rattle.fv_aggregate.specs.Calls.{NeedsSnapshot, TellsSnapshots};
+ghost use Rattle.fv_aggregate.specs.Commands.{dirty_limit, is_refusal, room_by, snapped_by};
 ghost use Rattle.fv_aggregate.specs.Looking.{HasSnapped, IsSnapAimed, SnapsState};
+ghost use Rattle.fv_aggregate.specs.Reclaiming.{MakesRoom};
 ghost use Rattle.fv_aggregate.specs.Snapping.{HasGrant, JudgesSnap};
 ghost use Rattle.fv_aggregate.specs.Standing.{Stands};
 
@@ -45,6 +46,8 @@ impl Session {
         requires stands { Stands (D.shown disk.old) self.old }
         requires aimed { IsSnapAimed self.old.volumes slot command.now }
         ensures snapped { HasSnapped (D.shown disk.old) disk.old self.old command.now (D.shown disk.new) disk.new self.new (answer into.new result) }
+        ensures roomy { MakesRoom (room_by self.old.volumes command.now) (D.shown disk.old) self.old (D.shown disk.new) (answer into.new result) }
+        ensures needs { NeedsSnapshot self.old.volumes command.now (answer into.new result) }
     {
         let others = self.volumes.commits_beside(slot);
         let state = volume_in(&self.volumes, slot);
@@ -74,6 +77,8 @@ impl Session {
         requires most { others ≤ 2 ^ 62 }
         requires granted { HasGrant (state_at self.old.volumes slot) self.old.pool.found.blocks others command.now granted }
         ensures snapped { HasSnapped (D.shown disk.old) disk.old self.old command.now (D.shown disk.new) disk.new self.new (answer into.new result) }
+        ensures roomy { MakesRoom (room_by self.old.volumes command.now) (D.shown disk.old) self.old (D.shown disk.new) (answer into.new result) }
+        ensures needs { NeedsSnapshot self.old.volumes command.now (answer into.new result) }
     {
         if granted.room == 0 || self.has_room(granted.room) {
             return self.snap_now(disk, slot, others, granted, command, into);
@@ -102,6 +107,7 @@ impl Session {
         ensures snapped { HasSnapped (D.shown disk.now) disk.now self.old command.now (D.shown disk.now) disk.now self.new (answer into.new result) }
         ensures placed { HaveNoFiles self.old.volumes → IfErr (answer into.new result) (λ e. e ≡ Memory) }
         ensures accepted { granted.room ≢ 0 → IfOk (answer into.new result) (λ reply. is_refusal reply ≡ false) }
+        ensures needs { NeedsSnapshot self.old.volumes command.now (answer into.new result) }
     {
         let state = volume_at(&mut self.volumes, slot);
         let made = change_snaps(state, &mut self.pool, disk, others, granted, command);

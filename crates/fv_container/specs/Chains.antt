@@ -1,5 +1,5 @@
 -- Containers by volume slot, and the first entry along a chain of parents.
-use Rattle.std.specs.Prelude.{◌≡◌, ◌<◌, ℕ, zero, suc, List, length, replicate, slice_set, slice_index_or, All, ◌==◌, ◌&&◌, not, cond, Option, Some, None, IfSome}
+use Rattle.std.specs.Prelude.{◌≡◌, ◌<◌, ℕ, zero, suc, List, length, replicate, slice_set, slice_index_or, All, Option, Some, None, IfSome}
 use Rattle.fv_container.specs.declared.entry.Entry.{Entry}
 use Rattle.fv_container.specs.Mapped.{Mapped, entry_under}
 
@@ -56,8 +56,3 @@ along slots (suc more) (Some slot) v = or_else (own_entry (container_at slots sl
 -- the first entry along the chain of a slot, which is at most 64 volumes
 abbrev pub chain_entry : Slots → ℕ → ℕ → Option Entry
 chain_entry slots slot v = along slots slot_count (Some slot) v
-
--- the entry whose PVBN a pointer tells; one that tells 0 tells none
-unfoldable pub told_entry : Option Entry → ℕ → Option Entry
-told_entry None hint = None
-told_entry (Some entry) hint = cond (not (hint == 0) && entry.pvbn == hint) (Some entry) None

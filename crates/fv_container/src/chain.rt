@@ -7,7 +7,7 @@ ghost use Rattle.fv_disk.specs.DiskCalls.{OnlyReads};
 ghost use Rattle.fv_disk.specs.Faults.{HasBlockCause};
 ghost use Rattle.fv_disk.specs.declared.fault.BlockFault.TheVariants.{DiskFault};
 ghost use Rattle.fv_container.specs.Mapped.{IsHeld};
-ghost use Rattle.fv_container.specs.Chains.{IsSlots, along, chain_entry, container_at, no_containers, own_entry, parent_at, slot_count, told_entry, with_container, with_parent};
+ghost use Rattle.fv_container.specs.Chains.{IsSlots, along, chain_entry, container_at, no_containers, own_entry, parent_at, slot_count, with_container, with_parent};
 
 use crate::container::Container;
 use crate::entry::Entry;
@@ -135,23 +135,10 @@ impl Containers {
         Ok(self.first_entry(slot, vvbn))
     }
 
-    /// The first entry of a VVBN along the chain of a slot, where a pointer's PVBN is the one of that entry; `None`
-    /// where it is 0, or another than the entry's, and where the VVBN has no entry. Nothing is looked up by it, so
-    /// it counts no step. It makes no disk call and takes no memory, and passes at most 64 volumes.
-    #[tactic(auto, unfolding(crate::specs::Chains::told_entry))]
-    pub fn told_by_hint(&self, slot: u8, vvbn: u32, hint: u64) -> Option<Entry>
-        requires { slot < slot_count }
-        ensures entry { result ≡ told_entry (chain_entry self.now slot vvbn) hint }
-        ensures held { IfSome result IsHeld }
-    {
-        match self.first_entry(slot, vvbn) {
-            Some(entry) => told_by(entry, hint),
-            None => None,
-        }
-    }
-
+    /// The first entry of a VVBN along the chain of a slot, as `look_up_chain` finds it, where that isn't counted: it
+    /// counts no step, makes no disk call and takes no memory, and passes at most 64 volumes.
     #[tactic(auto, using(crate::proofs::Chains::found_here, crate::proofs::Chains::goes_up, crate::proofs::Chains::ends_above, crate::proofs::Chains::ends_after, crate::proofs::Chains::parent_within))]
-    fn first_entry(&self, slot: u8, vvbn: u32) -> Option<Entry>
+    pub fn first_entry(&self, slot: u8, vvbn: u32) -> Option<Entry>
         requires { slot < slot_count }
         ensures entry { result ≡ chain_entry self.now slot vvbn }
         ensures held { IfSome result IsHeld }
@@ -163,20 +150,6 @@ impl Containers {
             }
             at = parent_of(&self.parents, at)?;
         }
-        None
-    }
-}
-
-/// The entry, where a pointer's PVBN tells its place.
-#[tactic(auto, unfolding(crate::specs::Chains::told_entry))]
-fn told_by(entry: Entry, hint: u64) -> Option<Entry>
-    requires { IsHeld entry }
-    ensures entry { result ≡ told_entry (Some entry) hint }
-    ensures held { IfSome result IsHeld }
-{
-    if hint != 0 && u64::from(entry.pvbn) == hint {
-        Some(entry)
-    } else {
         None
     }
 }

@@ -3,6 +3,7 @@
 ghost use Rattle.std.specs.Prelude.{◌≡◌, ◌≢◌, ◌<◌, ◌≤◌, ◌+◌, ℕ, None, Some, length, replicate, IsTrue, IfOk, IfSome, IfErr, OnErr, OnOk};
 ghost use Rattle.std.specs.FinSet as set;
 ghost use Rattle.fv_codec.specs.Blocks.{last_place};
+ghost use Rattle.fv_disk.specs.declared.fault.BlockFault.TheVariants.{DiskFault};
 ghost use Rattle.fv_disk.specs.Sparing.{Spares};
 ghost use Rattle.fv_container.specs.Written.{HasReleased, blocks_needed};
 ghost use Rattle.fv_container.specs.Clean.{AreClean, IsCleanOn, IsOver};
@@ -128,7 +129,7 @@ impl Container {
     }
 
     /// The entry of a VVBN below the number of entries, `None` exactly for a hole. It counts one step.
-    /// `DiskFault` comes only where a read failed in this call.
+    /// The one error is `DiskFault`, which comes only where a read failed in this call.
     pub fn look_up<D: Disk, L: Ledger>(
         &mut self,
         store: &mut Store,
@@ -141,6 +142,7 @@ impl Container {
         ensures entry { IfOk result (λ entry. entry ≡ entry_under self.old vvbn) }
         ensures same { self.new ≡ self.old }
         ensures step { steps.new ≡ steps.old + 1 }
+        ensures fault { IfErr result (λ fault. fault ≡ DiskFault) }
         ensures only_reads { OnlyReads (D.shown disk.old) (D.shown disk.new) }
         ensures stands { StandsOn (D.shown disk.new) store.new.pairs }
         ensures cause { HasBlockCause (D.shown disk.old).faults (D.shown disk.new).faults result }
@@ -149,8 +151,8 @@ impl Container {
         Ok(self.entries[vvbn as usize])
     }
 
-    /// Sets the entry of a VVBN below the number of entries, or makes it a hole. `DiskFault` comes only
-    /// where a read failed in this call; after an error nothing has changed. Costs one step, and takes no memory.
+    /// Sets the entry of a VVBN below the number of entries, or makes it a hole. The one error is `DiskFault`, which comes
+    /// only where a read failed in this call; after it nothing has changed. Costs one step, and takes no memory.
     pub fn set<D: Disk>(
         &mut self,
         store: &mut Store,
@@ -163,6 +165,7 @@ impl Container {
         requires stands { StandsOn (D.shown disk.old) store.old.pairs }
         ensures set { IfOk result (λ _. self.new ≡ with_entry self.old vvbn entry) }
         ensures failed { OnErr result (self.new ≡ self.old) }
+        ensures fault { IfErr result (λ fault. fault ≡ DiskFault) }
         ensures only_reads { OnlyReads (D.shown disk.old) (D.shown disk.new) }
         ensures stands { StandsOn (D.shown disk.new) store.new.pairs }
         ensures cause { HasBlockCause (D.shown disk.old).faults (D.shown disk.new).faults result }

@@ -2,6 +2,7 @@
 //! cache of two blocks, and a pointer that tells no place costs one step along a chain.
 
 ghost use Rattle.std.specs.Prelude.{◌≡◌, ◌<◌, ◌≤◌, ◌+◌, true, length, is_some, IfOk, OnOk};
+ghost use Rattle.fv_tree.specs.Places.{TrustsAll};
 ghost use Rattle.fv_codec.specs.Blocks.{IsPointer};
 ghost use Rattle.fv_container.specs.Chains.{container_at};
 ghost use Rattle.fv_image.specs.Containers.{most_entries};
@@ -66,7 +67,9 @@ fn pool_of<D: Disk>(alloc: Global, disk: &mut D, found: Found) -> Result<Pool, B
 }
 
 /// A tree of three levels with cells at 0, 128 and 16,384: its root after a flush.
+#[tactic(auto, using(fv_tree::proofs::Right::trusted_tree))]
 fn write_tree<B: Blocks>(alloc: Global, blocks: &mut B) -> Result<Pointer, TreeFault>
+    requires right { B.told → TrustsAll B.shown }
     ensures { IfOk result IsPointer }
 {
     let mut tree = Tree::new(alloc, OWNER, 0);
@@ -77,15 +80,20 @@ fn write_tree<B: Blocks>(alloc: Global, blocks: &mut B) -> Result<Pointer, TreeF
 }
 
 /// The first byte of a cell; 0 for a hole.
-fn first_byte<B: Blocks>(tree: &mut Tree, blocks: &mut B, index: u32) -> Result<u8, TreeFault> {
+#[tactic(auto, using(fv_tree::proofs::Right::trusted_tree))]
+fn first_byte<B: Blocks>(tree: &mut Tree, blocks: &mut B, index: u32) -> Result<u8, TreeFault>
+    requires right { B.told → TrustsAll B.shown }
+{
     let mut block = [0; 4096];
     let there = tree.get(blocks, index, &mut block)?;
     if there { Ok(block[0]) } else { Ok(0) }
 }
 
 /// The first bytes of four cells of a tree of three levels.
+#[tactic(auto, using(fv_tree::proofs::Right::trusted_tree))]
 fn read_tree<B: Blocks>(alloc: Global, blocks: &mut B, root: Pointer) -> Result<[u8; 4], TreeFault>
-    requires { IsPointer root }
+    requires right { B.told → TrustsAll B.shown }
+    requires pointer { IsPointer root }
 {
     let mut tree = Tree::at(alloc, OWNER, 3, root);
     Ok([
@@ -169,7 +177,6 @@ fn with_entry(alloc: Global) -> Result<Container, AllocError> {
 }
 
 /// Reads under a pointer that tells no place.
-#[tactic(auto, unfolding(fv_container::specs::Chains::told_entry))]
 fn read_unknown<D: Disk, L: Ledger>(
     pool: &mut Pool,
     disk: &mut D,

@@ -1,7 +1,7 @@
 -- A walk over the regions of a volume, of which a threshold is asked one after another.
 use Rattle.std.proofs.Common.{◌≡◌, ◌≢◌, ℕ, ◌+◌, ◌<◌, ◌≤◌, Bool, true, false, ◌&&◌, ◌||◌, ◌==◌, List, [], ◌∷◌, ◌++◌, length, refl, sym, ap, ap₂, subst, ◌∙◌, ⊎_elim, arith}
 use Rattle.std.specs.Prelude.{nat_lt}
-use Rattle.std.proofs.lemmas.Bool.{and_left, cases_eq}
+use Rattle.std.proofs.lemmas.Bool.{and_left, cases_eq, true≢false}
 use Rattle.std.proofs.lemmas.Bool.Decides.{nat_tests}
 use Rattle.fv_image.specs.Containers.{level_width}
 use Rattle.fv_aggmap.specs.Space.{Space}
@@ -102,6 +102,12 @@ module _ (map : Volume) (old : Mapped) (start : Threshold) where
         (λ (e : k ≡ r). ap taken e ∙ sym asked_taken ∙ here (subst (λ (n : ℕ). 0 < n) (ap (delayed_in map old) e ∙ sym asked_count) some))
         (λ (ne : k ≢ r). before k (omega (arith, lt, ne)) some)
         (cases_eq k r)
+
+    -- Where the next one has delayed entries and isn't taken, not all are.
+    pub asked_left : 0 < count → takes threshold count ≡ false → ((k : ℕ) → k < r + 1 → 0 < delayed_in map old k → taken k ≡ true) → ⊥
+    asked_left some off all =
+        let here : taken r ≡ true = all r (omega arith) (subst (λ (n : ℕ). 0 < n) asked_count some) in
+        true≢false (sym here ∙ sym asked_taken ∙ off)
 
   -- No region is asked of yet.
   pub asked_none : (space : Space) → HasReclaimed map (up_to taken 0) old space old space

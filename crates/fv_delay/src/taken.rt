@@ -1,6 +1,6 @@
 //! The regions of a volume's container, counted in one walk, and those of them reclaimed that a threshold takes.
 
-ghost use Rattle.std.specs.Prelude.{◌≡◌, ◌≤◌, ℕ, false, length};
+ghost use Rattle.std.specs.Prelude.{◌≡◌, ◌≤◌, ℕ, true, false, length};
 ghost use Rattle.fv_image.specs.Views.{entry_count};
 ghost use Rattle.fv_model.specs.Numbers.{greatest_span};
 ghost use Rattle.fv_delay.specs.ByThreshold.{IsTable, TakesAll, taken_in};
@@ -38,8 +38,8 @@ pub fn table_of(container: &Container, map: &VolMap) -> Table
     table
 }
 
-/// Reclaims those regions of a volume's container that a threshold takes, asked of all in the order of their numbers, and says whether a
-/// region with delayed entries is left. Every other entry stays. The container has an entry for each VVBN of the map's span and for each block
+/// Reclaims those regions of a volume's container that a threshold takes, asked of all in the order of their numbers, and says exactly whether
+/// a region with delayed entries is left. Every other entry stays. The container has an entry for each VVBN of the map's span and for each block
 /// of 25 maps.
 ///
 /// It takes no memory. Costs a step for each entry, and up to 25 more for one that is no hole, twice in a region that is taken.
@@ -53,6 +53,7 @@ pub fn reclaim_taken(
     requires entries { length container.old.entries ≡ entry_count map.now.span }
     ensures reclaimed { HasReclaimed map.now (taken_in start (held_by map.now container.old)) container.old pool_map.old container.new pool_map.new }
     ensures rest { result ≡ false → TakesAll start (held_by map.now container.old) }
+    ensures left { result ≡ true → TakesAll start (held_by map.now container.old) → ⊥ }
 {
     let mut threshold = start;
     let mut is_left = false;

@@ -8,10 +8,19 @@ use std::rt::Files;
 
 const BLOCK_BYTES: u64 = 4096;
 
-fn open<R: Files>(rt: &R, path: &str, create: bool) -> Result<R::File, Failed> {
+/// For what a file is opened.
+#[derive(Clone, Copy, Debug, PartialEq, Eq)]
+pub(crate) enum Access {
+    /// For reading and writing.
+    Change,
+    /// For reading alone: each write fails.
+    Look,
+}
+
+fn open<R: Files>(rt: &R, path: &str, access: Access, create: bool) -> Result<R::File, Failed> {
     OpenOptions::new()
         .read(true)
-        .write(true)
+        .write(access == Access::Change)
         .create(create)
         .open(rt, path)
         .map_err(|_| Failed)
@@ -21,11 +30,12 @@ fn take_or_open<R: Files>(
     rt: &R,
     path: &str,
     file: &mut Option<R::File>,
+    access: Access,
     create: bool,
 ) -> Result<R::File, Failed> {
     match file.take() {
         Some(open) => Ok(open),
-        None => open(rt, path, create),
+        None => open(rt, path, access, create),
     }
 }
 
@@ -73,13 +83,14 @@ pub(crate) fn read_block<R: Files>(
     rt: &R,
     path: &str,
     file: &mut Option<R::File>,
+    access: Access,
     at: u64,
     into: &mut Block,
 ) -> Result<(), Failed>
 where
     R::File: FileExt,
 {
-    let open = take_or_open(rt, path, file, false)?;
+    let open = take_or_open(rt, path, file, access, false)?;
     let done = offset_of(at).and_then(|offset| fill(&open, offset, into));
     *file = Some(open);
     done
@@ -89,20 +100,26 @@ pub(crate) fn write_block<R: Files>(
     rt: &R,
     path: &str,
     file: &mut Option<R::File>,
+    access: Access,
     at: u64,
     block: &Block,
 ) -> Result<(), Failed>
 where
     R::File: FileExt,
 {
-    let open = take_or_open(rt, path, file, true)?;
+    let open = take_or_open(rt, path, file, access, true)?;
     let done = offset_of(at).and_then(|offset| put(&open, offset, block));
     *file = Some(open);
     done
 }
 
-pub(crate) fn sync<R: Files>(rt: &R, path: &str, file: &mut Option<R::File>) -> Result<(), Failed> {
-    let open = take_or_open(rt, path, file, false)?;
+pub(crate) fn sync<R: Files>(
+    rt: &R,
+    path: &str,
+    file: &mut Option<R::File>,
+    access: Access,
+) -> Result<(), Failed> {
+    let open = take_or_open(rt, path, file, access, false)?;
     let done = open.sync_all().map_err(|_| Failed);
     *file = Some(open);
     done

@@ -32,18 +32,32 @@ where
     ghost laws = { λ host. is_disk host.faults host.write_faults host.source_faults host.sink_faults };
 
     fn read(&mut self, at: u64, into: &mut Block) -> Result<(), Failed> {
-        let done = read_block(&self.rt, self.path.as_str(), &mut self.file, at, into);
+        let done = read_block(
+            &self.rt,
+            self.path.as_str(),
+            &mut self.file,
+            self.access,
+            at,
+            into,
+        );
         counted(done, &mut self.faults)
     }
 
     fn write(&mut self, at: u64, block: &Block) -> Result<(), Failed> {
-        let done = write_block(&self.rt, self.path.as_str(), &mut self.file, at, block);
+        let done = write_block(
+            &self.rt,
+            self.path.as_str(),
+            &mut self.file,
+            self.access,
+            at,
+            block,
+        );
         let done = counted(done, &mut self.faults);
         counted(done, &mut self.write_faults)
     }
 
     fn barrier(&mut self) -> Result<(), Failed> {
-        let done = sync(&self.rt, self.path.as_str(), &mut self.file);
+        let done = sync(&self.rt, self.path.as_str(), &mut self.file, self.access);
         let done = counted(done, &mut self.faults);
         counted(done, &mut self.write_faults)
     }

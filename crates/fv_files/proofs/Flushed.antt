@@ -83,7 +83,7 @@ module _ {T : Type 0} (told : Type 0) (old new : Shown) (f : Files) (i : InodeFi
   }
     where
       placed_self : IsPlacedTable (table_in old f) (table_in old f)
-      placed_self = readied_placed old old f f (record { held = refl; used = refl; strays = refl; room = refl; cost = refl }) (record { levels = refl; stamps = λ level place. refl; blocks = λ index. refl }) (λ k. refl)
+      placed_self = readied_placed old old f f (record { held = refl; used = refl; strays = refl; room = refl; cost = refl; right = λ v pvbn is. is }) (record { levels = refl; stamps = λ level place. refl; blocks = λ index. refl }) (λ k. refl)
 
   pub ready_places : (free : ℕ → Type 0) → (told → Leaves (loaded old f.inode.tree) (loaded new i.tree)) → FlushesPlaces told free old new f h
   ready_places free leaves = record {
@@ -119,7 +119,7 @@ look_none old f n o none is some = at (file_at (rooted old f.inode) n) some (sym
 -- nothing is done
 pub lays_self : (told : Type 0) (old : Shown) (f : Files) → LaysTrees {T = Unit {0}} told old old f f (Ok tt)
 lays_self told old f = record {
-  placed = λ tells sound. readied_placed old old f f (record { held = refl; used = refl; strays = refl; room = refl; cost = refl }) (record { levels = refl; stamps = λ level place. refl; blocks = λ index. refl }) (λ k. refl);
+  placed = λ tells sound. readied_placed old old f f (record { held = refl; used = refl; strays = refl; room = refl; cost = refl; right = λ v pvbn is. is }) (record { levels = refl; stamps = λ level place. refl; blocks = λ index. refl }) (λ k. refl);
   stands = λ tells sound. sound;
   led = λ tells sound led. led;
   spares = λ tells sound. loading_spares old old (LeadsAny (loaded_trees (under old) f)) (LeadsAny (loaded_trees (under old) f)) refl refl (λ v led. led);

@@ -21,6 +21,7 @@ pub mod Adding
 pub mod Counted
 pub mod Numbering
 pub mod Stays
+pub mod Right
 pub mod Settled
 pub mod Alike
 pub mod TakenCells

@@ -85,3 +85,8 @@ looks_memory {S} {T} told x old new y e same counts is = subst (λ e. Looks {T =
   counts = counts_failed old new (Ok y) Memory counts;
   cause = inl (inl counts.calm);
 })
+
+-- a call of the tree of a file fails, and so does the call that hands its fault on
+pub looks_handed : {S T : Type 0} (told : Type 0) (x : Standing) (info : Info) (old new : Shown) (e : BlockFault) (r : Result T BlockFault) → IsErrAnd r (λ fault. fault ≡ e) → (told → IsInfoOf x.inode info) → IsUntouched old new → Counts {T = S} old new (Err e)
+    → Fails told (tree_known x info) old new e → Looks told x old new r
+looks_handed told x info old new e r is there untouched counts cause = handed_on (Looks told x old new) e r is (looks_failed told x old new e (looks_tree told x info old new (Err e) there untouched counts cause))

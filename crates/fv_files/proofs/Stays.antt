@@ -5,7 +5,7 @@ use Rattle.std.specs.Option.{option_map}
 use Rattle.fv_tables.specs.Spelled.{Under, stored}
 use Rattle.fv_tree.specs.declared.kept.Tree.{Tree}
 use Rattle.fv_tree.specs.Standing.{standing}
-use Rattle.fv_tree.specs.Flushing.{Loaded, loaded_over}
+use Rattle.fv_tree.specs.Flushing.{loaded_over}
 use Rattle.fv_tree.specs.Beside.{unread}
 use Rattle.fv_tree.specs.Costs.{pending}
 use Rattle.fv_tree.specs.Counting.{staying_all, staying_at}
@@ -13,13 +13,10 @@ use Rattle.fv_tree.proofs.Stays.{all_unread, staying_unread}
 use Rattle.fv_inode.specs.declared.info.Info.{Info}
 use Rattle.fv_files.specs.declared.files.Files.{Files}
 use Rattle.fv_files.specs.Tables.{file_loaded, loaded_trees, tree_in, IsInfoOf}
+use Rattle.fv_files.specs.Right.{known_loaded}
 use Rattle.fv_files.specs.Sharing.{staying_in, staying_of}
 
--- the tree of a file of which this is known: that in memory, or else that to which it leads
-abbrev pub known_loaded : Under → Info → Option Tree → Loaded
-known_loaded blocks info None = unread (stored blocks info.number info.levels info.root)
-known_loaded blocks info (Some t) = loaded_over blocks t
-
+-- it is the tree of a file of which this is known
 pub known_is : (blocks : Under) (f : Files) (info : Info) (o : Option Tree) → IsInfoOf (standing blocks f.inode.tree) info → tree_in f info.number ≡ o → loaded_trees blocks f (Some info.number) ≡ Some (known_loaded blocks info o)
 known_is blocks f info o is held =
     (λ j. option_map (λ r. file_loaded blocks info.number r (held j)) (is.there j)) ∙ same o

@@ -52,7 +52,8 @@ use Rattle.fv_files.specs.Trees.{standing_in}
 use Rattle.fv_files.specs.Sharing.{staying_in, staying_of, SettlesShared}
 use Rattle.fv_files.specs.Taking.{staying_by_cut, staying_where, CutTakes, RemovalTakes}
 use Rattle.fv_files.proofs.Counted.{tree_holds}
-use Rattle.fv_files.proofs.Stays.{known_is, known_loaded}
+use Rattle.fv_files.specs.Right.{known_loaded}
+use Rattle.fv_files.proofs.Stays.{known_is}
 use Rattle.fv_files.proofs.Tables.{known_tree}
 use Rattle.fv_files.proofs.Adding.{file_tree_is, grown_holds, stands_is}
 use Rattle.fv_files.proofs.Settled.{here, levels_are, over_inode, own, tree_is}

@@ -1,9 +1,11 @@
 pub mod Trees
 pub mod Apart
 pub mod Tables
+pub mod Right
 pub mod Failing
 pub mod Pending
 pub mod Calls
+pub mod Codes
 pub mod Flushing
 pub mod Numbering
 pub mod Sharing

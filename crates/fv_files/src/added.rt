@@ -2,6 +2,8 @@
 
 ghost use Rattle.std.specs.Prelude.{◌≡◌, ◌≤◌, ◌<◌, IfOk};
 ghost use Rattle.fv_model.specs.Numbers.{most_files};
+ghost use Rattle.fv_files.specs.Right.{HasRightFile, HasRightTrees};
+ghost use Rattle.fv_tree.specs.Places.{HasRightPlaces};
 ghost use Rattle.fv_tree.specs.Counting.{added_at};
 ghost use Rattle.fv_tree.specs.Calls.{LoadsFrom};
 ghost use Rattle.fv_tree.specs.Standing.{Fails};
@@ -32,6 +34,7 @@ impl Files {
         requires index { index < 2097152 }
         requires range { IsInfo info.now }
         requires there { B.told → IsInfoOf (rooted (B.shown blocks.old) self.now.inode) info.now }
+        requires right { B.told → HasRightTrees (B.shown blocks.old) self.now }
         ensures added { B.told → IfOk result (AddsCell (table_in (B.shown blocks.old) self.now) info.now.number index) }
         ensures few { IfOk result (λ count. count ≤ 6) }
         ensures looks { Looks B.told (table_in (B.shown blocks.old) self.now) (B.shown blocks.old) (B.shown blocks.new) result }
@@ -48,6 +51,7 @@ impl Files {
     /// As `InodeFile::added`.
     pub fn added_by_new<B: Blocks>(&self, blocks: &mut B, number: u32) -> Result<u32, FilesFault>
         requires number { number < most_files }
+        requires right { B.told → HasRightPlaces (B.shown blocks.old) self.now.inode.tree }
         ensures added { B.told → IfOk result (AddsFile (table_in (B.shown blocks.old) self.now) number) }
         ensures few { IfOk result (λ count. count ≤ 6) }
         ensures looks { inodes.Looks B.told (rooted (B.shown blocks.old) self.now.inode) (B.shown blocks.old) (B.shown blocks.new) result }
@@ -66,6 +70,7 @@ fn added_cell<B: Blocks>(
 ) -> Result<u32, FilesFault>
     requires index { index < 2097152 }
     requires range { IsInfo info.now }
+    requires right { B.told → HasRightFile (B.shown blocks.old) files.now info.now }
     ensures added { B.told → IfOk result (λ count. count ≡ added_at (tree_known (table_in (B.shown blocks.old) files.now) info.now) index) }
     ensures few { IfOk result (λ count. count ≤ 6) }
     ensures loads { LoadsFrom (B.reads blocks.old blocks.new) (Fails B.told (tree_known (table_in (B.shown blocks.old) files.now) info.now) (B.shown blocks.old) (B.shown blocks.new)) (B.shown blocks.old) (B.shown blocks.new) result }

@@ -5,6 +5,7 @@ ghost use Rattle.fv_codec.specs.Blocks.{most_cells};
 ghost use Rattle.fv_model.specs.Numbers.{most_files};
 ghost use Rattle.fv_model.specs.Tables.{new};
 ghost use Rattle.fv_tables.specs.Told.{table_told};
+ghost use Rattle.fv_tree.specs.Places.{HasRightPlaces};
 ghost use Rattle.fv_tree.specs.Sources.{IsUntouched};
 ghost use Rattle.fv_inode.specs.Files.{rooted, IsLeastFree};
 ghost use Rattle.fv_files.specs.Tables.{table_in, AreStanding};
@@ -38,6 +39,7 @@ impl Files {
         requires reserve { reserve ≤ most_cells }
         requires number { number < most_files }
         requires free { B.told → IsLeastFree (rooted (B.shown blocks.old) self.old.inode) number }
+        requires right { B.told → HasRightPlaces (B.shown blocks.old) self.old.inode.tree }
         ensures made { B.told → OnOk result (AreStanding (B.shown blocks.old) self.old → table_told (table_in (B.shown blocks.new) self.new) ≡ new (table_told (table_in (B.shown blocks.old) self.old)) name.now reserve stamp) }
         ensures changes { Changes B.told (Unit {0}) (B.shown blocks.old) (B.shown blocks.new) self.old self.new (FilesFail B.told (table_in (B.shown blocks.old) self.old) (B.shown blocks.old) (B.shown blocks.new)) result }
         ensures alters { AltersPlaces B.told (Unit {0}) (B.shown blocks.old) (B.shown blocks.new) self.old self.new stamp result }

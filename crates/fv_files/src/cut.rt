@@ -3,21 +3,22 @@
 ghost use Rattle.std.specs.Prelude.{◌≡◌, ◌≤◌, ◌+◌, ℕ, true, is_some, IfOk, OnOk, OnErr};
 ghost use Rattle.std.specs.Ordering.{nat_cmp};
 ghost use Rattle.std.specs.BTreeMap as maps;
+ghost use Rattle.fv_files.specs.Right.{HasRightKept, HasRightTrees};
 ghost use Rattle.fv_codec.specs.Blocks.{most_cells};
 ghost use Rattle.fv_laws.specs.WellFormed.{IsWellTable};
 ghost use Rattle.fv_tables.specs.Told.{table_told};
 ghost use Rattle.fv_inode.specs.Files.{rooted, IsInfo};
-ghost use Rattle.fv_files.specs.Tables.{table_in, AreStanding, IsInfoOf};
+ghost use Rattle.fv_files.specs.Tables.{table_in, AreStanding, IsInfoOf, tree_in};
 ghost use Rattle.fv_files.specs.Failing.{FilesFail};
 ghost use Rattle.fv_files.specs.Calls.{IsPrepared, shortened, Changes, CutsFile, CutsKept, KeepsLed, KeptFails, TakesByCut};
 ghost use Rattle.fv_files.specs.Pending.{pending_in};
 ghost use Rattle.fv_files.specs.Altering.{AltersPlaces};
 
 use crate::files::{Files, FilesFault};
+use crate::held::{HeldTrees, cost_of, recounted};
 use crate::hold::prepare;
 use fv_inode::{Info, least_levels};
-use fv_tree::{Blocks, Tree};
-use std::collections::BTreeMap;
+use fv_tree::Blocks;
 
 impl Files {
     /// Cuts the file of which this is known to a length of at most 2,097,152 blocks, with a stamp of at least 1: the machine's
@@ -41,6 +42,7 @@ impl Files {
         requires stamp { 1 ≤ stamp }
         requires range { IsInfo info.now }
         requires there { B.told → IsInfoOf (rooted (B.shown blocks.old) self.old.inode) info.now }
+        requires right { B.told → HasRightTrees (B.shown blocks.old) self.old }
         ensures cut { B.told → OnOk result (AreStanding (B.shown blocks.old) self.old → CutsFile (table_in (B.shown blocks.old) self.old) (table_in (B.shown blocks.new) self.new) info.now.number length stamp) }
         ensures counted { B.told → IfOk result (λ count. AreStanding (B.shown blocks.old) self.old → TakesByCut (table_in (B.shown blocks.old) self.old) info.now.number length stamp count) }
         ensures alters { AltersPlaces B.told (Unit {0}) (B.shown blocks.old) (B.shown blocks.new) self.old self.new stamp result }
@@ -68,6 +70,7 @@ fn cut_ready<B: Blocks>(
     requires length { length ≤ most_cells }
     requires stamp { 1 ≤ stamp }
     requires prepared { IsPrepared B.told (B.shown blocks.old) files.old info.now }
+    requires right { B.told → HasRightKept (B.shown blocks.old) (tree_in files.old info.now.number) }
     ensures cut { B.told → OnOk result (AreStanding (B.shown blocks.old) files.old → CutsFile (table_in (B.shown blocks.old) files.old) (table_in (B.shown blocks.new) files.new) info.now.number length stamp) }
     ensures counted { B.told → IfOk result (λ count. AreStanding (B.shown blocks.old) files.old → TakesByCut (table_in (B.shown blocks.old) files.old) info.now.number length stamp count) }
     ensures alters { AltersPlaces B.told (Unit {0}) (B.shown blocks.old) (B.shown blocks.new) files.old files.new stamp result }
@@ -85,7 +88,7 @@ fn cut_ready<B: Blocks>(
 
 /// Removes the cells from a length on of a tree in memory.
 pub fn cut_kept<B: Blocks>(
-    trees: &mut BTreeMap<u32, Tree>,
+    trees: &mut HeldTrees,
     blocks: &mut B,
     number: u32,
     length: u32,
@@ -95,10 +98,17 @@ pub fn cut_kept<B: Blocks>(
     requires start { start ≤ 3 }
     requires stamp { 1 ≤ stamp }
     requires kept { is_some (maps.get nat_cmp trees.old number) ≡ true }
+    requires right { B.told → HasRightKept (B.shown blocks.old) (maps.get nat_cmp trees.old number) }
     ensures { CutsKept B.told (B.goes blocks.old blocks.new) (B.shown blocks.old) (B.shown blocks.new) trees.old trees.new number length start stamp result }
 {
-    match trees.get_mut(&number) {
-        Some(tree) => tree.cut(blocks, length, start, stamp),
+    let _ = trees.by_number.len();
+    match trees.by_number.get_mut(&number) {
+        Some(tree) => {
+            let before = cost_of(tree);
+            let result = tree.cut(blocks, length, start, stamp);
+            trees.cost = recounted(trees.cost, before, cost_of(tree));
+            result
+        }
         None => Ok(0),
     }
 }

@@ -11,12 +11,11 @@ ghost use Rattle.fv_files.specs.Tables.{changed, loaded_trees, tree_in, AreReach
 ghost use Rattle.fv_files.specs.Pending.{pending_in};
 ghost use Rattle.fv_files.specs.Altering.{AreLaid};
 
+use crate::held::HeldTrees;
 use fv_codec::Pointer;
 use fv_disk::BlockFault;
 use fv_inode::InodeFile;
-use fv_tree::Tree;
 use std::alloc::Global;
-use std::collections::BTreeMap;
 
 /// Why a call on a table failed.
 pub type FilesFault = BlockFault;
@@ -27,7 +26,7 @@ pub type FilesFault = BlockFault;
 #[derive(Drop)]
 pub struct Files {
     pub(crate) inode: InodeFile,
-    pub(crate) trees: BTreeMap<u32, Tree>,
+    pub(crate) trees: HeldTrees,
     pub(crate) alloc: Global,
 }
 
@@ -42,7 +41,7 @@ impl Files {
     {
         Files {
             inode: InodeFile::new(alloc),
-            trees: BTreeMap::new(alloc),
+            trees: HeldTrees::new(alloc),
             alloc,
         }
     }
@@ -62,7 +61,7 @@ impl Files {
     {
         Files {
             inode: InodeFile::at(alloc, levels, root),
-            trees: BTreeMap::new(alloc),
+            trees: HeldTrees::new(alloc),
             alloc,
         }
     }

@@ -4,6 +4,7 @@ ghost use Rattle.std.specs.Prelude.{◌≡◌, ◌≤◌, ◌+◌, ◌-◌, ℕ,
 ghost use Rattle.std.specs.Ordering.{nat_cmp};
 ghost use Rattle.std.specs.BTreeMap as maps;
 ghost use Rattle.fv_tables.specs.Told.{file_at};
+ghost use Rattle.fv_tree.specs.Places.{TrustsAll};
 ghost use Rattle.fv_tree.specs.declared.kept.Tree as kept;
 ghost use Rattle.fv_tree.specs.Sources.{WasFree};
 ghost use Rattle.fv_tree.specs.Standing.{under};
@@ -15,11 +16,11 @@ ghost use Rattle.fv_files.specs.Flushing.{FlushesKept, FlushesTable, HasRoot, Ke
 ghost use Rattle.fv_files.specs.Altering.{AreLaid, FlushesKeep, FlushesPlaces};
 
 use crate::files::{Files, FilesFault};
+use crate::held::{HeldTrees, cost_of, recounted};
 use crate::remove::forget;
 use fv_codec::Pointer;
 use fv_inode::Info;
-use fv_tree::{Blocks, Tree};
-use std::collections::BTreeMap;
+use fv_tree::Blocks;
 
 impl Files {
     /// Places each block that changed since the last flush once: the trees of the files by number, each with its root laid into
@@ -35,6 +36,7 @@ impl Files {
     ///
     /// As `place` of the `Blocks` answers them, and as `InodeFile::set_root`.
     pub fn flush<B: Blocks>(&mut self, blocks: &mut B) -> Result<Pointer, FilesFault>
+        requires right { B.told → TrustsAll B.shown }
         ensures flushes { FlushesTable B.told (B.shown blocks.old) (B.shown blocks.new) self.old self.new result }
         ensures places { FlushesPlaces B.told (WasFree B.shown B.goes blocks.old blocks.new) (B.shown blocks.old) (B.shown blocks.new) self.old self.new }
         ensures stored_well { B.told → B.known → KeepsStored (B.shown blocks.old) (B.shown blocks.new) self.old self.new }
@@ -49,6 +51,7 @@ impl Files {
 
 /// Places the trees of all files that are in memory.
 fn flush_trees<B: Blocks>(files: &mut Files, blocks: &mut B) -> Result<(), FilesFault>
+    requires right { B.told → TrustsAll B.shown }
     ensures lays { LaysTrees B.told (B.shown blocks.old) (B.shown blocks.new) files.old files.new result }
     ensures places { FlushesPlaces B.told (WasFree B.shown B.goes blocks.old blocks.new) (B.shown blocks.old) (B.shown blocks.new) files.old files.new }
     ensures keeps { FlushesKeep B.told (λ v. B.keeps v blocks.old blocks.new) (B.shown blocks.old) (B.shown blocks.new) files.old files.new }
@@ -64,6 +67,7 @@ fn flush_trees<B: Blocks>(files: &mut Files, blocks: &mut B) -> Result<(), Files
 
 /// Places the tree in memory with the least number.
 fn flush_first<B: Blocks>(files: &mut Files, blocks: &mut B) -> Result<(), FilesFault>
+    requires right { B.told → TrustsAll B.shown }
     ensures lays { LaysTrees B.told (B.shown blocks.old) (B.shown blocks.new) files.old files.new result }
     ensures places { FlushesPlaces B.told (WasFree B.shown B.goes blocks.old blocks.new) (B.shown blocks.old) (B.shown blocks.new) files.old files.new }
     ensures keeps { FlushesKeep B.told (λ v. B.keeps v blocks.old blocks.new) (B.shown blocks.old) (B.shown blocks.new) files.old files.new }
@@ -71,20 +75,9 @@ fn flush_first<B: Blocks>(files: &mut Files, blocks: &mut B) -> Result<(), Files
     ensures fewer { OnOk result (maps.btree_map_len files.new.trees ≡ maps.btree_map_len files.old.trees - 1) }
     ensures calls { B.goes blocks.old blocks.new }
 {
-    match first_number(&files.trees) {
+    match files.trees.first_number() {
         None => Ok(()),
         Some(number) => flush_file(files, blocks, number),
-    }
-}
-
-/// The least number under which a tree is in memory.
-fn first_number(trees: &BTreeMap<u32, Tree>) -> Option<u32>
-    ensures there { IfSome result (λ number. is_some (maps.get nat_cmp trees.now number) ≡ true) }
-    ensures none { IfNone result (maps.btree_map_len trees.now ≡ 0) }
-{
-    match trees.first_key_value() {
-        None => None,
-        Some((number, _)) => Some(*number),
     }
 }
 
@@ -92,6 +85,7 @@ fn first_number(trees: &BTreeMap<u32, Tree>) -> Option<u32>
 /// table that stands on its blocks doesn't have.
 fn flush_file<B: Blocks>(files: &mut Files, blocks: &mut B, number: u32) -> Result<(), FilesFault>
     requires kept { is_some (tree_in files.old number) ≡ true }
+    requires right { B.told → TrustsAll B.shown }
     ensures lays { LaysTrees B.told (B.shown blocks.old) (B.shown blocks.new) files.old files.new result }
     ensures places { FlushesPlaces B.told (WasFree B.shown B.goes blocks.old blocks.new) (B.shown blocks.old) (B.shown blocks.new) files.old files.new }
     ensures keeps { FlushesKeep B.told (λ v. B.keeps v blocks.old blocks.new) (B.shown blocks.old) (B.shown blocks.new) files.old files.new }
@@ -118,6 +112,7 @@ fn lay_file<B: Blocks>(
 ) -> Result<(), FilesFault>
     requires kept { is_some (tree_in files.old number) ≡ true }
     requires there { B.told → HasRoot (file_at (rooted (B.shown blocks.old) files.old.inode) number) info.now.levels info.now.root }
+    requires right { B.told → TrustsAll B.shown }
     ensures lays { LaysTrees B.told (B.shown blocks.old) (B.shown blocks.new) files.old files.new result }
     ensures places { FlushesPlaces B.told (WasFree B.shown B.goes blocks.old blocks.new) (B.shown blocks.old) (B.shown blocks.new) files.old files.new }
     ensures keeps { FlushesKeep B.told (λ v. B.keeps v blocks.old blocks.new) (B.shown blocks.old) (B.shown blocks.new) files.old files.new }
@@ -145,11 +140,11 @@ fn has_root(info: &Info, levels: u8, root: &Pointer) -> bool
 }
 
 /// How many levels a tree in memory has.
-fn kept_levels(trees: &BTreeMap<u32, Tree>, number: u32) -> u8
+fn kept_levels(trees: &HeldTrees, number: u32) -> u8
     ensures levels { (t : kept.Tree) → maps.get nat_cmp trees.now number ≡ Some t → result ≡ t.levels }
     ensures few { result ≤ 3 }
 {
-    match trees.get(&number) {
+    match trees.get(number) {
         Some(tree) => tree.levels(),
         None => 0,
     }
@@ -157,7 +152,7 @@ fn kept_levels(trees: &BTreeMap<u32, Tree>, number: u32) -> u8
 
 /// Places a tree in memory.
 fn flush_kept<B: Blocks>(
-    trees: &mut BTreeMap<u32, Tree>,
+    trees: &mut HeldTrees,
     blocks: &mut B,
     number: u32,
 ) -> Result<Pointer, FilesFault>
@@ -169,8 +164,14 @@ fn flush_kept<B: Blocks>(
     ensures len { maps.btree_map_len trees.new ≡ maps.btree_map_len trees.old }
     ensures calls { B.goes blocks.old blocks.new }
 {
-    match trees.get_mut(&number) {
-        Some(tree) => tree.flush(blocks),
+    let _ = trees.by_number.len();
+    match trees.by_number.get_mut(&number) {
+        Some(tree) => {
+            let before = cost_of(tree);
+            let result = tree.flush(blocks);
+            trees.cost = recounted(trees.cost, before, cost_of(tree));
+            result
+        }
         None => Ok(Pointer::HOLE),
     }
 }

@@ -5,20 +5,21 @@ ghost use Rattle.std.specs.Ordering.{nat_cmp};
 ghost use Rattle.std.specs.BTreeMap as maps;
 ghost use Rattle.fv_disk.specs.declared.fault.BlockFault.TheVariants.{Memory};
 ghost use Rattle.fv_tables.specs.Spelled.{Under, stored};
+ghost use Rattle.fv_files.specs.Right.{HasRightKept, HasRightTrees};
 ghost use Rattle.fv_tree.specs.Sources.{Use};
 ghost use Rattle.fv_tree.specs.Standing.{standing};
 ghost use Rattle.fv_tree.specs.Costs.{pending};
 ghost use Rattle.fv_tree.specs.Flushing.{loaded_over, IsSound, ReachesOnce};
 ghost use Rattle.fv_inode.specs.Files.{rooted, IsInfo};
-ghost use Rattle.fv_files.specs.Tables.{IsInfoOf};
+ghost use Rattle.fv_files.specs.Tables.{IsInfoOf, tree_in};
 ghost use Rattle.fv_files.specs.Calls.{Holds, Prepares};
 ghost use Rattle.fv_files.specs.Pending.{pending_in, pending_trees, root_cost, tree_cost};
 
 use crate::files::{Files, FilesFault};
+use crate::held::{HeldTrees, cost_of, cost_of_any, recounted};
 use fv_inode::Info;
 use fv_tree::{Blocks, Tree};
 use std::alloc::Global;
-use std::collections::BTreeMap;
 
 /// Holds a file ready for a change, its inode block and its tree in memory; false where no file has the number. The table
 /// stays as it is, after a fault, too.
@@ -29,7 +30,9 @@ pub fn prepare<B: Blocks>(
 ) -> Result<bool, FilesFault>
     requires range { IsInfo info.now }
     requires there { B.told → IsInfoOf (rooted (B.shown blocks.old) files.old.inode) info.now }
+    requires right { B.told → HasRightTrees (B.shown blocks.old) files.old }
     ensures prepares { Prepares B.told (B.shown blocks.old) (B.shown blocks.new) files.old files.new info.now result }
+    ensures right { B.told → HasRightKept (B.shown blocks.new) (tree_in files.new info.now.number) }
     ensures pending { pending_in files.new ≤ pending_in files.old + 4 }
     ensures reads { B.reads blocks.old blocks.new }
 {
@@ -41,14 +44,14 @@ pub fn prepare<B: Blocks>(
 }
 
 /// Holds the tree of a file in memory: the one that is there, or else the one to which its record leads.
-fn hold(trees: &mut BTreeMap<u32, Tree>, alloc: Global, info: &Info) -> Result<(), FilesFault>
+fn hold(trees: &mut HeldTrees, alloc: Global, info: &Info) -> Result<(), FilesFault>
     requires range { IsInfo info.now }
     ensures holds { OnOk result (Holds trees.old trees.new info.now) }
     ensures failed { OnErr result ((k : ℕ) → maps.get nat_cmp trees.new k ≡ maps.get nat_cmp trees.old k) }
     ensures cost { pending_trees trees.new ≤ pending_trees trees.old + root_cost }
     ensures memory { IfErr result (λ e. e ≡ Memory) }
 {
-    if trees.contains_key(&info.number) {
+    if trees.get(info.number).is_some() {
         return Ok(());
     }
     insert(trees, info.number, stored_tree(alloc, info))
@@ -67,7 +70,7 @@ pub fn stored_tree(alloc: Global, info: &Info) -> Tree
 /// What a call of the tree of a file answers, of which this is known: of the one in memory, or else of the one that it says.
 macro_rules! of_known {
     ($files:ident, $info:ident, |$tree:ident| $call:expr) => {
-        match $files.trees.get(&$info.number) {
+        match $files.trees.get($info.number) {
             Some($tree) => $call,
             None => {
                 let $tree = stored_tree($files.alloc, $info);
@@ -80,14 +83,19 @@ macro_rules! of_known {
 pub(crate) use of_known;
 
 /// Takes a tree into memory.
-fn insert(trees: &mut BTreeMap<u32, Tree>, number: u32, tree: Tree) -> Result<(), FilesFault>
+fn insert(trees: &mut HeldTrees, number: u32, tree: Tree) -> Result<(), FilesFault>
     ensures inserted { OnOk result ((k : ℕ) → maps.get nat_cmp trees.new k ≡ cond (nat_eq k number) (Some tree) (maps.get nat_cmp trees.old k)) }
     ensures failed { OnErr result ((k : ℕ) → maps.get nat_cmp trees.new k ≡ maps.get nat_cmp trees.old k) }
     ensures cost { pending_trees trees.new ≤ pending_trees trees.old + tree_cost tree }
     ensures memory { IfErr result (λ e. e ≡ Memory) }
 {
-    match trees.insert(number, tree) {
-        Ok(_) => Ok(()),
+    let now = cost_of(&tree);
+    match trees.by_number.insert(number, tree) {
+        Ok(before) => {
+            let _ = trees.by_number.len();
+            trees.cost = recounted(trees.cost, cost_of_any(&before), now);
+            Ok(())
+        }
         Err(_) => Err(FilesFault::Memory),
     }
 }

@@ -9,6 +9,7 @@ mod create;
 mod cut;
 mod files;
 mod flush;
+mod held;
 mod hold;
 mod list;
 mod numbers;

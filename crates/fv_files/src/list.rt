@@ -4,6 +4,7 @@ ghost use Rattle.std.specs.Prelude.{◌≡◌, ◌+◌, ◌/◌, IfOk, OnOk};
 ghost use Rattle.std.specs.Option.{option_map};
 ghost use Rattle.std.specs.FinMap as fin;
 ghost use Rattle.fv_tables.specs.Told.{file_at, records_each};
+ghost use Rattle.fv_tree.specs.Places.{HasRightPlaces};
 ghost use Rattle.fv_tree.specs.Costs.{way_cost};
 ghost use Rattle.fv_inode.specs.Files.{rooted, info_of, Finds, IsFreeNumber, IsInfoIf, IsNumberIf};
 ghost use Rattle.fv_inode.specs.Listing.{names_told};
@@ -25,6 +26,7 @@ impl Files {
         blocks: &mut B,
         name: &Name,
     ) -> Result<Option<Info>, FilesFault>
+        requires right { B.told → HasRightPlaces (B.shown blocks.old) self.old.inode.tree }
         ensures found { B.told → IfOk result (Finds (rooted (B.shown blocks.old) self.old.inode) name.now) }
         ensures range { IfOk result IsInfoIf }
         ensures same { self.new ≡ self.old }
@@ -40,6 +42,7 @@ impl Files {
     ///
     /// As `InodeFile::look`.
     pub fn look<B: Blocks>(&self, blocks: &mut B, number: u32) -> Result<Option<Info>, FilesFault>
+        requires right { B.told → HasRightPlaces (B.shown blocks.old) self.now.inode.tree }
         ensures found { B.told → IfOk result (λ found. found ≡ option_map (info_of number) (file_at (rooted (B.shown blocks.old) self.now.inode) number)) }
         ensures spent { B.told → OnOk result ((B.shown blocks.new).spent ≡ (B.shown blocks.old).spent + way_cost (B.shown blocks.old).cost (rooted (B.shown blocks.old) self.now.inode) (number / records_each)) }
         ensures range { IfOk result IsInfoIf }
@@ -56,6 +59,7 @@ impl Files {
     ///
     /// As `InodeFile::free_number`.
     pub fn free_number<B: Blocks>(&self, blocks: &mut B) -> Result<Option<u32>, FilesFault>
+        requires right { B.told → HasRightPlaces (B.shown blocks.old) self.now.inode.tree }
         ensures number { B.told → IfOk result (IsFreeNumber (rooted (B.shown blocks.old) self.now.inode)) }
         ensures range { IfOk result IsNumberIf }
         ensures looks { inodes.Looks B.told (rooted (B.shown blocks.old) self.now.inode) (B.shown blocks.old) (B.shown blocks.new) result }
@@ -70,6 +74,7 @@ impl Files {
     ///
     /// As `InodeFile::list`.
     pub fn list<B: Blocks>(&mut self, blocks: &mut B) -> Result<Names, FilesFault>
+        requires right { B.told → HasRightPlaces (B.shown blocks.old) self.old.inode.tree }
         ensures names { B.told → IfOk result (λ names. names ≡ fin.keys (names_told (rooted (B.shown blocks.old) self.old.inode))) }
         ensures same { self.new ≡ self.old }
         ensures looks { inodes.Looks B.told (rooted (B.shown blocks.old) self.old.inode) (B.shown blocks.old) (B.shown blocks.new) result }

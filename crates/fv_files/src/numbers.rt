@@ -2,6 +2,7 @@
 
 ghost use Rattle.std.specs.Prelude.{◌≡◌, ◌<◌, ◌≤◌, ◌||◌, ◌&&◌, not, ℕ, List, true, false, nat_eq, IfOk, IfErr, OnOk};
 ghost use Rattle.std.specs.BTreeMap as maps;
+ghost use Rattle.fv_tree.specs.Places.{HasRightPlaces};
 ghost use Rattle.fv_disk.specs.declared.fault.BlockFault.TheVariants.{Memory};
 ghost use Rattle.fv_laws.specs.WellFormed.{IsWellTable};
 ghost use Rattle.fv_model.specs.Numbers.{most_files};
@@ -35,6 +36,7 @@ impl Files {
     ///
     /// As `InodeFile::index`.
     pub fn numbers<B: Blocks>(&self, blocks: &mut B) -> Result<FileNumbers, FilesFault>
+        requires right { B.told → HasRightPlaces (B.shown blocks.old) self.now.inode.tree }
         ensures numbers { B.told → IfOk result (λ m. (now : ℕ) → IsWellTable now (table_told (table_in (B.shown blocks.old) self.now)) → AreNumbersOf m (table_told (table_in (B.shown blocks.old) self.now))) }
         ensures looks { inodes.Looks B.told (rooted (B.shown blocks.old) self.now.inode) (B.shown blocks.old) (B.shown blocks.new) result }
         ensures reads { B.reads blocks.old blocks.new }
@@ -56,6 +58,7 @@ impl Files {
         name: &Name,
     ) -> Result<Option<Info>, FilesFault>
         requires numbers { B.told → AreNumbersOf numbers.now (table_told (table_in (B.shown blocks.old) self.now)) }
+        requires right { B.told → HasRightPlaces (B.shown blocks.old) self.now.inode.tree }
         ensures found { B.told → IfOk result (Finds (rooted (B.shown blocks.old) self.now.inode) name.now) }
         ensures range { IfOk result IsInfoIf }
         ensures looks { inodes.Looks B.told (rooted (B.shown blocks.old) self.now.inode) (B.shown blocks.old) (B.shown blocks.new) result }

@@ -2,6 +2,8 @@
 
 ghost use Rattle.std.specs.Prelude.{◌≡◌, ◌+◌, ℕ, cond, replicate, Option, Some, None, IfOk, IfErr, OnOk};
 ghost use Rattle.fv_tables.specs.Spelled.{Under, stored, block_at};
+ghost use Rattle.fv_files.specs.Right.{HasRightFile, HasRightTrees};
+ghost use Rattle.fv_tree.specs.Places.{HasRightPlaces};
 ghost use Rattle.fv_tree.specs.Sources.{Counts, IsUntouched, Use};
 ghost use Rattle.fv_tree.specs.Standing.{standing, under, Fails};
 ghost use Rattle.fv_tree.specs.Flushing.{loaded_over, IsSound, ReachesOnce};
@@ -33,6 +35,7 @@ impl Files {
     ) -> Result<(), FilesFault>
         requires range { IsInfo info.now }
         requires there { B.told → IsInfoOf (rooted (B.shown blocks.old) self.now.inode) info.now }
+        requires right { B.told → HasRightTrees (B.shown blocks.old) self.now }
         ensures block { B.told → OnOk result (GivesCell (table_in (B.shown blocks.old) self.now) info.now.number index into.new) }
         ensures spent { B.told → OnOk result ((B.shown blocks.new).spent ≡ (B.shown blocks.old).spent + way_cost (B.shown blocks.old).cost (tree_known (table_in (B.shown blocks.old) self.now) info.now) index) }
         ensures looks { Looks B.told (table_in (B.shown blocks.old) self.now) (B.shown blocks.old) (B.shown blocks.new) result }
@@ -60,6 +63,7 @@ impl Files {
     ) -> Result<(), FilesFault>
         requires range { IsInfo info.now }
         requires there { B.told → IsInfoOf (rooted (B.shown blocks.old) self.now.inode) info.now }
+        requires right { B.told → HasRightTrees (B.shown blocks.old) self.now }
         ensures block { B.told → OnOk result (GivesCell (table_in (B.shown blocks.old) self.now) info.now.number index into.new) }
         ensures spent { B.told → OnOk result ((B.shown blocks.new).spent ≡ (B.shown blocks.old).spent + path_cost (B.shown blocks.old).cost (table_in (B.shown blocks.old) self.now) info.now index) }
         ensures looks { Looks B.told (table_in (B.shown blocks.old) self.now) (B.shown blocks.old) (B.shown blocks.new) result }
@@ -87,6 +91,7 @@ fn read_cell<B: Blocks>(
     into: &mut [u8; 4096],
 ) -> Result<bool, FilesFault>
     requires range { IsInfo info.now }
+    requires right { B.told → HasRightFile (B.shown blocks.old) files.now info.now }
     ensures cell { B.told → IfOk result (λ there. block_at (tree_known (table_in (B.shown blocks.old) files.now) info.now) index ≡ cond there (Some into.new) None) }
     ensures spent { B.told → OnOk result ((B.shown blocks.new).spent ≡ (B.shown blocks.old).spent + way_cost (B.shown blocks.old).cost (tree_known (table_in (B.shown blocks.old) files.now) info.now) index) }
     ensures untouched { IsUntouched (B.shown blocks.old) (B.shown blocks.new) }
@@ -94,7 +99,7 @@ fn read_cell<B: Blocks>(
     ensures cause { IfErr result (Fails B.told (tree_known (table_in (B.shown blocks.old) files.now) info.now) (B.shown blocks.old) (B.shown blocks.new)) }
     ensures reads { B.reads blocks.old blocks.new }
 {
-    match files.trees.get(&info.number) {
+    match files.trees.get(info.number) {
         Some(tree) => read_tree(tree, blocks, index, into),
         None => {
             let tree = stored_tree(files.alloc, info);
@@ -110,6 +115,7 @@ fn read_tree<B: Blocks>(
     index: u32,
     into: &mut [u8; 4096],
 ) -> Result<bool, FilesFault>
+    requires right { B.told → HasRightPlaces (B.shown blocks.old) tree.now }
     ensures cell { B.told → IfOk result (λ there. block_at (standing (under (B.shown blocks.old)) tree.now) index ≡ cond there (Some into.new) None) }
     ensures spent { B.told → OnOk result ((B.shown blocks.new).spent ≡ (B.shown blocks.old).spent + way_cost (B.shown blocks.old).cost (standing (under (B.shown blocks.old)) tree.now) index) }
     ensures untouched { IsUntouched (B.shown blocks.old) (B.shown blocks.new) }

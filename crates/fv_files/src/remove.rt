@@ -5,10 +5,11 @@ ghost use Rattle.std.specs.Ordering.{nat_cmp};
 ghost use Rattle.std.specs.BTreeMap as maps;
 ghost use Rattle.fv_laws.specs.WellFormed.{IsWellTable};
 ghost use Rattle.fv_tables.specs.Told.{table_told};
+ghost use Rattle.fv_files.specs.Right.{HasRightKept, HasRightTrees};
 ghost use Rattle.fv_tree.specs.declared.kept.Tree as kept;
 ghost use Rattle.fv_tree.specs.Erasing.{HoldsCells};
 ghost use Rattle.fv_inode.specs.Files.{rooted, IsInfo};
-ghost use Rattle.fv_files.specs.Tables.{table_in, AreStanding, IsInfoOf};
+ghost use Rattle.fv_files.specs.Tables.{table_in, AreStanding, IsInfoOf, tree_in};
 ghost use Rattle.fv_files.specs.Failing.{FilesFail};
 ghost use Rattle.fv_files.specs.Calls.{IsPrepared, Changes, KeepsLed, KeptFails, RemovesFile, TakesByRemoval};
 ghost use Rattle.fv_files.specs.Pending.{pending_in, pending_trees, tree_cost};
@@ -16,10 +17,10 @@ ghost use Rattle.fv_files.specs.Altering.{AltersPlaces};
 
 use crate::cut::cut_kept;
 use crate::files::{Files, FilesFault};
+use crate::held::{HeldTrees, cost_of_any, recounted};
 use crate::hold::prepare;
 use fv_inode::{Info, least_levels};
-use fv_tree::{Blocks, Tree};
-use std::collections::BTreeMap;
+use fv_tree::Blocks;
 
 impl Files {
     /// Takes the file of which this is known away, with a stamp of at least 1: the machine's rm, of a table that stands on
@@ -41,6 +42,7 @@ impl Files {
         requires stamp { 1 ≤ stamp }
         requires range { IsInfo info.now }
         requires there { B.told → IsInfoOf (rooted (B.shown blocks.old) self.old.inode) info.now }
+        requires right { B.told → HasRightTrees (B.shown blocks.old) self.old }
         ensures removed { B.told → OnOk result (AreStanding (B.shown blocks.old) self.old → RemovesFile (table_in (B.shown blocks.old) self.old) (table_in (B.shown blocks.new) self.new) info.now.number stamp) }
         ensures counted { B.told → IfOk result (λ count. AreStanding (B.shown blocks.old) self.old → TakesByRemoval (table_in (B.shown blocks.old) self.old) info.now.number stamp count) }
         ensures led { B.told → (now : ℕ) → IsWellTable now (table_told (table_in (B.shown blocks.old) self.old)) → KeepsLed (B.shown blocks.old) (B.shown blocks.new) self.old self.new }
@@ -65,6 +67,7 @@ fn remove_ready<B: Blocks>(
 ) -> Result<u32, FilesFault>
     requires stamp { 1 ≤ stamp }
     requires prepared { IsPrepared B.told (B.shown blocks.old) files.old info.now }
+    requires right { B.told → HasRightKept (B.shown blocks.old) (tree_in files.old info.now.number) }
     ensures removed { B.told → OnOk result (AreStanding (B.shown blocks.old) files.old → RemovesFile (table_in (B.shown blocks.old) files.old) (table_in (B.shown blocks.new) files.new) info.now.number stamp) }
     ensures counted { B.told → IfOk result (λ count. AreStanding (B.shown blocks.old) files.old → TakesByRemoval (table_in (B.shown blocks.old) files.old) info.now.number stamp count) }
     ensures led { B.told → (now : ℕ) → IsWellTable now (table_told (table_in (B.shown blocks.old) files.old)) → KeepsLed (B.shown blocks.old) (B.shown blocks.new) files.old files.new }
@@ -82,11 +85,12 @@ fn remove_ready<B: Blocks>(
 }
 
 /// Takes a tree out of memory.
-pub fn forget(trees: &mut BTreeMap<u32, Tree>, number: u32)
+pub fn forget(trees: &mut HeldTrees, number: u32)
     ensures gone { (k : ℕ) → maps.get nat_cmp trees.new k ≡ cond (nat_eq k number) None (maps.get nat_cmp trees.old k) }
     ensures len { is_some (maps.get nat_cmp trees.old number) ≡ true → maps.btree_map_len trees.new + 1 ≡ maps.btree_map_len trees.old }
     ensures cost { (t : kept.Tree) → maps.get nat_cmp trees.old number ≡ Some t → pending_trees trees.new + tree_cost t ≡ pending_trees trees.old }
     ensures fewer { pending_trees trees.new ≤ pending_trees trees.old }
 {
-    let _ = trees.remove(&number);
+    let gone = trees.by_number.remove(&number);
+    trees.cost = recounted(trees.cost, cost_of_any(&gone), 0);
 }

@@ -1,6 +1,8 @@
 //! How many blocks that a change of a table replaces stay charged, before it is made.
 
 ghost use Rattle.std.specs.Prelude.{◌≡◌, ◌≤◌, ◌<◌, Some, IfOk};
+ghost use Rattle.fv_files.specs.Right.{HasRightFile, HasRightTrees};
+ghost use Rattle.fv_tree.specs.Places.{HasRightPlaces};
 ghost use Rattle.fv_tree.specs.Calls.{LoadsFrom};
 ghost use Rattle.fv_tree.specs.Standing.{under, Fails};
 ghost use Rattle.fv_inode.specs.Files.{rooted, IsInfo};
@@ -30,6 +32,7 @@ impl Files {
     ) -> Result<u32, FilesFault>
         requires range { IsInfo info.now }
         requires there { B.told → IsInfoOf (rooted (B.shown blocks.old) self.now.inode) info.now }
+        requires right { B.told → HasRightTrees (B.shown blocks.old) self.now }
         ensures staying { B.told → IfOk result (λ count. count ≡ staying_by_put (loaded_trees (under (B.shown blocks.old)) self.now) (B.shared blocks.old) info.now.number index) }
         ensures few { IfOk result (λ count. count ≤ 8) }
         ensures looks { Looks B.told (table_in (B.shown blocks.old) self.now) (B.shown blocks.old) (B.shown blocks.new) result }
@@ -54,6 +57,7 @@ impl Files {
     ) -> Result<u32, FilesFault>
         requires range { IsInfo info.now }
         requires there { B.told → IsInfoOf (rooted (B.shown blocks.old) self.now.inode) info.now }
+        requires right { B.told → HasRightTrees (B.shown blocks.old) self.now }
         ensures staying { B.told → IfOk result (λ count. count ≡ staying_by_removal (loaded_trees (under (B.shown blocks.old)) self.now) (B.shared blocks.old) info.now.number) }
         ensures few { IfOk result (λ count. count < 4194308) }
         ensures looks { Looks B.told (table_in (B.shown blocks.old) self.now) (B.shown blocks.old) (B.shown blocks.new) result }
@@ -71,6 +75,7 @@ impl Files {
     ///
     /// As `InodeFile::staying`.
     pub fn staying_by_new<B: Sharing>(&self, blocks: &mut B, number: u32) -> Result<u32, FilesFault>
+        requires right { B.told → HasRightPlaces (B.shown blocks.old) self.now.inode.tree }
         ensures staying { B.told → IfOk result (λ count. count ≡ staying_by_new (loaded_trees (under (B.shown blocks.old)) self.now) (B.shared blocks.old) number) }
         ensures few { IfOk result (λ count. count ≤ 4) }
         ensures looks { inodes.Looks B.told (rooted (B.shown blocks.old) self.now.inode) (B.shown blocks.old) (B.shown blocks.new) result }
@@ -87,7 +92,8 @@ fn staying_cell<B: Sharing>(
     info: &Info,
     index: u32,
 ) -> Result<u32, FilesFault>
-    requires { IsKnown B.told (B.shown blocks.old) files.now info.now }
+    requires known { IsKnown B.told (B.shown blocks.old) files.now info.now }
+    requires right { B.told → HasRightFile (B.shown blocks.old) files.now info.now }
     ensures staying { B.told → IfOk result (λ count. count ≡ staying_in (loaded_trees (under (B.shown blocks.old)) files.now (Some info.now.number)) (B.shared blocks.old) index) }
     ensures few { IfOk result (λ count. count ≤ 4) }
     ensures loads { LoadsFrom (B.reads blocks.old blocks.new) (Fails B.told (tree_known (table_in (B.shown blocks.old) files.now) info.now) (B.shown blocks.old) (B.shown blocks.new)) (B.shown blocks.old) (B.shown blocks.new) result }
@@ -97,7 +103,8 @@ fn staying_cell<B: Sharing>(
 
 /// How many blocks of a file's tree are shared, by its pointers.
 fn staying_tree<B: Sharing>(files: &Files, blocks: &mut B, info: &Info) -> Result<u32, FilesFault>
-    requires { IsKnown B.told (B.shown blocks.old) files.now info.now }
+    requires known { IsKnown B.told (B.shown blocks.old) files.now info.now }
+    requires right { B.told → HasRightFile (B.shown blocks.old) files.now info.now }
     ensures staying { B.told → IfOk result (λ count. count ≡ staying_of (loaded_trees (under (B.shown blocks.old)) files.now (Some info.now.number)) (B.shared blocks.old)) }
     ensures few { IfOk result (λ count. count < 4194304) }
     ensures loads { LoadsFrom (B.reads blocks.old blocks.new) (Fails B.told (tree_known (table_in (B.shown blocks.old) files.now) info.now) (B.shown blocks.old) (B.shown blocks.new)) (B.shown blocks.old) (B.shown blocks.new) result }

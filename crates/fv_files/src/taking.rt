@@ -1,6 +1,7 @@
 //! What a cut and a removal take of a table, before they are made.
 
 ghost use Rattle.std.specs.Prelude.{◌≡◌, ◌<◌, ◌≤◌, Some, IfOk, nat_le};
+ghost use Rattle.fv_files.specs.Right.{HasRightFile, HasRightTrees};
 ghost use Rattle.fv_tree.specs.Calls.{LoadsFrom};
 ghost use Rattle.fv_tree.specs.Standing.{under, Fails};
 ghost use Rattle.fv_tree.specs.Erasing.{HoldsCells};
@@ -32,6 +33,7 @@ impl Files {
     ) -> Result<Taken, FilesFault>
         requires range { IsInfo info.now }
         requires there { B.told → IsInfoOf (rooted (B.shown blocks.old) self.now.inode) info.now }
+        requires right { B.told → HasRightTrees (B.shown blocks.old) self.now }
         ensures taken { B.told → IfOk result (CutTakes (table_in (B.shown blocks.old) self.now) (loaded_trees (under (B.shown blocks.old)) self.now) (B.shared blocks.old) info.now.number length) }
         ensures few { IfOk result (AreBelow 4194312) }
         ensures looks { Looks B.told (table_in (B.shown blocks.old) self.now) (B.shown blocks.old) (B.shown blocks.new) result }
@@ -60,6 +62,7 @@ impl Files {
     ) -> Result<Taken, FilesFault>
         requires range { IsInfo info.now }
         requires there { B.told → IsInfoOf (rooted (B.shown blocks.old) self.now.inode) info.now }
+        requires right { B.told → HasRightTrees (B.shown blocks.old) self.now }
         ensures taken { B.told → IfOk result (RemovalTakes (table_in (B.shown blocks.old) self.now) (loaded_trees (under (B.shown blocks.old)) self.now) (B.shared blocks.old) info.now.number) }
         ensures few { IfOk result (AreBelow 8388608) }
         ensures looks { Looks B.told (table_in (B.shown blocks.old) self.now) (B.shown blocks.old) (B.shown blocks.new) result }
@@ -81,7 +84,8 @@ fn taken_tree<B: Sharing>(
     info: &Info,
     length: u32,
 ) -> Result<Taken, FilesFault>
-    requires { IsKnown B.told (B.shown blocks.old) files.now info.now }
+    requires known { IsKnown B.told (B.shown blocks.old) files.now info.now }
+    requires right { B.told → HasRightFile (B.shown blocks.old) files.now info.now }
     ensures gone { B.told → HoldsCells (tree_known (table_in (B.shown blocks.old) files.now) info.now) → IfOk result (λ taken. taken.gone ≡ gone_with (tree_known (table_in (B.shown blocks.old) files.now) info.now) (nat_le length)) }
     ensures staying { B.told → HoldsCells (tree_known (table_in (B.shown blocks.old) files.now) info.now)
         → IfOk result (λ taken. taken.staying ≡ staying_where (loaded_trees (under (B.shown blocks.old)) files.now (Some info.now.number)) (B.shared blocks.old) (nat_le length)) }

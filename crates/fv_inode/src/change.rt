@@ -4,6 +4,7 @@ ghost use Rattle.std.specs.Prelude.{◌≡◌, ◌≤◌, ◌/◌, ◌+◌, ℕ,
 ghost use Rattle.std.specs.Option.{option_map};
 ghost use Rattle.fv_tables.specs.Spelled.{Under};
 ghost use Rattle.fv_tables.specs.Told.{records_each, file_at};
+ghost use Rattle.fv_tree.specs.Places.{HasRightPlaces};
 ghost use Rattle.fv_tree.specs.Standing.{standing};
 ghost use Rattle.fv_tree.specs.Costs.{Rises};
 ghost use Rattle.fv_tree.specs.Altering.{Alters, AltersHeld};
@@ -37,6 +38,7 @@ impl InodeFile {
         requires stamp { 1 ≤ stamp }
         requires there { B.told → is_some (file_at (rooted (B.shown blocks.old) self.old) info.now.number) ≡ true }
         requires info { IsInfo info.now }
+        requires right { B.told → HasRightPlaces (B.shown blocks.old) self.old.tree }
         ensures changed { B.told → OnOk result (Rewrites (rooted (B.shown blocks.old) self.old) (rooted (B.shown blocks.new) self.new) info.now.number stamp (option_map (with_info info.now) (file_at (rooted (B.shown blocks.old) self.old) info.now.number))) }
         ensures loads { OnlyLoads B.told (B.shown blocks.old) (B.shown blocks.new) self.old.tree self.new.tree result }
         ensures alters { B.told → Alters stamp (loaded (B.shown blocks.old) self.old.tree) (loaded (B.shown blocks.new) self.new.tree) }

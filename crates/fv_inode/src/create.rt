@@ -8,6 +8,7 @@ ghost use Rattle.fv_model.specs.Spelling.{is_name};
 ghost use Rattle.fv_model.specs.Trees.{fan, least_levels};
 ghost use Rattle.fv_tables.specs.Spelled.{Rooted};
 ghost use Rattle.fv_tables.specs.Told.{records_each, free_record, used_record, file_at};
+ghost use Rattle.fv_tree.specs.Places.{HasRightPlaces};
 ghost use Rattle.fv_tree.specs.Standing.{standing, under};
 ghost use Rattle.fv_tree.specs.Counting.{added_at, staying_at};
 ghost use Rattle.fv_tree.specs.Flushing.{loaded};
@@ -53,6 +54,7 @@ impl InodeFile {
         requires free { B.told → IsLeastFree (rooted (B.shown blocks.old) self.old) number }
         requires stamp { 1 ≤ stamp }
         requires reserve { reserve ≤ most_cells }
+        requires right { B.told → HasRightPlaces (B.shown blocks.old) self.old.tree }
         ensures made { B.told → IfOk result (Makes (rooted (B.shown blocks.old) self.old) (rooted (B.shown blocks.new) self.new) name.now reserve stamp) }
         ensures range { IfOk result IsInfo }
         ensures loads { OnlyLoads B.told (B.shown blocks.old) (B.shown blocks.new) self.old.tree self.new.tree result }
@@ -74,6 +76,7 @@ impl InodeFile {
     ///
     /// As `find`.
     pub fn free_number<B: Blocks>(&self, blocks: &mut B) -> Result<Option<u32>, InodeFault>
+        requires right { B.told → HasRightPlaces (B.shown blocks.old) self.now.tree }
         ensures number { B.told → IfOk result (IsFreeNumber (rooted (B.shown blocks.old) self.now)) }
         ensures range { IfOk result IsNumberIf }
         ensures looks { Looks B.told (rooted (B.shown blocks.old) self.now) (B.shown blocks.old) (B.shown blocks.new) result }
@@ -91,6 +94,7 @@ impl InodeFile {
     /// As `find`.
     pub fn added<B: Blocks>(&self, blocks: &mut B, number: u32) -> Result<u32, InodeFault>
         requires number { number < most_files }
+        requires right { B.told → HasRightPlaces (B.shown blocks.old) self.now.tree }
         ensures added { B.told → IfOk result (λ count. count ≡ added_at (rooted (B.shown blocks.old) self.now) (number / records_each)) }
         ensures few { IfOk result (λ count. count ≤ 6) }
         ensures looks { Looks B.told (rooted (B.shown blocks.old) self.now) (B.shown blocks.old) (B.shown blocks.new) result }
@@ -106,6 +110,7 @@ impl InodeFile {
     ///
     /// As `find`.
     pub fn staying<B: Sharing>(&self, blocks: &mut B, number: u32) -> Result<u32, InodeFault>
+        requires right { B.told → HasRightPlaces (B.shown blocks.old) self.now.tree }
         ensures staying { B.told → IfOk result (λ count. count ≡ staying_at (loaded (B.shown blocks.old) self.now.tree) (B.shared blocks.old) (number / records_each)) }
         ensures few { IfOk result (λ count. count ≤ 4) }
         ensures looks { Looks B.told (rooted (B.shown blocks.old) self.now) (B.shown blocks.old) (B.shown blocks.new) result }
@@ -130,6 +135,7 @@ fn within(number: u32) -> Option<u32>
 
 /// The first number that is free, or 262,144 where none below is.
 fn find_free<B: Blocks>(tree: &Tree, blocks: &mut B) -> Result<u32, InodeFault>
+    requires right { B.told → HasRightPlaces (B.shown blocks.old) tree.now }
     ensures number { B.told → IfOk result (IsFirstFree (standing (under (B.shown blocks.old)) tree.now)) }
     ensures bound { IfOk result (λ number. number ≤ most_files) }
     ensures looks { Looks B.told (standing (under (B.shown blocks.old)) tree.now) (B.shown blocks.old) (B.shown blocks.new) result }

@@ -65,8 +65,8 @@ impl InodeFile {
         self.tree.levels()
     }
 
-    /// How many inode blocks and nodes in memory differ from their blocks: a `flush` places at most so many. It walks
-    /// the nodes in memory, takes no memory and makes no call.
+    /// How many inode blocks and nodes in memory differ from their blocks: a `flush` places at most so many. It costs
+    /// one step, takes no memory and makes no call.
     pub fn pending(&self) -> u64
         ensures { result ≡ pending self.now.tree }
     {

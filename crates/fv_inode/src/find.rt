@@ -6,6 +6,7 @@ ghost use Rattle.std.specs.Option.{option_map};
 ghost use Rattle.fv_codec.specs.Blocks.{IsInodeRecord};
 ghost use Rattle.fv_tables.specs.Spelled.{Rooted};
 ghost use Rattle.fv_tables.specs.Told.{records_each, used_record, file_at};
+ghost use Rattle.fv_tree.specs.Places.{HasRightPlaces};
 ghost use Rattle.fv_tree.specs.Standing.{standing, under};
 ghost use Rattle.fv_tree.specs.Costs.{way_cost};
 ghost use Rattle.fv_inode.specs.Files.{rooted, info_of, AreRecords, IsInfoIf, Finds, FindsBelow, HasNoneBelow};
@@ -34,6 +35,7 @@ impl InodeFile {
         blocks: &mut B,
         name: &Name,
     ) -> Result<Option<Info>, InodeFault>
+        requires right { B.told → HasRightPlaces (B.shown blocks.old) self.old.tree }
         ensures found { B.told → IfOk result (Finds (rooted (B.shown blocks.old) self.old) name.now) }
         ensures range { IfOk result IsInfoIf }
         ensures tree { self.new ≡ self.old }
@@ -50,6 +52,7 @@ impl InodeFile {
     ///
     /// As `find`.
     pub fn look<B: Blocks>(&self, blocks: &mut B, number: u32) -> Result<Option<Info>, InodeFault>
+        requires right { B.told → HasRightPlaces (B.shown blocks.old) self.now.tree }
         ensures found { B.told → IfOk result (λ found. found ≡ option_map (info_of number) (file_at (rooted (B.shown blocks.old) self.now) number)) }
         ensures range { IfOk result IsInfoIf }
         ensures spent { B.told → OnOk result ((B.shown blocks.new).spent ≡ (B.shown blocks.old).spent + way_cost (B.shown blocks.old).cost (rooted (B.shown blocks.old) self.now) (number / records_each)) }
@@ -81,6 +84,7 @@ fn find_named<B: Blocks>(
     blocks: &mut B,
     name: &Name,
 ) -> Result<Option<Info>, InodeFault>
+    requires right { B.told → HasRightPlaces (B.shown blocks.old) tree.now }
     ensures found { B.told → IfOk result (Finds (standing (under (B.shown blocks.old)) tree.now) name.now) }
     ensures range { IfOk result IsInfoIf }
     ensures looks { Looks B.told (standing (under (B.shown blocks.old)) tree.now) (B.shown blocks.old) (B.shown blocks.new) result }
@@ -103,6 +107,7 @@ fn find_at<B: Blocks>(
     name: &Name,
 ) -> Result<Option<Info>, InodeFault>
     requires cell { cell < 2097152 }
+    requires right { B.told → HasRightPlaces (B.shown blocks.old) tree.now }
     ensures found { B.told → IfOk result (λ found. HasNoneBelow (standing (under (B.shown blocks.old)) tree.now) name.now (records_each * cell) → FindsBelow (standing (under (B.shown blocks.old)) tree.now) name.now (records_each * cell + records_each) found) }
     ensures range { IfOk result IsInfoIf }
     ensures few { tree.now.levels ≤ 3 }

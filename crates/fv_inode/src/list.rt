@@ -9,6 +9,7 @@ ghost use Rattle.fv_disk.specs.declared.fault.BlockFault.TheVariants.{Memory};
 ghost use Rattle.fv_codec.specs.Blocks.{IsInodeRecord};
 ghost use Rattle.fv_tables.specs.Spelled.{Rooted};
 ghost use Rattle.fv_tables.specs.Told.{records_each, used_record, file_at};
+ghost use Rattle.fv_tree.specs.Places.{HasRightPlaces};
 ghost use Rattle.fv_tree.specs.Standing.{standing, under};
 ghost use Rattle.fv_inode.specs.Files.{rooted, name_of, AreRecords};
 ghost use Rattle.fv_inode.specs.Listing.{numbers_in, names_from, names_told};
@@ -31,6 +32,7 @@ impl InodeFile {
     ///
     /// As `find`, and `Memory` where there is no memory for the names.
     pub fn list<B: Blocks>(&mut self, blocks: &mut B) -> Result<Names, InodeFault>
+        requires right { B.told → HasRightPlaces (B.shown blocks.old) self.old.tree }
         ensures names { B.told → IfOk result (λ names. names ≡ fin.keys (names_told (rooted (B.shown blocks.old) self.old))) }
         ensures tree { self.new ≡ self.old }
         ensures looks { Looks B.told (rooted (B.shown blocks.old) self.old) (B.shown blocks.old) (B.shown blocks.new) result }
@@ -46,6 +48,7 @@ impl InodeFile {
     ///
     /// As `list`.
     pub fn index<B: Blocks>(&self, blocks: &mut B) -> Result<BTreeMap<Name, u32>, InodeFault>
+        requires right { B.told → HasRightPlaces (B.shown blocks.old) self.now.tree }
         ensures numbers { B.told → IfOk result (λ numbers. numbers_in numbers ≡ names_told (rooted (B.shown blocks.old) self.now)) }
         ensures looks { Looks B.told (rooted (B.shown blocks.old) self.now) (B.shown blocks.old) (B.shown blocks.new) result }
         ensures reads { B.reads blocks.old blocks.new }
@@ -56,6 +59,7 @@ impl InodeFile {
 
 /// The names of all files, in byte order.
 fn list_names<B: Blocks>(alloc: Global, tree: &Tree, blocks: &mut B) -> Result<Names, InodeFault>
+    requires right { B.told → HasRightPlaces (B.shown blocks.old) tree.now }
     ensures names { B.told → IfOk result (λ names. names ≡ fin.keys (names_told (standing (under (B.shown blocks.old)) tree.now))) }
     ensures looks { Looks B.told (standing (under (B.shown blocks.old)) tree.now) (B.shown blocks.old) (B.shown blocks.new) result }
     ensures reads { B.reads blocks.old blocks.new }
@@ -70,6 +74,7 @@ fn numbers_by_name<B: Blocks>(
     tree: &Tree,
     blocks: &mut B,
 ) -> Result<BTreeMap<Name, u32>, InodeFault>
+    requires right { B.told → HasRightPlaces (B.shown blocks.old) tree.now }
     ensures numbers { B.told → IfOk result (λ numbers. numbers_in numbers ≡ names_told (standing (under (B.shown blocks.old)) tree.now)) }
     ensures looks { Looks B.told (standing (under (B.shown blocks.old)) tree.now) (B.shown blocks.old) (B.shown blocks.new) result }
     ensures reads { B.reads blocks.old blocks.new }

@@ -3,6 +3,7 @@
 ghost use Rattle.std.specs.Prelude.{◌≡◌, ◌<◌, ◌≤◌, ◌/◌, slice_set, length, IfOk};
 ghost use Rattle.fv_codec.specs.Blocks.{all_free};
 ghost use Rattle.fv_tables.specs.Told.{records_each};
+ghost use Rattle.fv_tree.specs.Places.{HasRightPlaces};
 ghost use Rattle.fv_tree.specs.Counting.{staying_at};
 ghost use Rattle.fv_tree.specs.Erasing.{HoldsCells};
 ghost use Rattle.fv_tree.specs.Flushing.{loaded};
@@ -26,6 +27,7 @@ impl InodeFile {
     ///
     /// As `find`.
     pub fn taken<B: Sharing>(&self, blocks: &mut B, number: u32) -> Result<Taken, InodeFault>
+        requires right { B.told → HasRightPlaces (B.shown blocks.old) self.now.tree }
         ensures gone { B.told → HoldsCells (rooted (B.shown blocks.old) self.now) → IfOk result (λ taken. IsLost (rooted (B.shown blocks.old) self.now) number taken.gone) }
         ensures staying { B.told → IfOk result (λ taken. taken.staying ≡ staying_at (loaded (B.shown blocks.old) self.now.tree) (B.shared blocks.old) (number / records_each)) }
         ensures few { IfOk result (λ taken. (taken.gone < 4194304) × (taken.staying ≤ 4)) }
@@ -40,6 +42,7 @@ impl InodeFile {
 
 /// How many positions of the inode file go with the file of a number.
 fn lost<B: Sharing>(file: &InodeFile, blocks: &mut B, number: u32) -> Result<u32, InodeFault>
+    requires right { B.told → HasRightPlaces (B.shown blocks.old) file.now.tree }
     ensures lost { B.told → HoldsCells (rooted (B.shown blocks.old) file.now) → IfOk result (IsLost (rooted (B.shown blocks.old) file.now) number) }
     ensures few { IfOk result (λ count. count < 4194304) }
     ensures looks { Looks B.told (rooted (B.shown blocks.old) file.now) (B.shown blocks.old) (B.shown blocks.new) result }

@@ -3,6 +3,7 @@
 ghost use Rattle.std.specs.Prelude.{◌≡◌, ◌≤◌, ◌+◌, ◌/◌, ℕ, true, is_some, IfOk};
 ghost use Rattle.fv_tables.specs.Spelled.{Under};
 ghost use Rattle.fv_tables.specs.Told.{records_each, file_at};
+ghost use Rattle.fv_tree.specs.Places.{HasRightPlaces};
 ghost use Rattle.fv_tree.specs.Standing.{standing, under};
 ghost use Rattle.fv_tree.specs.Writing.{IsAlike, Remains};
 ghost use Rattle.fv_tree.specs.Readying.{IsReady};
@@ -29,6 +30,7 @@ impl InodeFile {
     ///
     /// As `find`, and `Memory` where there is no memory for the nodes and the inode block.
     pub fn ready<B: Blocks>(&mut self, blocks: &mut B, number: u32) -> Result<bool, InodeFault>
+        requires right { B.told → HasRightPlaces (B.shown blocks.old) self.old.tree }
         ensures ready { IfOk result (λ there. there ≡ true → IsReadyFile self.new number) }
         ensures there { B.told → IfOk result (λ there. is_some (file_at (rooted (B.shown blocks.old) self.old) number) ≡ there) }
         ensures alike { B.told → IsAlike (rooted (B.shown blocks.old) self.old) (rooted (B.shown blocks.new) self.new) }
@@ -46,6 +48,7 @@ impl InodeFile {
 
 /// Brings the inode block of a file and the nodes over it into memory, once it has the shape of one.
 fn ready_file<B: Blocks>(tree: &mut Tree, blocks: &mut B, number: u32) -> Result<bool, InodeFault>
+    requires right { B.told → HasRightPlaces (B.shown blocks.old) tree.old }
     ensures ready { IfOk result (λ there. there ≡ true → HoldsFile tree.new number) }
     ensures there { B.told → IfOk result (λ there. is_some (file_at (standing (under (B.shown blocks.old)) tree.old) number) ≡ there) }
     ensures alike { B.told → IsAlike (standing (under (B.shown blocks.old)) tree.old) (standing (under (B.shown blocks.new)) tree.new) }
@@ -67,6 +70,7 @@ fn ready_file<B: Blocks>(tree: &mut Tree, blocks: &mut B, number: u32) -> Result
 
 /// Brings the inode block of a file and the nodes over it into memory.
 fn hold<B: Blocks>(tree: &mut Tree, blocks: &mut B, number: u32) -> Result<bool, InodeFault>
+    requires right { B.told → HasRightPlaces (B.shown blocks.old) tree.old }
     ensures ready { IfOk result (λ there. there ≡ true → HoldsFile tree.new number) }
     ensures there { B.told → IfOk result (λ there. is_some (file_at (standing (under (B.shown blocks.old)) tree.old) number) ≡ there) }
     ensures alike { B.told → IsAlike (standing (under (B.shown blocks.old)) tree.old) (standing (under (B.shown blocks.new)) tree.new) }

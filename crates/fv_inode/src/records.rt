@@ -11,6 +11,7 @@ ghost use Rattle.fv_model.specs.Spelling.{is_same_name};
 ghost use Rattle.fv_model.specs.Trees.{fan};
 ghost use Rattle.fv_tables.specs.Told.{records_each, file_at, free_record, used_record, records_in};
 ghost use Rattle.fv_tables.specs.Spelled.{Under};
+ghost use Rattle.fv_tree.specs.Places.{HasRightPlaces};
 ghost use Rattle.fv_tree.specs.Standing.{standing, under};
 ghost use Rattle.fv_tree.specs.Readying.{IsReady};
 ghost use Rattle.fv_tree.specs.Costs.{way_cost, Rises};
@@ -80,6 +81,7 @@ pub fn read_files<B: Blocks>(
     blocks: &mut B,
     cell: u32,
 ) -> Result<[InodeRecord; 16], InodeFault>
+    requires right { B.told → HasRightPlaces (B.shown blocks.old) tree.now }
     ensures files { B.told → IfOk result (AreRecords (standing (under (B.shown blocks.old)) tree.now) cell) }
     ensures range { IfOk result (All IsInodeRecord) }
     ensures long { IfOk result (λ files. length files ≡ 16) }
@@ -111,6 +113,7 @@ pub fn read_file<B: Blocks>(
     blocks: &mut B,
     number: u32,
 ) -> Result<InodeRecord, InodeFault>
+    requires right { B.told → HasRightPlaces (B.shown blocks.old) tree.now }
     ensures file { B.told → IfOk result (λ file. used_record file ≡ file_at (standing (under (B.shown blocks.old)) tree.now) number) }
     ensures range { IfOk result IsInodeRecord }
     ensures spent { B.told → OnOk result ((B.shown blocks.new).spent ≡ (B.shown blocks.old).spent + way_cost (B.shown blocks.old).cost (standing (under (B.shown blocks.old)) tree.now) (number / records_each)) }
@@ -147,6 +150,17 @@ fn file_of(
     if is_inodes {
         return Ok(InodeBlock::record(block, slot));
     }
+    decoded_file(at, block, slot)
+}
+
+/// One record of the inode block that a block spells whole, which was read at a place.
+#[tactic(auto, using(crate::proofs::Slots::own_file))]
+fn decoded_file(at: u32, block: &[u8; 4096], slot: u32) -> Result<InodeRecord, InodeFault>
+    requires slot { slot < records_each }
+    ensures file { IfOk result (λ file. get_or (records_in (Some block.now)) slot free_record ≡ file) }
+    ensures range { IfOk result IsInodeRecord }
+    ensures damage { IfErr result (λ e. (shape : Shape) × (inodes_at block.now ≡ Err shape) × (e ≡ Damaged at shape.want shape.found)) }
+{
     let files = files_of(at, block)?;
     Ok(files[slot as usize])
 }
@@ -214,6 +228,7 @@ pub fn write_files<B: Blocks>(
     requires stamp { 1 ≤ stamp }
     requires range { All IsInodeRecord files.now }
     requires some { all_free files.now ≡ false }
+    requires right { B.told → HasRightPlaces (B.shown blocks.old) tree.old }
     ensures written { B.told → OnOk result (WritesFiles (standing (under (B.shown blocks.old)) tree.old) (standing (under (B.shown blocks.new)) tree.new) cell stamp files.now) }
     ensures loads { OnlyLoads B.told (B.shown blocks.old) (B.shown blocks.new) tree.old tree.new result }
     ensures alters { B.told → Alters stamp (loaded (B.shown blocks.old) tree.old) (loaded (B.shown blocks.new) tree.new) }

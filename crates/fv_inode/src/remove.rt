@@ -2,6 +2,7 @@
 
 ghost use Rattle.std.specs.Prelude.{◌≡◌, ◌≢◌, ◌≤◌, ◌+◌, ◌/◌, ℕ, true, is_some, Ok};
 ghost use Rattle.fv_tables.specs.Told.{records_each, file_at};
+ghost use Rattle.fv_tree.specs.Places.{HasRightPlaces};
 ghost use Rattle.fv_tree.specs.Readying.{IsReady};
 ghost use Rattle.fv_tree.specs.Costs.{Rises};
 ghost use Rattle.fv_inode.specs.Files.{rooted};
@@ -32,6 +33,7 @@ impl InodeFile {
     ) -> Result<u32, InodeFault>
         requires stamp { 1 ≤ stamp }
         requires there { B.told → is_some (file_at (rooted (B.shown blocks.old) self.old) number) ≡ true }
+        requires right { B.told → HasRightPlaces (B.shown blocks.old) self.old.tree }
         ensures takes { TakesFile B.told (B.goes blocks.old blocks.new) (B.shown blocks.old) (B.shown blocks.new) self.old.tree self.new.tree number stamp result }
         ensures rises { Rises self.old.tree self.new.tree 4 1 }
     {

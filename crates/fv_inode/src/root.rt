@@ -5,6 +5,7 @@ ghost use Rattle.std.specs.List.{All};
 ghost use Rattle.fv_codec.specs.Blocks.{all_free, IsInodeRecord, IsPointer};
 ghost use Rattle.fv_tables.specs.Spelled.{block_at};
 ghost use Rattle.fv_tables.specs.Told.{records_each, file_at};
+ghost use Rattle.fv_tree.specs.Places.{HasRightPlaces};
 ghost use Rattle.fv_tree.specs.Standing.{standing, under};
 ghost use Rattle.fv_disk.specs.declared.fault.BlockFault.TheVariants.{Memory};
 ghost use Rattle.fv_tree.specs.Readying.{IsReady};
@@ -41,6 +42,7 @@ impl InodeFile {
     ) -> Result<(), InodeFault>
         requires levels { levels ≤ 3 }
         requires root { IsPointer root }
+        requires right { B.told → HasRightPlaces (B.shown blocks.old) self.old.tree }
         ensures set { B.told → is_some (file_at (rooted (B.shown blocks.old) self.old) number) ≡ true → OnOk result (SetsRoot (rooted (B.shown blocks.old) self.old) (rooted (B.shown blocks.new) self.new) number levels root) }
         ensures loads { OnlyLoads B.told (B.shown blocks.old) (B.shown blocks.new) self.old.tree self.new.tree result }
         ensures held { B.told → IsReadyFile self.old number → IfErr result (λ e. e ≡ Memory) }
@@ -84,6 +86,7 @@ fn refill_files<B: Blocks>(
     requires there { B.told → is_some (block_at (standing (under (B.shown blocks.old)) tree.old) cell) ≡ true }
     requires range { All IsInodeRecord files.now }
     requires some { all_free files.now ≡ false }
+    requires right { B.told → HasRightPlaces (B.shown blocks.old) tree.old }
     ensures filled { B.told → OnOk result (FillsFiles (standing (under (B.shown blocks.old)) tree.old) (standing (under (B.shown blocks.new)) tree.new) cell files.now) }
     ensures loads { OnlyLoads B.told (B.shown blocks.old) (B.shown blocks.new) tree.old tree.new result }
     ensures held { IsReady tree.old cell → IfErr result (λ e. e ≡ Memory) }

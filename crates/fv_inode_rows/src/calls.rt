@@ -1,6 +1,7 @@
 //! Changes of files by their names.
 
 ghost use Rattle.std.specs.Prelude.{◌≡◌};
+ghost use Rattle.fv_tree.specs.Places.{TrustsAll};
 
 use fv_codec::Pointer;
 use fv_inode::{Info, InodeFault, InodeFile};
@@ -18,13 +19,16 @@ const LAST_PLACE: u64 = 1_048_575;
 /// # Errors
 ///
 /// As `InodeFile::free_number` and `InodeFile::create`.
+#[tactic(auto, using(fv_tree::proofs::Right::trusted_tree))]
 pub fn create<B: Blocks>(
     file: &mut InodeFile,
     blocks: &mut B,
     name: &Name,
     reserve: u32,
     stamp: u64,
-) -> Result<Option<Info>, InodeFault> {
+) -> Result<Option<Info>, InodeFault>
+    requires right { B.told → TrustsAll B.shown }
+{
     if stamp == 0 || reserve > MOST_CELLS {
         return Ok(None);
     }
@@ -42,13 +46,16 @@ pub fn create<B: Blocks>(
 /// # Errors
 ///
 /// As `InodeFile::change`.
+#[tactic(auto, using(fv_tree::proofs::Right::trusted_tree))]
 pub fn change<B: Blocks>(
     file: &mut InodeFile,
     blocks: &mut B,
     name: &Name,
     length: u32,
     stamp: u64,
-) -> Result<bool, InodeFault> {
+) -> Result<bool, InodeFault>
+    requires right { B.told → TrustsAll B.shown }
+{
     if stamp == 0 || length > MOST_CELLS {
         return Ok(false);
     }
@@ -66,12 +73,15 @@ pub fn change<B: Blocks>(
 /// # Errors
 ///
 /// As `InodeFile::remove`.
+#[tactic(auto, using(fv_tree::proofs::Right::trusted_tree))]
 pub fn remove<B: Blocks>(
     file: &mut InodeFile,
     blocks: &mut B,
     name: &Name,
     stamp: u64,
-) -> Result<bool, InodeFault> {
+) -> Result<bool, InodeFault>
+    requires right { B.told → TrustsAll B.shown }
+{
     if stamp == 0 {
         return Ok(false);
     }
@@ -90,13 +100,16 @@ pub fn remove<B: Blocks>(
 /// # Errors
 ///
 /// As `InodeFile::set_root`.
+#[tactic(auto, using(fv_tree::proofs::Right::trusted_tree))]
 pub fn set_root<B: Blocks>(
     file: &mut InodeFile,
     blocks: &mut B,
     name: &Name,
     levels: u8,
     root: Pointer,
-) -> Result<bool, InodeFault> {
+) -> Result<bool, InodeFault>
+    requires right { B.told → TrustsAll B.shown }
+{
     if root.stamp == 0 || root.vvbn > LAST_PLACE || root.pvbn > LAST_PLACE || levels > 3 {
         return Ok(false);
     }

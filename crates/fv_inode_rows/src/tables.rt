@@ -1,5 +1,7 @@
 //! Calls of a table in memory that meet their premises by a look.
 
+ghost use Rattle.fv_tree.specs.Places.{TrustsAll};
+
 use fv_files::{Files, FilesFault};
 use fv_model::Name;
 use fv_tree::{Blocks, Sharing, Taken};
@@ -28,13 +30,16 @@ macro_rules! told {
 /// # Errors
 ///
 /// As `Files::free_number` and `Files::create`.
+#[tactic(auto, using(fv_tree::proofs::Right::trusted_tree, fv_files::proofs::Right::trusted_trees))]
 pub fn make<B: Blocks>(
     table: &mut Files,
     blocks: &mut B,
     name: &Name,
     reserve: u32,
     stamp: u64,
-) -> Done {
+) -> Done
+    requires right { B.told → TrustsAll B.shown }
+{
     if stamp == 0 || reserve > MOST_CELLS {
         return Ok(false);
     }
@@ -52,7 +57,7 @@ pub fn make<B: Blocks>(
 /// # Errors
 ///
 /// As `Files::find` and `Files::write`.
-#[tactic(auto, using(fv_files::proofs::Tables::first_info))]
+#[tactic(auto, using(fv_files::proofs::Tables::first_info, fv_tree::proofs::Right::trusted_tree, fv_files::proofs::Right::trusted_trees))]
 pub fn write<B: Blocks>(
     table: &mut Files,
     blocks: &mut B,
@@ -60,7 +65,9 @@ pub fn write<B: Blocks>(
     index: u32,
     block: &[u8; 4096],
     stamp: u64,
-) -> Done {
+) -> Done
+    requires right { B.told → TrustsAll B.shown }
+{
     if stamp == 0 || index >= MOST_CELLS {
         return Ok(false);
     }
@@ -78,14 +85,16 @@ pub fn write<B: Blocks>(
 /// # Errors
 ///
 /// As `Files::find` and `Files::read`.
-#[tactic(auto, using(fv_files::proofs::Tables::first_info))]
+#[tactic(auto, using(fv_files::proofs::Tables::first_info, fv_tree::proofs::Right::trusted_tree, fv_files::proofs::Right::trusted_trees))]
 pub fn read<B: Blocks>(
     table: &mut Files,
     blocks: &mut B,
     name: &Name,
     index: u32,
     into: &mut [u8; 4096],
-) -> Done {
+) -> Done
+    requires right { B.told → TrustsAll B.shown }
+{
     match table.find(blocks, name)? {
         None => Ok(false),
         Some(info) => {
@@ -100,7 +109,10 @@ pub fn read<B: Blocks>(
 /// # Errors
 ///
 /// As `Files::find`.
-pub fn length<B: Blocks>(table: &mut Files, blocks: &mut B, name: &Name) -> Told<u32> {
+#[tactic(auto, using(fv_tree::proofs::Right::trusted_tree, fv_files::proofs::Right::trusted_trees))]
+pub fn length<B: Blocks>(table: &mut Files, blocks: &mut B, name: &Name) -> Told<u32>
+    requires right { B.told → TrustsAll B.shown }
+{
     told!(table, blocks, name, info => info.length)
 }
 
@@ -109,8 +121,10 @@ pub fn length<B: Blocks>(table: &mut Files, blocks: &mut B, name: &Name) -> Told
 /// # Errors
 ///
 /// As `Files::find` and `Files::staying`.
-#[tactic(auto, using(fv_files::proofs::Tables::first_info))]
-pub fn staying<B: Sharing>(table: &mut Files, blocks: &mut B, name: &Name, cell: u32) -> Told<u32> {
+#[tactic(auto, using(fv_files::proofs::Tables::first_info, fv_tree::proofs::Right::trusted_tree, fv_files::proofs::Right::trusted_trees))]
+pub fn staying<B: Sharing>(table: &mut Files, blocks: &mut B, name: &Name, cell: u32) -> Told<u32>
+    requires right { B.told → TrustsAll B.shown }
+{
     told!(table, blocks, name, info => table.staying(blocks, &info, cell)?)
 }
 
@@ -119,8 +133,10 @@ pub fn staying<B: Sharing>(table: &mut Files, blocks: &mut B, name: &Name, cell:
 /// # Errors
 ///
 /// As `Files::find` and `Files::staying_by_removal`.
-#[tactic(auto, using(fv_files::proofs::Tables::first_info))]
-pub fn staying_by_removal<B: Sharing>(table: &mut Files, blocks: &mut B, name: &Name) -> Told<u32> {
+#[tactic(auto, using(fv_files::proofs::Tables::first_info, fv_tree::proofs::Right::trusted_tree, fv_files::proofs::Right::trusted_trees))]
+pub fn staying_by_removal<B: Sharing>(table: &mut Files, blocks: &mut B, name: &Name) -> Told<u32>
+    requires right { B.told → TrustsAll B.shown }
+{
     told!(table, blocks, name, info => table.staying_by_removal(blocks, &info)?)
 }
 
@@ -129,13 +145,15 @@ pub fn staying_by_removal<B: Sharing>(table: &mut Files, blocks: &mut B, name: &
 /// # Errors
 ///
 /// As `Files::find` and `Files::taken_by_cut`.
-#[tactic(auto, using(fv_files::proofs::Tables::first_info))]
+#[tactic(auto, using(fv_files::proofs::Tables::first_info, fv_tree::proofs::Right::trusted_tree, fv_files::proofs::Right::trusted_trees))]
 pub fn taken_by_cut<B: Sharing>(
     table: &mut Files,
     blocks: &mut B,
     name: &Name,
     length: u32,
-) -> Told<Taken> {
+) -> Told<Taken>
+    requires right { B.told → TrustsAll B.shown }
+{
     told!(table, blocks, name, info => table.taken_by_cut(blocks, &info, length)?)
 }
 
@@ -144,7 +162,9 @@ pub fn taken_by_cut<B: Sharing>(
 /// # Errors
 ///
 /// As `Files::find` and `Files::taken_by_removal`.
-#[tactic(auto, using(fv_files::proofs::Tables::first_info))]
-pub fn taken_by_removal<B: Sharing>(table: &mut Files, blocks: &mut B, name: &Name) -> Told<Taken> {
+#[tactic(auto, using(fv_files::proofs::Tables::first_info, fv_tree::proofs::Right::trusted_tree, fv_files::proofs::Right::trusted_trees))]
+pub fn taken_by_removal<B: Sharing>(table: &mut Files, blocks: &mut B, name: &Name) -> Told<Taken>
+    requires right { B.told → TrustsAll B.shown }
+{
     told!(table, blocks, name, info => table.taken_by_removal(blocks, &info)?)
 }

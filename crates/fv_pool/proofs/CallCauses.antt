@@ -1,5 +1,5 @@
 -- Why calls on a volume fail, as calls of its table over what a session lends.
-use Rattle.std.proofs.Common.{◌≡◌, ℕ, cond, is_some, inl, inr, refl, sym, subst, ◌∙◌}
+use Rattle.std.proofs.Common.{◌≡◌, ℕ, cond, is_some, inl, inr, refl, sym, subst}
 use Rattle.std.specs.Prelude.{Result, Ok, Err, IfErr}
 use Rattle.fv_disk.specs.declared.fault.BlockFault.{BlockFault}
 use Rattle.fv_disk.specs.declared.fault.BlockFault.TheVariants as block
@@ -21,15 +21,15 @@ use Rattle.fv_pool.specs.declared.blocks.Home.{Home}
 use Rattle.fv_pool.specs.declared.noted.Noted.{Noted}
 use Rattle.fv_pool.specs.declared.pool.Pool.{Pool}
 use Rattle.fv_pool.specs.Calls.{BlockCause, CallCause, CallFails, IsBadInodes, Reads, TableFails}
-use Rattle.fv_pool.specs.Lending.{Lent, ReadFails, ReadsOver, lent_by, shown_over, use_of}
-use Rattle.fv_pool.specs.BlocksOver.{held_entry}
+use Rattle.fv_pool.specs.Lending.{Lent, ReadFails, ReadsOver, lent_by, place_or_none, shown_over}
+use Rattle.fv_pool.specs.BlocksOver.{held_entry, place_read}
 use Rattle.fv_pool.proofs.Failing.{inode_damage, read_fails}
 
 module _ (told : Type 0) (x : Standing) (old new : Lent) (reads : ReadsOver old new) (none : old.noted.count ≡ 0) where
   -- a cell is read where it was before
   same_place : (cell : ℕ) → cell_read_at x.inode (shown_over new) cell ≡ cell_read_at x.inode (shown_over old) cell
   same_place cell = λ j. cond (is_some (x.inode.cells cell)) 0
-      (use_of (held_entry (reads.map j) (reads.containers j) (reads.home j).slot (pointer_at x.inode 0 cell).vvbn)).pvbn
+      (place_or_none (place_read (held_entry (reads.map j) (reads.containers j) (reads.home j).slot (pointer_at x.inode 0 cell).vvbn) (pointer_at x.inode 0 cell).pvbn))
 
   inode_fails : (e : BlockFault) → InodeFails told x.inode (shown_over old) (shown_over new) e → TableFails told x old new.disk.faults e
   inode_fails e (inl fails) = inl (read_fails told x.inode old new e reads none fails)

@@ -20,11 +20,11 @@ use Rattle.fv_volmap.specs.Slots.{Volume, taken_in}
 use Rattle.fv_pool.specs.declared.blocks.Home.{Home}
 use Rattle.fv_pool.specs.declared.noted.Noted.{Noted}
 use Rattle.fv_pool.specs.declared.pool.Pool.{Pool}
-use Rattle.fv_pool.specs.BlocksOver.{block_of, held_block, held_entry}
+use Rattle.fv_pool.specs.BlocksOver.{block_of, held_block, held_entry, place_read}
 use Rattle.fv_pool.specs.Calls.{BlockCause, GivesUp, Reads, TableFails}
 use Rattle.fv_pool.specs.Dropping.{DropsOver}
 use Rattle.fv_pool.specs.Keeping.{Blocks}
-use Rattle.fv_pool.specs.Lending.{Lent, ReadFails, lent_by, shown_over, use_of}
+use Rattle.fv_pool.specs.Lending.{Lent, ReadFails, lent_by, place_or_none, shown_over}
 use Rattle.fv_pool.proofs.Failing.{inode_damage, node_damage, noted_hole}
 use Rattle.fv_pool.proofs.Shows.{get_held}
 
@@ -57,7 +57,7 @@ module _ (old new : Lent) (drops : DropsOver old new) (held : (shown_over new).h
       let other = chain_is new.map new.pool.containers new.home.slot v second.0 second.1 in
       let chains : chain_entry new.pool.containers new.home.slot v ≡ chain_entry old.pool.containers old.home.slot v = (λ j. chain_entry (drops.containers j) (drops.home j).slot v) in
       let same : second.0 ≡ first.0 = some_entry second.0 first.0 (sym other ∙ chains ∙ one) in
-      ap (λ o. (use_of o).pvbn) second.1 ∙ ap (λ (e : Entry). e.pvbn) same ∙ sym (ap (λ o. (use_of o).pvbn) first.1)
+      ap (λ o. place_or_none (place_read o p.pvbn)) second.1 ∙ ap (λ (e : Entry). place_or_none (place_read (Some e) p.pvbn)) same ∙ sym (ap (λ o. place_or_none (place_read o p.pvbn)) first.1)
 
   -- so is a cell of a tree over those blocks
   cell_there : (t : Rooted) → t.under ≡ under (shown_over old) → (cell : ℕ) (content : List ℕ) → block_at t cell ≡ Some content → cell_read_at t (shown_over new) cell ≡ cell_read_at t (shown_over old) cell

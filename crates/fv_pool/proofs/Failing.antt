@@ -1,15 +1,14 @@
 -- Why calls on a tree fail over what a session lends.
-use Rattle.std.proofs.Common.{◌≡◌, ◌⊎◌, ℕ, List, Some, refl, ap, subst, ◌∙◌, inl, inr, ⊎_elim, arith}
+use Rattle.std.proofs.Common.{◌≡◌, ◌⊎◌, ℕ, List, Some, refl, sym, ap, subst, ◌∙◌, inl, inr, ⊎_elim, arith}
 use Rattle.std.specs.FinMap as fin
 use Rattle.fv_disk.specs.Shown.{Image, Rose, Shown as Disk}
 use Rattle.fv_disk.specs.DiskCalls.{OnlyReads}
 use Rattle.fv_disk.specs.declared.fault.BlockFault.{BlockFault}
 use Rattle.fv_disk.specs.declared.fault.BlockFault.TheVariants.{DiskFault, Damaged, Memory}
-use Rattle.fv_image.specs.Layout.{root_place}
 use Rattle.fv_codec.specs.declared.pointer.Pointer.{Pointer}
 use Rattle.fv_tables.specs.Spelled.{block_at}
 use Rattle.fv_tree.specs.Reading.{cell_read_at}
-use Rattle.fv_tree.specs.Sources.{Damage, HasCause, IsUntouched, Shown, WasDamaged}
+use Rattle.fv_tree.specs.Sources.{Damage, IsUntouched, Shown, WasDamaged}
 use Rattle.fv_tree.specs.Spelled.{Rooted, Under, pointer_at}
 use Rattle.fv_tree.specs.Standing.{under, Fails, IsBlockDamage, IsNodeDamage}
 use Rattle.fv_inode.specs.Failing.{IsInodeDamage}
@@ -19,8 +18,8 @@ use Rattle.fv_pool.specs.declared.pool.Pool.{Pool}
 use Rattle.fv_container.specs.Chains.{Slots}
 use Rattle.fv_volmap.specs.Slots.{Volume}
 use Rattle.fv_pool.specs.Keeping.{Blocks}
-use Rattle.fv_pool.specs.BlocksOver.{LeavesPool, block_of, held_entry, steps_by}
-use Rattle.fv_pool.specs.Lending.{GoesFails, GoesOver, IsHole, IsOutOfRoom, LacksOne, Lent, ReadFails, ReadsOver, WasHole, WasLack, below, lent_by, shown_over, use_of, use_under}
+use Rattle.fv_pool.specs.BlocksOver.{LeavesPool, block_of, held_entry, place_read, IsRightPlace}
+use Rattle.fv_pool.specs.Lending.{IsHole, LacksOne, Lent, ReadFails, ReadsOver, WasHole, WasLack, below, lent_by, place_or_none, shown_over, use_under}
 
 -- a count that stays at 0 hasn't risen
 pub still_none : (before now : ℕ) → before ≡ 0 → now ≡ before → Rose before now → ⊥
@@ -68,7 +67,7 @@ inode_damage wide narrow widens t new old there e h = record {
 
 -- after reads a pointer is read where it was before
 same_place : (old new : Lent) → ReadsOver old new → (p : Pointer) → (shown_over new).read_at p ≡ (shown_over old).read_at p
-same_place old new reads p = (λ j. (use_of (held_entry (reads.map j) (reads.containers j) (reads.home j).slot p.vvbn)).pvbn)
+same_place old new reads p = (λ j. place_or_none (place_read (held_entry (reads.map j) (reads.containers j) (reads.home j).slot p.vvbn) p.pvbn))
 
 pub read_fails : (told : Type 0) (t : Rooted) (old new : Lent) (e : BlockFault) → ReadsOver old new → old.noted.count ≡ 0 → Fails told t (shown_over old) (shown_over new) e → ReadFails told t old new.disk.faults e
 read_fails told t old new DiskFault reads none cause = cause.0
@@ -85,7 +84,8 @@ still_shown map pool after disk later steps made home room strays noted last lea
   used = λ j. use_under map (leaves.containers j) home.slot;
   strays = refl;
   room = refl;
-  cost = λ j p. steps_by (held_entry map (leaves.containers j) home.slot p.vvbn) p.pvbn;
+  cost = refl;
+  right = λ v pvbn is. subst (λ (s : Slots). IsRightPlace (held_entry map s home.slot v) pvbn) (sym leaves.containers) is;
 }
 
 -- the blocks that kept blocks, entries, maps and reads show

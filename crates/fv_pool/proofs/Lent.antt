@@ -1,15 +1,17 @@
 -- The blocks of one volume over what a session lends.
-use Rattle.std.proofs.Common.{◌≡◌, ℕ, zero, suc, ◌+◌, Bool, true, false, ◌||◌, List, [], ◌∷◌, length, refl, sym, ap, ◌∙◌, arith}
-use Rattle.std.specs.Prelude.{set, slice_set, ◌≤◌, ◌&&◌, ◌==◌, not, cond, is_some, nat_le, take, slice_index_or, Option, Some, None}
+use Rattle.std.proofs.Common.{◌≡◌, ℕ, zero, suc, ◌+◌, Bool, true, false, ◌||◌, List, [], ◌∷◌, length, refl, sym, ap, ◌∙◌, arith, inl, inr}
+use Rattle.std.specs.Prelude.{set, slice_set, ◌≤◌, ◌≢◌, IfSome, unwrap_or, ◌&&◌, ◌==◌, not, cond, is_some, nat_le, take, slice_index_or, Option, Some, None}
 use Rattle.std.specs.List.{list_any}
 use Rattle.std.proofs.lemmas.Bool.Decides.{nat_tests}
 use Rattle.std.proofs.lemmas.List.{set-set, set-get_or}
 use Rattle.fv_aggmap.specs.Space.{Space, IsFree}
 use Rattle.fv_bits.specs.Members.{is_member}
+use Rattle.fv_disk.specs.Shown.{Image}
 use Rattle.fv_disk.specs.declared.fault.BlockFault.TheVariants.{Damaged}
 use Rattle.fv_container.specs.declared.entry.Entry.{Entry}
-use Rattle.fv_container.specs.Chains.{Slots, chain_entry, told_entry}
-use Rattle.fv_pool.specs.BlocksOver.{held_entry, steps_by, IsLooseFault}
+use Rattle.fv_container.specs.Chains.{Slots, chain_entry}
+use Rattle.fv_pool.specs.Keeping.{Blocks, seen}
+use Rattle.fv_pool.specs.BlocksOver.{block_of, held_entry, place_of, place_or, place_read, place_told, steps_by, IsLooseFault, IsRightPlace}
 use Rattle.fv_volmap.specs.Slots.{Volume, IsVolume, Slot, Allocates, stored_count, has, slot_at, active_of, map_or_empty, taken_in, with_slot}
 
 either_again : (a b c : Bool) → ((a || b) || c) ≡ (a || (b || c))
@@ -29,15 +31,80 @@ any_last f or (suc n) (x ∷ xs) long = either_again (f x) (list_any f (take n x
 pub taken_anywhere : (map : Volume) (v : ℕ) → IsVolume map → (taken_in (take stored_count map.slots) v || has v (slot_at map 25)) ≡ taken_in map.slots v
 taken_anywhere map v is = any_last (has v) None 25 map.slots is.count
 
--- an entry whose PVBN a pointer tells is the entry
-pub told_is : (x : Option Entry) (hint : ℕ) (e : Entry) → told_entry x hint ≡ Some e → x ≡ Some e
-unfolding told_entry
-told_is None hint e is = cc
-told_is (Some y) hint e is = kept (not (hint == 0) && y.pvbn == hint) is
+-- ---- where a pointer's block lies
+
+told_some : (hint : ℕ) → is_some (place_told hint) ≡ true → (hint == 0) ≡ false
+unfolding place_told
+told_some hint some = by (hint == 0) refl some
   where
-    kept : (t : Bool) → cond t (Some y) None ≡ Some e → Some y ≡ Some e
-    kept true is = is
-    kept false is = cc
+    by : (b : Bool) → (hint == 0) ≡ b → is_some (cond (not b && nat_le hint 1048575) (Some hint) None) ≡ true → (hint == 0) ≡ false
+    by true at wrong = absurd cc
+    by false at right = at
+
+-- at the place that it tells, without a step
+pub told_reads : (told : Option ℕ) (hint : ℕ) (entry : Option Entry) → told ≡ place_told hint → is_some told ≡ true → told ≡ place_read entry hint
+told_reads None hint entry is some = absurd cc
+told_reads (Some place) hint entry is some = ap (λ o. place_or o (place_of entry)) is
+
+pub told_costs : (told : Option ℕ) (hint steps : ℕ) → told ≡ place_told hint → is_some told ≡ true → steps ≡ steps + steps_by hint
+told_costs told hint steps is some =
+    let none : steps_by hint ≡ 0 = ap (λ b. cond b 1 0) (told_some hint (ap is_some (sym is) ∙ some)) in
+    omega (arith, none)
+
+-- or else at that of its VVBN's entry
+pub entry_reads : (told : Option ℕ) (hint : ℕ) (entry : Option Entry) → told ≡ place_told hint → is_some told ≡ false → place_of entry ≡ place_read entry hint
+entry_reads None hint entry is none = ap (λ o. place_or o (place_of entry)) is
+entry_reads (Some place) hint entry is none = absurd cc
+
+-- which is looked up, in one step where it tells none
+pub one_step : (hint steps made : ℕ) → hint ≡ 0 → made ≡ steps + 1 → made ≡ steps + steps_by hint
+one_step hint steps made none is =
+    let one : steps_by hint ≡ 1 = ap (λ b. cond b 1 0) (let test : (hint == 0) ≡ true = grind (arith, nat_tests, none) in test) in
+    omega (arith, is, one)
+
+pub no_step : (hint steps : ℕ) → hint ≢ 0 → steps ≡ steps + steps_by hint
+no_step hint steps some =
+    let none : steps_by hint ≡ 0 = ap (λ b. cond b 1 0) (let test : (hint == 0) ≡ false = grind (arith, nat_tests, some) in test) in
+    omega (arith, none)
+
+-- what holds anyway holds of what is there
+pub of_some : {A : Type 0} (o : Option A) (P : Type 0) → P → IfSome o (λ x. P)
+of_some None P is = tt
+of_some (Some x) P is = is
+
+pub of_place : (entry : Option Entry) (P : Type 0) → IfSome entry (λ e. P) → IfSome (place_of entry) (λ place. P)
+of_place None P is = tt
+of_place (Some e) P is = is
+
+-- A block that was read by a pointer that is right is that of its VVBN.
+none_told : (hint : ℕ) → hint ≡ 0 → place_told hint ≡ None
+unfolding place_told
+none_told hint none =
+    let test : (hint == 0) ≡ true = grind (arith, nat_tests, none) in
+    ap (λ b. cond (not b && nat_le hint 1048575) (Some hint) None) test
+
+told_is : (hint place : ℕ) → place_told hint ≡ Some place → place ≡ hint
+unfolding place_told
+told_is hint place is = by (not (hint == 0) && nat_le hint 1048575) is
+  where
+    some_is : {x y : ℕ} → Some x ≡ Some y → y ≡ x
+    some_is same = sym (ap (λ o. unwrap_or o 0) same)
+
+    by : (b : Bool) → cond b (Some hint) None ≡ Some place → place ≡ hint
+    by true at = some_is at
+    by false at = absurd cc
+
+pub right_block : (kept : Blocks) (i : Image) (entry : Option Entry) (hint place : ℕ) (block : List ℕ) → IsRightPlace entry hint → place_read entry hint ≡ Some place → block ≡ seen kept i place → block_of kept i entry ≡ Some block
+right_block kept i entry hint place block right read is = block_there kept i entry place (by (place_told hint) refl right) ∙ ap (λ (b : List ℕ). Some b) (sym is)
+  where
+    by : (o : Option ℕ) → place_told hint ≡ o → IsRightPlace entry hint → place_of entry ≡ Some place
+    by None at right = ap (λ o. place_or o (place_of entry)) (sym at) ∙ read
+    by (Some told) at (inl none) = let wrong : None ≡ Some told = sym (none_told hint none) ∙ at in absurd cc
+    by (Some told) at (inr same) = same ∙ ap (λ (p : ℕ). Some p) (sym (told_is hint told at)) ∙ ap (λ o. place_or o (place_of entry)) (sym at) ∙ read
+
+    block_there : (kept : Blocks) (i : Image) (entry : Option Entry) (place : ℕ) → place_of entry ≡ Some place → block_of kept i entry ≡ Some (seen kept i place)
+    block_there kept i None place at = absurd cc
+    block_there kept i (Some e) place at = ap (λ o. Some (seen kept i (unwrap_or o 0))) at
 
 pub held_is : (map : Volume) (slots : Slots) (slot v : ℕ) → v ≤ 1048575 → taken_in map.slots v ≡ true → held_entry map slots slot v ≡ chain_entry slots slot v
 unfolding held_entry
@@ -45,14 +112,17 @@ held_is map slots slot v few taken =
     let both : (nat_le v 1048575 && taken_in map.slots v) ≡ true = grind (arith, nat_tests, few, taken) in
     ap (λ t. cond t (chain_entry slots slot v) None) both
 
-pub told_costs : (x : Option Entry) (hint steps : ℕ) (e : Entry) → told_entry x hint ≡ Some e → steps ≡ steps + steps_by (Some e) hint
-told_costs x hint steps e is =
-    let again : told_entry (Some e) hint ≡ Some e = ap (λ y. told_entry y hint) (sym (told_is x hint e is)) ∙ is in
-    let none : steps_by (Some e) hint ≡ 0 = ap (λ y. cond (is_some y) 0 1) again in
-    omega (arith, none)
+-- a pointer without a place leads to a VVBN that isn't held
+pub nowhere : (entry : Option Entry) (hint : ℕ) → None ≡ place_read entry hint → entry ≡ None
+nowhere entry hint none = by (place_told hint) refl entry none
+  where
+    by : (o : Option ℕ) → place_told hint ≡ o → (entry : Option Entry) → None ≡ place_or (place_told hint) (place_of entry) → entry ≡ None
+    by (Some told) at entry none = let wrong : None ≡ Some told = none ∙ ap (λ o. place_or o (place_of entry)) at in absurd cc
+    by None at None none = refl
+    by None at (Some e) none = let wrong : None ≡ Some e.pvbn = none ∙ ap (λ o. place_or o (Some e.pvbn)) at in absurd cc
 
-pub is_loose : (entry : Option Entry) (label at : ℕ) → at ≡ label → None ≡ entry → IsLooseFault entry label (Damaged at 1 0)
-is_loose entry label at same none = record { none = sym none; at_is = same; want_is = refl; found_is = refl }
+pub is_loose : (entry : Option Entry) (hint label at : ℕ) → at ≡ label → None ≡ place_read entry hint → IsLooseFault entry label (Damaged at 1 0)
+is_loose entry hint label at same none = record { none = nowhere entry hint none; at_is = same; want_is = refl; found_is = refl }
 
 -- ---- numbers that are given back
 

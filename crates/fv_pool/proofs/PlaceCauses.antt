@@ -15,15 +15,15 @@ use Rattle.fv_pool.specs.Causes.{of_block}
 use Rattle.fv_pool.specs.Lending.{IsOutOfRoom, LacksOne, Lent, shown_over}
 use Rattle.fv_pool.specs.Placing.{PlaceFails}
 use Rattle.fv_pool.specs.Placing as placing
-use Rattle.fv_pool.specs.Putting.{PutsOver, lent_unasked}
+use Rattle.fv_pool.specs.Putting.{PutsOver, lent_unasked, trusting}
 use Rattle.fv_pool.proofs.Failing.{lacks_is, still_none}
 
 module _ (told : Type 0) (old new : Lent) (f : Files) (puts : PutsOver old new) (none : old.noted.count ≡ 0) where
   abbrev before : Shown
-  before = shown_over (lent_unasked old)
+  before = trusting (shown_over (lent_unasked old))
 
   abbrev after : Shown
-  after = shown_over (lent_unasked new)
+  after = trusting (shown_over (lent_unasked new))
 
   -- damage that was answered is for want of a number or a block
   lacks : (at want found : ℕ) → HasCause before after (Damaged at want found) → (new.room ≡ 0) × LacksOne old.home.label (root_place old.pool.found.slot) at want found

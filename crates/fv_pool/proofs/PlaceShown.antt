@@ -1,5 +1,5 @@
 -- What loading a block, placing one and giving one up show to a tree, whether the disk is asked or not.
-use Rattle.std.proofs.Common.{rules, ◌≤◌, ◌+◌, ◌≡◌, ◌≢◌, ℕ, false, true, List, Option, Some, Ok, Err, slice_set, refl, sym, ap, subst, ◌∙◌, ⊎_elim, arith}
+use Rattle.std.proofs.Common.{rules, Result, ◌≤◌, ◌+◌, ◌≡◌, ◌≢◌, ℕ, false, true, List, Option, Some, Ok, Err, slice_set, refl, sym, ap, subst, ◌∙◌, ⊎_elim, arith}
 use Rattle.fv_disk.specs.Shown.{Rose, Shown as Disk}
 use Rattle.fv_disk.specs.DiskCalls.{OnlyReads}
 use Rattle.fv_disk.specs.declared.fault.BlockFault.{BlockFault}
@@ -17,11 +17,12 @@ use Rattle.fv_tree.specs.Sources.{Counts, Drops, HasCause, IsDamaged, IsUntouche
 use Rattle.fv_pool.specs.declared.blocks.Home.{Home}
 use Rattle.fv_pool.specs.declared.noted.Noted.{Noted}
 use Rattle.fv_pool.specs.declared.pool.Pool.{Pool}
-use Rattle.fv_pool.specs.BlocksOver.{AreApart, HoldsMore, IsLooseFault, LacksPlace, LeavesPool, PlacesBlock, block_of, free_numbers, held_block, held_entry, place_of, steps_by}
-use Rattle.fv_pool.specs.Lending.{Notes, lent_by, shown_over, use_of}
+use Rattle.fv_pool.specs.BlocksOver.{AreApart, HoldsMore, IsLooseFault, LacksPlace, LeavesPool, PlacesBlock, block_of, free_numbers, held_block, held_entry, place_read, steps_by, IsRightPlace}
+use Rattle.fv_pool.specs.Lending.{Notes, lent_by, place_or_none, shown_over}
+use Rattle.fv_pool.specs.Putting.{trusting}
 use Rattle.fv_pool.proofs.Failing.{still_shown}
 use Rattle.fv_pool.proofs.Going.{place_lacks}
-use Rattle.fv_pool.proofs.Shows.{get_held, held_gone, held_more, loose_none, not_active, read_place, unused_member, use_gone, use_none, use_placed, used_member}
+use Rattle.fv_pool.proofs.Shows.{get_held, held_gone, held_more, loose_none, not_active, unused_member, use_gone, use_none, use_placed, used_member}
 
 module _ (map : Volume) (pool after : Pool) (disk later : Disk) (steps made : ℕ) (home : Home) (room strays : ℕ) (noted last : Noted) (told : Type 0) (pointer : Pointer) (block : List ℕ) (leaves : LeavesPool pool after) (reads : OnlyReads disk later) where
   abbrev unloaded : Shown
@@ -33,12 +34,12 @@ module _ (map : Volume) (pool after : Pool) (disk later : Disk) (steps made : �
   abbrev entry : Option Entry
   entry = held_entry map pool.containers home.slot pointer.vvbn
 
-  pub loaded_shown : (pvbn : ℕ) → (told → held_block map pool home.slot disk.reads pointer.vvbn ≡ Some block) → place_of entry ≡ Some pvbn → pvbn ≤ last_place → made ≡ steps + steps_by entry pointer.pvbn
+  pub loaded_shown : (pvbn : ℕ) → (told → IsRightPlace entry pointer.pvbn → held_block map pool home.slot disk.reads pointer.vvbn ≡ Some block) → place_read entry pointer.pvbn ≡ Some pvbn → pvbn ≤ last_place → made ≡ steps + steps_by pointer.pvbn
       → Counts {T = ℕ} {E = BlockFault} unloaded loaded (Ok pvbn) → Loads told unloaded pointer loaded block (Ok pvbn)
   loaded_shown pvbn gives place range spent counts = record {
     untouched = still_shown map pool after disk later steps made home room strays noted last leaves reads;
-    gives = λ told. get_held map pool home.slot disk.reads pointer.vvbn ∙ gives told;
-    answers = read_place entry pvbn place ∙ ap (λ (s : Slots). (use_of (held_entry map s home.slot pointer.vvbn)).pvbn) (sym leaves.containers);
+    gives = λ told right. get_held map pool home.slot disk.reads pointer.vvbn ∙ gives told right;
+    answers = sym (ap place_or_none place) ∙ ap (λ (s : Slots). place_or_none (place_read (held_entry map s home.slot pointer.vvbn) pointer.pvbn)) (sym leaves.containers);
     range = range;
     spent = spent;
     counts = counts;
@@ -49,7 +50,7 @@ module _ (map : Volume) (pool after : Pool) (disk later : Disk) (steps made : �
   pub failed_shown : (e fault : BlockFault) → e ≡ fault → IsLooseFault entry home.label fault → Counts {T = ℕ} unloaded loaded (Err e) → HasCause unloaded loaded e → Loads told unloaded pointer loaded block (Err e)
   failed_shown e fault same loose counts cause = record {
     untouched = still_shown map pool after disk later steps made home room strays noted last leaves reads;
-    gives = λ _. tt;
+    gives = λ _ _. tt;
     answers = tt;
     range = tt;
     spent = tt;
@@ -88,7 +89,7 @@ module _ (pool : Pool) (map : Volume) (disk : Disk) (steps : ℕ) (home : Home) 
   shown_with n = shown_over (lent_by pool map disk steps home room strays n)
 
   still : (n : Noted) → IsUntouched (shown_with noted) (shown_with n)
-  still n = record { held = refl; used = refl; strays = refl; room = refl; cost = refl }
+  still n = record { held = refl; used = refl; strays = refl; room = refl; cost = refl; right = λ v pvbn is. is }
 
   pub unplaced_shown : (fault : BlockFault) → LacksPlace pool.map map (root_place pool.found.slot) home.label fault → Notes noted fault after → room ≤ free_numbers map → room ≤ free_blocks pool.map
       → Places told (shown_over (lent_by pool map disk steps home room strays noted)) kind block (shown_over (lent_by pool map disk steps home room strays after)) (Err fault)
@@ -117,3 +118,56 @@ module _ (pool : Pool) (map after : Volume) (disk : Disk) (steps : ℕ) (home : 
     spent = refl;
     calm = record { faults = refl; damages = refl; spent = omega arith };
   }
+
+-- ---- a source that no block is asked of
+
+trusting_untouched : (old new : Shown) → IsUntouched old new → IsUntouched (trusting old) (trusting new)
+trusting_untouched old new is = record { held = is.held; used = is.used; strays = is.strays; room = is.room; cost = is.cost; right = λ v pvbn right. right }
+
+trusting_cause : (old new : Shown) (e : BlockFault) → HasCause old new e → HasCause (trusting old) (trusting new) e
+trusting_cause old new DiskFault is = is
+trusting_cause old new (Damaged at want found) is = is
+trusting_cause old new Memory is = record { faults = is.faults; damages = is.damages; spent = is.spent }
+
+pub trusting_places : (told : Type 0) (old new : Shown) (kind : ℕ) (block : List ℕ) (result : Result Placed BlockFault) → Places told old kind block new result → Places told (trusting old) kind block (trusting new) result
+trusting_places told old new kind block (Ok placed) is = record {
+  fresh = is.fresh;
+  unused = is.unused;
+  held = is.held;
+  used = is.used;
+  vvbn = is.vvbn;
+  pvbn = is.pvbn;
+  strays = is.strays;
+  room = is.room;
+  enough = is.enough;
+  spent = is.spent;
+  failed = tt;
+  counts = record { faults = is.counts.faults; damages = is.counts.damages; spent = is.counts.spent; calm = record { faults = is.counts.calm.faults; damages = is.counts.calm.damages; spent = is.counts.calm.spent } };
+  cause = tt;
+}
+trusting_places told old new kind block (Err e) is = record {
+  fresh = tt;
+  unused = tt;
+  held = λ _. tt;
+  used = tt;
+  vvbn = tt;
+  pvbn = tt;
+  strays = is.strays;
+  room = tt;
+  enough = is.enough;
+  spent = is.spent;
+  failed = trusting_untouched old new is.failed;
+  counts = record { faults = is.counts.faults; damages = is.counts.damages; spent = is.counts.spent; calm = tt };
+  cause = trusting_cause old new e is.cause;
+}
+
+pub trusting_drops : (old new : Shown) (v : ℕ) → Drops old v new → Drops (trusting old) v (trusting new)
+trusting_drops old new v is = record {
+  held = is.held;
+  used = is.used;
+  named = is.named;
+  stray = is.stray;
+  room = is.room;
+  spent = is.spent;
+  calm = record { faults = is.calm.faults; damages = is.calm.damages; spent = is.calm.spent };
+}

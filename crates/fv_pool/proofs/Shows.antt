@@ -21,7 +21,7 @@ use Rattle.fv_container.specs.Chains.{Slots, chain_entry}
 use Rattle.fv_tree.specs.Sources.{IsDamaged}
 use Rattle.fv_volmap.specs.Slots.{Allocates, IsVolume, Slot, Volume, active_of, has, map_or_empty, slot_at, taken_in, with_slot}
 use Rattle.fv_pool.specs.declared.pool.Pool.{Pool}
-use Rattle.fv_pool.specs.BlocksOver.{AreApart, IsLooseFault, block_of, free_numbers, held_block, held_entry, place_of}
+use Rattle.fv_pool.specs.BlocksOver.{AreApart, IsLooseFault, block_of, free_numbers, held_block, held_entry}
 use Rattle.fv_pool.specs.Lending.{below, blocks_held, use_of, use_under, with_block}
 use Rattle.fv_pool.proofs.Holding.{held_none, others_taken}
 
@@ -156,15 +156,6 @@ pub loose_none : (entry : Option Entry) (label : ℕ) (e : BlockFault) → IsLoo
 loose_none entry label DiskFault loose damaged = absurd damaged
 loose_none entry label (Damaged at want found) loose damaged = loose.none
 loose_none entry label Memory loose damaged = absurd damaged
-
--- a load answers the place of the entry
-pub read_place : (o : Option Entry) (b : ℕ) → place_of o ≡ Some b → b ≡ (use_of o).pvbn
-read_place None b is = let wrong : false ≡ true = ap is_some is in cc
-read_place (Some e) b is = sym (ap place is)
-  where
-    place : Option ℕ → ℕ
-    place None = b
-    place (Some x) = x
 
 use_same : (map after : Volume) (slots new : Slots) (slot v : ℕ) → is_member (active_of after) v ≡ is_member (active_of map) v → held_entry after new slot v ≡ held_entry map slots slot v
     → use_under after new slot v ≡ use_under map slots slot v

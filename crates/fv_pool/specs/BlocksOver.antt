@@ -1,5 +1,5 @@
 -- The blocks of one volume over what a session lends: which VVBNs are held and where their blocks lie, and what reading a block does.
-use Rattle.std.specs.Prelude.{◌≡◌, ◌≤◌, ◌<◌, ◌⊎◌, ◌≢◌, ℕ, true, false, cond, nat_le, ◌&&◌, not, ◌+◌, List, [], length, count_by, slice_set, Option, Some, None, IfSome, is_some}
+use Rattle.std.specs.Prelude.{◌≡◌, ◌≤◌, ◌<◌, ◌⊎◌, ◌≢◌, ℕ, true, false, cond, nat_le, ◌&&◌, not, ◌==◌, ◌+◌, List, [], length, count_by, slice_set, Option, Some, None, IfSome}
 use Rattle.std.specs.Option.{ForSome, option_map}
 use Rattle.std.specs.List.{range_with_len}
 use Rattle.std.specs.FinMap as fin
@@ -10,7 +10,7 @@ use Rattle.fv_codec.specs.Blocks.{last_place}
 use Rattle.fv_aggmap.specs.Space.{Space, IsFree, IsFull, free_blocks}
 use Rattle.fv_bits.specs.Members.{is_member}
 use Rattle.fv_container.specs.declared.entry.Entry.{Entry}
-use Rattle.fv_container.specs.Chains.{Slots, chain_entry, container_at, own_entry, told_entry, with_container}
+use Rattle.fv_container.specs.Chains.{Slots, chain_entry, container_at, own_entry, with_container}
 use Rattle.fv_container.specs.Mapped.{Mapped, with_entry}
 use Rattle.fv_tree.specs.declared.blocks.Placed.{Placed}
 use Rattle.fv_volmap.specs.Slots.{Allocates, Volume, taken_in}
@@ -31,9 +31,25 @@ place_of entry = option_map (λ e. e.pvbn) entry
 abbrev pub block_of : Blocks → Image → Option Entry → Option (List ℕ)
 block_of kept i entry = option_map (λ e. seen kept i e.pvbn) entry
 
--- the steps that a pointer costs: none where its PVBN is the one of its VVBN's entry, and else one look-up
-abbrev pub steps_by : Option Entry → ℕ → ℕ
-steps_by entry hint = cond (is_some (told_entry entry hint)) 0 1
+-- the place that a pointer's PVBN tells: 0 tells none, and neither does one past all places
+unfoldable pub place_told : ℕ → Option ℕ
+place_told hint = cond (not (hint == 0) && nat_le hint last_place) (Some hint) None
+
+abbrev pub place_or : Option ℕ → Option ℕ → Option ℕ
+place_or None place = place
+place_or (Some told) place = Some told
+
+-- Where the block of a pointer is read: at the place that it tells, whatever the entry of its VVBN says, or else at that of the entry.
+abbrev pub place_read : Option Entry → ℕ → Option ℕ
+place_read entry hint = place_or (place_told hint) (place_of entry)
+
+-- a pointer tells no wrong place of its block: it tells none, or that of its VVBN's entry
+abbrev pub IsRightPlace : Option Entry → ℕ → Type 0
+IsRightPlace entry hint = (hint ≡ 0) ⊎ (place_of entry ≡ Some hint)
+
+-- the steps that a pointer costs: none where it tells a PVBN, and else one look-up
+abbrev pub steps_by : ℕ → ℕ
+steps_by hint = cond (hint == 0) 1 0
 
 -- a pointer leads to a VVBN that isn't held; the place of the volume's label is told, with 1 for the one block that has to stand there
 pub record IsLoose (entry : Option Entry) (label at want found : ℕ) : Type 0 where

@@ -18,6 +18,7 @@ use Rattle.fv_files.specs.Failing.{IsFileTree}
 use Rattle.fv_files.specs.Pending.{pending_in}
 use Rattle.fv_files.specs.Calls.{CutsFile, TakesByCut}
 use Rattle.fv_files.specs.Tables.{loaded_trees, table_in, AreStanding, IsInfoOf, IsLed, IsStored}
+use Rattle.fv_files.specs.Right.{HasRightTrees}
 use Rattle.fv_files.specs.Altering.{AltersTrees, AreLaid}
 use Rattle.fv_pool.specs.declared.fault.VolumeFault.{VolumeFault}
 use Rattle.fv_pool.specs.declared.fault.VolumeFault.TheVariants.{Refused, DiskFault, Damaged, Memory}
@@ -47,14 +48,18 @@ pub record LeavesTable {T : Type 0} (told : Type 0) (old new : Shown) (f g : Fil
   pub laid : told → AreStanding old f → AreLaid (under old) f → AreLaid (under new) g
   pub room : told → AreStanding old f → pending_in g ≤ pending_in f + 14
 
--- what is told of the disk, of the entries and of a file, where the blocks of a volume are lent for a table
+-- what is told of the disk and of the entries where the blocks of a volume are lent for a table, whose pointers tell no wrong place
+abbrev pub TellsTable : Disk → Pool → Maps → Home → Files → Type 0
+TellsTable disk pool map home f = IsTold disk pool map home.slot × HasRightTrees (sees pool map disk home) f
+
+-- and of a file
 abbrev pub TellsInfo : Disk → Pool → Maps → Home → Files → Info → Type 0
-TellsInfo disk pool map home f info = IsTold disk pool map home.slot × IsInfoOf (rooted (sees pool map disk home) f.inode) info
+TellsInfo disk pool map home f info = TellsTable disk pool map home f × IsInfoOf (rooted (sees pool map disk home) f.inode) info
 
 -- and that the table is a machine's
 abbrev pub TellsWell : Disk → Pool → Maps → Home → Files → Info → Type 0
 TellsWell disk pool map home f info =
-    IsTold disk pool map home.slot × (IsInfoOf (rooted (sees pool map disk home) f.inode) info × ((now : ℕ) × IsWellTable now (table_told (table_in (sees pool map disk home) f))))
+    TellsTable disk pool map home f × (IsInfoOf (rooted (sees pool map disk home) f.inode) info × ((now : ℕ) × IsWellTable now (table_told (table_in (sees pool map disk home) f))))
 
 -- What is known of a file is so in the table of a volume, which is a machine's.
 pub record KnowsFile (told : Type 0) (source : Shown) (f : Files) (info : Info) : Type 0 where

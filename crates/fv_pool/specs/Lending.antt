@@ -23,7 +23,7 @@ use Rattle.fv_volmap.specs.Slots.{Volume, active_of, has, slot_at}
 use Rattle.fv_pool.specs.declared.blocks.Home.{Home}
 use Rattle.fv_pool.specs.declared.noted.Noted.{Noted}
 use Rattle.fv_pool.specs.declared.pool.Pool.{Pool}
-use Rattle.fv_pool.specs.BlocksOver.{AreApart, entries_in, free_numbers, held_block, held_entry, steps_by}
+use Rattle.fv_pool.specs.BlocksOver.{AreApart, entries_in, free_numbers, held_block, held_entry, place_read, steps_by, IsRightPlace}
 
 -- What a session lends for one volume: the pool, the volume's maps, the disk, and the counter of steps; with the volume that is
 -- meant, the room that was made for its blocks, the strays, and the damages that were answered.
@@ -65,22 +65,28 @@ use_of (Some e) = record { pvbn = e.pvbn; kind = e.kind }
 abbrev pub use_under : Volume → Slots → ℕ → ℕ → Option Use
 use_under map slots slot v = cond (is_member (active_of map) v) (Some (use_of (held_entry map slots slot v))) None
 
+-- a place, and 0 where there is none
+abbrev pub place_or_none : Option ℕ → ℕ
+place_or_none None = 0
+place_or_none (Some place) = place
+
 -- One number or block was wanted and none was there: at the place of the volume's label, or at that of the root.
 pub record LacksOne (label root at want found : ℕ) : Type 0 where
   pub want_is : want ≡ 1
   pub found_is : found ≡ 0
   pub at_is : (at == label || at == root) ≡ true
 
--- What a tree sees: the blocks that are held, the active map with the entries of its members, the room that was made, the steps that
--- pointers cost and those that were made, the faults of the disk, and the damages that were answered.
+-- What a tree sees: the blocks that are held, the active map with the entries of its members, which pointers tell no wrong place and where
+-- they are read, the room that was made, the steps that pointers cost and those that were made, the faults of the disk, and the damages that were answered.
 abbrev pub shown_over : Lent → Shown
 shown_over l = record {
   held = blocks_held l.map l.pool l.home.slot l.disk.reads;
   used = use_under l.map l.pool.containers l.home.slot;
   strays = l.strays;
-  read_at = λ p. (use_of (held_entry l.map l.pool.containers l.home.slot p.vvbn)).pvbn;
+  right = λ v pvbn. IsRightPlace (held_entry l.map l.pool.containers l.home.slot v) pvbn;
+  read_at = λ p. place_or_none (place_read (held_entry l.map l.pool.containers l.home.slot p.vvbn) p.pvbn);
   room = l.room;
-  cost = λ p. steps_by (held_entry l.map l.pool.containers l.home.slot p.vvbn) p.pvbn;
+  cost = λ p. steps_by p.pvbn;
   spent = l.steps;
   faults = l.disk.faults;
   damages = l.noted.count;

@@ -15,7 +15,7 @@ ghost use Rattle.fv_image.specs.Layout.{root_place};
 ghost use Rattle.fv_store.specs.Held.{StandsOn};
 ghost use Rattle.fv_tree.specs.Sources.{IsKind};
 ghost use Rattle.fv_volmap.specs.Slots.{IsVolume, active_of, has, taken_in, with_slot};
-ghost use Rattle.fv_pool.specs.BlocksOver.{HoldsMore, IsLooseFault, LacksPlace, LeavesPool, LeavesRoom, PlacesBlock, SetsEntry, Takes, block_of, entries_in, given_back, held_entry, place_of, steps_by};
+ghost use Rattle.fv_pool.specs.BlocksOver.{HoldsMore, IsLooseFault, LacksPlace, LeavesPool, LeavesRoom, PlacesBlock, SetsEntry, Takes, IsRightPlace, block_of, entries_in, given_back, held_entry, place_of, place_read, place_told, steps_by};
 
 use crate::known::known_maps;
 use crate::pool::Pool;
@@ -44,14 +44,16 @@ pub struct Home {
     pub label: u32,
 }
 
-/// Reads the block under a pointer's VVBN, the kept one or what the store reads, and answers its PVBN. A pointer
-/// that tells the PVBN of its VVBN's entry costs no step, and each other one a look-up along the chain, which is
-/// one step. At `Err` the content of `into` is open.
+/// Reads the block of a pointer, the kept one or what the store reads, and answers its PVBN. A pointer that tells a
+/// place is read there: no entry and no map is asked, and it costs no step. Where the entry of its VVBN says another
+/// place, what is given is whatever lies at the told one. A pointer with a PVBN of 0 is read where the entry of its VVBN
+/// says, which takes a look-up along the chain, one step. At `Err` the content of `into` is open.
 ///
 /// # Errors
 ///
 /// `DiskFault` only where a read failed in this call, and `Damaged` only where the VVBN isn't held: the place of the
 /// volume's label, 1 and 0. `Memory` never comes. Costs at most one block.
+#[tactic(auto, using(crate::proofs::Lent::right_block))]
 pub fn read_pointed<D: Disk, L: Ledger>(
     pool: &mut Pool,
     disk: &mut D,
@@ -63,11 +65,11 @@ pub fn read_pointed<D: Disk, L: Ledger>(
 ) -> Result<u32, BlockFault>
     requires slot { home.now.slot < slot_count }
     requires stands { StandsOn (D.shown disk.old) pool.old.store.pairs }
-    ensures block { IsTrue (D.shown disk.old).tells
+    ensures block { IsTrue (D.shown disk.old).tells → IsRightPlace (held_entry map.now pool.old.containers home.now.slot pointer.now.vvbn) pointer.now.pvbn
         → OnOk result (block_of pool.old.kept (D.shown disk.old).reads (held_entry map.now pool.old.containers home.now.slot pointer.now.vvbn) ≡ Some into.new) }
-    ensures place { IfOk result (λ pvbn. place_of (held_entry map.now pool.old.containers home.now.slot pointer.now.vvbn) ≡ Some pvbn) }
+    ensures place { IfOk result (λ pvbn. place_read (held_entry map.now pool.old.containers home.now.slot pointer.now.vvbn) pointer.now.pvbn ≡ Some pvbn) }
     ensures range { IfOk result (λ pvbn. pvbn ≤ last_place) }
-    ensures step { OnOk result (steps.new ≡ steps.old + steps_by (held_entry map.now pool.old.containers home.now.slot pointer.now.vvbn) pointer.now.pvbn) }
+    ensures step { OnOk result (steps.new ≡ steps.old + steps_by pointer.now.pvbn) }
     ensures later { steps.old ≤ steps.new }
     ensures loose { IfErr result (IsLooseFault (held_entry map.now pool.old.containers home.now.slot pointer.now.vvbn) home.now.label) }
     ensures leaves { LeavesPool pool.old pool.new }
@@ -75,15 +77,15 @@ pub fn read_pointed<D: Disk, L: Ledger>(
     ensures only_reads { OnlyReads (D.shown disk.old) (D.shown disk.new) }
     ensures cause { HasBlockCause (D.shown disk.old).faults (D.shown disk.new).faults result }
 {
-    let Some(entry) = find_entry(pool, disk, map, steps, home.slot, pointer)? else {
+    let Some(pvbn) = find_place(pool, disk, map, steps, home.slot, pointer)? else {
         return Err(BlockFault::Damaged {
             at: u64::from(home.label),
             want: 1,
             found: 0,
         });
     };
-    pool.read(disk, entry.pvbn, into)?;
-    Ok(entry.pvbn)
+    pool.read(disk, pvbn, into)?;
+    Ok(pvbn)
 }
 
 /// As `read_pointed`, and tells whether the block has a form: whether it spells a node, or an inode block. At `Err` also
@@ -92,6 +94,7 @@ pub fn read_pointed<D: Disk, L: Ledger>(
 /// # Errors
 ///
 /// As `read_pointed`.
+#[tactic(auto, using(crate::proofs::Lent::right_block))]
 pub fn read_pointed_as<D: Disk, L: Ledger>(
     pool: &mut Pool,
     disk: &mut D,
@@ -106,11 +109,11 @@ pub fn read_pointed_as<D: Disk, L: Ledger>(
     requires slot { home.now.slot < slot_count }
     requires stands { StandsOn (D.shown disk.old) pool.old.store.pairs }
     ensures form { OnOk result (has.new ≡ has_form form into.new) }
-    ensures block { IsTrue (D.shown disk.old).tells
+    ensures block { IsTrue (D.shown disk.old).tells → IsRightPlace (held_entry map.now pool.old.containers home.now.slot pointer.now.vvbn) pointer.now.pvbn
         → OnOk result (block_of pool.old.kept (D.shown disk.old).reads (held_entry map.now pool.old.containers home.now.slot pointer.now.vvbn) ≡ Some into.new) }
-    ensures place { IfOk result (λ pvbn. place_of (held_entry map.now pool.old.containers home.now.slot pointer.now.vvbn) ≡ Some pvbn) }
+    ensures place { IfOk result (λ pvbn. place_read (held_entry map.now pool.old.containers home.now.slot pointer.now.vvbn) pointer.now.pvbn ≡ Some pvbn) }
     ensures range { IfOk result (λ pvbn. pvbn ≤ last_place) }
-    ensures step { OnOk result (steps.new ≡ steps.old + steps_by (held_entry map.now pool.old.containers home.now.slot pointer.now.vvbn) pointer.now.pvbn) }
+    ensures step { OnOk result (steps.new ≡ steps.old + steps_by pointer.now.pvbn) }
     ensures later { steps.old ≤ steps.new }
     ensures loose { IfErr result (IsLooseFault (held_entry map.now pool.old.containers home.now.slot pointer.now.vvbn) home.now.label) }
     ensures leaves { LeavesPool pool.old pool.new }
@@ -118,15 +121,15 @@ pub fn read_pointed_as<D: Disk, L: Ledger>(
     ensures only_reads { OnlyReads (D.shown disk.old) (D.shown disk.new) }
     ensures cause { HasBlockCause (D.shown disk.old).faults (D.shown disk.new).faults result }
 {
-    let Some(entry) = find_entry(pool, disk, map, steps, home.slot, pointer)? else {
+    let Some(pvbn) = find_place(pool, disk, map, steps, home.slot, pointer)? else {
         return Err(BlockFault::Damaged {
             at: u64::from(home.label),
             want: 1,
             found: 0,
         });
     };
-    pool.read_as(disk, entry.pvbn, form, into, has)?;
-    Ok(entry.pvbn)
+    pool.read_as(disk, pvbn, form, into, has)?;
+    Ok(pvbn)
 }
 
 /// Places a block of a kind under a VVBN that no slot of the volume's maps has, the base's among them, in a block
@@ -264,8 +267,64 @@ pub(crate) fn drop_number(map: &mut VolMap, strays: &mut u64, vvbn: u32)
     map.release(vvbn);
 }
 
-/// The entry of the VVBN of a pointer; `None` exactly where it isn't held.
-#[tactic(auto, unfolding(crate::specs::BlocksOver::held_entry))]
+/// Where the block of a pointer lies: at the place that it tells, or else at that of its VVBN's entry; `None` exactly where it tells
+/// none and the VVBN isn't held.
+fn find_place<D: Disk, L: Ledger>(
+    pool: &mut Pool,
+    disk: &mut D,
+    map: &VolMap,
+    steps: &mut Steps<L>,
+    slot: u8,
+    pointer: &Pointer,
+) -> Result<Option<u32>, BlockFault>
+    requires slot { slot < slot_count }
+    requires stands { StandsOn (D.shown disk.old) pool.old.store.pairs }
+    ensures place { IfOk result (λ place. place ≡ place_read (held_entry map.now pool.old.containers slot pointer.now.vvbn) pointer.now.pvbn) }
+    ensures range { IfOk result (λ place. IfSome place (λ pvbn. pvbn ≤ last_place)) }
+    ensures step { IfOk result (λ place. IfSome place (λ pvbn. steps.new ≡ steps.old + steps_by pointer.now.pvbn)) }
+    ensures later { steps.old ≤ steps.new }
+    ensures fault { IfErr result (λ fault. fault ≡ DiskFault) }
+    ensures leaves { LeavesPool pool.old pool.new }
+    ensures stands { StandsOn (D.shown disk.new) pool.new.store.pairs }
+    ensures only_reads { OnlyReads (D.shown disk.old) (D.shown disk.new) }
+    ensures cause { HasBlockCause (D.shown disk.old).faults (D.shown disk.new).faults result }
+{
+    let told = told_place(pointer);
+    if told.is_some() {
+        return Ok(told);
+    }
+    let entry = find_entry(pool, disk, map, steps, slot, pointer)?;
+    Ok(place_of(entry))
+}
+
+/// The place that a pointer tells; `None` where its PVBN is 0 or past all places.
+#[tactic(auto, unfolding(crate::specs::BlocksOver::place_told))]
+fn told_place(pointer: &Pointer) -> Option<u32>
+    ensures told { result ≡ place_told pointer.now.pvbn }
+    ensures range { IfSome result (λ pvbn. pvbn ≤ last_place) }
+{
+    if pointer.pvbn == 0 || pointer.pvbn > LAST {
+        None
+    } else {
+        Some(pointer.pvbn as u32)
+    }
+}
+
+/// The place of an entry.
+fn place_of(entry: Option<Entry>) -> Option<u32>
+    requires { IfSome entry IsHeld }
+    ensures place { result ≡ place_of entry }
+    ensures range { IfSome result (λ pvbn. pvbn ≤ last_place) }
+{
+    match entry {
+        Some(entry) => Some(entry.pvbn),
+        None => None,
+    }
+}
+
+/// The entry of the VVBN of a pointer; `None` exactly where it isn't held. It takes a step for a pointer with a PVBN of 0; another one
+/// comes here only with a PVBN that is no place.
+#[tactic(auto, unfolding(crate::specs::BlocksOver::held_entry), using(crate::proofs::Lent::no_step, crate::proofs::Lent::one_step, crate::proofs::Lent::of_some))]
 fn find_entry<D: Disk, L: Ledger>(
     pool: &mut Pool,
     disk: &mut D,
@@ -278,7 +337,7 @@ fn find_entry<D: Disk, L: Ledger>(
     requires stands { StandsOn (D.shown disk.old) pool.old.store.pairs }
     ensures entry { IfOk result (λ entry. entry ≡ held_entry map.now pool.old.containers slot pointer.now.vvbn) }
     ensures held { IfOk result (λ entry. IfSome entry IsHeld) }
-    ensures step { IfOk result (λ entry. IfSome entry (λ e. steps.new ≡ steps.old + steps_by (Some e) pointer.now.pvbn)) }
+    ensures step { IfOk result (λ entry. IfSome entry (λ e. steps.new ≡ steps.old + steps_by pointer.now.pvbn)) }
     ensures later { steps.old ≤ steps.new }
     ensures fault { IfErr result (λ fault. fault ≡ DiskFault) }
     ensures leaves { LeavesPool pool.old pool.new }
@@ -290,8 +349,8 @@ fn find_entry<D: Disk, L: Ledger>(
         return Ok(None);
     }
     let vvbn = pointer.vvbn as u32;
-    if let Some(entry) = pool.containers.told_by_hint(slot, vvbn, pointer.pvbn) {
-        return Ok(Some(entry));
+    if pointer.pvbn != 0 {
+        return Ok(pool.containers.first_entry(slot, vvbn));
     }
     pool.containers
         .look_up_chain(&mut pool.store, disk, slot, vvbn, steps)

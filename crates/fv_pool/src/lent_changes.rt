@@ -1,6 +1,7 @@
 //! Changes of the table of one volume over what a session lends. They load blocks and place none.
 
 ghost use Rattle.std.specs.Prelude.{◌≡◌, ◌≤◌, ◌<◌, IfOk, OnOk};
+ghost use Rattle.fv_files.specs.Right.{HasRightTrees};
 ghost use Rattle.fv_codec.specs.Blocks.{most_cells};
 ghost use Rattle.fv_model.specs.Numbers.{most_files};
 ghost use Rattle.fv_model.specs.Tables.{new};
@@ -39,6 +40,7 @@ pub fn added_told<K: Guard, D: Disk, L: Ledger>(
     requires blank { IsLedger blank.name blank.parts L.name L.parts }
     requires lent { CanLend pool.old map.old (D.shown disk.old) home.now.slot }
     requires told { K.told → IsTold (D.shown disk.old) pool.old map.old home.now.slot }
+    requires right { K.told → HasRightTrees (sees pool.old map.old (D.shown disk.old) home.now) files.old }
     requires index { index < 2097152 }
     requires range { IsInfo info.now }
     requires there { K.told → IsInfoOf (rooted (sees pool.old map.old (D.shown disk.old) home.now) files.old.inode) info.now }
@@ -75,6 +77,7 @@ pub fn write_told<K: Guard, D: Disk, L: Ledger>(
     requires blank { IsLedger blank.name blank.parts L.name L.parts }
     requires lent { CanLend pool.old map.old (D.shown disk.old) home.now.slot }
     requires told { K.told → IsTold (D.shown disk.old) pool.old map.old home.now.slot }
+    requires right { K.told → HasRightTrees (sees pool.old map.old (D.shown disk.old) home.now) files.old }
     requires index { index < 2097152 }
     requires stamp { 1 ≤ stamp }
     requires range { IsInfo info.now }
@@ -107,6 +110,7 @@ pub fn number_told<K: Guard, D: Disk, L: Ledger>(
     requires blank { IsLedger blank.name blank.parts L.name L.parts }
     requires lent { CanLend pool.old map.old (D.shown disk.old) home.now.slot }
     requires told { K.told → IsTold (D.shown disk.old) pool.old map.old home.now.slot }
+    requires right { K.told → HasRightTrees (sees pool.old map.old (D.shown disk.old) home.now) files.old }
     ensures number { K.told → IfOk result (IsFreeNumber (rooted (sees pool.old map.old (D.shown disk.old) home.now) files.old.inode)) }
     ensures range { IfOk result IsNumberIf }
     ensures files { files.new ≡ files.old }
@@ -137,6 +141,7 @@ pub fn room_told<K: Guard, D: Disk, L: Ledger>(
     requires blank { IsLedger blank.name blank.parts L.name L.parts }
     requires lent { CanLend pool.old map.old (D.shown disk.old) home.now.slot }
     requires told { K.told → IsTold (D.shown disk.old) pool.old map.old home.now.slot }
+    requires right { K.told → HasRightTrees (sees pool.old map.old (D.shown disk.old) home.now) files.old }
     requires number { number < 262144 }
     ensures added { K.told → IfOk result (AddsFile (table_in (sees pool.old map.old (D.shown disk.old) home.now) files.old) number) }
     ensures few { IfOk result (λ count. count ≤ 6) }
@@ -171,6 +176,7 @@ pub fn create_told<K: Guard, D: Disk, L: Ledger>(
     requires blank { IsLedger blank.name blank.parts L.name L.parts }
     requires lent { CanLend pool.old map.old (D.shown disk.old) home.now.slot }
     requires told { K.told → IsTold (D.shown disk.old) pool.old map.old home.now.slot }
+    requires right { K.told → HasRightTrees (sees pool.old map.old (D.shown disk.old) home.now) files.old }
     requires stamp { 1 ≤ stamp }
     requires reserve { reserve ≤ most_cells }
     requires number { number < most_files }

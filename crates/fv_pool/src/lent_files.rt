@@ -6,6 +6,7 @@ ghost use Rattle.fv_codec.specs.Blocks.{IsPointer};
 ghost use Rattle.fv_laws.specs.WellFormed.{IsWellTable};
 ghost use Rattle.fv_tables.specs.Spelled.{Under};
 ghost use Rattle.fv_tables.specs.Told.{table_told};
+ghost use Rattle.fv_files.specs.Right.{HasRightTrees};
 ghost use Rattle.fv_tree.specs.Sources.{Use};
 ghost use Rattle.fv_inode.specs.Files.{rooted, Finds, IsInfo, IsInfoIf};
 ghost use Rattle.fv_inode.specs.Listing.{names_told};
@@ -79,6 +80,7 @@ pub fn find_told<K: Guard, D: Disk, L: Ledger>(
     requires blank { IsLedger blank.name blank.parts L.name L.parts }
     requires lent { CanLend pool.old map.old (D.shown disk.old) home.now.slot }
     requires told { K.told → IsTold (D.shown disk.old) pool.old map.old home.now.slot }
+    requires right { K.told → HasRightTrees (sees pool.old map.old (D.shown disk.old) home.now) files.old }
     requires numbers { K.told → AreNumbersIf numbers.now (table_told (table_in (sees pool.old map.old (D.shown disk.old) home.now) files.old)) }
     ensures found { K.told → IfOk result (Finds (rooted (sees pool.old map.old (D.shown disk.old) home.now) files.old.inode) name.now) }
     ensures range { IfOk result IsInfoIf }
@@ -112,6 +114,7 @@ pub fn numbers_told<K: Guard, D: Disk, L: Ledger>(
     requires blank { IsLedger blank.name blank.parts L.name L.parts }
     requires lent { CanLend pool.old map.old (D.shown disk.old) home.now.slot }
     requires told { K.told → IsTold (D.shown disk.old) pool.old map.old home.now.slot }
+    requires right { K.told → HasRightTrees (sees pool.old map.old (D.shown disk.old) home.now) files.old }
     ensures numbers { K.told → IfOk result (λ m. (now : ℕ) → IsWellTable now (table_told (table_in (sees pool.old map.old (D.shown disk.old) home.now) files.old))
         → AreNumbersOf m (table_told (table_in (sees pool.old map.old (D.shown disk.old) home.now) files.old))) }
     ensures files { files.new ≡ files.old }
@@ -141,6 +144,7 @@ pub fn list_told<K: Guard, D: Disk, L: Ledger>(
     requires blank { IsLedger blank.name blank.parts L.name L.parts }
     requires lent { CanLend pool.old map.old (D.shown disk.old) home.now.slot }
     requires told { K.told → IsTold (D.shown disk.old) pool.old map.old home.now.slot }
+    requires right { K.told → HasRightTrees (sees pool.old map.old (D.shown disk.old) home.now) files.old }
     ensures names { K.told → IfOk result (λ names. names ≡ fin.keys (names_told (rooted (sees pool.old map.old (D.shown disk.old) home.now) files.old.inode))) }
     ensures files { files.new ≡ files.old }
     ensures map { map.new ≡ map.old }
@@ -171,6 +175,7 @@ pub fn cell_told<K: Guard, D: Disk, L: Ledger>(
 ) -> Result<(), BlockFault>
     requires lent { CanLend pool.old map.old (D.shown disk.old) home.now.slot }
     requires told { K.told → IsTold (D.shown disk.old) pool.old map.old home.now.slot }
+    requires right { K.told → HasRightTrees (sees pool.old map.old (D.shown disk.old) home.now) files.old }
     requires range { IsInfo info.now }
     requires there { K.told → IsInfoOf (rooted (sees pool.old map.old (D.shown disk.old) home.now) files.old.inode) info.now }
     ensures block { K.told → OnOk result (GivesCell (table_in (sees pool.old map.old (D.shown disk.old) home.now) files.old) info.now.number index into.new) }

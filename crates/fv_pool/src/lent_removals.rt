@@ -1,6 +1,7 @@
 //! Removals from the table of one volume over what a session lends. They load and give up blocks, and place none.
 
 ghost use Rattle.std.specs.Prelude.{◌≤◌, IfOk, OnOk};
+ghost use Rattle.fv_files.specs.Right.{HasRightTrees};
 ghost use Rattle.fv_files.specs.Calls.{RemovesFile, TakesByRemoval};
 ghost use Rattle.fv_files.specs.Tables.{table_in, AreStanding};
 ghost use Rattle.fv_pool.specs.Calls.{BlockCause, CutsTold, GivesUp, KnowsFile, LeavesTable, Reads};
@@ -37,6 +38,7 @@ pub fn cut_told<K: Guard, D: Disk, L: Ledger>(
     requires blank { IsLedger blank.name blank.parts L.name L.parts }
     requires lent { CanLend pool.old map.old (D.shown disk.old) home.now.slot }
     requires told { K.told → IsTold (D.shown disk.old) pool.old map.old home.now.slot }
+    requires right { K.told → HasRightTrees (sees pool.old map.old (D.shown disk.old) home.now) files.old }
     requires length { length ≤ 2097152 }
     requires stamp { 1 ≤ stamp }
     requires known { KnowsFile K.told (sees pool.old map.old (D.shown disk.old) home.now) files.old info.now }
@@ -78,6 +80,7 @@ pub fn remove_told<K: Guard, D: Disk, L: Ledger>(
     requires blank { IsLedger blank.name blank.parts L.name L.parts }
     requires lent { CanLend pool.old map.old (D.shown disk.old) home.now.slot }
     requires told { K.told → IsTold (D.shown disk.old) pool.old map.old home.now.slot }
+    requires right { K.told → HasRightTrees (sees pool.old map.old (D.shown disk.old) home.now) files.old }
     requires stamp { 1 ≤ stamp }
     requires known { KnowsFile K.told (sees pool.old map.old (D.shown disk.old) home.now) files.old info.now }
     ensures removed { K.told → OnOk result (AreStanding (sees pool.old map.old (D.shown disk.old) home.now) files.old

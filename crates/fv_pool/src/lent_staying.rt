@@ -1,6 +1,7 @@
 //! What changes of the table of one volume take and what of that stays charged, over what a session lends. These calls only load.
 
 ghost use Rattle.std.specs.Prelude.{◌≡◌, ◌≤◌, ◌<◌, IfOk};
+ghost use Rattle.fv_files.specs.Right.{HasRightTrees};
 ghost use Rattle.fv_tree.specs.Standing.{under};
 ghost use Rattle.fv_tree.specs.Taking.{AreBelow};
 ghost use Rattle.fv_inode.specs.Files.{rooted, IsInfo};
@@ -39,6 +40,7 @@ pub fn staying_told<K: Guard, D: Disk, L: Ledger>(
     requires blank { IsLedger blank.name blank.parts L.name L.parts }
     requires lent { CanLend pool.old map.old (D.shown disk.old) home.now.slot }
     requires told { K.told → IsTold (D.shown disk.old) pool.old map.old home.now.slot }
+    requires right { K.told → HasRightTrees (sees pool.old map.old (D.shown disk.old) home.now) files.old }
     requires range { IsInfo info.now }
     requires there { K.told → IsInfoOf (rooted (sees pool.old map.old (D.shown disk.old) home.now) files.old.inode) info.now }
     ensures staying { K.told → IfOk result (λ count. count ≡ staying_by_put (loaded_trees (under (sees pool.old map.old (D.shown disk.old) home.now)) files.old) (is_in_snapshot map.old) info.now.number index) }
@@ -71,6 +73,7 @@ pub fn staying_new_told<K: Guard, D: Disk, L: Ledger>(
     requires blank { IsLedger blank.name blank.parts L.name L.parts }
     requires lent { CanLend pool.old map.old (D.shown disk.old) home.now.slot }
     requires told { K.told → IsTold (D.shown disk.old) pool.old map.old home.now.slot }
+    requires right { K.told → HasRightTrees (sees pool.old map.old (D.shown disk.old) home.now) files.old }
     ensures staying { K.told → IfOk result (λ count. count ≡ staying_by_new (loaded_trees (under (sees pool.old map.old (D.shown disk.old) home.now)) files.old) (is_in_snapshot map.old) number) }
     ensures few { IfOk result (λ count. count ≤ 4) }
     ensures files { files.new ≡ files.old }
@@ -102,6 +105,7 @@ pub fn taken_cut_told<K: Guard, D: Disk, L: Ledger>(
     requires blank { IsLedger blank.name blank.parts L.name L.parts }
     requires lent { CanLend pool.old map.old (D.shown disk.old) home.now.slot }
     requires told { K.told → IsTold (D.shown disk.old) pool.old map.old home.now.slot }
+    requires right { K.told → HasRightTrees (sees pool.old map.old (D.shown disk.old) home.now) files.old }
     requires range { IsInfo info.now }
     requires there { K.told → IsInfoOf (rooted (sees pool.old map.old (D.shown disk.old) home.now) files.old.inode) info.now }
     ensures taken { K.told → IfOk result (CutTakes (table_in (sees pool.old map.old (D.shown disk.old) home.now) files.old) (loaded_trees (under (sees pool.old map.old (D.shown disk.old) home.now)) files.old) (is_in_snapshot map.old) info.now.number length) }
@@ -134,6 +138,7 @@ pub fn taken_removal_told<K: Guard, D: Disk, L: Ledger>(
     requires blank { IsLedger blank.name blank.parts L.name L.parts }
     requires lent { CanLend pool.old map.old (D.shown disk.old) home.now.slot }
     requires told { K.told → IsTold (D.shown disk.old) pool.old map.old home.now.slot }
+    requires right { K.told → HasRightTrees (sees pool.old map.old (D.shown disk.old) home.now) files.old }
     requires range { IsInfo info.now }
     requires there { K.told → IsInfoOf (rooted (sees pool.old map.old (D.shown disk.old) home.now) files.old.inode) info.now }
     ensures taken { K.told → IfOk result (RemovalTakes (table_in (sees pool.old map.old (D.shown disk.old) home.now) files.old) (loaded_trees (under (sees pool.old map.old (D.shown disk.old) home.now)) files.old) (is_in_snapshot map.old) info.now.number) }

@@ -76,12 +76,13 @@ impl Pool {
         Ok(Pool::open(alloc, disk, found)?)
     }
 
-    /// Reads the block of a PVBN: the kept one without a disk call, and else what the store reads there.
+    /// Reads the block of a PVBN: the kept one without a disk call, which can't fail, and else what the store reads there.
     /// `Failed` comes only where a read failed in this call. Costs at most one block.
     pub fn read<D: Disk>(&mut self, disk: &mut D, pvbn: u32, into: &mut Block) -> Result<(), Failed>
         requires stands { StandsOn (D.shown disk.old) self.old.store.pairs }
         ensures block { IsTrue (D.shown disk.old).tells → OnOk result (into.new ≡ seen self.old.kept (D.shown disk.old).reads pvbn) }
         ensures untouched { IfSome (fin.get self.old.kept pvbn) (λ block. into.new ≡ block) }
+        ensures kept { IfSome (fin.get self.old.kept pvbn) (λ block. OnErr result ⊥ × ((self.new ≡ self.old) × (disk.new ≡ disk.old))) }
         ensures leaves { LeavesPool self.old self.new }
         ensures stands { StandsOn (D.shown disk.new) self.new.store.pairs }
         ensures only_reads { OnlyReads (D.shown disk.old) (D.shown disk.new) }
@@ -108,6 +109,7 @@ impl Pool {
         ensures form { OnOk result (has.new ≡ has_form form into.new) }
         ensures block { IsTrue (D.shown disk.old).tells → OnOk result (into.new ≡ seen self.old.kept (D.shown disk.old).reads pvbn) }
         ensures untouched { IfSome (fin.get self.old.kept pvbn) (λ block. into.new ≡ block) }
+        ensures kept { IfSome (fin.get self.old.kept pvbn) (λ block. OnErr result ⊥ × ((self.new ≡ self.old) × (disk.new ≡ disk.old))) }
         ensures leaves { LeavesPool self.old self.new }
         ensures stands { StandsOn (D.shown disk.new) self.new.store.pairs }
         ensures only_reads { OnlyReads (D.shown disk.old) (D.shown disk.new) }

@@ -20,8 +20,8 @@ use fv_volmap::VolMap;
 use std::marker::{Brand, PhantomData};
 use std::sync::ledger::Ledger;
 
-/// A statement under which content is told. It has no call, so a caller picks it: that the disk tells what it reads, and that the
-/// entries of the volume lie apart.
+/// A statement under which content is told. It has no call, so a caller picks it: that the disk tells what it reads, that the
+/// entries of the volume lie apart, and, where a table is read, that its pointers tell no wrong places.
 pub trait Guard {
     /// The statement.
     ghost told: { Type 0 };

@@ -8,7 +8,7 @@ ghost use Rattle.fv_image.specs.Layout.{root_place};
 ghost use Rattle.fv_store.specs.Held.{StandsOn};
 ghost use Rattle.fv_pool.specs.BlocksOver.{AreApart, entries_in, free_numbers};
 ghost use Rattle.fv_pool.specs.Lending.{WasLack, lent_by, shown_over};
-ghost use Rattle.fv_pool.specs.Putting.{PutsOver, lent_unasked};
+ghost use Rattle.fv_pool.specs.Putting.{PutsOver, lent_unasked, trusting};
 
 use crate::blocks::{Home, drop_number, place_block};
 use crate::noted::{Noted, note};
@@ -58,7 +58,7 @@ impl<'p, 'd, 'v, K: Guard, D: Disk> Blocks for VolumePlaces<'p, 'd, 'v, K, D> {
     ghost use Rattle.std.proofs.Common.{◌∙◌, ap, subst, sym};
     ghost use Rattle.fv_pool.specs.PuttingLaws.{puts_itself, puts_then};
 
-    ghost shown = { λ b. shown_over (lent_unasked (lent_by b.pool.now b.map.now (D.shown b.disk.now) 0 b.home b.room b.strays b.noted)) };
+    ghost shown = { λ b. trusting (shown_over (lent_unasked (lent_by b.pool.now b.map.now (D.shown b.disk.now) 0 b.home b.room b.strays b.noted))) };
 
     ghost told = { K.told };
 

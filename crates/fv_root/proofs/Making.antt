@@ -11,7 +11,7 @@ use Rattle.fv_codec.specs.Blocks.{super_at, gate_open, root_at}
 use Rattle.fv_image.specs.Layout.{superblock, gate_place, root_place, area_blocks, area_place}
 use Rattle.fv_image.specs.WholeMachine.{machine_of}
 use Rattle.fv_model.specs.Machines.{empty_machine}
-use Rattle.fv_root.specs.Formatted.{AreClosed, IsNoGate, IsSize, OldClosedOrNew, first_root}
+use Rattle.fv_root.specs.Formatted.{AreClosed, IsFormatted, IsNoGate, IsSize, OldClosedOrNew, first_root}
 use Rattle.fv_root.specs.Commits.{IsNotGate}
 use Rattle.fv_root.specs.Steps.{IsBesides, IsCleared, IsLaidOut}
 use Rattle.fv_root.proofs.EmptyMachine.{machine_is_empty}
@@ -35,14 +35,14 @@ laid_out blocks before after super root cleared = record {
 }
 
 -- the first gate is open over what was laid out, and the second is closed
-pub made : (blocks : ℕ) (laid opened : Image) → IsSize blocks → AreClosed laid → IsLaidOut blocks laid → AgreeOn (IsNotGate 0) laid opened → gate_open (opened (gate_place 0)) ≡ true → machine_of opened ≡ Some (empty_machine blocks)
-made blocks laid opened size closed out same first_gate = machine_is_empty blocks opened size (record {
+pub made : (blocks : ℕ) (laid opened : Image) → AreClosed laid → IsLaidOut blocks laid → AgreeOn (IsNotGate 0) laid opened → gate_open (opened (gate_place 0)) ≡ true → IsFormatted blocks opened
+made blocks laid opened closed out same first_gate = record {
   super = rw (same 0 (omega arith)) out.super;
   first_gate = first_gate;
   second_gate = rw (same 2 (omega arith)) closed.second;
   root = rw (same 3 (omega arith)) out.root;
   area = λ k below. let e : area_place blocks 0 k ≡ 5 + k = omega arith in rw e (same (5 + k) (omega arith) ∙ out.area k below);
-})
+}
 
 -- ---- what a crash leaves
 
@@ -54,7 +54,7 @@ closed_still blocks before c closed same = record {
 
 opening_side : (blocks : ℕ) (laid c : Image) → IsSize blocks → AreClosed laid → IsLaidOut blocks laid → AgreeOn (IsNotGate 0) laid c → AreClosed c ⊎ (machine_of c ≡ Some (empty_machine blocks))
 opening_side blocks laid c size closed out same = ⊎_elim
-    (λ open'. inr (made blocks laid c size closed out same open'))
+    (λ open'. inr (machine_is_empty blocks c size (made blocks laid c closed out same open')))
     (λ shut. inl (record { first = shut; second = ap gate_open (same 2 (omega arith)) ∙ closed.second }))
     (cases_Bool (gate_open (c (gate_place 0))))
 

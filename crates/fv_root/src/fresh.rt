@@ -8,7 +8,7 @@ ghost use Rattle.fv_image.specs.WholeMachine.{machine_of};
 ghost use Rattle.fv_image.specs.Layout.{gate_place, area_blocks};
 ghost use Rattle.fv_codec.specs.Blocks.{super_at, gate_open, root_at};
 ghost use Rattle.fv_model.specs.Machines.{empty_machine, first_block};
-ghost use Rattle.fv_root.specs.Formatted.{AreClosed, IsNoGate, IsSize, OldClosedOrNew, WritesFixed, first_root};
+ghost use Rattle.fv_root.specs.Formatted.{AreClosed, IsFormatted, IsNoGate, IsSize, OldClosedOrNew, WritesFixed, first_root};
 ghost use Rattle.fv_root.specs.Commits.{IsNotGate};
 ghost use Rattle.fv_root.specs.Steps.{IsBesides, IsLaidOut, IsCleared};
 
@@ -18,7 +18,8 @@ use fv_codec::{Root, Super, open_gate};
 use fv_disk::{Block, Disk, Failed, ZERO};
 
 /// Makes a new aggregate of `blocks` blocks, from 512 to 1,048,576, over whatever the disk holds. At
-/// `Ok` the disk is settled and stands for the machine without volumes; after an `Err`, which comes
+/// `Ok` the disk is settled, has the superblock, the root of generation 1 behind the one open gate and a clear map, and stands for the
+/// machine without volumes; after an `Err`, which comes
 /// only where a write or barrier failed, it is as a crash might have left it. It writes the fixed blocks
 /// that it needs, once each but for one gate, makes three barriers, reads nothing and takes no memory.
 ///
@@ -32,6 +33,7 @@ pub fn format<D: Disk>(disk: &mut D, blocks: u32) -> Result<(), Failed>
     requires { IsSize blocks }
     ensures stands { IsTrue (D.shown disk.old).tells
         → OnOk result (machine_of (D.shown disk.new).reads ≡ Some (empty_machine blocks)) }
+    ensures laid_out { IsTrue (D.shown disk.old).tells → OnOk result (IsFormatted blocks (D.shown disk.new).reads) }
     ensures settled { IsTrue (D.shown disk.old).tells → OnOk result (IsSettled (D.shown disk.new)) }
     ensures any_moment { IsTrue (D.shown disk.old).tells
         → Leaves (D.shown disk.old) (D.shown disk.new) (OldClosedOrNew blocks (D.shown disk.old)) }

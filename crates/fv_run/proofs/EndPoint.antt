@@ -14,8 +14,9 @@ use Rattle.fv_cp.specs.Choosing.{LeavesRoom}
 use Rattle.fv_aggregate.specs.declared.session.Session.{Session}
 use Rattle.fv_aggregate.specs.Adding.{IsPointed}
 use Rattle.fv_aggregate.specs.Calls.{Goes}
-use Rattle.fv_aggregate.specs.Reclaiming.{HasPointed, Points, ReclaimsEntries}
+use Rattle.fv_aggregate.specs.Reclaiming.{HasPointed, Points}
 use Rattle.fv_aggregate.specs.Standing.{StandsFor}
+use Rattle.fv_aggregate.proofs.MadeRoom.{entries_still}
 use Rattle.fv_run.specs.Answering.{BeginsFor, HasAnswered, IsAtEnd}
 use Rattle.fv_run.specs.Built.{lines_built}
 use Rattle.fv_run.specs.Running.{still_disk, IsLastFor}
@@ -33,27 +34,6 @@ still disk laws tells settled = record {
 }
 
 -- ---- what a point left is there still while the disk rests
-
--- what it made of the entries, by what reads give
-by_reads : (want : ℕ) (last next : Session) (point new : Shown) → ReclaimsEntries want last point next → ReclaimsEntries want last (record new { reads = point.reads }) next
-by_reads want last next point new is = record {
-  mid = is.mid;
-  between = is.between;
-  found = is.found;
-  same = is.same;
-  maps = is.maps;
-  placed = is.placed;
-  unused = is.unused;
-  rest = is.rest;
-  chosen = is.chosen;
-  missing = is.missing;
-  there = is.there;
-  written = is.written;
-  others = is.others;
-}
-
-entries_still : (want : ℕ) (last next : Session) (point new : Shown) → new.reads ≡ point.reads → ReclaimsEntries want last point next → ReclaimsEntries want last new next
-entries_still want last next point new same is = subst (λ (i : Image). ReclaimsEntries want last (record new { reads = i }) next) (sym same) (by_reads want last next point new is)
 
 pointed_still : (want : ℕ) (last next : Session) (point new : Shown) (m : Machine) → Rests point new → HasPointed want last point next m → HasPointed want last new next m
 pointed_still want last next point new m rests is = record {

@@ -3,7 +3,6 @@ pub mod Cuts
 pub mod Spaces
 pub mod Ats
 pub mod Held
-mod HeldWide
 pub mod Digits
 pub mod Prefixes
 pub mod Told

@@ -48,13 +48,9 @@ letters line = prefix_len (λ b. not (is_space b)) line
 abbrev pub is_zero : ℕ → Bool
 is_zero b = nat_eq b 0
 
--- one more digit, held at the greatest number of 32 bits
+-- one more digit, held at the greatest number of 128 bits
 abbrev pub held : ℕ → ℕ → ℕ
-held value digit = min (min (value * 10) (2 ^ 32 - 1) + (digit - 48)) (2 ^ 32 - 1)
-
--- the same, held at the greatest number of 128 bits
-abbrev pub held_wide : ℕ → ℕ → ℕ
-held_wide value digit = min (min (value * 10) (2 ^ 128 - 1) + (digit - 48)) (2 ^ 128 - 1)
+held value digit = min (min (value * 10) (2 ^ 128 - 1) + (digit - 48)) (2 ^ 128 - 1)
 
 -- how many bytes stand before the first @, and the names around it
 abbrev pub is_at : ℕ → Bool

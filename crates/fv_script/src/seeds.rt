@@ -1,11 +1,9 @@
 //! The seed of a generated script, and how many commands of it are drawn, as words of a command line.
 
-ghost use Rattle.std.specs.Prelude.{◌≡◌, ◌-◌, ◌^◌, fold, min};
-ghost use Rattle.fv_model.specs.Words.{value_of};
+ghost use Rattle.std.specs.Prelude.{◌≡◌};
 ghost use Rattle.fv_script.specs.CommandLine.{draws_of, seed_of};
-ghost use Rattle.fv_script.specs.Parts.{held_wide};
 
-use crate::values::{MOST_DIGITS, is_number};
+use crate::values::{MOST_DIGITS, is_number, wide_value};
 
 /// One more than the greatest seed.
 const SEEDS: u128 = 1 << 64;
@@ -22,7 +20,7 @@ pub fn read_seed(word: &[u8]) -> Option<u64>
     if !is_number(word) || word.len() > MOST_DIGITS {
         return None;
     }
-    let seed = value(word);
+    let seed = wide_value(word);
     if seed < SEEDS {
         Some(seed as u64)
     } else {
@@ -39,33 +37,10 @@ pub fn read_draws(word: &[u8]) -> Option<u32>
     if !is_number(word) || word.len() > MOST_DIGITS {
         return None;
     }
-    let draws = value(word);
+    let draws = wide_value(word);
     if draws <= MOST_DRAWS {
         Some(draws as u32)
     } else {
         None
     }
-}
-
-/// The value of decimal digits, or the greatest `u128` where it is greater, which neither range reaches.
-#[tactic(auto, using(crate::proofs::HeldWide::value_held))]
-fn value(digits: &[u8]) -> u128
-    ensures { result ≡ min (value_of digits.now) (2 ^ 128 - 1) }
-{
-    held_value(digits)
-}
-
-fn held_value(digits: &[u8]) -> u128
-    ensures { result ≡ fold held_wide 0 digits.now }
-{
-    digits.iter().fold(0, |value, digit| held(value, *digit))
-}
-
-/// The value with one more digit.
-fn held(value: u128, digit: u8) -> u128
-    ensures { result ≡ held_wide value digit }
-{
-    value
-        .saturating_mul(10)
-        .saturating_add(u128::from(digit.saturating_sub(b'0')))
 }

@@ -49,27 +49,39 @@ fn has_digits_alone(word: &[u8]) -> bool
     word.iter().all(|b| b.is_ascii_digit())
 }
 
-/// The value of decimal digits, or the greatest `u32` where it is greater, which no range reaches.
-#[tactic(auto, using(crate::proofs::Held::value_held))]
+/// The value of decimal digits, or the greatest `u32` where it is greater, which no range of these reaches.
 fn value(digits: &[u8]) -> u32
     ensures { result ≡ min (value_of digits.now) (2 ^ 32 - 1) }
+{
+    let value = wide_value(digits);
+    if value <= u128::from(u32::MAX) {
+        value as u32
+    } else {
+        u32::MAX
+    }
+}
+
+/// The value of decimal digits, or the greatest `u128` where it is greater, which no range reaches.
+#[tactic(auto, using(crate::proofs::Held::value_held))]
+pub(crate) fn wide_value(digits: &[u8]) -> u128
+    ensures { result ≡ min (value_of digits.now) (2 ^ 128 - 1) }
 {
     held_value(digits)
 }
 
-fn held_value(digits: &[u8]) -> u32
+fn held_value(digits: &[u8]) -> u128
     ensures { result ≡ fold held 0 digits.now }
 {
     digits.iter().fold(0, |value, digit| held(value, *digit))
 }
 
 /// The value with one more digit.
-fn held(value: u32, digit: u8) -> u32
+fn held(value: u128, digit: u8) -> u128
     ensures { result ≡ held value digit }
 {
     value
         .saturating_mul(10)
-        .saturating_add(u32::from(digit.saturating_sub(b'0')))
+        .saturating_add(u128::from(digit.saturating_sub(b'0')))
 }
 
 /// The value of decimal digits where it is in a range.

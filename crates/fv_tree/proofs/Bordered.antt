@@ -30,7 +30,6 @@ use Rattle.fv_tree.proofs.Erased.{hole_of}
 use Rattle.fv_tree.proofs.Spots.{same_spot}
 use Rattle.fv_tree.proofs.Tally.{Marks, AreOnce, is_marked, tally, three_more}
 use Rattle.fv_tree.proofs.Ways.{spot_is}
-use Rattle.fv_tree.proofs.Written.{forgotten, now_forgotten}
 
 -- ---- the nodes in memory by their marks
 
@@ -160,12 +159,13 @@ cleared_marks t u i none empty clear ordered = record {
 }
 
 -- a node that goes from memory
-pub forgotten_marks : (o n : maps.BTreeMap Spot KeptNode) (a b : ℕ) → maps.Updates spot_cmp o n (a, b) None → (k q : ℕ) → changed_in n k q ≡ true → changed_in o k q ≡ true
-forgotten_marks o n a b updates k q changed = elim (spot_is k q a b) [
+pub forgotten_marks : (o n : maps.BTreeMap Spot KeptNode) (a b : ℕ) → maps.get spot_cmp n (a, b) ≡ None → ((k q : ℕ) → (k ≢ a) ⊎ (q ≢ b) → maps.get spot_cmp n (k, q) ≡ maps.get spot_cmp o (k, q))
+    → (k q : ℕ) → changed_in n k q ≡ true → changed_in o k q ≡ true
+forgotten_marks o n a b own others k q changed = elim (spot_is k q a b) [
   | inl at ↦
       let here : changed_in n a b ≡ true = (λ i. changed_in n (sym at.0 i) (sym at.1 i)) ∙ changed in
-      absurd (let wrong : true ≡ false = sym here ∙ ap node_changed (now_forgotten o n a b updates) in cc)
-  | inr other ↦ sym (ap node_changed (forgotten o n a b updates k q other)) ∙ changed
+      absurd (let wrong : true ≡ false = sym here ∙ ap node_changed own in cc)
+  | inr other ↦ sym (ap node_changed (others k q other)) ∙ changed
 ]
 
 -- nodes above a level get a stamp

@@ -81,10 +81,10 @@ node_fails told t old new level place p Memory held low high is fresh h = h
 -- ---- over several calls
 
 pub untouched_itself : (source : Shown) → IsUntouched source source
-untouched_itself source = record { held = refl; used = refl; strays = refl; room = refl; cost = refl }
+untouched_itself source = record { held = refl; used = refl; strays = refl; room = refl; cost = refl; right = λ v pvbn is. is }
 
 pub untouched_then : (old mid new : Shown) → IsUntouched old mid → IsUntouched mid new → IsUntouched old new
-untouched_then old mid new first second = record { held = second.held ∙ first.held; used = second.used ∙ first.used; strays = second.strays ∙ first.strays; room = second.room ∙ first.room; cost = second.cost ∙ first.cost }
+untouched_then old mid new first second = record { held = second.held ∙ first.held; used = second.used ∙ first.used; strays = second.strays ∙ first.strays; room = second.room ∙ first.room; cost = second.cost ∙ first.cost; right = λ v pvbn is. second.right v pvbn (first.right v pvbn is) }
 
 pub calm_itself : (source : Shown) → IsCalm source source
 calm_itself source = record { faults = refl; damages = refl; spent = omega arith }

@@ -38,6 +38,15 @@ cell_weighs : (o : Option KeptCell) → cell_changed o ≡ true → unwrap_or (o
 cell_weighs None changed = absurd (let wrong : false ≡ true = changed in grind (arith, wrong))
 cell_weighs (Some kept) changed = ap counted changed
 
+-- what a node or a cell counts for, where there is one
+pub node_weight : (o : Option KeptNode) → unwrap_or (option_map (λ (kept : KeptNode). counted kept.changed) o) 0 ≡ counted (node_changed o)
+node_weight None = refl
+node_weight (Some kept) = refl
+
+pub cell_weight : (o : Option KeptCell) → unwrap_or (option_map (λ (kept : KeptCell). counted kept.changed) o) 0 ≡ counted (cell_changed o)
+cell_weight None = refl
+cell_weight (Some kept) = refl
+
 -- ---- a node or a cell that changed
 
 pub node_again : (o n : maps.BTreeMap Spot KeptNode) (k : Spot) (was now : KeptNode) → Some was ≡ maps.get spot_cmp o k → n.entries ≡ set_value (maps.is_at (spot_cmp k)) o.entries now → node_changed (maps.get spot_cmp o k) ≡ true

@@ -12,7 +12,7 @@ use Rattle.fv_tree.specs.Keeping.{IsKept, Keeps, IsSame, KeepsBelow}
 use Rattle.fv_tree.proofs.Below.{no_pointers, read_pointers}
 use Rattle.fv_tree.proofs.Spots.{here, elsewhere}
 use Rattle.fv_tree.proofs.Below.{range_above}
-use Rattle.fv_tree.proofs.Ways.{nothing_there, own_way}
+use Rattle.fv_tree.proofs.Ways.{nothing_there, own_way, same_cells}
 
 pub empty_as : (t : Rooted) (level place : ℕ) (p : Pointer) → p.stamp ≡ 0 → (slot : ℕ) → get_or (replicate 128 hole) slot hole ≡ get_or (pointers_at t level place p) slot hole
 empty_as t level place p e slot = nothing_there slot ∙ sym (ap (λ (xs : List Pointer). get_or xs slot hole) (no_pointers t level place p e))
@@ -30,7 +30,7 @@ keeps_but old new under t u level place p same others own = record {
   owner = same.owner;
   levels = same.levels;
   root = same.root;
-  cells = ap (λ cells. (standing old (record t { cells = cells })).cells) same.cells;
+  cells = same_cells t u same.cells;
   others = others;
   own = own;
 }

@@ -45,6 +45,7 @@ pub mod GrownReady
 pub mod OthersReady
 pub mod Stored
 pub mod Leading
+pub mod Right
 pub mod StoredFlush
 pub mod Within
 pub mod Grows

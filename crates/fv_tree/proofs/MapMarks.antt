@@ -1,5 +1,5 @@
 -- How many values of a map have a mark, where one is put, written or taken out.
-use Rattle.std.proofs.Common.{◌≡◌, ◌≤◌, ℕ, ◌+◌, Bool, true, false, cond, List, [], ◌∷◌, Some, length, sym, ap, ◌∙◌, arith}
+use Rattle.std.proofs.Common.{◌≡◌, ◌≤◌, ℕ, ◌+◌, Bool, true, false, cond, List, ◌∷◌, Option, Some, None, is_some, length, refl, sym, ap, ◌∙◌, arith}
 use Rattle.std.specs.declared.cmp.Ordering.{Ordering}
 use Rattle.std.specs.Prelude.{count_by, sum_by, unwrap_or}
 use Rattle.std.specs.Option.{option_map}
@@ -24,25 +24,36 @@ module _ {K V : Type 0} (cmp : K → K → Ordering) (mark : V → Bool) where
   abbrev marked_in : maps.BTreeMap K V → ℕ
   marked_in m = count_by mark (maps.values m)
 
+  weighs_none : (o : Option V) → is_some o ≡ false → unwrap_or (option_map weight o) 0 ≡ 0
+  weighs_none None absent = refl
+  weighs_none (Some x) absent = absurd (let wrong : true ≡ false = absent in grind (arith, wrong))
+
   -- ---- from one map to another
 
   module _ (o n : maps.BTreeMap K V) where
+    pub same_marked : n.entries ≡ o.entries → marked_in n ≡ marked_in o
+    same_marked is = ap (λ (es : List (K × V)). sum_by weight (values_of es)) is
+
     pub same_count : n.entries ≡ o.entries → marked_in n ≤ marked_in o
-    same_count is = let same : marked_in n ≡ marked_in o = ap (λ (es : List (K × V)). sum_by weight (values_of es)) is in omega (arith, same)
+    same_count is = let same = same_marked is in omega (arith, same)
 
     -- one value is put
     module _ (total : IsTotalOrder cmp) (k : K) (x : V) (ordered : maps.IsOrdered cmp o) (is : n.entries ≡ maps.insert_entry cmp o.entries k x) where
-      put_count : marked_in n ≤ marked_in o + counted (mark x)
-      put_count =
-          let same : marked_in n ≡ sum_by weight (values_of (maps.insert_entry cmp o.entries k x)) = ap (λ (es : List (K × V)). sum_by weight (values_of es)) is in
-          let exact = sum_by-insert_entry weight total o.entries k x ordered in
-          omega (arith, exact, same)
+      put_count : marked_in n + unwrap_or (option_map weight (maps.get cmp o k)) 0 ≡ marked_in o + counted (mark x)
+      put_count = ap (λ (es : List (K × V)). sum_by weight (values_of es) + unwrap_or (option_map weight (maps.get cmp o k)) 0) is ∙ sum_by-insert_entry weight total o.entries k x ordered
 
       pub put_one : marked_in n ≤ marked_in o + 1
       put_one = let most = small (mark x) in omega (arith, put_count, most)
 
       pub put_none : mark x ≡ false → marked_in n ≤ marked_in o
       put_none unmarked = let none : counted (mark x) ≡ 0 = ap counted unmarked in omega (arith, put_count, none)
+
+      -- a count that is kept
+      pub put_absent : is_some (maps.get cmp o k) ≡ false → (old new : ℕ) → old ≡ marked_in o → new ≡ old + counted (mark x) → new ≡ marked_in n
+      put_absent absent old new kept is_new = let none = weighs_none (maps.get cmp o k) absent in omega (arith, put_count, none, kept, is_new)
+
+      pub put_kept : (old new : ℕ) (before : Bool) → unwrap_or (option_map weight (maps.get cmp o k)) 0 ≡ counted before → old ≡ marked_in o → new + counted before ≡ old + counted (mark x) → new ≡ marked_in n
+      put_kept old new before was kept is_new = omega (arith, put_count, was, kept, is_new)
 
     -- it is written
     module _ (k : K) (was now : V) (held : Some was ≡ maps.get cmp o k) (is : n.entries ≡ set_value (maps.is_at (cmp k)) o.entries now) where
@@ -58,6 +69,9 @@ module _ {K V : Type 0} (cmp : K → K → Ordering) (mark : V → Bool) where
           let one : counted (mark was) ≡ 1 = ap counted marked in
           omega (arith, set_count, most, one)
 
+      pub set_kept : mark now ≡ true → (old new : ℕ) → old ≡ marked_in o → new + counted (mark was) ≡ old + 1 → new ≡ marked_in n
+      set_kept marked old new kept is_new = let one : counted (mark now) ≡ 1 = ap counted marked in omega (arith, set_count, one, kept, is_new)
+
     -- it is taken out
     module _ (k : K) (is : n.entries ≡ remove_entry (maps.is_at (cmp k)) o.entries) where
       left_count : marked_in n + unwrap_or (option_map weight (maps.get cmp o k)) 0 ≡ marked_in o
@@ -68,6 +82,9 @@ module _ {K V : Type 0} (cmp : K → K → Ordering) (mark : V → Bool) where
 
       pub one_fewer : unwrap_or (option_map weight (maps.get cmp o k)) 0 ≡ 1 → marked_in n + 1 ≡ marked_in o
       one_fewer one = omega (arith, left_count, one)
+
+      pub left_kept : (old new : ℕ) (before : Bool) → unwrap_or (option_map weight (maps.get cmp o k)) 0 ≡ counted before → old ≡ marked_in o → new + counted before ≡ old + 0 → new ≡ marked_in n
+      left_kept old new before was kept is_new = omega (arith, left_count, was, kept, is_new)
 
   -- ---- one map
 
@@ -90,10 +107,3 @@ counted_in mark es = sum_by (λ x. counted (mark x)) (values_of es)
 
 pub counted_more : {K V : Type 0} (mark : V → Bool) (e : K × V) (es : List (K × V)) → counted_in mark (e ∷ es) ≡ cond (mark e.1) 1 0 + counted_in mark es
 counted_more mark e es = sum_by-cons (λ x. counted (mark x)) e.1 (values_of es)
-
--- a walk over entries goes on by one, and comes to their end
-pub next_marked : {K V : Type 0} (mark : V → Bool) (s : List (K × V)) (k : K) (x : V) (rest : List (K × V)) → s ≡ (k, x) ∷ rest → counted_in mark s ≡ cond (mark x) 1 0 + counted_in mark rest
-next_marked mark s k x rest is = ap (counted_in mark) is ∙ counted_more mark (k, x) rest
-
-pub none_marked : {K V : Type 0} (mark : V → Bool) (s : List (K × V)) → s ≡ [] → counted_in mark s ≡ 0
-none_marked mark s is = ap (counted_in mark) is

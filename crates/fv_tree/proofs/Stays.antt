@@ -13,12 +13,14 @@ use Rattle.fv_model.specs.Trees.{fan}
 use Rattle.fv_tree.specs.declared.kept.Tree.{Tree}
 use Rattle.fv_tree.specs.Spelled.{Under, Rooted, hole, pointer_at, pointers_at, pointer_below}
 use Rattle.fv_tree.specs.Sources.{Shown, IsUntouched}
-use Rattle.fv_tree.specs.Standing.{standing, under, IsPlaceOf}
+use Rattle.fv_tree.specs.Standing.{standing, under}
+use Rattle.fv_tree.specs.Places.{HasRightPlaces, IsPlaceOf}
 use Rattle.fv_tree.specs.Flushing.{Loaded, cell_changed, changed_of, changed_in, loaded_over}
 use Rattle.fv_tree.specs.Beside.{unread}
 use Rattle.fv_tree.specs.Costs.{pending}
 use Rattle.fv_tree.specs.Counting.{is_staying, staying_all, staying_at, staying_under}
 use Rattle.fv_tree.proofs.Below.{no_pointers, on_the_way}
+use Rattle.fv_tree.proofs.Right.{right_on}
 use Rattle.fv_tree.proofs.Collected.{range_within, ranges_under}
 use Rattle.fv_tree.proofs.Found.{passing_from, passing_top, passing_next, passing_all}
 use Rattle.fv_tree.proofs.Spans.{sum_more, sum_none, sum_same, under_cell, under_step}
@@ -110,12 +112,13 @@ child_low t level place slot some high range lt = let few = t.few in let under =
 
 -- what a call for a child of a place needs
 pub child_meets : (told : Type 0) (old mid : Shown) (t : Tree) (level place slot : ℕ) (p : Pointer) (xs : List Pointer) → IsUntouched old mid → level ≢ 0 → level ≤ t.levels → place < fan ^ (3 - level)
-    → (told → p ≡ pointer_at (standing (under old) t) level place) → (told → xs ≡ pointers_at (standing (under old) t) level place p) → slot < fan
+    → (told → p ≡ pointer_at (standing (under old) t) level place) → (told → xs ≡ pointers_at (standing (under old) t) level place p) → (told → HasRightPlaces old t) → slot < fan
     → IsPlaceOf told mid t (level - 1) (place * fan + slot) (get_or xs slot hole)
-child_meets told old mid t level place slot p xs untouched some high range way is lt = record {
+child_meets told old mid t level place slot p xs untouched some high range way is right lt = record {
   high = omega (arith, high);
   range = child_low t level place slot some high range lt;
   pointer = λ tells. child_later old mid t level place slot p xs untouched.held (omega (arith, some)) high (way tells) (is tells) lt;
+  right = λ tells. right_on old mid t untouched (right tells);
 }
 
 above : (place q : ℕ) → place * fan ≤ q → q < place * fan + fan → q / fan ≡ place

@@ -3,6 +3,11 @@ use Rattle.std.proofs.Common.{◌≡◌, ◌≢◌, ◌≤◌, ◌<◌, ℕ, zer
 use Rattle.fv_tree.specs.Carried.{Brings, IsRead, kept_at}
 use Rattle.fv_tree.specs.declared.kept.Tree.{Tree}
 use Rattle.fv_tree.specs.declared.kept.KeptNode.{KeptNode}
+use Rattle.fv_tree.specs.declared.kept.KeptCell.{KeptCell}
+use Rattle.fv_tree.specs.Standing.{cell_in}
+use Rattle.std.specs.Ordering.{nat_cmp}
+use Rattle.std.specs.Option.{option_map}
+use Rattle.std.specs.BTreeMap as maps
 use Rattle.std.proofs.lemmas.Bool.{cases_eq, cases_lt}
 use Rattle.std.proofs.lemmas.Bool.Decides.{nat_tests}
 use Rattle.std.proofs.lemmas.List.{get_or-replicate, get_or_past, length-replicate}
@@ -177,3 +182,7 @@ brings_seen see blocks t u level place p brings same k q (inr some) = elim (spot
       | inr (inl blank) ↦ absurd (some blank.0)
       | inr (inr read) ↦ same read.1 read.2
     ]
+
+-- the cells in memory are seen alike
+pub same_cells : (t u : Tree) → u.cells ≡ t.cells → cell_in u ≡ cell_in t
+same_cells t u same = λ j index. option_map (λ (kept : KeptCell). kept.block.value) (maps.get nat_cmp (same j) index)

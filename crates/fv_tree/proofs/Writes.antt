@@ -12,7 +12,7 @@ use Rattle.fv_tree.specs.Writing.{HasOldNodes, IsAlike, IsWritten, stamped}
 use Rattle.fv_tree.proofs.Below.{no_pointers}
 use Rattle.fv_tree.proofs.Raised.{past_at}
 use Rattle.fv_tree.proofs.Stamped.{StampsWay, stamped_way, on_way, on, off}
-use Rattle.fv_tree.proofs.Ways.{IsWay, own_way, is_way, past, alike}
+use Rattle.fv_tree.proofs.Ways.{IsWay, own_way, is_way, past, alike, same_cells}
 
 -- ---- stamps and blocks of pointers
 
@@ -73,7 +73,7 @@ hidden_same blocks t u i far same nodes = record {
   owner = same.owner;
   levels = same.levels;
   root = same.root;
-  cells = ap (λ cells. (standing blocks (record t { cells = cells })).cells) same.cells;
+  cells = same_cells t u same.cells;
   pointers = λ k q. elim (cases_lt t.levels k) [
     | inl lt ↦ past (standing blocks u) k q (omega (arith, lt, same.levels)) ∙ sym (past (standing blocks t) k q lt)
     | inr le ↦ is_way (standing blocks u) (pointer_at (standing blocks t)) (hidden_way (standing blocks t) (standing blocks u) i far same.owner refl same.levels same.root nodes) k q (omega (arith, le, same.levels))

@@ -1,5 +1,5 @@
 -- What is written through a node in memory.
-use Rattle.std.proofs.Common.{◌≡◌, ◌≢◌, ◌⊎◌, ℕ, ◌&&◌, cond, List, Some, None, nat_eq, sym, ap, ◌∙◌, inl, inr}
+use Rattle.std.proofs.Common.{◌≡◌, ℕ, ◌&&◌, cond, List, Some, nat_eq, sym, ap, ◌∙◌, inl, inr}
 use Rattle.std.specs.Ordering.{is_eq}
 use Rattle.std.specs.Option.{option_map}
 use Rattle.std.specs.BTreeMap as tree
@@ -7,7 +7,7 @@ use Rattle.fv_codec.specs.declared.pointer.Pointer.{Pointer}
 use Rattle.fv_model.specs.Trees.{Spot, spot_cmp}
 use Rattle.fv_tree.specs.declared.kept.KeptNode.{KeptNode}
 use Rattle.fv_tree.specs.Standing.{children_in}
-use Rattle.fv_tree.proofs.Spots.{same_spot, mapped, here, elsewhere}
+use Rattle.fv_tree.proofs.Spots.{same_spot, mapped, elsewhere}
 use Rattle.fv_tree.proofs.Ways.{spot_is}
 
 children : KeptNode → List Pointer
@@ -28,14 +28,3 @@ changed o n level place was now f updates held is k q =
           seen ∙ ap (λ c. cond (nat_eq k level && nat_eq q place) c (children_in o k q)) (ap Some is ∙ sym (ap (option_map f) at))
       | inr other ↦ seen ∙ ap (λ b. cond b (Some now.children) (children_in o k q)) (elsewhere k q level place other) ∙ sym (ap (λ b. cond b (option_map f (children_in o k q)) (children_in o k q)) (elsewhere k q level place other))
     ]
-
--- a node that was taken out
-pub now_forgotten : (o n : tree.BTreeMap Spot KeptNode) (level place : ℕ) → tree.Updates spot_cmp o n (level, place) None → tree.get spot_cmp n (level, place) ≡ None
-now_forgotten o n level place updates =
-    updates.0 (level, place) ∙ ap (λ b. cond b None (tree.get spot_cmp o (level, place))) (same_spot level place level place ∙ here level place)
-
--- and the others
-pub forgotten : (o n : tree.BTreeMap Spot KeptNode) (level place : ℕ) → tree.Updates spot_cmp o n (level, place) None
-    → (k q : ℕ) → (k ≢ level) ⊎ (q ≢ place) → tree.get spot_cmp n (k, q) ≡ tree.get spot_cmp o (k, q)
-forgotten o n level place updates k q other =
-    updates.0 (k, q) ∙ ap (λ b. cond b None (tree.get spot_cmp o (k, q))) (same_spot level place k q ∙ elsewhere k q level place other)

@@ -11,6 +11,7 @@ pub mod Flushing
 pub mod Counting
 pub mod Readying
 pub mod Stored
+pub mod Places
 pub mod Leading
 pub mod Removal
 pub mod Carried

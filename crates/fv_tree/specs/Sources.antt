@@ -29,6 +29,8 @@ pub record Shown : Type 1 where
   pub strays : ℕ
   -- the PVBN that a load answers: where the block was read, or 0 for one that isn't placed yet
   pub read_at : Pointer → ℕ
+  -- a pointer to a VVBN that tells a PVBN, or 0, tells no wrong place of its block
+  pub right : ℕ → ℕ → Type 0
   -- so many blocks can be placed for sure, as far as memory goes
   pub room : ℕ
   -- how many look-ups a load of a pointer makes
@@ -71,13 +73,15 @@ pub record Counts {T E : Type 0} (old new : Shown) (result : Result T E) : Type 
   pub spent : old.spent ≤ new.spent
   pub calm : OnOk result (IsCalm old new)
 
--- the blocks that are held, what is in use, the count of strays, the room, and what loads cost are as before
+-- The blocks that are held, what is in use, the count of strays, the room, and what loads cost are as before. What a pointer told
+-- rightly it tells rightly.
 pub record IsUntouched (old new : Shown) : Type 0 where
   pub held : new.held ≡ old.held
   pub used : new.used ≡ old.used
   pub strays : new.strays ≡ old.strays
   pub room : new.room ≡ old.room
   pub cost : new.cost ≡ old.cost
+  pub right : (v pvbn : ℕ) → old.right v pvbn → new.right v pvbn
 
 abbrev pub IsDamaged : BlockFault → Type 0
 IsDamaged DiskFault = ⊥
@@ -89,10 +93,10 @@ abbrev pub IsLoose : Shown → Pointer → BlockFault → Type 0
 IsLoose source p e = IsDamaged e → fin.get source.held p.vvbn ≡ None
 
 -- A load changes nothing but the count of look-ups, which rises by what it costs. From a source whose content is told it gives the block
--- under the pointer's VVBN.
+-- under the VVBN of a pointer that is right: one that tells another place than its block's may give whatever lies there.
 pub record Loads (told : Type 0) (old : Shown) (pointer : Pointer) (new : Shown) (block : List ℕ) (result : Result ℕ BlockFault) : Type 0 where
   pub untouched : IsUntouched old new
-  pub gives : told → OnOk result (fin.get old.held pointer.vvbn ≡ Some block)
+  pub gives : told → old.right pointer.vvbn pointer.pvbn → OnOk result (fin.get old.held pointer.vvbn ≡ Some block)
   pub answers : IfOk result (λ pvbn. pvbn ≡ new.read_at pointer)
   pub range : IfOk result (λ pvbn. pvbn ≤ last_place)
   pub spent : OnOk result (new.spent ≡ old.spent + old.cost pointer)

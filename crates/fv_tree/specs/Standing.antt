@@ -1,5 +1,5 @@
 -- A tree over what a source of blocks holds, and why its calls fail.
-use Rattle.std.specs.Prelude.{◌≡◌, ◌≢◌, ◌≤◌, ◌<◌, ◌-◌, ◌^◌, ◌⊎◌, ℕ, zero, suc, List, Option, Some, None, Err}
+use Rattle.std.specs.Prelude.{◌≡◌, ◌≢◌, ◌≤◌, ◌⊎◌, ℕ, zero, suc, List, Option, Some, None, Err}
 use Rattle.std.specs.Option.{option_map}
 use Rattle.std.specs.Ordering.{nat_cmp}
 use Rattle.std.specs.BTreeMap as tree
@@ -74,12 +74,6 @@ pub record IsBlockDamage (old new : Shown) (p : Pointer) (at want found : ℕ) :
 abbrev pub IsUnread : Rooted → ℕ → ℕ → Type 0
 IsUnread t zero place = t.cells place ≡ None
 IsUnread t (suc level) place = t.nodes (suc level) place ≡ None
-
--- a range of a level of the tree, with the pointer to it
-pub record IsPlaceOf (told : Type 0) (source : Shown) (t : Tree) (level place : ℕ) (p : Pointer) : Type 0 where
-  pub high : level ≤ t.levels
-  pub range : place < fan ^ (3 - level)
-  pub pointer : told → p ≡ pointer_at (standing (under source) t) level place
 
 -- the block of a node of the tree, which isn't in memory, hasn't its shape
 pub record IsNodeDamage (t : Rooted) (old new : Shown) (at want found : ℕ) : Type 0 where

@@ -2,6 +2,7 @@
 
 ghost use Rattle.std.specs.Prelude.{◌≡◌, ◌≤◌, ◌<◌, ◌+◌, ◌-◌, ◌==◌, if◌then◌else◌, cond, IfOk, IfErr};
 ghost use Rattle.fv_model.specs.Trees.{levels_with};
+ghost use Rattle.fv_tree.specs.Places.{HasRightPlaces};
 ghost use Rattle.fv_tree.specs.Sources.{Counts, IsUntouched};
 ghost use Rattle.fv_tree.specs.Standing.{standing, under, Fails};
 ghost use Rattle.fv_tree.specs.Counting.{added_at, found_at};
@@ -24,6 +25,7 @@ impl Tree {
     /// As `get`.
     pub fn added<B: Blocks>(&self, blocks: &mut B, index: u32) -> Result<u32, TreeFault>
         requires index { index < 2097152 }
+        requires right { B.told → HasRightPlaces (B.shown blocks.old) self.now }
         ensures added { B.told → IfOk result (λ count. count ≡ added_at (standing (under (B.shown blocks.old)) self.now) index) }
         ensures few { IfOk result (λ count. count ≤ 6) }
         ensures untouched { IsUntouched (B.shown blocks.old) (B.shown blocks.new) }
@@ -38,6 +40,7 @@ impl Tree {
 
 /// How many pointers over a cell lead somewhere.
 fn found_over<B: Blocks>(tree: &Tree, blocks: &mut B, index: u32) -> Result<u32, TreeFault>
+    requires right { B.told → HasRightPlaces (B.shown blocks.old) tree.now }
     ensures found { B.told → IfOk result (λ count. count ≡ found_at (standing (under (B.shown blocks.old)) tree.now) index) }
     ensures few { IfOk result (λ count. count ≤ tree.now.levels + 1) }
     ensures loads { LoadsFrom (B.reads blocks.old blocks.new) (Fails B.told (standing (under (B.shown blocks.old)) tree.now) (B.shown blocks.old) (B.shown blocks.new)) (B.shown blocks.old) (B.shown blocks.new) result }

@@ -2,6 +2,7 @@
 
 ghost use Rattle.std.specs.Prelude.{◌≡◌, ◌≤◌, ◌<◌, ◌+◌, ◌-◌, ◌*◌, ◌/◌, ◌^◌, ℕ, nat_le, ◌++◌, ◌∷◌, [], OnOk, IfOk, IfErr};
 ghost use Rattle.fv_model.specs.Trees.{fan};
+ghost use Rattle.fv_tree.specs.Places.{HasRightPlaces};
 ghost use Rattle.fv_tree.specs.Spelled.{Under};
 ghost use Rattle.fv_tree.specs.Standing.{standing, under};
 ghost use Rattle.fv_tree.specs.Erasing.{HoldsCells, StandsAt};
@@ -42,6 +43,7 @@ impl Tree {
     ) -> Result<u32, TreeFault>
         requires start { start ≤ 3 }
         requires stamp { 1 ≤ stamp }
+        requires right { B.told → HasRightPlaces (B.shown blocks.old) self.old }
         ensures pending { B.told → OnOk result (Stands (B.shown blocks.old) self.old → HoldsCells (standing (under (B.shown blocks.old)) self.old) → pending self.new ≤ pending self.old + 3) }
         ensures removal { Removal B.told (B.goes blocks.old blocks.new) (B.shown blocks.old) (B.shown blocks.new) self.old self.new (nat_le length) start stamp result }
     {
@@ -59,6 +61,7 @@ fn cut_cells<B: Blocks>(
 ) -> Result<u32, TreeFault>
     requires start { start ≤ 3 }
     requires stamp { 1 ≤ stamp }
+    requires right { B.told → HasRightPlaces (B.shown blocks.old) tree.old }
     ensures pending { B.told → OnOk result (Stands (B.shown blocks.old) tree.old → HoldsCells (standing (under (B.shown blocks.old)) tree.old) → pending tree.new ≤ pending tree.old + 3) }
     ensures removing { Removing B.told (B.goes blocks.old blocks.new) (B.shown blocks.old) (B.shown blocks.new) tree.old tree.new (nat_le most) start stamp result }
 {
@@ -73,6 +76,7 @@ fn cut_cells<B: Blocks>(
 
 /// Holds all nodes over the cells from a length on in memory, and answers those cells.
 fn keep_past<B: Blocks>(tree: &mut Tree, blocks: &mut B, most: u32) -> Result<Vec<u32>, TreeFault>
+    requires right { B.told → HasRightPlaces (B.shown blocks.old) tree.old }
     ensures cells { B.told → IfOk result (λ cells. Collects (standing (under (B.shown blocks.old)) tree.old) 0 most cells.items) }
     ensures nodes { B.told → OnOk result (AreHeld tree.new (standing (under (B.shown blocks.old)) tree.old) 0 most) }
     ensures bound { IfOk result (λ cells. AllBelow cells.items (fan ^ 3)) }
@@ -129,6 +133,7 @@ fn keep_level<B: Blocks>(
     requires places { B.told → Collects (standing (under (B.shown blocks.old)) tree.old) level most places.now }
     requires nodes { B.told → AreHeld tree.old (standing (under (B.shown blocks.old)) tree.old) level most }
     requires bound { AllBelow places.now (fan ^ (3 - level)) }
+    requires right { B.told → HasRightPlaces (B.shown blocks.old) tree.old }
     ensures places { B.told → IfOk result (λ below. Collects (standing (under (B.shown blocks.old)) tree.old) (level - 1) most below.items) }
     ensures nodes { B.told → OnOk result (AreHeld tree.new (standing (under (B.shown blocks.old)) tree.old) (level - 1) most) }
     ensures bound { IfOk result (λ below. AllBelow below.items (fan ^ (3 - (level - 1)))) }
@@ -156,6 +161,7 @@ fn keep_range<B: Blocks>(
     requires stands { B.told → StandsAt (standing (under (B.shown blocks.old)) tree.old) level place }
     requires node { B.told → level < tree.old.levels → IsHeld tree.old (level + 1) (place / fan) }
     requires range { place < fan ^ (3 - level) }
+    requires right { B.told → HasRightPlaces (B.shown blocks.old) tree.old }
     ensures added { B.told → OnOk result (Extends (IsUnder (standing (under (B.shown blocks.old)) tree.old) level most place) below.old.items below.new.items) }
     ensures rising { OnOk result (IsRising below.old.items → AllBelow below.old.items (place * fan) → IsRising below.new.items × AllBelow below.new.items ((place + 1) * fan)) }
     ensures bound { OnOk result ((bound : ℕ) → (place + 1) * fan ≤ bound → AllBelow below.old.items bound → AllBelow below.new.items bound) }

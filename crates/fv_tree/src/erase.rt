@@ -21,7 +21,8 @@ ghost use Rattle.fv_tree.specs.Calls.{ErasesCell};
 
 use crate::blocks::Blocks;
 use crate::kept::{HOLE, KeptNode, Tree};
-use crate::placing::pointer_in;
+use crate::pending::recounted;
+use crate::placing::{forget_cell, forget_node, pointer_in};
 use crate::sizes::{FAN, width};
 use crate::write::{is_placed, stamp_slot, stamped};
 use fv_codec::Pointer;
@@ -166,7 +167,9 @@ fn clear(tree: &mut Tree, start: u8)
     tree.levels = start;
     tree.root = HOLE;
     tree.nodes.clear();
+    tree.changed_nodes = 0;
     tree.cells.clear();
+    tree.changed_cells = 0;
 }
 
 /// Lets nothing lead to a cell and to so many nodes over it, above which another mark stands.
@@ -186,7 +189,13 @@ fn cut_way(tree: &mut Tree, index: u32, lost: u8, stamp: u64)
     forget_way(tree, index, lost);
     let place = index / width(lost + 1);
     let slot = index / width(lost) % FAN;
-    clear_slot(&mut tree.nodes, lost + 1, place, slot);
+    clear_slot(
+        &mut tree.nodes,
+        &mut tree.changed_nodes,
+        lost + 1,
+        place,
+        slot,
+    );
     stamp_above(tree, index, lost + 1, stamp);
 }
 
@@ -204,21 +213,32 @@ fn forget_way(tree: &mut Tree, index: u32, lost: u8)
     ensures fewer { cells_changed tree.new.cells ≤ cells_changed tree.old.cells }
     ensures held { cells_held tree.new ≤ cells_held tree.old }
 {
-    let _ = tree.cells.remove(&index);
+    forget_cell(tree, index);
     for below in 0..lost {
-        let _ = tree.nodes.remove(&(below + 1, index / width(below + 1)));
+        forget_node(tree, below + 1, index / width(below + 1));
     }
 }
 
-/// Makes one pointer of a node in memory a hole.
-fn clear_slot(nodes: &mut BTreeMap<(u8, u32), KeptNode>, level: u8, place: u32, slot: u32)
+/// Makes one pointer of a node in memory a hole. `changed` counts the nodes that differ from their blocks.
+fn clear_slot(
+    nodes: &mut BTreeMap<(u8, u32), KeptNode>,
+    changed: &mut u64,
+    level: u8,
+    place: u32,
+    slot: u32,
+)
     requires slot { slot < fan }
+    requires counted { changed.old ≡ changes_in nodes.old }
     requires other { (xs : List Pointer) → children_in nodes.old level place ≡ Some xs → HasOther xs slot }
+    ensures counted { changed.new ≡ changes_in nodes.new }
+    ensures fits { changed.new < 2 ^ 64 }
     ensures children { (k q : ℕ) → children_in nodes.new k q ≡ cond (nat_eq k level && nat_eq q place) (option_map (cleared_in slot) (children_in nodes.old k q)) (children_in nodes.old k q) }
     ensures marked { MarksNode nodes.old nodes.new level place }
     ensures ordered { tree_map.IsOrdered spot_cmp nodes.new }
 {
+    let most = nodes.len();
     if let Some(node) = nodes.get_mut(&(level, place)) {
+        *changed = recounted(*changed, most, node.changed, true);
         clear_child(node, slot);
     }
 }
@@ -251,6 +271,13 @@ fn stamp_above(tree: &mut Tree, index: u32, lowest: u8, stamp: u64)
     for below in lowest..levels {
         let place = index / width(below + 1);
         let slot = index / width(below) % FAN;
-        stamp_slot(&mut tree.nodes, below + 1, place, slot, stamp);
+        stamp_slot(
+            &mut tree.nodes,
+            &mut tree.changed_nodes,
+            below + 1,
+            place,
+            slot,
+            stamp,
+        );
     }
 }

@@ -4,10 +4,11 @@ ghost use Rattle.std.specs.Prelude.{◌≡◌, ◌≢◌, ◌≤◌, ◌<◌, �
 ghost use Rattle.std.specs.List.{All};
 ghost use Rattle.fv_codec.specs.Blocks.{IsPointer};
 ghost use Rattle.fv_model.specs.Trees.{fan};
+ghost use Rattle.fv_tree.specs.Places.{HasRightPlaces, MayLoad};
 ghost use Rattle.fv_tree.specs.Spelled.{hole, pointer_at};
 ghost use Rattle.fv_tree.specs.Standing.{standing, under, node_in, IsSameBut, LoadFails};
 ghost use Rattle.fv_tree.specs.Keeping.{IsKept, Keeps, KeepsBelow, Spells};
-ghost use Rattle.fv_tree.specs.Flushing.{placed_in, pointer_in};
+ghost use Rattle.fv_tree.specs.Flushing.{node_changed, placed_in, pointer_in};
 ghost use Rattle.fv_tree.specs.Carried.{kept_at, Brings, IsBlank};
 ghost use Rattle.fv_tree.specs.Readying.{HoldsWay, IsChildOver, KeepsReady};
 ghost use Rattle.fv_tree.specs.Unlinking.{HasWay};
@@ -18,6 +19,7 @@ ghost use Rattle.fv_disk.specs.declared.fault.BlockFault.TheVariants.{Memory};
 
 use crate::blocks::{Blocks, TreeFault};
 use crate::kept::{HOLE, KeptNode, Tree};
+use crate::pending::recounted;
 use crate::placing::pointer_in;
 use crate::sizes::width;
 use crate::way::load_node;
@@ -30,6 +32,7 @@ pub fn keep_path<B: Blocks>(
     index: u32,
 ) -> Result<Pointer, TreeFault>
     requires index { index < fan ^ tree.old.levels }
+    requires right { B.told → HasRightPlaces (B.shown blocks.old) tree.old }
     ensures pointer { B.told → IfOk result (λ p. p ≡ pointer_at (standing (under (B.shown blocks.old)) tree.old) 0 index) }
     ensures kept { B.told → OnOk result ((level : ℕ) → 1 ≤ level → level ≤ tree.old.levels → IsKept (standing (under (B.shown blocks.new)) tree.new) level (index / fan ^ level)) }
     ensures unplaced { B.told → OnOk result ((level : ℕ) → 1 ≤ level → level ≤ tree.old.levels → (pointer_at (standing (under (B.shown blocks.old)) tree.old) level (index / fan ^ level)).stamp ≡ 0 → placed_in tree.new.nodes level (index / fan ^ level) ≡ false) }
@@ -59,6 +62,7 @@ fn keep_step<B: Blocks>(
     requires low { 1 ≤ level }
     requires high { level ≤ tree.old.levels }
     requires pointer { B.told → pointer.now ≡ pointer_at (standing (under (B.shown blocks.old)) tree.old) level (index / fan ^ level) }
+    requires right { B.told → HasRightPlaces (B.shown blocks.old) tree.old }
     ensures below { B.told → IfOk result (λ p. p ≡ pointer_at (standing (under (B.shown blocks.old)) tree.old) (level - 1) (index / fan ^ (level - 1))) }
     ensures keeps { B.told → OnOk result (IsKept (standing (under (B.shown blocks.new)) tree.new) level (index / fan ^ level)) }
     ensures brings { B.told → Brings (under (B.shown blocks.old)) tree.old tree.new level (index / fan ^ level) pointer.now }
@@ -82,6 +86,7 @@ pub fn keep_node<B: Blocks>(
     place: u32,
     pointer: &Pointer,
 ) -> Result<(), TreeFault>
+    requires right { B.told → MayLoad (B.shown blocks.old) (is_some (node_in tree.old level place)) pointer.now }
     ensures keeps { B.told → Keeps (standing (under (B.shown blocks.old)) tree.old) (standing (under (B.shown blocks.new)) tree.new) level place pointer.now }
     ensures spells { OnOk result (Spells B.told (standing (under (B.shown blocks.old)) tree.old) (standing (under (B.shown blocks.new)) tree.new) level place pointer.now) }
     ensures brings { B.told → Brings (under (B.shown blocks.old)) tree.old tree.new level place pointer.now }
@@ -114,9 +119,24 @@ pub fn keep(tree: &mut Tree, level: u8, place: u32, node: KeptNode) -> Result<()
     ensures unchanged { node.changed ≡ false → changes_in tree.new.nodes ≤ changes_in tree.old.nodes }
     ensures memory { IfErr result (λ e. e ≡ Memory) }
 {
+    let most = tree.nodes.len();
+    let changed = node.changed;
     match tree.nodes.insert((level, place), node) {
-        Ok(_) => Ok(()),
+        Ok(before) => {
+            tree.changed_nodes = recounted(tree.changed_nodes, most, differed(&before), changed);
+            Ok(())
+        }
         Err(_) => Err(TreeFault::Memory),
+    }
+}
+
+/// Whether a node, where there is one, differs from its block.
+pub fn differed(node: &Option<KeptNode>) -> bool
+    ensures { result ≡ node_changed node.now }
+{
+    match node {
+        Some(node) => node.changed,
+        None => false,
     }
 }
 

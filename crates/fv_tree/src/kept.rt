@@ -1,6 +1,7 @@
 //! What a tree holds in memory.
 
-ghost use Rattle.std.specs.Prelude.{◌≡◌, ◌≤◌, true, false, length};
+ghost use Rattle.std.specs.Prelude.{◌≡◌, ◌≤◌, ◌<◌, ◌^◌, true, false, count_by, length};
+ghost use Rattle.std.specs.BTreeMap as maps;
 ghost use Rattle.std.specs.List.{All};
 ghost use Rattle.fv_codec.specs.Blocks.{IsPointer, all_holes};
 
@@ -37,7 +38,8 @@ pub struct KeptCell {
 }
 
 /// A tree of a file, or of an inode file, of which what changed or was held ready since the last `flush` is in memory,
-/// with the nodes over it. Each `put`, `ready` or `refill` brings in at most one cell.
+/// with the nodes over it. Each `put`, `ready` or `refill` brings in at most one cell. It keeps the numbers of nodes and of
+/// cells that differ from their blocks, so that none is looked for.
 #[derive(Drop)]
 pub struct Tree {
     pub(crate) owner: u64,
@@ -45,7 +47,13 @@ pub struct Tree {
     pub(crate) root: Pointer,
     pub(crate) nodes: BTreeMap<(u8, u32), KeptNode>,
     pub(crate) cells: BTreeMap<u32, KeptCell>,
+    pub(crate) changed_nodes: u64,
+    pub(crate) changed_cells: u64,
     pub(crate) alloc: Global,
     ghost few: { levels ≤ 3 },
     ghost pointer: { IsPointer root },
+    ghost counted_nodes: { changed_nodes ≡ count_by (λ kept. kept.changed) (maps.values nodes) },
+    ghost counted_cells: { changed_cells ≡ count_by (λ kept. kept.changed) (maps.values cells) },
+    ghost fits_nodes: { changed_nodes < 2 ^ 64 },
+    ghost fits_cells: { changed_cells < 2 ^ 64 },
 }

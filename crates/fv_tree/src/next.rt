@@ -2,6 +2,7 @@
 
 ghost use Rattle.std.specs.Prelude.{◌≡◌, ◌≢◌, ◌≤◌, ◌<◌, ◌-◌, ◌/◌, ◌%◌, ◌^◌, ◌⊎◌, ℕ, IfOk, IfErr, IfSome, IfNone, get_or, is_some, true, OnErr};
 ghost use Rattle.fv_model.specs.Trees.{fan};
+ghost use Rattle.fv_tree.specs.Places.{HasRightPlaces, MayLoad};
 ghost use Rattle.fv_tree.specs.Spelled.{hole, pointers_at, pointer_at};
 ghost use Rattle.fv_tree.specs.Sources.{Counts, IsUntouched};
 ghost use Rattle.fv_tree.specs.Standing.{standing, under, Fails, LoadFails, node_in};
@@ -31,6 +32,7 @@ impl Tree {
     ///
     /// As `get`.
     pub fn next<B: Blocks>(&self, blocks: &mut B, from: u32) -> Result<Option<u32>, TreeFault>
+        requires right { B.told → HasRightPlaces (B.shown blocks.old) self.now }
         ensures next { B.told → IfOk result (IsNextCell (standing (under (B.shown blocks.old)) self.now) from) }
         ensures untouched { IsUntouched (B.shown blocks.old) (B.shown blocks.new) }
         ensures reads { B.reads blocks.old blocks.new }
@@ -52,6 +54,7 @@ impl Tree {
 /// Goes down from the root to the first cell from an index on, as far as one node on the way leads to it.
 fn walk<B: Blocks>(tree: &Tree, blocks: &mut B, from: u32) -> Result<Landing, TreeFault>
     requires within { from < fan ^ tree.now.levels }
+    requires right { B.told → HasRightPlaces (B.shown blocks.old) tree.now }
     ensures lands { B.told → IfOk result (Lands (standing (under (B.shown blocks.old)) tree.now) from) }
     ensures further { IfOk result (IsFurther from) }
     ensures untouched { IsUntouched (B.shown blocks.old) (B.shown blocks.new) }
@@ -100,6 +103,7 @@ fn first_child<B: Blocks>(
     requires high { level ≤ tree.now.levels }
     requires some { pointer.now.stamp ≢ 0 }
     requires pointer { B.told → pointer.now ≡ pointer_at (standing (under (B.shown blocks.old)) tree.now) level (first / fan) }
+    requires right { B.told → HasRightPlaces (B.shown blocks.old) tree.now }
     ensures found { IfOk result (λ child. IfSome child (λ c. (first ≤ c.0) × (c.0 / fan ≡ first / fan) × (c.1.stamp ≢ 0))) }
     ensures child { B.told → IfOk result (λ child. IfSome child (λ c. IsFirstChild (standing (under (B.shown blocks.old)) tree.now) (level - 1) first c.0 c.1)) }
     ensures none { B.told → IfOk result (λ child. IfNone child ((r : ℕ) → first ≤ r → r / fan ≡ first / fan → (pointer_at (standing (under (B.shown blocks.old)) tree.now) (level - 1) r).stamp ≡ 0)) }
@@ -121,6 +125,7 @@ pub fn children_of<B: Blocks>(
     pointer: &Pointer,
 ) -> Result<[Pointer; 128], TreeFault>
     requires some { pointer.now.stamp ≢ 0 }
+    requires right { B.told → MayLoad (B.shown blocks.old) (is_some (node_in tree.now level place)) pointer.now }
     ensures children { B.told → IfOk result (λ xs. xs ≡ pointers_at (standing (under (B.shown blocks.old)) tree.now) level place pointer.now) }
     ensures held { is_some (node_in tree.now level place) ≡ true → OnErr result ⊥ }
     ensures untouched { IsUntouched (B.shown blocks.old) (B.shown blocks.new) }

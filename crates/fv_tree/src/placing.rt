@@ -1,6 +1,6 @@
 //! The steps of a flush: placing one block, and what its pointer and the memory are like afterwards.
 
-ghost use Rattle.std.specs.Prelude.{◌≡◌, ◌≢◌, ◌≤◌, ◌<◌, ◌⊎◌, ◌+◌, ◌/◌, ℕ, true, false, Ok, Some, None, is_some, slice_set, IfOk, IfSome, IfNone, OnOk, OnErr};
+ghost use Rattle.std.specs.Prelude.{◌≡◌, ◌^◌, ◌≢◌, ◌≤◌, ◌<◌, ◌⊎◌, ◌+◌, ◌/◌, ℕ, true, false, Ok, Some, None, is_some, slice_set, IfOk, IfSome, IfNone, OnOk, OnErr};
 ghost use Rattle.std.specs.BTreeMap as maps;
 ghost use Rattle.std.specs.Ordering.{nat_cmp};
 ghost use Rattle.std.specs.Option.{option_map};
@@ -8,13 +8,15 @@ ghost use Rattle.fv_codec.specs.Blocks.{IsPointer, last_place, node_at};
 ghost use Rattle.fv_model.specs.Trees.{fan, spot_cmp};
 ghost use Rattle.fv_tree.specs.Sources.{Drops, IsCalm, IsKind, IsUntouched};
 ghost use Rattle.fv_tree.specs.Standing.{children_in};
-ghost use Rattle.fv_tree.specs.Costs.{cells_changed, changes_in};
+ghost use Rattle.fv_tree.specs.Costs.{cells_changed, cells_held, changes_in};
 ghost use Rattle.fv_tree.specs.Flushing.{all_known, cell_changed, changed_in, is_unknown, kind_for, placed_in, pointer_in, ForgetsCell, ForgetsNode, HoldsAsMuch, IsHidden, IsMoved, KeepsOthers, NamesUsed, Points, Swaps};
 ghost use Rattle.fv_tree.specs.Readying.{HasCell};
 ghost use Rattle.fv_tree.specs.Calls.{PlacesOne};
 
 use crate::blocks::{Blocks, Placed, TreeFault};
-use crate::kept::{HOLE, KeptNode, Tree};
+use crate::keep::differed;
+use crate::kept::{HOLE, KeptCell, KeptNode, Tree};
+use crate::pending::recounted;
 use crate::sizes::FAN;
 use fv_codec::{Node, Pointer};
 use std::collections::BTreeMap;
@@ -67,10 +69,23 @@ pub fn first_node(tree: &Tree, into: &mut KeptNode) -> Option<(u8, u32)>
 pub fn forget_cell(tree: &mut Tree, index: u32)
     ensures forgets { ForgetsCell tree.old tree.new index }
     ensures len { is_some (maps.get nat_cmp tree.old.cells index) ≡ true → maps.btree_map_len tree.new.cells + 1 ≡ maps.btree_map_len tree.old.cells }
+    ensures held { cells_held tree.new ≤ cells_held tree.old }
     ensures changes { cells_changed tree.new.cells ≤ cells_changed tree.old.cells }
     ensures fewer { cell_changed (maps.get nat_cmp tree.old.cells index) ≡ true → cells_changed tree.new.cells + 1 ≡ cells_changed tree.old.cells }
 {
-    let _ = tree.cells.remove(&index);
+    let most = tree.cells.len();
+    let gone = tree.cells.remove(&index);
+    tree.changed_cells = recounted(tree.changed_cells, most, cell_differed(&gone), false);
+}
+
+/// Whether a cell, where there is one, differs from its block.
+fn cell_differed(cell: &Option<KeptCell>) -> bool
+    ensures { result ≡ cell_changed cell.now }
+{
+    match cell {
+        Some(cell) => cell.changed,
+        None => false,
+    }
 }
 
 /// Takes a node out of memory.
@@ -80,7 +95,9 @@ pub fn forget_node(tree: &mut Tree, level: u8, place: u32)
     ensures changes { changes_in tree.new.nodes ≤ changes_in tree.old.nodes }
     ensures fewer { changed_in tree.old.nodes level place ≡ true → changes_in tree.new.nodes + 1 ≡ changes_in tree.old.nodes }
 {
-    let _ = tree.nodes.remove(&(level, place));
+    let most = tree.nodes.len();
+    let gone = tree.nodes.remove(&(level, place));
+    tree.changed_nodes = recounted(tree.changed_nodes, most, differed(&gone), false);
 }
 
 /// Spells a node that changed.
@@ -251,6 +268,7 @@ fn point(tree: &mut Tree, level: u8, place: u32, pointer: &Pointer)
     if level < tree.levels {
         point_slot(
             &mut tree.nodes,
+            &mut tree.changed_nodes,
             level + 1,
             place / FAN,
             place % FAN,
@@ -261,9 +279,10 @@ fn point(tree: &mut Tree, level: u8, place: u32, pointer: &Pointer)
     }
 }
 
-/// Puts another pointer into a node, where that is in memory.
+/// Puts another pointer into a node, where that is in memory. `changed` counts the nodes that differ from their blocks.
 fn point_slot(
     nodes: &mut BTreeMap<(u8, u32), KeptNode>,
+    changed: &mut u64,
     level: u8,
     place: u32,
     slot: u32,
@@ -272,6 +291,9 @@ fn point_slot(
     requires slot { slot < fan }
     requires pointer { IsPointer pointer.now }
     requires some { pointer.now.stamp ≢ 0 }
+    requires counted { changed.old ≡ changes_in nodes.old }
+    ensures counted { changed.new ≡ changes_in nodes.new }
+    ensures fits { changed.new < 2 ^ 64 }
     ensures node { children_in nodes.new level place ≡ option_map (λ xs. slice_set xs slot pointer.now) (children_in nodes.old level place) }
     ensures others { (k q : ℕ) → (k ≢ level) ⊎ (q ≢ place) → children_in nodes.new k q ≡ children_in nodes.old k q }
     ensures len { maps.btree_map_len nodes.new ≡ maps.btree_map_len nodes.old }
@@ -279,7 +301,9 @@ fn point_slot(
     ensures placed { (k q : ℕ) → placed_in nodes.new k q ≡ placed_in nodes.old k q }
     ensures changed { (k q : ℕ) → ((k ≢ level) ⊎ (q ≢ place)) ⊎ (changed_in nodes.old k q ≡ true) → changed_in nodes.new k q ≡ changed_in nodes.old k q }
 {
+    let most = nodes.len();
     if let Some(node) = nodes.get_mut(&(level, place)) {
+        *changed = recounted(*changed, most, node.changed, true);
         point_child(node, slot, pointer);
     }
 }

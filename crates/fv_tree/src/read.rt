@@ -3,6 +3,7 @@
 ghost use Rattle.std.specs.Prelude.{◌≡◌, ◌≤◌, ◌+◌, ◌==◌, ℕ, Option, Some, None, is_some, not, true, IfOk, IfErr, IfSome, OnOk, OnErr};
 ghost use Rattle.std.specs.Option.{option_map};
 ghost use Rattle.fv_codec.specs.Forms.{has_form};
+ghost use Rattle.fv_tree.specs.Places.{HasRightPlaces, MayLoad};
 ghost use Rattle.fv_tree.specs.Spelled.{pointer_at, block_at};
 ghost use Rattle.fv_tree.specs.Sources.{Counts, IsUntouched};
 ghost use Rattle.fv_tree.specs.Standing.{standing, under, cell_in, Fails, PointerFails};
@@ -29,6 +30,7 @@ impl Tree {
         index: u32,
         into: &mut [u8; 4096],
     ) -> Result<Option<u32>, TreeFault>
+        requires right { B.told → HasRightPlaces (B.shown blocks.old) self.now }
         ensures cell { B.told → IfOk result (λ at. block_at (standing (under (B.shown blocks.old)) self.now) index ≡ option_map (λ (place : ℕ). into.new) at) }
         ensures place { B.told → IfOk result (λ at. (place : ℕ) → at ≡ Some place → place ≡ cell_read_at (standing (under (B.shown blocks.old)) self.now) (B.shown blocks.new) index) }
         ensures spent { B.told → OnOk result ((B.shown blocks.new).spent ≡ (B.shown blocks.old).spent + way_cost (B.shown blocks.old).cost (standing (under (B.shown blocks.old)) self.now) index) }
@@ -57,6 +59,7 @@ impl Tree {
         into: &mut [u8; 4096],
         has: &mut bool,
     ) -> Result<Option<u32>, TreeFault>
+        requires right { B.told → HasRightPlaces (B.shown blocks.old) self.now }
         ensures cell { B.told → IfOk result (λ at. block_at (standing (under (B.shown blocks.old)) self.now) index ≡ option_map (λ (place : ℕ). into.new) at) }
         ensures form { IfOk result (λ at. IfSome at (λ place. has.new ≡ has_form form into.new)) }
         ensures place { B.told → IfOk result (λ at. (place : ℕ) → at ≡ Some place → place ≡ cell_read_at (standing (under (B.shown blocks.old)) self.now) (B.shown blocks.new) index) }
@@ -83,6 +86,7 @@ pub fn read_pointed<B: Blocks>(
     into: &mut [u8; 4096],
 ) -> Result<Option<u32>, TreeFault>
     requires pointer { B.told → pointer.now ≡ pointer_at (standing (under (B.shown blocks.old)) tree.now) 0 index }
+    requires right { B.told → MayLoad (B.shown blocks.old) (is_some (cell_in tree.now index)) pointer.now }
     ensures cell { B.told → IfOk result (λ at. block_at (standing (under (B.shown blocks.old)) tree.now) index ≡ option_map (λ (place : ℕ). into.new) at) }
     ensures place { B.told → IfOk result (λ at. (place : ℕ) → at ≡ Some place → place ≡ cell_read_at (standing (under (B.shown blocks.old)) tree.now) (B.shown blocks.new) index) }
     ensures spent { OnOk result ((B.shown blocks.new).spent ≡ (B.shown blocks.old).spent + load_cost (B.shown blocks.old).cost (is_some (cell_in tree.now index)) pointer.now) }
@@ -120,6 +124,7 @@ fn read_pointed_as<B: Blocks>(
     has: &mut bool,
 ) -> Result<Option<u32>, TreeFault>
     requires pointer { B.told → pointer.now ≡ pointer_at (standing (under (B.shown blocks.old)) tree.now) 0 index }
+    requires right { B.told → MayLoad (B.shown blocks.old) (is_some (cell_in tree.now index)) pointer.now }
     ensures cell { B.told → IfOk result (λ at. block_at (standing (under (B.shown blocks.old)) tree.now) index ≡ option_map (λ (place : ℕ). into.new) at) }
     ensures form { IfOk result (λ at. IfSome at (λ place. has.new ≡ has_form form into.new)) }
     ensures place { B.told → IfOk result (λ at. (place : ℕ) → at ≡ Some place → place ≡ cell_read_at (standing (under (B.shown blocks.old)) tree.now) (B.shown blocks.new) index) }

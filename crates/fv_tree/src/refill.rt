@@ -1,10 +1,11 @@
 //! Another content for a cell, under the stamps that it has.
 
-ghost use Rattle.std.specs.Prelude.{◌≡◌, ◌≢◌, ◌≤◌, ◌+◌, ◌⊎◌, ℕ, List, true, false, is_some, Some, IfOk, IfErr, OnErr};
+ghost use Rattle.std.specs.Prelude.{◌≡◌, ◌^◌, ◌<◌, ◌≢◌, ◌≤◌, ◌+◌, ◌⊎◌, ℕ, List, true, false, is_some, Some, IfOk, IfErr, OnErr};
 ghost use Rattle.std.specs.BTreeMap as maps;
 ghost use Rattle.fv_codec.specs.declared.pointer.Pointer.{Pointer};
 ghost use Rattle.fv_codec.specs.Blocks.{all_holes};
 ghost use Rattle.fv_model.specs.Trees.{spot_cmp};
+ghost use Rattle.fv_tree.specs.Places.{HasRightPlaces};
 ghost use Rattle.fv_tree.specs.Standing.{standing, under, node_in, children_in, IsSameBut};
 ghost use Rattle.fv_tree.specs.Writing.{Remains};
 ghost use Rattle.fv_disk.specs.declared.fault.BlockFault.TheVariants.{Memory};
@@ -19,6 +20,7 @@ ghost use Rattle.fv_tree.specs.Calls.{Steady};
 use crate::blocks::{Blocks, TreeFault};
 use crate::keep::keep_path;
 use crate::kept::{KeptNode, Tree};
+use crate::pending::recounted;
 use crate::sizes::width;
 use crate::write::keep_cell;
 use std::collections::BTreeMap;
@@ -39,6 +41,7 @@ impl Tree {
         index: u32,
         block: &[u8; 4096],
     ) -> Result<bool, TreeFault>
+        requires right { B.told → HasRightPlaces (B.shown blocks.old) self.old }
         ensures refilled { B.told → IfOk result (Refills (standing (under (B.shown blocks.old)) self.old) (standing (under (B.shown blocks.new)) self.new) index block.now) }
         ensures place_by_place { B.told → IfOk result (IsRefilled (standing (under (B.shown blocks.old)) self.old) (standing (under (B.shown blocks.new)) self.new) index block.now) }
         ensures failed { B.told → OnErr result (Remains (standing (under (B.shown blocks.old)) self.old) (standing (under (B.shown blocks.new)) self.new)) }
@@ -73,17 +76,23 @@ fn mark_path(tree: &mut Tree, index: u32)
 {
     let levels = tree.levels;
     for below in 0..levels {
-        mark_spot(&mut tree.nodes, below + 1, index / width(below + 1));
+        let place = index / width(below + 1);
+        mark_spot(&mut tree.nodes, &mut tree.changed_nodes, below + 1, place);
     }
 }
 
-/// Marks a node in memory as changed.
-fn mark_spot(nodes: &mut BTreeMap<(u8, u32), KeptNode>, level: u8, place: u32)
+/// Marks a node in memory as changed. `changed` counts the nodes that differ from their blocks.
+fn mark_spot(nodes: &mut BTreeMap<(u8, u32), KeptNode>, changed: &mut u64, level: u8, place: u32)
+    requires counted { changed.old ≡ changes_in nodes.old }
     requires filled { (xs : List Pointer) → children_in nodes.old level place ≡ Some xs → all_holes xs ≡ false }
+    ensures counted { changed.new ≡ changes_in nodes.new }
+    ensures fits { changed.new < 2 ^ 64 }
     ensures children { (k q : ℕ) → children_in nodes.new k q ≡ children_in nodes.old k q }
     ensures marked { MarksNode nodes.old nodes.new level place }
 {
+    let most = nodes.len();
     if let Some(node) = nodes.get_mut(&(level, place)) {
+        *changed = recounted(*changed, most, node.changed, true);
         mark(node);
     }
 }

@@ -1,6 +1,7 @@
 //! Removing a cell.
 
 ghost use Rattle.std.specs.Prelude.{◌≤◌, ◌+◌, nat_eq, Ok};
+ghost use Rattle.fv_tree.specs.Places.{HasRightPlaces};
 ghost use Rattle.fv_tree.specs.Readying.{IsReady, KeepsOthersReady};
 ghost use Rattle.fv_tree.specs.Removal.{Removal};
 ghost use Rattle.fv_tree.specs.Costs.{pending};
@@ -30,6 +31,7 @@ impl Tree {
     ) -> Result<u32, TreeFault>
         requires start { start ≤ 3 }
         requires stamp { 1 ≤ stamp }
+        requires right { B.told → HasRightPlaces (B.shown blocks.old) self.old }
         ensures pending { pending self.new ≤ pending self.old + 3 }
         ensures removal { Removal B.told (B.goes blocks.old blocks.new) (B.shown blocks.old) (B.shown blocks.new) self.old self.new (nat_eq index) start stamp result }
     {

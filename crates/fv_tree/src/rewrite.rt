@@ -3,6 +3,7 @@
 ghost use Rattle.std.specs.Prelude.{◌≡◌, ◌≢◌, ◌≤◌, ◌+◌, ℕ, true, is_some, cond, nat_eq, Some, IfOk, IfErr, OnOk, OnErr};
 ghost use Rattle.std.specs.BTreeMap as maps;
 ghost use Rattle.std.specs.Ordering.{nat_cmp};
+ghost use Rattle.fv_tree.specs.Places.{HasRightPlaces};
 ghost use Rattle.fv_tree.specs.Spelled.{Under, pointer_at, stamp_in, block_at};
 ghost use Rattle.fv_tree.specs.Standing.{standing, under, cell_in, IsSameButCells};
 ghost use Rattle.fv_tree.specs.Writing.{IsAlike, IsWritten, Remains, Writes};
@@ -31,6 +32,7 @@ impl Tree {
     ///
     /// As `get`, and `Memory` where there is no memory for the nodes and the content.
     pub fn ready<B: Blocks>(&mut self, blocks: &mut B, index: u32) -> Result<bool, TreeFault>
+        requires right { B.told → HasRightPlaces (B.shown blocks.old) self.old }
         ensures ready { IfOk result (λ there. there ≡ true → IsReady self.new index) }
         ensures there { B.told → IfOk result (λ there. is_some (stamp_in (pointer_at (standing (under (B.shown blocks.old)) self.old) 0 index)) ≡ there) }
         ensures alike { B.told → IsAlike (standing (under (B.shown blocks.old)) self.old) (standing (under (B.shown blocks.new)) self.new) }
@@ -70,6 +72,7 @@ impl Tree {
 
 /// Holds a cell and the nodes over it in memory, where it stands.
 fn ready_cell<B: Blocks>(tree: &mut Tree, blocks: &mut B, index: u32) -> Result<bool, TreeFault>
+    requires right { B.told → HasRightPlaces (B.shown blocks.old) tree.old }
     ensures ready { IfOk result (λ there. there ≡ true → IsReady tree.new index) }
     ensures there { B.told → IfOk result (λ there. is_some (stamp_in (pointer_at (standing (under (B.shown blocks.old)) tree.old) 0 index)) ≡ there) }
     ensures alike { B.told → IsAlike (standing (under (B.shown blocks.old)) tree.old) (standing (under (B.shown blocks.new)) tree.new) }
@@ -138,5 +141,5 @@ fn put_content(tree: &mut Tree, index: u32, block: &[u8; 4096])
     ensures own { cell_placed (maps.get nat_cmp tree.new.cells index) ≡ cell_placed (maps.get nat_cmp tree.old.cells index) }
     ensures others { (i : ℕ) → i ≢ index → maps.get nat_cmp tree.new.cells i ≡ maps.get nat_cmp tree.old.cells i }
 {
-    set_content(&mut tree.cells, index, block, true);
+    set_content(&mut tree.cells, &mut tree.changed_cells, index, block, true);
 }

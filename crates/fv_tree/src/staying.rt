@@ -2,8 +2,9 @@
 
 ghost use Rattle.std.specs.Prelude.{◌≡◌, ◌≤◌, ◌<◌, ◌-◌, ◌*◌, ◌/◌, ◌^◌, ◌&&◌, not, cond, ◌==◌, IfOk, IfErr};
 ghost use Rattle.fv_model.specs.Trees.{fan};
+ghost use Rattle.fv_tree.specs.Places.{HasRightPlaces, IsPlaceOf};
 ghost use Rattle.fv_tree.specs.Sources.{Counts, IsUntouched};
-ghost use Rattle.fv_tree.specs.Standing.{standing, under, Fails, IsPlaceOf};
+ghost use Rattle.fv_tree.specs.Standing.{standing, under, Fails};
 ghost use Rattle.fv_tree.specs.Flushing.{changed_of, loaded};
 ghost use Rattle.fv_tree.specs.Counting.{staying_at, staying_all, staying_under};
 
@@ -24,6 +25,7 @@ impl Tree {
     ///
     /// As `get`.
     pub fn staying<B: Sharing>(&self, blocks: &mut B, index: u32) -> Result<u32, TreeFault>
+        requires right { B.told → HasRightPlaces (B.shown blocks.old) self.now }
         ensures staying { B.told → IfOk result (λ count. count ≡ staying_at (loaded (B.shown blocks.old) self.now) (B.shared blocks.old) index) }
         ensures few { IfOk result (λ count. count ≤ 4) }
         ensures untouched { IsUntouched (B.shown blocks.old) (B.shown blocks.new) }
@@ -49,6 +51,7 @@ impl Tree {
     ///
     /// As `get`.
     pub fn staying_all<B: Sharing>(&self, blocks: &mut B) -> Result<u32, TreeFault>
+        requires right { B.told → HasRightPlaces (B.shown blocks.old) self.now }
         ensures staying { B.told → IfOk result (λ count. count ≡ staying_all (loaded (B.shown blocks.old) self.now) (B.shared blocks.old)) }
         ensures few { IfOk result (λ count. count < 4194304) }
         ensures untouched { IsUntouched (B.shown blocks.old) (B.shown blocks.new) }

@@ -2,8 +2,9 @@
 
 ghost use Rattle.std.specs.Prelude.{◌≡◌, ◌≢◌, ◌≤◌, ◌<◌, ◌+◌, ◌-◌, ◌*◌, ◌/◌, ◌^◌, ◌&&◌, ◌||◌, not, cond, ◌==◌, ℕ, true, false, nat_le, nat_eq, IfOk, IfErr};
 ghost use Rattle.fv_model.specs.Trees.{fan};
+ghost use Rattle.fv_tree.specs.Places.{HasRightPlaces, IsPlaceOf};
 ghost use Rattle.fv_tree.specs.Sources.{Counts, IsUntouched};
-ghost use Rattle.fv_tree.specs.Standing.{standing, under, Fails, IsPlaceOf};
+ghost use Rattle.fv_tree.specs.Standing.{standing, under, Fails};
 ghost use Rattle.fv_tree.specs.Flushing.{loaded};
 ghost use Rattle.fv_tree.specs.Erasing.{HoldsCells};
 ghost use Rattle.fv_tree.specs.Taking.{goes_by, gone_with, AreBelow, IsPart, IsTaken};
@@ -57,6 +58,7 @@ impl Tree {
     ///
     /// As `get`.
     pub fn taken<B: Sharing>(&self, blocks: &mut B, from: u32) -> Result<Taken, TreeFault>
+        requires right { B.told → HasRightPlaces (B.shown blocks.old) self.now }
         ensures taken { B.told → HoldsCells (standing (under (B.shown blocks.old)) self.now) → IfOk result (IsTaken (loaded (B.shown blocks.old) self.now) (B.shared blocks.old) (nat_le from)) }
         ensures few { IfOk result (AreBelow 4194304) }
         ensures untouched { IsUntouched (B.shown blocks.old) (B.shown blocks.new) }
@@ -75,6 +77,7 @@ impl Tree {
     ///
     /// As `get`.
     pub fn lost<B: Sharing>(&self, blocks: &mut B, index: u32) -> Result<u32, TreeFault>
+        requires right { B.told → HasRightPlaces (B.shown blocks.old) self.now }
         ensures lost { B.told → HoldsCells (standing (under (B.shown blocks.old)) self.now) → IfOk result (λ count. count ≡ gone_with (standing (under (B.shown blocks.old)) self.now) (nat_eq index)) }
         ensures few { IfOk result (λ count. count < 4194304) }
         ensures untouched { IsUntouched (B.shown blocks.old) (B.shown blocks.new) }
@@ -89,6 +92,7 @@ impl Tree {
 
 /// What a removal of these cells takes.
 fn taken_in<B: Sharing>(tree: &Tree, blocks: &mut B, going: Going) -> Result<Taken, TreeFault>
+    requires right { B.told → HasRightPlaces (B.shown blocks.old) tree.now }
     ensures taken { B.told → HoldsCells (standing (under (B.shown blocks.old)) tree.now) → IfOk result (IsTaken (loaded (B.shown blocks.old) tree.now) (B.shared blocks.old) (goes_by going)) }
     ensures few { IfOk result (AreBelow 4194304) }
     ensures loads { LoadsFrom (B.reads blocks.old blocks.new) (Fails B.told (standing (under (B.shown blocks.old)) tree.now) (B.shown blocks.old) (B.shown blocks.new)) (B.shown blocks.old) (B.shown blocks.new) result }

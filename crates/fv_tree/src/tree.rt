@@ -6,6 +6,7 @@ ghost use Rattle.std.specs.FinMap as fin;
 ghost use Rattle.std.specs.Ordering.{nat_cmp};
 ghost use Rattle.fv_model.specs.Trees as trees;
 ghost use Rattle.fv_codec.specs.Blocks.{IsPointer};
+ghost use Rattle.fv_tree.specs.Places.{HasRightPlaces};
 ghost use Rattle.fv_tree.specs.Spelled.{Under, hole, stored, block_at};
 ghost use Rattle.fv_tree.specs.Sources.{Counts, Use, IsUntouched};
 ghost use Rattle.fv_tree.specs.Standing.{standing, under, Shows, Fails};
@@ -69,6 +70,7 @@ impl Tree {
         index: u32,
         into: &mut [u8; 4096],
     ) -> Result<bool, TreeFault>
+        requires right { B.told → HasRightPlaces (B.shown blocks.old) self.old }
         ensures cell { B.told → IfOk result (λ there. block_at (standing (under (B.shown blocks.old)) self.old) index ≡ cond there (Some into.new) None) }
         ensures seen { B.told → (seen : trees.Tree) (contents : fin.FinMap nat_cmp (List ℕ)) → Shows (standing (under (B.shown blocks.old)) self.old) seen contents → IfOk result (λ there. fin.get contents index ≡ cond there (Some into.new) None) }
         ensures spent { B.told → OnOk result ((B.shown blocks.new).spent ≡ (B.shown blocks.old).spent + way_cost (B.shown blocks.old).cost (standing (under (B.shown blocks.old)) self.old) index) }
@@ -100,6 +102,7 @@ impl Tree {
     ) -> Result<(), TreeFault>
         requires index { index < 2097152 }
         requires stamp { 1 ≤ stamp }
+        requires right { B.told → HasRightPlaces (B.shown blocks.old) self.old }
         ensures written { B.told → OnOk result (Writes (standing (under (B.shown blocks.old)) self.old) (standing (under (B.shown blocks.new)) self.new) index stamp block.now) }
         ensures place_by_place { B.told → OnOk result (IsWritten (standing (under (B.shown blocks.old)) self.old) (standing (under (B.shown blocks.new)) self.new) index stamp block.now) }
         ensures failed { B.told → OnErr result (Remains (standing (under (B.shown blocks.old)) self.old) (standing (under (B.shown blocks.new)) self.new)) }
@@ -132,6 +135,8 @@ fn unread(alloc: Global, owner: u64, levels: u8, root: Pointer) -> Tree
         root,
         nodes: BTreeMap::new(alloc),
         cells: BTreeMap::new(alloc),
+        changed_nodes: 0,
+        changed_cells: 0,
         alloc,
     }
 }

@@ -1,8 +1,11 @@
 //! The way from the root to a cell.
 
-ghost use Rattle.std.specs.Prelude.{◌≡◌, ◌≢◌, ◌≤◌, ◌<◌, ◌/◌, ◌%◌, ◌-◌, ◌^◌, IfOk, IfErr, get_or, length, ◌+◌, is_some, true, OnOk, OnErr};
-ghost use Rattle.fv_codec.specs.Blocks.{IsNode};
+ghost use Rattle.std.specs.Prelude.{◌≡◌, ◌≢◌, ◌≤◌, ◌<◌, ◌/◌, ◌%◌, ◌-◌, ◌^◌, Some, Err, IfOk, IfErr, get_or, length, ◌+◌, is_some, true, OnOk, OnErr};
+ghost use Rattle.fv_codec.specs.Blocks.{IsNode, node_at};
+ghost use Rattle.fv_codec.specs.declared.shape.Shape.{Shape};
+ghost use Rattle.fv_disk.specs.declared.fault.BlockFault.TheVariants.{Damaged};
 ghost use Rattle.fv_model.specs.Trees.{fan};
+ghost use Rattle.fv_tree.specs.Places.{HasRightPlaces, MayLoad};
 ghost use Rattle.fv_tree.specs.Spelled.{Under, hole, pointers_at, pointers_in, pointer_below, pointer_at};
 ghost use Rattle.fv_tree.specs.Sources.{Counts, IsUntouched};
 ghost use Rattle.fv_tree.specs.Standing.{standing, under, node_in, Fails, LoadFails};
@@ -17,6 +20,7 @@ use fv_codec::{Form, Node, Pointer};
 
 /// The pointer to a cell.
 pub fn find<B: Blocks>(tree: &Tree, blocks: &mut B, index: u32) -> Result<Pointer, TreeFault>
+    requires right { B.told → HasRightPlaces (B.shown blocks.old) tree.now }
     ensures pointer { B.told → IfOk result (λ p. p ≡ pointer_at (standing (under (B.shown blocks.old)) tree.now) 0 index) }
     ensures spent { B.told → OnOk result ((B.shown blocks.new).spent + place_cost (B.shown blocks.old).cost (standing (under (B.shown blocks.old)) tree.now) 0 index
         ≡ (B.shown blocks.old).spent + way_cost (B.shown blocks.old).cost (standing (under (B.shown blocks.old)) tree.now) index) }
@@ -55,6 +59,7 @@ pub fn step<B: Blocks>(
     requires low { 1 ≤ level }
     requires high { level ≤ tree.now.levels }
     requires pointer { B.told → pointer.now ≡ pointer_below (standing (under (B.shown blocks.old)) tree.now) (tree.now.levels - level) (index / fan ^ level) }
+    requires right { B.told → HasRightPlaces (B.shown blocks.old) tree.now }
     ensures below { B.told → IfOk result (λ p. p ≡ pointer_below (standing (under (B.shown blocks.old)) tree.now) (tree.now.levels - (level - 1)) (index / fan ^ (level - 1))) }
     ensures spent { B.told → OnOk result ((B.shown blocks.new).spent ≡ (B.shown blocks.old).spent + place_cost (B.shown blocks.old).cost (standing (under (B.shown blocks.old)) tree.now) level (index / fan ^ level)) }
     ensures held { is_some (node_in tree.now level (index / fan ^ level)) ≡ true → OnErr result ⊥ }
@@ -78,6 +83,7 @@ fn child<B: Blocks>(
     pointer: &Pointer,
 ) -> Result<Pointer, TreeFault>
     requires slot { slot < fan }
+    requires right { B.told → MayLoad (B.shown blocks.old) (is_some (node_in tree.now level place)) pointer.now }
     ensures child { B.told → IfOk result (λ p. p ≡ get_or (pointers_at (standing (under (B.shown blocks.old)) tree.now) level place pointer.now) slot hole) }
     ensures spent { OnOk result ((B.shown blocks.new).spent ≡ (B.shown blocks.old).spent + load_cost (B.shown blocks.old).cost (is_some (node_in tree.now level place)) pointer.now) }
     ensures held { is_some (node_in tree.now level place) ≡ true → OnErr result ⊥ }
@@ -103,6 +109,7 @@ fn child<B: Blocks>(
 fn load_child<B: Blocks>(blocks: &mut B, slot: u32, pointer: &Pointer) -> Result<Pointer, TreeFault>
     requires slot { slot < fan }
     requires some { pointer.now.stamp ≢ 0 }
+    requires right { B.told → (B.shown blocks.old).right pointer.now.vvbn pointer.now.pvbn }
     ensures child { B.told → IfOk result (λ p. get_or (pointers_in (under (B.shown blocks.old) pointer.now.vvbn)) slot hole ≡ p) }
     ensures spent { OnOk result ((B.shown blocks.new).spent ≡ (B.shown blocks.old).spent + (B.shown blocks.old).cost pointer.now) }
     ensures untouched { IsUntouched (B.shown blocks.old) (B.shown blocks.new) }
@@ -116,7 +123,16 @@ fn load_child<B: Blocks>(blocks: &mut B, slot: u32, pointer: &Pointer) -> Result
     if is_node {
         return Ok(Node::child(&block, slot));
     }
-    match Node::decode(&block) {
+    child_of(at, &block, slot)
+}
+
+/// One pointer of the node that a block spells, which was read at a place.
+fn child_of(at: u32, block: &[u8; 4096], slot: u32) -> Result<Pointer, TreeFault>
+    requires slot { slot < fan }
+    ensures child { IfOk result (λ p. get_or (pointers_in (Some block.now)) slot hole ≡ p) }
+    ensures damage { IfErr result (λ e. (shape : Shape) × (node_at block.now ≡ Err shape) × (e ≡ Damaged at shape.want shape.found)) }
+{
+    match Node::decode(block) {
         Ok(node) => Ok(node.children[slot as usize]),
         Err(shape) => Err(TreeFault::Damaged {
             at: u64::from(at),
@@ -129,6 +145,7 @@ fn load_child<B: Blocks>(blocks: &mut B, slot: u32, pointer: &Pointer) -> Result
 /// The node to which a pointer leads, whatever position its block names.
 pub fn load_node<B: Blocks>(blocks: &mut B, pointer: &Pointer) -> Result<Node, TreeFault>
     requires some { pointer.now.stamp ≢ 0 }
+    requires right { B.told → (B.shown blocks.old).right pointer.now.vvbn pointer.now.pvbn }
     ensures node { B.told → IfOk result (λ n. pointers_in (under (B.shown blocks.old) pointer.now.vvbn) ≡ n.children) }
     ensures long { IfOk result (λ n. length n.children ≡ 128) }
     ensures range { IfOk result (λ n. IsNode n) }

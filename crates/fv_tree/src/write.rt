@@ -5,6 +5,7 @@ ghost use Rattle.std.specs.BTreeMap as maps;
 ghost use Rattle.std.specs.Ordering.{nat_cmp};
 ghost use Rattle.std.specs.Option.{option_map};
 ghost use Rattle.fv_model.specs.Trees.{fan, spot_cmp};
+ghost use Rattle.fv_tree.specs.Places.{HasRightPlaces};
 ghost use Rattle.fv_tree.specs.declared.kept.KeptCell.{KeptCell};
 ghost use Rattle.fv_tree.specs.Standing.{standing, under, children_in, cell_in, IsSameButCells};
 ghost use Rattle.fv_tree.specs.Spelled.{Under};
@@ -20,6 +21,7 @@ use crate::blocks::{Blocks, TreeFault};
 use crate::grow::{keep_new_levels, levels_over, new_mark};
 use crate::keep::keep_path;
 use crate::kept::{KeptCell, KeptNode, Tree};
+use crate::pending::recounted;
 use crate::sizes::{FAN, width};
 use fv_codec::Pointer;
 use std::collections::BTreeMap;
@@ -44,7 +46,13 @@ pub fn keep_cell(
     ensures memory { IfErr result (λ e. e ≡ Memory) }
 {
     if tree.cells.contains_key(&index) {
-        set_content(&mut tree.cells, index, block, placed);
+        set_content(
+            &mut tree.cells,
+            &mut tree.changed_cells,
+            index,
+            block,
+            placed,
+        );
         return Ok(());
     }
     let block = boxed(tree, block)?;
@@ -53,8 +61,12 @@ pub fn keep_cell(
         changed: true,
         placed,
     };
+    let changed = recounted(tree.changed_cells, tree.cells.len(), false, true);
     match tree.cells.insert(index, cell) {
-        Ok(_) => Ok(()),
+        Ok(_) => {
+            tree.changed_cells = changed;
+            Ok(())
+        }
         Err(_) => Err(TreeFault::Memory),
     }
 }
@@ -71,14 +83,18 @@ pub fn boxed(tree: &Tree, block: &[u8; 4096]) -> Result<Box<[u8; 4096]>, TreeFau
 }
 
 /// Puts another content over that of a cell in memory, where it lies. The pointer to it still leads to a block that it
-/// replaces only where `placed` says so, too.
+/// replaces only where `placed` says so, too. `changed` counts the cells that differ from their blocks.
 pub fn set_content(
     cells: &mut BTreeMap<u32, KeptCell>,
+    changed: &mut u64,
     index: u32,
     block: &[u8; 4096],
     placed: bool,
 )
     requires there { is_some (maps.get nat_cmp cells.old index) ≡ true }
+    requires counted { changed.old ≡ cells_changed cells.old }
+    ensures counted { changed.new ≡ cells_changed cells.new }
+    ensures fits { changed.new < 2 ^ 64 }
     ensures count { cells_changed cells.new ≤ cells_changed cells.old + 1 }
     ensures len { maps.btree_map_len cells.new ≡ maps.btree_map_len cells.old }
     ensures changed { cell_changed (maps.get nat_cmp cells.new index) ≡ true }
@@ -86,7 +102,9 @@ pub fn set_content(
     ensures own { cell_placed (maps.get nat_cmp cells.new index) ≡ (placed && cell_placed (maps.get nat_cmp cells.old index)) }
     ensures others { (i : ℕ) → i ≢ index → maps.get nat_cmp cells.new i ≡ maps.get nat_cmp cells.old i }
 {
+    let most = cells.len();
     if let Some(cell) = cells.get_mut(&index) {
+        *changed = recounted(*changed, most, cell.changed, true);
         *cell.block = *block;
         cell.changed = true;
         cell.placed = still_placed(placed, cell.placed);
@@ -124,13 +142,21 @@ pub fn stamp_path(tree: &mut Tree, index: u32, stamp: u64)
     for below in 0..levels {
         let place = index / width(below + 1);
         let slot = index / width(below) % FAN;
-        stamp_slot(&mut tree.nodes, below + 1, place, slot, stamp);
+        stamp_slot(
+            &mut tree.nodes,
+            &mut tree.changed_nodes,
+            below + 1,
+            place,
+            slot,
+            stamp,
+        );
     }
 }
 
-/// Gives one pointer of a node in memory a stamp.
+/// Gives one pointer of a node in memory a stamp. `changed` counts the nodes that differ from their blocks.
 pub fn stamp_slot(
     nodes: &mut BTreeMap<(u8, u32), KeptNode>,
+    changed: &mut u64,
     level: u8,
     place: u32,
     slot: u32,
@@ -138,12 +164,17 @@ pub fn stamp_slot(
 )
     requires slot { slot < fan }
     requires stamp { 1 ≤ stamp }
+    requires counted { changed.old ≡ changes_in nodes.old }
+    ensures counted { changed.new ≡ changes_in nodes.new }
+    ensures fits { changed.new < 2 ^ 64 }
     ensures children { (k q : ℕ) → children_in nodes.new k q ≡ cond (nat_eq k level && nat_eq q place) (option_map (stamped_in slot stamp) (children_in nodes.old k q)) (children_in nodes.old k q) }
     ensures marked { MarksNode nodes.old nodes.new level place }
     ensures again { changed_in nodes.old level place ≡ true → changes_in nodes.new ≤ changes_in nodes.old }
     ensures ordered { maps.IsOrdered spot_cmp nodes.new }
 {
+    let most = nodes.len();
     if let Some(node) = nodes.get_mut(&(level, place)) {
+        *changed = recounted(*changed, most, node.changed, true);
         stamp_child(node, slot, stamp);
     }
 }
@@ -183,6 +214,7 @@ pub fn write_within<B: Blocks>(
 ) -> Result<(), TreeFault>
     requires index { index < fan ^ tree.old.levels }
     requires stamp { 1 ≤ stamp }
+    requires right { B.told → HasRightPlaces (B.shown blocks.old) tree.old }
     ensures done { B.told → OnOk result (IsWritten (standing (under (B.shown blocks.old)) tree.old) (standing (under (B.shown blocks.new)) tree.new) index stamp block.now) }
     ensures failed { B.told → OnErr result (IsAlike (standing (under (B.shown blocks.old)) tree.old) (standing (under (B.shown blocks.new)) tree.new)) }
     ensures alters { B.told → Alters stamp (loaded (B.shown blocks.old) tree.old) (loaded (B.shown blocks.new) tree.new) }

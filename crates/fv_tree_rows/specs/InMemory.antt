@@ -24,6 +24,7 @@ shown_in_memory blocks next loads strays faults = record {
   held = held_in_memory blocks;
   used = used_in_memory blocks;
   strays = strays;
+  right = λ v pvbn. Unit {0};
   read_at = λ p. p.vvbn + 1;
   room = 1000000 - next;
   cost = λ p. 1;

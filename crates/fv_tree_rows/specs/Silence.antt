@@ -9,6 +9,7 @@ shown_in_silence strays = record {
   held = fin.empty;
   used = λ v. None;
   strays = strays;
+  right = λ v pvbn. Unit {0};
   read_at = λ p. 0;
   room = 0;
   cost = λ p. 0;

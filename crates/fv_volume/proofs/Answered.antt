@@ -5,15 +5,15 @@ use Rattle.std.specs.FinMap as fin
 use Rattle.std.proofs.lemmas.Bool.Decides.{nat_tests}
 use Rattle.fv_model.specs.declared.answers.Refusal.{Refusal}
 use Rattle.fv_model.specs.declared.answers.Refusal.TheVariants.{NoVolume, NoFile, FileExists, NoSnapshot, Range, TooMany, WrongKind}
-use Rattle.fv_model.specs.declared.answers.Reply.TheVariants.{Done, Content, Number, Names, Stat as Numbers}
-use Rattle.fv_model.specs.declared.commands.Command.TheVariants.{New, Put, Get, Len, Cut, Remove, Ls, VolStat}
+use Rattle.fv_model.specs.declared.answers.Reply.TheVariants.{Done, Content, Number, Names}
+use Rattle.fv_model.specs.declared.commands.Command.TheVariants.{New, Put, Get, Len, Cut, Remove, Ls}
 use Rattle.fv_model.specs.Numbers.{is_index, is_reserve, most_changes, most_files}
 use Rattle.fv_model.specs.Tables.{File, Table, file_named}
 use Rattle.fv_model.specs.Volumes.{Volume}
 use Rattle.fv_model.specs.Machines.{Machine}
 use Rattle.fv_model.specs.Space.{is_file_kind}
 use Rattle.fv_model.specs.Refusals.{conditions, first_of, refusal, space, table_asked}
-use Rattle.fv_model.specs.Replies.{answer, content, file_names, stat_of}
+use Rattle.fv_model.specs.Replies.{answer, content, file_names}
 
 -- ---- tests
 

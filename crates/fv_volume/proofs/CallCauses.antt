@@ -14,8 +14,8 @@ use Rattle.fv_pool.specs.declared.pool.Pool.{Pool}
 use Rattle.fv_volume.specs.declared.state.VolumeState.{VolumeState}
 use Rattle.fv_pool.specs.Calls.{BlockCause, CallCause, FileFails, IsBadInodes, Reads, TableFails}
 use Rattle.fv_volume.specs.OneVolume.{home_in, standing_for, IsStanding}
-use Rattle.fv_pool.specs.Lending.{Lent, ReadFails, lent_for, shown_over, use_of}
-use Rattle.fv_pool.specs.BlocksOver.{held_entry}
+use Rattle.fv_pool.specs.Lending.{Lent, ReadFails, lent_for, place_or_none, shown_over}
+use Rattle.fv_pool.specs.BlocksOver.{held_entry, place_read}
 use Rattle.fv_volume.proofs.OneVolumes.{still_standing, still_table, still_under}
 use Rattle.fv_pool.proofs.CallCauses.{failed_cause}
 use Rattle.fv_pool.proofs.Failing.{inode_damage, node_damage}
@@ -30,7 +30,7 @@ module _ (d e : Disk) (p q : Pool) (reads : Reads d p e q) (x : VolumeState) (ca
   later = lent_for q x.map e steps (home_in x) 0
 
   read_there : (r : Pointer) → (shown_over later).read_at r ≡ (shown_over before).read_at r
-  read_there r = λ j. (use_of (held_entry x.map (reads.leaves.containers j) x.slot r.vvbn)).pvbn
+  read_there r = λ j. place_or_none (place_read (held_entry x.map (reads.leaves.containers j) x.slot r.vvbn) r.pvbn)
 
   held_there : (v : ℕ) → under (shown_over later) v ≡ under (shown_over before) v
   held_there v = λ j. still_under d e p q reads x j v

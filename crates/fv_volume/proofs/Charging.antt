@@ -1,27 +1,22 @@
 -- How the ledger of a volume alone changes by each command, what the machine says of the space for it, and how the members of a map are counted.
-use Rattle.std.proofs.Common.{◌≡◌, ℕ, ◌+◌, ◌-◌, pos, ◌+ℤ◌, Bool, false, List, length, Option, Some, refl, sym, ap, ◌∙◌, ◌||◌, arith}
+use Rattle.std.proofs.Common.{◌≡◌, ℕ, ◌+◌, pos, ◌+ℤ◌, List, Option, Some, refl, sym, ap, ◌∙◌, arith}
 use Rattle.std.specs.Option.{option_map_or}
 use Rattle.std.specs.FinMap as fin
-use Rattle.std.specs.FinSet as set
 use Rattle.std.proofs.lemmas.Int.{ints}
-use Rattle.fv_bits.specs.Members.{is_member, count_of, count_between}
-use Rattle.fv_bits.proofs.Counts.{passing, passing_same}
 use Rattle.fv_model.specs.declared.commands.Command.{Command}
 use Rattle.fv_model.specs.declared.commands.Command.TheVariants.{New, Put, Cut, Remove}
 use Rattle.fv_model.specs.Tables.{File, Table, inode_cell, free_number, file_named, new, put, cut, rm}
-use Rattle.fv_model.specs.Places.{Id}
 use Rattle.fv_model.specs.Volumes.{Volume}
 use Rattle.fv_model.specs.Machines.{Machine, capacity}
-use Rattle.fv_model.specs.Space.{charge, need, commit, commits, ids_left_out, kept_ids}
+use Rattle.fv_model.specs.Space.{charge, need, commit, commits}
 use Rattle.fv_model.specs.Effects.{Change, Stays, Becomes, changed, change_of, at_file, stamped}
 use Rattle.fv_laws.specs.WellFormed.{IsWellTable}
 use Rattle.fv_laws.specs.Paths.{cut_path, new_path, put_path}
-use Rattle.fv_laws.specs.Positions.{positions, added_by, rm_places, staying, taken_by_cut, taken_by_rm, settled_ids, IsAlone, IsNextNew, HasNoReserve}
+use Rattle.fv_laws.specs.Positions.{positions, added_by, rm_places, staying, taken_by_cut, taken_by_rm, IsNextNew, HasNoReserve}
 use Rattle.fv_laws.proofs.Along.{cut_along, new_along, put_along, rm_along}
-use Rattle.fv_laws.proofs.Charges.{charge_after, kept_none, out_none}
+use Rattle.fv_laws.proofs.Charges.{charge_after}
 use Rattle.fv_laws.proofs.Commits.{now_there, commits_put}
 use Rattle.fv_laws.proofs.Moves.{new_positions, put_positions, cut_positions, rm_positions}
-use Rattle.fv_laws.proofs.Orders.{id_total}
 use Rattle.fv_laws.proofs.PathCharges.{no_need, new_unreserved, put_unreserved, cut_unreserved, rm_unreserved}
 use Rattle.fv_charge.specs.declared.ledger.Ledger.{Ledger}
 use Rattle.fv_charge.specs.declared.delta.Delta.{Delta}

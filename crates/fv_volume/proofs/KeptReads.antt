@@ -1,5 +1,5 @@
 -- What a read of a table finds that a command asks, a snapshot's among them: each of its trees stands whole on the blocks that the volume holds.
-use Rattle.std.proofs.Common.{◌≡◌, ◌≤◌, ◌/◌, ℕ, List, [], ◌∷◌, Option, Some, None, refl, sym, ap, subst, ◌∙◌}
+use Rattle.std.proofs.Common.{◌≡◌, ◌≤◌, ℕ, List, [], ◌∷◌, Option, Some, None, refl, sym, ap, subst, ◌∙◌}
 use Rattle.std.specs.Prelude.{All, map, unwrap_or, Result, Err}
 use Rattle.std.specs.Option.{option_map}
 use Rattle.std.proofs.lemmas.List.Elements.{All-cons, All-head, All-nil, All-tail}
@@ -12,10 +12,9 @@ use Rattle.fv_codec.specs.Blocks.{greatest_word, IsPointer}
 use Rattle.fv_model.specs.Spelling.{is_same_name}
 use Rattle.fv_tables.specs.Kept.{AgreeOnTree}
 use Rattle.fv_tables.specs.Spelled.{Rooted as Spelled, Under, pointer_at, stored}
-use Rattle.fv_tables.specs.Told.{Standing, file_at, records_each, standing_at, table_told}
+use Rattle.fv_tables.specs.Told.{Standing, file_at, standing_at, table_told}
 use Rattle.fv_tables.proofs.Tables.{same_record}
 use Rattle.fv_tree.specs.Beside.{loaded_on, unread, IsLaid}
-use Rattle.fv_tree.specs.Costs.{way_cost}
 use Rattle.fv_tree.specs.Flushing.{Leads, IsNodeOf, IsSound, ReachesOnce}
 use Rattle.fv_tree.specs.Sources.{Use}
 use Rattle.fv_tree.specs.Standing.{under}
@@ -24,11 +23,9 @@ use Rattle.fv_tree.proofs.Beside.{beside_alike, beside_leads, beside_pointers, b
 use Rattle.fv_inode.specs.declared.info.Info.{Info}
 use Rattle.fv_inode.proofs.Indexed.{alike_indexes}
 use Rattle.fv_files.specs.Apart.{StoredIn}
-use Rattle.fv_files.specs.Calls.{path_cost}
 use Rattle.fv_files.specs.Numbering.{AreNumbersIf}
 use Rattle.fv_files.specs.Tables.{tree_known, IsInfoOf}
 use Rattle.fv_files.proofs.Tables.{file_tree}
-use Rattle.fv_volmap.specs.Slots.{has, slot_at}
 use Rattle.fv_pool.specs.declared.pool.Pool.{Pool}
 use Rattle.fv_pool.specs.declared.rooted.Rooted.{Rooted}
 use Rattle.fv_volume.specs.declared.state.Snap.{Snap}
@@ -42,11 +39,9 @@ use Rattle.fv_pool.specs.declared.fault.VolumeFault.{VolumeFault}
 use Rattle.fv_pool.proofs.CallCauses.{failed_cause}
 use Rattle.fv_pool.specs.Lending.{lent_for}
 use Rattle.fv_volume.specs.OneVolume.{blocks_in, home_in, shows, standing_for, uses_in, IsKeptTable, IsReady, IsStanding}
-use Rattle.fv_volume.specs.Paths.{unknown_over, unknown_to}
 use Rattle.fv_volume.specs.Placing.{IsStoredWell}
 use Rattle.fv_volume.specs.SnapRecords.{IsSayableSnap}
 use Rattle.fv_volume.specs.States.{snap_in}
-use Rattle.fv_volume.proofs.Followed.{file_way, inode_way, steps_way}
 use Rattle.fv_volume.proofs.OneVolumes.{levels_fit, root_fits, still_standing, still_table, still_under, stood_before}
 use Rattle.fv_volume.proofs.SnapReads.{found_among, slot_held}
 use Rattle.fv_volume.proofs.Undamaged.{active_holds, none_damaged, HoldsWell, TableHolds}
@@ -161,35 +156,19 @@ known_holds blocks uses t holds info known =
     subst (HoldsWell blocks uses) (sym of.tree) (holds.files of.number of.file of.there)
 
 module _ (d : Disk) (p : Pool) (x : VolumeState) (is : IsStanding d p x) where
-  -- What a path in a tree costs whose blocks a slot has are the unknown pointers on it.
-  slot_way : (k : ℕ) (t : Spelled) → HoldsWell (under (shows d p x)) (uses_in p x k) t → (i : ℕ) → way_cost (shows d p x).cost t i ≡ unknown_to t i
-  slot_way k t good i = subst (λ (u : Spelled). way_cost (shows d p x).cost u i ≡ unknown_to u i) good.tree
-      (steps_way x.map p.containers x.slot (λ v. has v (slot_at x.map k)) good.loaded good.sound good.laid i)
-
   module _ (root : Rooted) (of : IsTableOf x (Kept root)) where
-    abbrev kept : IsOfSnap (IsKeptTable d p x) root
+    abbrev pub kept : IsOfSnap (IsKeptTable d p x) root
     kept = of_snap x (IsKeptTable d p x) is.kept root of
 
     abbrev table : Standing
     table = standing_of d p x (Kept root)
 
-    root_holds : TableHolds (under (shows d p x)) (uses_in p x kept.snap.slot) table
+    pub root_holds : TableHolds (under (shows d p x)) (uses_in p x kept.snap.slot) table
     root_holds = subst (λ (r : Rooted). TableHolds (under (shows d p x)) (uses_in p x kept.snap.slot) (standing_of d p x (Kept r))) kept.table (kept_holds d p x kept.snap kept.has)
-
-    pub kept_inode_way : (i : ℕ) → way_cost (shows d p x).cost table.inode i ≡ unknown_to table.inode i
-    kept_inode_way i = slot_way kept.snap.slot table.inode root_holds.inode i
-
-    pub kept_file_way : (info : Info) → IsInfoOf table.inode info → (i : ℕ) → way_cost (shows d p x).cost (tree_known table info) i ≡ unknown_to (tree_known table info) i
-    kept_file_way info known i = slot_way kept.snap.slot (tree_known table info) (known_holds _ _ table root_holds info known) i
 
   -- ---- the table that is asked
 
-  -- What the path to a block costs are the unknown pointers on it.
-  pub asked_path : (t : TableAsked) → IsTableOf x t → (info : Info) → IsInfoOf (standing_of d p x t).inode info → (i : ℕ) → path_cost (shows d p x).cost (standing_of d p x t) info i ≡ unknown_over (standing_of d p x t) info i
-  asked_path Active of info known i = rw (inode_way d p x is (info.number / records_each), file_way d p x is info known i) refl
-  asked_path (Kept root) of info known i = rw (kept_inode_way root of (info.number / records_each), kept_file_way root of info known i) refl
-
-  -- and the numbers that are known of it are its own
+  -- the numbers that are known of it are its own
   pub asked_numbers : (t : TableAsked) → AreNumbersIf (numbers_asked t x.numbers) (table_told (standing_of d p x t))
   asked_numbers Active = is.numbers
   asked_numbers (Kept root) = tt

@@ -1,7 +1,6 @@
 -- The label of a volume without a base: its fields are in range, and it says what the volume is.
-use Rattle.std.proofs.Common.{◌≡◌, ◌≢◌, ℕ, ◌-◌, ◌≤◌, Bool, true, false, List, ◌++◌, length, get_or, take, replicate, Option, Some, None, refl, sym, ap, subst, ◌∙◌, arith}
-use Rattle.std.specs.Prelude.{All, ◌%◌, ◌==◌, min}
-use Rattle.std.specs.List.{list_any}
+use Rattle.std.proofs.Common.{◌≡◌, ◌≢◌, ℕ, ◌-◌, ◌≤◌, true, List, ◌++◌, length, take, replicate, Option, Some, None, refl, sym, ◌∙◌, arith}
+use Rattle.std.specs.Prelude.{All, ◌%◌, min}
 use Rattle.std.specs.Option.{is_none}
 use Rattle.std.proofs.Math.Seq.{take-append_seam}
 use Rattle.std.proofs.lemmas.Bool.{and_parts, true≢false}
@@ -9,8 +8,7 @@ use Rattle.fv_codec.specs.Blocks.{IsLabel, IsPointer, IsSnapRecord, last_place, 
 use Rattle.fv_model.specs.declared.commands.Kind.{Kind}
 use Rattle.fv_model.specs.declared.commands.Kind.TheVariants.{Volume as Whole, File as ByFile, Thin}
 use Rattle.fv_model.specs.Spelling.{is_name}
-use Rattle.fv_image.specs.Views.{Footing, Head, head_of, kind_named}
-use Rattle.fv_model.specs.Numbers.{greatest_span}
+use Rattle.fv_image.specs.Views.{Footing, head_of, kind_named}
 use Rattle.fv_files.specs.declared.files.Files.{Files}
 use Rattle.fv_files.specs.declared.numbers.FileNumbers.{FileNumbers}
 use Rattle.fv_charge.specs.declared.ledger.Ledger.{Ledger}
@@ -20,7 +18,7 @@ use Rattle.fv_volume.specs.declared.state.Snap.{Snap}
 use Rattle.fv_volume.specs.declared.state.VolumeState.{VolumeState}
 use Rattle.fv_volume.specs.Labels.{kind_number, label_said}
 use Rattle.fv_volume.specs.SnapRecords.{records_said, AreSayable}
-use Rattle.fv_volume.specs.Files.{HasSlotsOf, IsLabelled, has_form}
+use Rattle.fv_volume.specs.Files.{IsLabelled, has_form}
 use Rattle.fv_volume.specs.States.{head_in, snaps_in}
 use Rattle.fv_volume.proofs.MapSlots.{same_sayable, same_slots, slots_kept}
 use Rattle.fv_volume.proofs.Naming.{filled, parts}

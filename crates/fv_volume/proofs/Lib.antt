@@ -33,6 +33,7 @@ mod ReadyAgain
 pub mod EachRoot
 pub mod JudgedCut
 mod Calling
+mod RightTables
 mod TakenTable
 pub mod Judged
 pub mod JudgedNew

@@ -1,8 +1,7 @@
 -- The slots of a volume's maps against its snapshots.
-use Rattle.std.proofs.Common.{◌≡◌, ◌≢◌, ℕ, zero, suc, replicate, false, Some, None, [], List, map, refl, sym, ap, subst, ◌∙◌, ⊎_elim}
+use Rattle.std.proofs.Common.{◌≡◌, ◌≢◌, ℕ, zero, suc, replicate, false, Some, None, [], List, map, refl, sym, ap, subst, ◌∙◌}
 use Rattle.std.specs.Prelude.{◌==◌, ◌&&◌, find, is_some, nat_le, nat_lt, slice_index_or}
 use Rattle.std.specs.List.{All, list_all}
-use Rattle.std.proofs.lemmas.Bool.{cases_eq}
 use Rattle.fv_image.specs.Views.{Head, Snap}
 use Rattle.fv_image.specs.Volumes.{snap_at}
 use Rattle.fv_image.specs.Mapped.{is_rising, stored_slots}

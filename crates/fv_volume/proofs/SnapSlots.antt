@@ -7,25 +7,20 @@ use Rattle.std.proofs.lemmas.Bool.Decides.{nat_tests}
 use Rattle.std.proofs.lemmas.Cmp.{eq_by_cmp_equiv}
 use Rattle.std.proofs.lemmas.List.{take_all}
 use Rattle.std.proofs.lemmas.List.Folds.{list_any_more}
-use Rattle.fv_bits.specs.Members.{is_member}
 use Rattle.fv_model.specs.Spelling.{is_same_name}
 use Rattle.fv_laws.proofs.Lists.{In}
 use Rattle.fv_laws.proofs.Orders.{name_total}
-use Rattle.fv_tables.specs.Reached.{is_listed}
-use Rattle.fv_image.specs.Views.{Head, Rooted, Snap, View}
+use Rattle.fv_image.specs.Views.{Head, Rooted, Snap}
 use Rattle.fv_image.specs.Volumes.{snap_at}
 use Rattle.fv_image.specs.ReachRules.{are_distinct}
-use Rattle.fv_image.specs.Staying.{own_items}
-use Rattle.fv_image.specs.Mapped.{AreInSlots}
 use Rattle.fv_image.specs.Turned.{added as head_added, turned, without}
-use Rattle.fv_image.proofs.MapSteps.{find_added, find_without}
-use Rattle.fv_volmap.specs.Slots.{AreUnited, IsVolume, Slot, Volume as Maps, has, slot_at, slot_of_base, stored_count, taken_in, with_slot}
+use Rattle.fv_image.proofs.MapSteps.{find_added}
+use Rattle.fv_volmap.specs.Slots.{Slot, Volume as Maps, has, slot_at, slot_of_base, stored_count, taken_in, with_slot}
 use Rattle.fv_volume.specs.declared.state.Snap.{Snap as StateSnap}
 use Rattle.fv_volume.specs.Files.{HasSlotsOf}
-use Rattle.fv_volume.specs.Mapped.{AreMapped}
 use Rattle.fv_volume.specs.Snapshots.{FindsSnap, IsLeastFree, added, has_slot}
 use Rattle.fv_volume.specs.States.{snap_in, snaps_in}
-use Rattle.fv_volume.proofs.CountedMaps.{slot_with, stored_listed}
+use Rattle.fv_volume.proofs.CountedMaps.{slot_with}
 use Rattle.fv_volume.proofs.MapSlots.{slots_kept}
 use Rattle.fv_volume.proofs.Positions.{first_of, first_within}
 

@@ -5,7 +5,7 @@ use Rattle.fv_disk.specs.Shown.{Shown as Disk}
 use Rattle.fv_disk.specs.declared.fault.BlockFault.{BlockFault}
 use Rattle.fv_tables.specs.Told.{Standing, table_told}
 use Rattle.fv_files.specs.declared.files.Files.{Files}
-use Rattle.fv_files.specs.Tables.{changed, loaded_trees, table_in, AreSound, AreStanding, IsStored, IsStoredOn}
+use Rattle.fv_files.specs.Tables.{changed, loaded_trees, table_in, AreSound, AreStanding, IsStoredOn}
 use Rattle.fv_files.specs.Trees.{standing_in}
 use Rattle.fv_files.specs.Apart.{AreLed, Trees}
 use Rattle.fv_tables.specs.Spelled.{Under}
@@ -16,7 +16,7 @@ use Rattle.fv_files.specs.Pending.{pending_in}
 use Rattle.fv_volmap.specs.Slots.{Volume as Maps}
 use Rattle.fv_pool.specs.declared.pool.Pool.{Pool}
 use Rattle.fv_volume.specs.declared.state.VolumeState.{VolumeState}
-use Rattle.fv_pool.specs.Calls.{BlockCause, GivesUp, LeavesTable, Reads}
+use Rattle.fv_pool.specs.Calls.{BlockCause, GivesUp, LeavesTable, Reads, TellsTable}
 use Rattle.fv_volume.specs.Changing.{AltersTable}
 use Rattle.fv_pool.specs.Lending.{IsTold, lent_for, sees}
 use Rattle.fv_pool.specs.Tables.{standing_by, AreSoundBy, pending_of, AreLedBy, AreStoredBy}
@@ -24,24 +24,33 @@ use Rattle.fv_volume.specs.OneVolume.{home_in, shows, standing_for, IsStanding}
 use Rattle.fv_pool.proofs.CallCauses.{cause_for}
 use Rattle.fv_volume.proofs.Calling.{ifok_with, onok_with, same_maps}
 use Rattle.fv_volume.proofs.OneVolumes.{still_told}
+use Rattle.fv_volume.proofs.RightTables.{standing_right}
 use Rattle.fv_pool.proofs.TakenTrees.{taken_laid, taken_trees}
 
-module _ (d : Disk) (p : Pool) (x : VolumeState) (f : Files) (takes : (blocks : Under) → standing_in blocks (changed f) ≡ standing_by blocks x.active x.files) where
+module _ (d : Disk) (p : Pool) (x : VolumeState) (f : Files) (takes : (blocks : Under) → standing_in blocks (changed f) ≡ standing_by blocks x.active x.files)
+    (trees : (blocks : Under) (used : ℕ → Option Use) → AreSoundBy blocks used x.active x.files → AreSound blocks used f) where
   table : table_in (shows d p x) f ≡ standing_for d p x
   table = takes (under (shows d p x))
 
-  -- the cause of a call that is told of the disk and the entries alone
-  pub told_cause : {T : Type 0} (faults : ℕ) (result : Result T BlockFault) → BlockCause (IsTold d p x.map x.slot) (table_in (shows d p x) f) (lent_for p x.map d 0 (home_in x) 0) faults result
+  sound : IsStanding d p x → AreStanding (shows d p x) f
+  sound is = trees (under (shows d p x)) (shows d p x).used is.trees
+
+  -- what is told of it
+  pub is_told : IsStanding d p x → TellsTable d p x.map (home_in x) f
+  is_told is = (is.told, standing_right d p x f (sound is))
+
+  -- the cause of a call that is told no more
+  pub told_cause : {T : Type 0} (faults : ℕ) (result : Result T BlockFault) → BlockCause (TellsTable d p x.map (home_in x) f) (table_in (shows d p x) f) (lent_for p x.map d 0 (home_in x) 0) faults result
       → BlockCause (IsStanding d p x) (standing_for d p x) (lent_for p x.map d 0 (home_in x) 0) faults result
-  told_cause faults result cause = cause_for (IsStanding d p x) (IsTold d p x.map x.slot) (λ is. is.told) (lent_for p x.map d 0 (home_in x) 0) faults (table_in (shows d p x) f) (standing_for d p x) result table cause
+  told_cause faults result cause = cause_for (IsStanding d p x) (TellsTable d p x.map (home_in x) f) is_told (lent_for p x.map d 0 (home_in x) 0) faults (table_in (shows d p x) f) (standing_for d p x) result table cause
 
   -- Or of something that is known of the table, too.
   module _ (Known : Standing → Type 0) (known : IsStanding d p x → Known (standing_for d p x)) where
     abbrev pub IsGiven : Type 0
-    IsGiven = IsTold d p x.map x.slot × Known (table_in (shows d p x) f)
+    IsGiven = TellsTable d p x.map (home_in x) f × Known (table_in (shows d p x) f)
 
     pub is_given : IsStanding d p x → IsGiven
-    is_given is = (is.told, subst Known (sym table) (known is))
+    is_given is = (is_told is, subst Known (sym table) (known is))
 
     pub given_cause : {T : Type 0} (faults : ℕ) (result : Result T BlockFault) → BlockCause IsGiven (table_in (shows d p x) f) (lent_for p x.map d 0 (home_in x) 0) faults result
         → BlockCause (IsStanding d p x) (standing_for d p x) (lent_for p x.map d 0 (home_in x) 0) faults result
@@ -51,10 +60,7 @@ module _ (d : Disk) (p : Pool) (x : VolumeState) (f : Files) (takes : (blocks : 
     pub given_says : (says : Standing → Type 0) → (IsGiven → says (table_in (shows d p x) f)) → IsStanding d p x → says (standing_for d p x)
     given_says says made is = subst says table (made (is_given is))
 
-    module _ (trees : (blocks : Under) (used : ℕ → Option Use) → AreSoundBy blocks used x.active x.files → AreSound blocks used f) {T : Type 0} (result : Result T BlockFault) where
-      sound : IsStanding d p x → AreStanding (shows d p x) f
-      sound is = trees (under (shows d p x)) (shows d p x).used is.trees
-
+    module _ {T : Type 0} (result : Result T BlockFault) where
       pub taken_says : (says : Standing → Type 0) → (IsGiven → OnOk result (AreStanding (shows d p x) f → says (table_in (shows d p x) f))) → IsStanding d p x → OnOk result (says (standing_for d p x))
       taken_says says made is = subst (λ (s : Standing). OnOk result (says s)) table (onok_with _ result (sound is) (made (is_given is)))
 
@@ -86,4 +92,4 @@ module _ (d : Disk) (p : Pool) (x : VolumeState) (f : Files) (takes : (blocks : 
           → LeavesTable IsGiven (shows d p x) (sees p map d (home_in x)) f g (x.now + 1) result → map ≡ x.map → Reads d p e q
           → AltersTable d p e q x (record x { map = map; files = Some g; changed = true }) result
       kept_alters held led well taken e q map g leaves same reads = taken_alters held led well taken e q map g leaves (same_maps x.map map same) reads
-          (λ given. subst (λ (m : Maps). IsTold e q m x.slot) (sym same) (still_told d e p q reads x given.0))
+          (λ given. subst (λ (m : Maps). IsTold e q m x.slot) (sym same) (still_told d e p q reads x given.0.0))

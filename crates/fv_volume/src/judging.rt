@@ -118,8 +118,7 @@ impl VolumeState {
         }
     }
 
-    /// How many blocks a `flush` of the files places at most, or 2^64 - 1 where that is less. It walks what changed since the last flush and is in
-    /// memory, and takes no memory.
+    /// How many blocks a `flush` of the files places at most, or 2^64 - 1 where that is less. It costs one step, and takes no memory.
     pub fn pending(&self) -> u64
         ensures { result ≡ min (pending_of self.entry.now.files) (2 ^ 64 - 1) }
     {

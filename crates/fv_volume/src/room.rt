@@ -14,8 +14,7 @@ impl VolumeState {
     /// How many numbers and blocks there are for a `flush` of the volume: as many as are free of both, and at most one more than is
     /// pending. So where some of it is left after the flush, nothing was lacking.
     ///
-    /// Costs a step for each slot of the volume's maps for each number of its span. It walks the files in memory, takes no memory and
-    /// makes no call of a disk.
+    /// Costs a step for each slot of the volume's maps for each number of its span. It takes no memory and makes no call of a disk.
     pub fn room(&self, pool: &Pool) -> u32
         requires span { self.now.map.span ≡ self.now.span }
         ensures free { HasRoom pool.now.map self.entry.now.map result }

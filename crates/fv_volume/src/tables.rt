@@ -11,7 +11,7 @@ ghost use Rattle.fv_files.specs.Tables.{changed, IsInfoOf};
 ghost use Rattle.fv_files.specs.Trees.{standing_in};
 ghost use Rattle.fv_codec.specs.Blocks.{IsPointer};
 ghost use Rattle.fv_tables.specs.Spelled.{Under};
-ghost use Rattle.fv_volume.specs.Asking.{closed, numbers_asked, root_asked, standing_of, standing_opened, table_named, IsTableOf};
+ghost use Rattle.fv_volume.specs.Asking.{closed, numbers_asked, root_asked, standing_of, standing_opened, table_named, IsTableOf, OpensAs};
 ghost use Rattle.fv_pool.specs.Calls.{BlockCause, Reads};
 ghost use Rattle.fv_pool.specs.Lending.{lent_for};
 ghost use Rattle.fv_volume.specs.OneVolume.{home_in, IsReady, IsStanding};
@@ -63,6 +63,7 @@ pub(crate) fn open_table(
     requires levels { (root_asked active.now table.now).levels ≤ 2 }
     requires root { IsPointer (root_asked active.now table.now).root }
     ensures table { (blocks : Under) → standing_in blocks (changed result) ≡ standing_opened blocks active.now files.old table.now }
+    ensures opens { OpensAs active.now files.old result table.now }
     ensures again { closed table.now (is_some files.old) result files.new ≡ files.old }
 {
     match table {

@@ -1,8 +1,10 @@
 -- What is seen along a walk.
-use Rattle.std.proofs.Common.{◌≡◌, ◌≢◌, ℕ, Bool, true, false, List, [], ◌∷◌, refl, sym, ap, ◌∙◌}
+use Rattle.std.proofs.Common.{◌≡◌, ◌≢◌, ℕ, ◌+◌, ◌<◌, Bool, true, false, List, [], ◌∷◌, ◌++◌, length, get_or, take, refl, sym, ap, ◌∙◌}
 use Rattle.std.specs.Prelude.{Option, Some, None, not, ◌&&◌, ◌||◌, map, flat_map, ◌==◌, if◌then◌else◌}
 use Rattle.std.specs.Option.{option_map, option_map_or}
+use Rattle.std.proofs.lemmas.List.{append-nil, take_more}
 use Rattle.std.proofs.lemmas.List.Folds.{flat_map-map}
+use Rattle.std.proofs.lemmas.Grind.{flat_map-append}
 use Rattle.fv_codec.specs.Blocks.{greatest_word, node_at, inodes_at}
 use Rattle.fv_tables.specs.Reached.{Item}
 use Rattle.fv_image.specs.Views.{Placed}
@@ -108,6 +110,15 @@ module _ (g : Ground) (of_inodes : Bool) (v : Visit) where
       ∙ sym (met_one g (item_of v) of_inodes v.block some
       ∙ ap (λ at. spot_of v ∷ option_map_or (under_met g of_inodes (item_of v)) at []) is
       ∙ ap (λ (b : Bool). spot_of v ∷ (if b then [] else flat_map (λ c. met_from g (of_inodes && not (v.level == 0)) c x.pvbn) (pointers_under (item_of v) x))) test)
+
+  -- one pointer more
+  pub along_more : (vs : List Visit) (k : ℕ) (d : Visit) (inside : Bool) → k < length vs → inside ≡ (of_inodes && not (v.level == 0))
+      → (spot_of v ∷ met_along (take k vs)) ++ met_from g inside (item_of (get_or vs k d)) (get_or vs k d).block ≡ spot_of v ∷ met_along (take (k + 1) vs)
+  along_more vs k d inside low is =
+      ap (λ (b : Bool). spot_of v ∷ (met_along (take k vs) ++ met_from g b (item_of (get_or vs k d)) (get_or vs k d).block)) is
+      ∙ ap (λ ss. spot_of v ∷ (met_along (take k vs) ++ ss)) (sym (append-nil (met_from g (of_inodes && not (v.level == 0)) (item_of (get_or vs k d)) (get_or vs k d).block)))
+      ∙ ap (λ ss. spot_of v ∷ ss) (sym (flat_map-append (λ (w : Visit). met_from g (of_inodes && not (v.level == 0)) (item_of w) w.block) (take k vs) (get_or vs k d ∷ [])))
+      ∙ ap (λ ws. spot_of v ∷ met_along ws) (sym (take_more vs k d low))
 
   -- the pointers that stand below are those of the block there
   pub under_block : (x : Placed) (f : Found) (below : Below) (vs : List Visit) → place_at g (item_of v) ≡ Some x → f ≡ found_of x

@@ -1,6 +1,6 @@
 //! The walk without stops.
 
-ghost use Rattle.std.specs.Prelude.{◌≡◌, ◌≤◌, ◌++◌, map, OnOk};
+ghost use Rattle.std.specs.Prelude.{◌≤◌, map, OnOk};
 ghost use Rattle.fv_faults.specs.Met.{met};
 ghost use Rattle.fv_walk.specs.Causes.{HasWalkCause};
 ghost use Rattle.fv_walk.specs.Meetings.{met_from};
@@ -29,7 +29,8 @@ pub fn walk<S: Source, V: Visitor>(
     table: &Table,
 ) -> Result<(), WalkFault>
     requires { table.now.levels ≤ 3 }
-    ensures saw { S.fits source.old → OnOk result (V.saw visitor.new ≡ V.saw visitor.old ++ map (sight_of (S.volume source.old)) (met (S.volume source.old) label (rooted table.now))) }
+    ensures saw { S.fits source.old → OnOk result (V.sees visitor.old
+        (map (sight_of (S.volume source.old)) (met (S.volume source.old) label (rooted table.now))) visitor.new) }
     ensures reads { S.reads source.old source.new }
     ensures cause { HasWalkCause (S.faults source.old) (S.faults source.new) result }
 {
@@ -45,7 +46,8 @@ fn walk_from<S: Source, V: Visitor>(
     of_inodes: bool,
 ) -> Result<(), WalkFault>
     requires { IsVisit visit.now }
-    ensures saw { S.fits source.old → OnOk result (V.saw visitor.new ≡ V.saw visitor.old ++ map (sight_of (S.volume source.old)) (met_from (S.volume source.old) of_inodes (item_of visit.now) visit.now.block)) }
+    ensures saw { S.fits source.old → OnOk result (V.sees visitor.old
+        (map (sight_of (S.volume source.old)) (met_from (S.volume source.old) of_inodes (item_of visit.now) visit.now.block)) visitor.new) }
     ensures reads { S.reads source.old source.new }
     ensures cause { HasWalkCause (S.faults source.old) (S.faults source.new) result }
 {
@@ -61,9 +63,10 @@ fn walk_from<S: Source, V: Visitor>(
     if visit.ends(of_inodes) {
         return Ok(());
     }
+    let inside = visit.stays(of_inodes);
     let children = children(alloc, visit, &below, found.pvbn)?;
     for child in &children {
-        walk_from(alloc, source, visitor, child, of_inodes && visit.level != 0)?;
+        walk_from(alloc, source, visitor, child, inside)?;
     }
     Ok(())
 }

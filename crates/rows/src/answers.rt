@@ -2,6 +2,7 @@
 
 use crate::bench::{Program, Run};
 use crate::lines::{lines_in, split_lines};
+use fv_dump::dump;
 use fv_memdisk::{MemHost, Tear};
 use fv_reference_run::reference;
 use fv_run::{flexvol, run_script};
@@ -41,6 +42,7 @@ pub fn start(alloc: Global, run: &Run, host: &mut MemHost) -> Result<u64, AllocE
     let status = match run.program {
         Program::Flexvol => flexvol(alloc, run.words.as_slice(), host),
         Program::Reference => reference(alloc, run.words.as_slice(), host),
+        Program::Dump => dump(alloc, run.words.as_slice(), host),
         Program::Script(limit) => run_script(alloc, host, limit),
     };
     Ok(u64::from(status))

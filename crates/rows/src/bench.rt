@@ -32,6 +32,7 @@ pub struct Bench {
 pub enum Program {
     Flexvol,
     Reference,
+    Dump,
     /// `run_script`, with a limit of so many bytes.
     Script(u64),
 }

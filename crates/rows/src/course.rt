@@ -32,7 +32,7 @@ pub fn no_course(alloc: Global) -> Course {
 /// What the run asks for of the disk, if it does.
 pub fn order_of(bench: &Bench) -> Option<Order> {
     match bench.run.program {
-        Program::Reference => None,
+        Program::Reference | Program::Dump => None,
         _ => read_words(bench.run.words.as_slice()).ok(),
     }
 }

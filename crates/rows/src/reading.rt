@@ -76,6 +76,7 @@ fn read_step(bench: &mut Bench, word: &str, rest: &str) -> Result<(), Cause> {
     match word {
         "flexvol" => begin_run(bench, Program::Flexvol, rest),
         "reference" => begin_run(bench, Program::Reference, rest),
+        "dump" => begin_run(bench, Program::Dump, rest),
         "aggregate" => aggregate(bench, rest),
         "drawn" => play_drawn(bench, rest),
         "image" => image(bench, rest),

@@ -8,7 +8,7 @@ use Rattle.fv_delay.specs.ByThreshold.{behind, taken_in, takes}
 use Rattle.fv_delay.specs.Delay.{delayed_in}
 use Rattle.fv_delay.specs.Holding.{held_by}
 use Rattle.fv_delay.specs.Reclaims.{HasReclaimed}
-use Rattle.fv_delay.proofs.TakenRegions.{asked_all, asked_none, asked_off, asked_on, asked_passed, asked_rest, at_width, up_to}
+use Rattle.fv_delay.proofs.TakenRegions.{asked_all, asked_left, asked_none, asked_off, asked_on, asked_passed, asked_rest, at_width, up_to}
 use Rattle.fv_delay.proofs.taken.reclaim_taken.Goals.{then-takes, else-takes+then-count-ne0, else-takes+else-count-ne0}
 use Rattle.fv_delay.proofs.taken.reclaim_taken.Goals as goal
 
@@ -18,6 +18,7 @@ loop-region-init c = record {
   threshold = refl;
   reclaimed = asked_none c.args.map.now c.args.container.now c.args.start c.args.pool_map.now;
   rest = λ e k lt some. absurd (omega (arith, lt));
+  left = λ e. absurd cc;
 }
 
 pub loop-region-preserved : goal.loop-region-preserved
@@ -33,6 +34,11 @@ loop-region-preserved c = record {
     | then-takes w ↦ asked_rest map old start now mid space between r count c.loop-region.invariant.threshold c.loop-region.invariant.reclaimed counts (c.loop-region.invariant.rest (sym w.is_left-is ∙ none)) (λ some. sym c.takes.ensures.taken ∙ w.if-takes.true)
     | else-takes+then-count-ne0 w ↦ absurd (true≢false (sym w.is_left-is ∙ none))
     | else-takes+else-count-ne0 w ↦ asked_rest map old start now mid space between r count c.loop-region.invariant.threshold c.loop-region.invariant.reclaimed counts (c.loop-region.invariant.rest (sym w.is_left-is ∙ none)) (λ some. absurd (omega (arith, some, w.if-count-ne0.false)))
+  ];
+  left = λ some all. elim c.if-takes.branch [
+    | then-takes w ↦ c.loop-region.invariant.left (sym w.is_left-is ∙ some) (λ k lt. all k (omega (arith, lt)))
+    | else-takes+then-count-ne0 w ↦ asked_left map old start now mid space between r count c.loop-region.invariant.threshold c.loop-region.invariant.reclaimed counts (omega (arith, w.if-count-ne0.true)) (sym c.takes.ensures.taken ∙ w.if-takes.false) all
+    | else-takes+else-count-ne0 w ↦ c.loop-region.invariant.left (sym w.is_left-is ∙ some) (λ k lt. all k (omega (arith, lt)))
   ];
 }
   where
@@ -79,3 +85,8 @@ pub returns-clause-reclaimed : goal.returns-clause-reclaimed
 returns-clause-reclaimed c =
     let last = at_width _ _ c.region_count-region-end.result c.loop-region.region c.requires.entries c.region_count-region-end.ensures c.loop-region.auto.region-end c.loop-region-test.false in
     asked_all c.args.map.now c.args.container.now c.args.start c.loop-region.container c.args.pool_map.now c.loop-region.pool_map c.loop-region.region (omega (arith, last)) c.loop-region.invariant.reclaimed
+
+pub returns-clause-left : goal.returns-clause-left
+returns-clause-left c =
+    let last = at_width _ _ c.region_count-region-end.result c.loop-region.region c.requires.entries c.region_count-region-end.ensures c.loop-region.auto.region-end c.loop-region-test.false in
+    λ some all. c.loop-region.invariant.left some (λ k lt. all k (omega (arith, last, lt)))

@@ -11,4 +11,5 @@ invariant-loop-region l = record {
   threshold : l.threshold ≡ behind l.fn.start (counts_front 0 (held_by l.map l.fn.container) l.region);
   reclaimed : HasReclaimed l.map (up_to (taken_in l.fn.start (held_by l.map l.fn.container)) l.region) l.fn.container l.fn.pool_map l.container l.pool_map;
   rest : l.is_left ≡ false → (k : ℕ) → k < l.region → 0 < delayed_in l.map l.fn.container k → taken_in l.fn.start (held_by l.map l.fn.container) k ≡ true;
+  left : l.is_left ≡ true → ((k : ℕ) → k < l.region → 0 < delayed_in l.map l.fn.container k → taken_in l.fn.start (held_by l.map l.fn.container) k ≡ true) → ⊥;
 }

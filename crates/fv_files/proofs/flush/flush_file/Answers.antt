@@ -93,3 +93,6 @@ returns-in-Some-clause-keeps g c =
     found_keeps g.B.Blocks.told (g.B.Blocks.shown c.args.blocks.now) (g.B.Blocks.shown c.look.new.blocks) (g.B.Blocks.shown c.lay_file.new.blocks) c.args.files.now c.lay_file.new.files c.in_ok-look.field-0 c.lay_file.result c.in_ok-look.ensures.looks c.lay_file.ensures.lays
     (WasFree g.B.Blocks.shown g.B.Blocks.goes c.look.new.blocks c.lay_file.new.blocks) (λ v. keeps v c.args.blocks.now c.look.new.blocks) (λ v. keeps v c.look.new.blocks c.lay_file.new.blocks) (λ v. keeps v c.args.blocks.now c.lay_file.new.blocks)
     (λ v. g.met.B.Blocks.keeps_on v c.args.blocks.now c.look.new.blocks c.lay_file.new.blocks) c.lay_file.ensures.places (λ v. g.met.B.Blocks.reads_keep v c.args.blocks.now c.look.new.blocks c.in_ok-look.ensures.reads) c.lay_file.ensures.keeps
+
+pub look-requires : goal.look-requires
+look-requires g c = record { right = λ told level place v led. c.requires.right told c.args.blocks.now v _ }

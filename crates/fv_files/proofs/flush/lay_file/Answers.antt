@@ -123,3 +123,6 @@ returns-then-has_root-clause-keeps g c =
     c.in_ok-root.ensures.flushes c.kept_levels-levels.ensures.levels
     (told_root g c) c.forget.ensures.gone c.forget.ensures.cost
     (WasFree g.B.Blocks.shown g.B.Blocks.goes c.args.blocks.now c.flush_kept.new.blocks) c.in_ok-root.ensures.anew (λ v. g.B.Blocks.keeps v c.args.blocks.now c.flush_kept.new.blocks) c.in_ok-root.ensures.keeps
+
+pub set_root-requires-clause-right : goal.set_root-requires-clause-right
+set_root-requires-clause-right g c = λ told level place v led. c.requires.right told c.flush_kept.new.blocks v _

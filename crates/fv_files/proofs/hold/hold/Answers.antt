@@ -6,8 +6,8 @@ use Rattle.std.proofs.lemmas.Result.{on_ok_weaker}
 use Rattle.fv_files.proofs.Prepared.{holds_already, holds_new}
 use Rattle.fv_files.proofs.hold.hold.Goals as goal
 
-pub returns-then-contains_key-clause-holds : goal.returns-then-contains_key-clause-holds
-returns-then-contains_key-clause-holds c =
+pub returns-then-is_some-clause-holds : goal.returns-then-is_some-clause-holds
+returns-then-is_some-clause-holds c =
     let there : is_some (maps.get nat_cmp c.args.trees.now c.args.info.now.number) ≡ true = search rules in
     holds_already c.args.trees.now c.args.info.now there
 

@@ -4,6 +4,8 @@ use Rattle.fv_inode.specs.Failing.{OnlyLoads}
 use Rattle.fv_files.specs.Tables.{table_in}
 use Rattle.fv_files.proofs.Looked.{looks_inode, looks_memory}
 use Rattle.fv_files.proofs.Prepared.{half_prepares, held_prepares}
+use Rattle.std.specs.Prelude.{None}
+use Rattle.fv_files.proofs.Right.{right_same, right_held}
 use Rattle.fv_files.proofs.hold.prepare.Goals as goal
 
 pub returns-in_err-ready-clause-prepares : goal.returns-in_err-ready-clause-prepares
@@ -40,3 +42,18 @@ returns-in_err-hold-clause-pending g c = omega (arith, c.in_ok-ready.ensures.ris
 
 pub returns-clause-pending : goal.returns-clause-pending
 returns-clause-pending g c = omega (arith, c.in_ok-ready.ensures.rises.pending, c.in_ok-hold.ensures.cost)
+
+pub ready-requires : goal.ready-requires
+ready-requires g c = record { right = λ told. c.requires.right told None }
+
+pub returns-in_err-ready-clause-right : goal.returns-in_err-ready-clause-right
+returns-in_err-ready-clause-right g c = λ told. right_same (g.B.Blocks.shown c.args.blocks.now) (g.B.Blocks.shown c.ready.new.blocks) c.args.files.now c.args.files.now.trees c.args.info.now c.in_err-ready.ensures.loads.looks.untouched (c.requires.there told) (c.requires.right told) (λ k. refl)
+
+pub returns-in_err-hold-clause-right : goal.returns-in_err-hold-clause-right
+returns-in_err-hold-clause-right g c = λ told. right_same (g.B.Blocks.shown c.args.blocks.now) (g.B.Blocks.shown c.ready.new.blocks) c.args.files.now c.hold.new.trees c.args.info.now c.in_ok-ready.ensures.loads.looks.untouched (c.requires.there told) (c.requires.right told) c.in_err-hold.ensures.failed
+
+pub returns-then-not-branch-clause-right : goal.returns-then-not-branch-clause-right
+returns-then-not-branch-clause-right g c = λ told. right_same (g.B.Blocks.shown c.args.blocks.now) (g.B.Blocks.shown c.ready.new.blocks) c.args.files.now c.args.files.now.trees c.args.info.now c.in_ok-ready.ensures.loads.looks.untouched (c.requires.there told) (c.requires.right told) (λ k. refl)
+
+pub returns-clause-right : goal.returns-clause-right
+returns-clause-right g c = λ told. right_held (g.B.Blocks.shown c.args.blocks.now) (g.B.Blocks.shown c.ready.new.blocks) c.args.files.now c.hold.new.trees c.args.info.now c.in_ok-ready.ensures.loads.looks.untouched (c.requires.there told) (c.requires.right told) c.in_ok-hold.ensures.holds

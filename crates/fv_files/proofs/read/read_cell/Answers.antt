@@ -4,6 +4,7 @@ use Rattle.fv_tables.specs.Spelled.{block_at}
 use Rattle.fv_tree.specs.Costs.{way_cost}
 use Rattle.fv_tree.specs.Standing.{under, standing}
 use Rattle.fv_files.proofs.Tables.{stored_known, stored_cause}
+use Rattle.fv_files.proofs.Right.{right_kept, right_stored}
 use Rattle.fv_files.proofs.read.read_cell.Goals as goal
 
 pub returns-in-None-clause-cell : goal.returns-in-None-clause-cell
@@ -22,3 +23,9 @@ returns-in-None-clause-spent g c = λ told.
     let old = g.B.Blocks.shown c.args.blocks.now in
     subst (λ t. OnOk c.read_tree-in-None.result ((g.B.Blocks.shown c.read_tree-in-None.new.blocks).spent ≡ old.spent + way_cost old.cost t c.args.index))
     (c.stored_tree-tree.ensures.stored (under old) ∙ sym (stored_known (under old) c.args.files.now c.args.info.now (sym c.in-None.ensures.value))) (c.read_tree-in-None.ensures.spent told)
+
+pub read_tree-requires : goal.read_tree-requires
+read_tree-requires g c = record { right = λ told. right_kept (g.B.Blocks.shown c.args.blocks.now) c.args.files.now c.args.info.now (c.requires.right told) c.in-Some.tree.now (sym c.in-Some.ensures.value) }
+
+pub read_tree-requires-in-None : goal.read_tree-requires-in-None
+read_tree-requires-in-None g c = record { right = λ told. right_stored (g.B.Blocks.shown c.args.blocks.now) c.args.files.now c.args.info.now c.stored_tree-tree.result (c.requires.right told) (sym c.in-None.ensures.value) (c.stored_tree-tree.ensures.stored (under (g.B.Blocks.shown c.args.blocks.now))) }

@@ -4,6 +4,7 @@ use Rattle.fv_tree.specs.Standing.{standing, under}
 use Rattle.fv_inode.specs.Files.{AreRecords}
 use Rattle.fv_inode.proofs.Looked.{earlier, looks_then, looks_done, looks_failed_then}
 use Rattle.fv_inode.proofs.Numbered.{used_below, least_in, least_searched}
+use Rattle.fv_tree.proofs.Right.{right_on}
 use Rattle.fv_inode.proofs.create.find_free.Goals as goal
 
 pub returns-in_err-files-clause-looks : goal.returns-in_err-files-clause-looks
@@ -43,3 +44,6 @@ pub returns-clause-number : goal.returns-clause-number
 returns-clause-number g c = λ told.
     let count = c.numbered_cells-count.ensures in
     least_searched (standing (under (g.B.Blocks.shown c.args.blocks.now)) c.args.tree.now) c.numbered_cells-count.result count.few count.all (λ k lt. c.loop-cell.invariant.least told k (omega (arith, lt, c.loop-cell-test.false)))
+
+pub read_files-requires : goal.read_files-requires
+read_files-requires g c = record { right = λ told. right_on (g.B.Blocks.shown c.args.blocks.now) (g.B.Blocks.shown c.loop-cell.blocks) c.args.tree.now c.loop-cell.invariant.looks.untouched (c.requires.right told) }

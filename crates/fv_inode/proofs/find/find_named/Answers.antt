@@ -5,6 +5,7 @@ use Rattle.fv_tree.specs.Standing.{standing, under}
 use Rattle.fv_inode.specs.Files.{HasNoneBelow, FindsBelow}
 use Rattle.fv_inode.proofs.Looked.{earlier, looks_then, looks_done, looks_failed_then}
 use Rattle.fv_inode.proofs.Named.{none_at_all, found_some, found_none}
+use Rattle.fv_tree.proofs.Right.{right_on}
 use Rattle.fv_inode.proofs.find.find_named.Goals as goal
 
 pub returns-in_err-found-clause-looks : goal.returns-in_err-found-clause-looks
@@ -40,3 +41,6 @@ pub returns-clause-found : goal.returns-clause-found
 returns-clause-found g c = λ told.
     none_at_all (standing (under (g.B.Blocks.shown c.args.blocks.now)) c.args.tree.now) c.args.name.now
     (λ n lt. c.loop-cell.invariant.none told n (omega (arith, lt, c.cells-cell-end.ensures.is, c.loop-cell-test.false)))
+
+pub find_at-requires-clause-right : goal.find_at-requires-clause-right
+find_at-requires-clause-right g c = λ told. right_on (g.B.Blocks.shown c.args.blocks.now) (g.B.Blocks.shown c.loop-cell.blocks) c.args.tree.now c.loop-cell.invariant.looks.untouched (c.requires.right told)

@@ -6,6 +6,7 @@ use Rattle.fv_inode.specs.Files.{AreRecords}
 use Rattle.fv_inode.specs.Listing.{numbers_in, names_from}
 use Rattle.fv_inode.proofs.Looked.{earlier, looks_self, looks_then, looks_done, looks_failed_then}
 use Rattle.fv_inode.proofs.Views.{nothing}
+use Rattle.fv_tree.proofs.Right.{right_on}
 use Rattle.fv_inode.proofs.list.numbers_by_name.Goals as goal
 
 pub loop-cell-init : goal.loop-cell-init
@@ -44,3 +45,6 @@ loop-cell-preserved g c =
       looks = looks_then g.B.Blocks.told c.args.tree.now old mid new (tt {0}) _ was.looks (looks_done g.B.Blocks.told (standing (under mid) c.args.tree.now) mid new c.in_ok-files.files (tt {0}) c.in_ok-files.ensures.looks);
       reads = g.met.B.Blocks.reads_on c.args.blocks.now c.loop-cell.blocks c.read_files.new.blocks was.reads c.in_ok-files.ensures.reads;
     }
+
+pub read_files-requires : goal.read_files-requires
+read_files-requires g c = record { right = λ told. right_on (g.B.Blocks.shown c.args.blocks.now) (g.B.Blocks.shown c.loop-cell.blocks) c.args.tree.now c.loop-cell.invariant.looks.untouched (c.requires.right told) }

@@ -5,6 +5,7 @@ use Rattle.fv_tree.specs.Standing.{standing, under}
 use Rattle.fv_tree.specs.Taking.{gone_with}
 use Rattle.fv_inode.proofs.Looked.{earlier, later, looks_at, looks_then}
 use Rattle.fv_inode.proofs.Lost.{lost_alone, lost_beside}
+use Rattle.fv_tree.proofs.Right.{right_on}
 use Rattle.fv_inode.proofs.losing.lost.Goals as goal
 
 pub returns-then-not-is_last-clause-lost : goal.returns-then-not-is_last-clause-lost
@@ -30,3 +31,6 @@ returns-clause-looks g c =
     let did = c.lost.ensures in
     looks_then g.B.Blocks.told c.args.file.now.tree old mid new c.in_ok-files.files c.lost.result c.in_ok-files.ensures.looks
     (looks_at g.B.Blocks.told (standing (under mid) c.args.file.now.tree) mid new c.lost.result did.untouched did.counts did.cause)
+
+pub lost-requires : goal.lost-requires
+lost-requires g c = record { right = λ told. right_on (g.B.Blocks.shown c.args.blocks.now) (g.B.Blocks.shown c.read_files.new.blocks) c.args.file.now.tree c.in_ok-files.ensures.looks.untouched (c.requires.right told) }

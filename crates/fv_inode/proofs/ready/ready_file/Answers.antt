@@ -12,6 +12,7 @@ use Rattle.fv_inode.proofs.Looked.{earlier, later, loaded_as, loads_leaves, look
 use Rattle.fv_inode.proofs.Slots.{own_record}
 use Rattle.fv_inode.proofs.Readied.{held_record, in_use}
 use Rattle.fv_inode.proofs.Alike.{alike_itself}
+use Rattle.fv_tree.proofs.Right.{right_on}
 use Rattle.fv_inode.proofs.ready.ready_file.Goals as goal
 
 pub returns-in_err-files-clause-alike : goal.returns-in_err-files-clause-alike
@@ -80,3 +81,6 @@ returns-then-holds_file-clause-loads g c =
 
 pub returns-then-holds_file-clause-leaves : goal.returns-then-holds_file-clause-leaves
 returns-then-holds_file-clause-leaves g c = λ told. leaves_itself _
+
+pub hold-requires : goal.hold-requires
+hold-requires g c = record { right = λ told. right_on (g.B.Blocks.shown c.args.blocks.now) (g.B.Blocks.shown c.read_files.new.blocks) c.args.tree.now c.in_ok-files.ensures.looks.untouched (c.requires.right told) }

@@ -9,6 +9,7 @@ use Rattle.fv_pool.specs.Calls.{LeavesTable}
 use Rattle.fv_pool.specs.DroppingLaws.{reads_drops}
 use Rattle.fv_pool.specs.Lending.{lent_by, lent_for, sees, shown_over}
 use Rattle.fv_pool.proofs.LeftTables.{left_over, leaves_table}
+use Rattle.std.specs.Prelude.{None}
 use Rattle.fv_pool.proofs.lent_changes.create_told.Goals as goal
 
 pub returns-clause-leaves : goal.returns-clause-leaves
@@ -34,3 +35,6 @@ returns-clause-made g c = λ told.
     let x = table_told (table_in source c.args.files.now) in
     subst (λ (m : Volume). OnOk c.create.result (AreStanding source c.args.files.now → table_told (table_in (sees c.args.pool.now m disk c.args.home.now) c.create.new.self) ≡ new x c.args.name.now c.args.reserve c.args.stamp)) (search rules)
     (subst (λ (u : Under). OnOk c.create.result (AreStanding source c.args.files.now → table_told (standing_in u (changed c.create.new.self)) ≡ new x c.args.name.now c.args.reserve c.args.stamp)) (left_over old new_one drops) (c.create.ensures.made told))
+
+pub create-requires-clause-right : goal.create-requires-clause-right
+create-requires-clause-right g c = λ told. c.requires.right told None

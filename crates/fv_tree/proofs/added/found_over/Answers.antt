@@ -7,6 +7,7 @@ use Rattle.std.specs.FinMap as fin
 use Rattle.fv_tree.proofs.Causes.{calm_itself, calm_then, untouched_itself, untouched_then}
 use Rattle.fv_tree.proofs.Found.{found_all, found_next, found_top}
 use Rattle.fv_tree.proofs.Calls.{loads_on}
+use Rattle.fv_tree.proofs.Right.{right_on}
 use Rattle.fv_tree.proofs.added.found_over.Goals as goal
 
 pub loop-level-init : goal.loop-level-init
@@ -52,3 +53,6 @@ returns-in_err-pointer-clause-loads g c =
 pub returns-clause-found : goal.returns-clause-found
 returns-clause-found g c = λ told.
     found_all (standing (under (g.B.Blocks.shown c.args.blocks.now)) c.args.tree.now) c.args.index c.loop-level.level c.loop-level.found (omega (arith, c.loop-level-test.false)) (c.loop-level.invariant.found told)
+
+pub step-requires-clause-right : goal.step-requires-clause-right
+step-requires-clause-right g c = λ told. right_on (g.B.Blocks.shown c.args.blocks.now) (g.B.Blocks.shown c.loop-level.blocks) c.args.tree.now c.loop-level.invariant.untouched (c.requires.right told)

@@ -6,6 +6,7 @@ use Rattle.fv_tree.specs.Standing.{standing, under}
 use Rattle.fv_tree.specs.Collecting.{IsRising, AllBelow, Extends, IsHeld}
 use Rattle.fv_tree.proofs.Collected.{past_up, one_more_range, ranges_under, all_ranges, all_held, IsUnderOne}
 use Rattle.fv_tree.proofs.Calls.{loading_err, loading_none, loading_ok, loading_then}
+use Rattle.fv_tree.proofs.Right.{right_loaded}
 use Rattle.fv_tree.proofs.cut.keep_level.Goals as goal
 
 pub keep_range-requires-clause-node : goal.keep_range-requires-clause-node
@@ -64,3 +65,6 @@ returns-clause-loading g c = loading_ok _ c.loop-place.invariant.loading
 
 pub loop-place-init : goal.loop-place-init
 loop-place-init g c = record { added = search rules; rising = search rules; below = search rules; bound = search rules; nodes = search rules; still = search rules; loading = loading_none g.B.Blocks.told (g.B.Blocks.shown c.args.blocks.now) c.args.tree.now (Ok 0) (g.met.B.Blocks.reads_nothing c.args.blocks.now) tt }
+
+pub keep_range-requires-clause-right : goal.keep_range-requires-clause-right
+keep_range-requires-clause-right g c = λ told. right_loaded c.loop-place.invariant.loading told (c.requires.right told)

@@ -5,6 +5,7 @@ use Rattle.fv_tree.specs.Collecting.{AllBelow, Collects}
 use Rattle.std.proofs.lemmas.Result.{err_from_is_err_and}
 use Rattle.fv_tree.proofs.Collected.{collects_as, collects_back, past_same}
 use Rattle.fv_tree.proofs.Calls.{loading_none, loading_ok, loading_then}
+use Rattle.fv_tree.proofs.Right.{right_loaded}
 use Rattle.fv_tree.proofs.cut.keep_past.Goals as goal
 
 pub loop-level-init : goal.loop-level-init
@@ -57,3 +58,6 @@ returns-in_err-places-clause-loading g c = let p = err_from_is_err_and c.from_re
 
 pub returns-clause-loading : goal.returns-clause-loading
 returns-clause-loading g c = loading_ok _ c.loop-level.invariant.loading
+
+pub keep_level-requires-clause-right : goal.keep_level-requires-clause-right
+keep_level-requires-clause-right g c = λ told. right_loaded c.loop-level.invariant.loading told (c.requires.right told)

@@ -1,4 +1,4 @@
-use Rattle.std.proofs.Common.{◌≡◌, ℕ, List, get_or, refl, ap, ◌∙◌, arith}
+use Rattle.std.proofs.Common.{◌≡◌, ℕ, List, get_or, refl, ap, ◌∙◌, arith, sym}
 use Rattle.std.proofs.lemmas.Result.{on_ok_weaker, err_from_is_err_and}
 use Rattle.fv_tree.specs.Spelled.{hole, pointers_at, pointer_at}
 use Rattle.fv_tree.specs.Standing.{standing, under}
@@ -10,6 +10,7 @@ use Rattle.fv_tree.proofs.Brought.{some_same}
 use Rattle.fv_tree.proofs.Causes.{kept_damage, node_fails}
 use Rattle.fv_tree.proofs.Collected.{pointer_in_is, range_within, under_as, under_from, extends_as, pointer_in_at}
 use Rattle.fv_tree.proofs.Calls.{loading_brought, loading_none, loading_then, loads_err, loads_ok}
+use Rattle.fv_tree.proofs.Right.{node_loads}
 use Rattle.fv_tree.proofs.cut.keep_range.Goals as goal
 
 pub add_ranges-requires-clause-range : goal.add_ranges-requires-clause-range
@@ -48,3 +49,11 @@ returns-in-Some-clause-loading g c = let old = g.B.Blocks.shown c.args.blocks.no
     loading_then {T = ℕ} (g.met.B.Blocks.reads_on c.args.blocks.now c.keep_node.new.blocks c.keep_node.new.blocks)
     (loading_brought g.B.Blocks.told _ old new c.args.tree.now c.keep_node.new.tree c.args.level c.args.place q _ c.requires.low at node.keeps node.brings node.fields node.changes (loads_ok 0 node.loads) tt)
     (loading_none g.B.Blocks.told new c.keep_node.new.tree c.add_ranges.result (g.met.B.Blocks.reads_nothing c.keep_node.new.blocks) c.add_ranges.ensures.memory)
+
+pub keep_node-requires : goal.keep_node-requires
+keep_node-requires g c = record {
+  right = λ told.
+      let old = (g.B.Blocks.shown c.args.blocks.now) in
+      let at = pointer_in_at g.B.Blocks.told (under old) c.args.tree.now c.args.level c.args.place c.pointer_in-pointer.result c.pointer_in-pointer.ensures.is c.requires.stands c.requires.node in
+      node_loads old c.args.tree.now c.args.level c.args.place c.pointer_in-pointer.result c.requires.low (sym (at told)) (c.requires.right told);
+}

@@ -2,7 +2,9 @@ use Rattle.std.proofs.Common.{subst, IsSome, refl}
 use Rattle.fv_tree.specs.Unlinking.{cleared_in}
 use Rattle.fv_tree.proofs.Written.{changed}
 use Rattle.fv_tree.proofs.Bordered.{still_ordered}
-use Rattle.fv_tree.proofs.Differing.{marks_node}
+use Rattle.fv_tree.proofs.Differing.{node_mark, marks_node}
+use Rattle.fv_model.specs.Trees.{spot_cmp}
+use Rattle.fv_tree.proofs.MapMarks.{set_kept}
 use Rattle.fv_tree.proofs.erase.clear_slot.Goals as goal
 
 pub returns-in-Some-clause-children : goal.returns-in-Some-clause-children
@@ -17,3 +19,8 @@ returns-in-Some-clause-marked c =
 pub returns-in-Some-clause-ordered : goal.returns-in-Some-clause-ordered
 returns-in-Some-clause-ordered c =
     still_ordered c.args.nodes.now (c.get_mut.follows.lender c.clear_child.new.node) (c.args.level, c.args.place) c.clear_child.new.node c.get_mut.ensures.ordered (c.get_mut.follows.holds c.clear_child.new.node).0
+
+pub returns-in-Some-clause-counted : goal.returns-in-Some-clause-counted
+returns-in-Some-clause-counted c =
+    set_kept spot_cmp node_mark c.args.nodes.now (c.get_mut.follows.lender c.clear_child.new.node) (c.args.level, c.args.place) c.in-Some.node.now c.clear_child.new.node c.in-Some.ensures.value (c.get_mut.follows.holds c.clear_child.new.node).0 c.clear_child.ensures.changed c.args.changed.now c.recounted.result
+    c.requires.counted c.recounted.ensures

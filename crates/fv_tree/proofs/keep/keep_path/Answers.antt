@@ -14,6 +14,7 @@ use Rattle.fv_tree.proofs.Readied.{pointer_as, pointer_top}
 use Rattle.fv_tree.proofs.StillReady.{node_there, ready_then}
 use Rattle.std.proofs.lemmas.Result.{err_from_is_err_and}
 use Rattle.fv_tree.proofs.Calls.{loading_none, loading_ok, loading_then}
+use Rattle.fv_tree.proofs.Right.{right_loaded}
 use Rattle.fv_tree.proofs.keep.keep_path.Goals as goal
 
 pub loop-level-init : goal.loop-level-init
@@ -90,3 +91,6 @@ pub returns-clause-carries : goal.returns-clause-carries
 returns-clause-carries g c = λ told.
     let did = c.loop-level.invariant.loading in
     carries_same (g.B.Blocks.shown c.args.blocks.now) (g.B.Blocks.shown c.loop-level.blocks) c.args.tree.now c.loop-level.tree did.untouched (did.same told) (did.blocks told) (did.stands told)
+
+pub keep_step-requires-clause-right : goal.keep_step-requires-clause-right
+keep_step-requires-clause-right g c = λ told. right_loaded c.loop-level.invariant.loading told (c.requires.right told)

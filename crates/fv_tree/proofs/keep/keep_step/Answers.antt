@@ -18,6 +18,7 @@ use Rattle.fv_tree.proofs.Causes.{kept_damage, node_fails}
 use Rattle.fv_tree.proofs.Ways.{keeps_same}
 use Rattle.fv_tree.proofs.Calls.{loading_brought, loads_err, loads_ok}
 use Rattle.fv_tree.specs.declared.kept.Tree.{Tree}
+use Rattle.fv_tree.proofs.Right.{node_loads}
 use Rattle.fv_tree.proofs.keep.keep_step.Given as given
 use Rattle.fv_tree.proofs.keep.keep_step.Goals as goal
 
@@ -117,3 +118,10 @@ returns-clause-loading g c = let old = g.B.Blocks.shown c.args.blocks.now in
     let at : g.B.Blocks.told → pointer_at t c.args.level place ≡ c.args.pointer.now = λ told. (λ j. pointer_at t c.args.level (c.args.index / c.width.ensures.is j)) ∙ sym (c.requires.pointer told) in
     let node = c.in_ok-keep_node.ensures in
     loading_brought g.B.Blocks.told _ old new c.args.tree.now c.keep_node.new.tree c.args.level place c.args.pointer.now _ c.requires.low at node.keeps node.brings node.fields node.changes (loads_ok _ node.loads) tt
+
+pub keep_node-requires : goal.keep_node-requires
+keep_node-requires g c = record {
+  right = λ told.
+      let old = (g.B.Blocks.shown c.args.blocks.now) in
+      node_loads old c.args.tree.now c.args.level (c.args.index / c.width.result) c.args.pointer.now c.requires.low (c.requires.pointer told ∙ sym (λ j. pointer_at (standing (under old) c.args.tree.now) c.args.level (c.args.index / c.width.ensures.is j))) (c.requires.right told);
+}

@@ -7,6 +7,7 @@ use Rattle.fv_tree.specs.Spelled.{hole, pointer_at}
 use Rattle.fv_tree.specs.Standing.{standing, under}
 use Rattle.fv_tree.proofs.Causes.{node_fails}
 use Rattle.fv_tree.proofs.Seeking.{child_is, if_none}
+use Rattle.fv_tree.proofs.Right.{node_loads}
 use Rattle.fv_tree.proofs.next.first_child.Given as given
 use Rattle.fv_tree.proofs.next.first_child.Goals as goal
 
@@ -35,3 +36,6 @@ returns-clause-child g c = λ told.
 pub returns-clause-none : goal.returns-clause-none
 returns-clause-none g c = λ told.
     if_none c.first_led.result _ _ (λ holes r low up. ap (λ (p : Pointer). p.stamp) (sym (child g c told r up)) ∙ holes r low up) c.first_led.ensures.none
+
+pub children_of-requires-clause-right : goal.children_of-requires-clause-right
+children_of-requires-clause-right g c = λ told. node_loads (g.B.Blocks.shown c.args.blocks.now) c.args.tree.now c.args.level (c.args.first / fan) c.args.pointer.now c.requires.low (c.requires.pointer told) (c.requires.right told)

@@ -10,6 +10,7 @@ use Rattle.fv_tree.proofs.Causes.{calm_itself, calm_then, fails_on, untouched_it
 use Rattle.fv_tree.proofs.Held.{at_root}
 use Rattle.fv_tree.proofs.Seeking.{at_none, at_some, child_fits, child_there, holes_then, holes_to, past_fits}
 use Rattle.fv_tree.proofs.Writes.{none_at}
+use Rattle.fv_tree.proofs.Right.{right_on}
 use Rattle.fv_tree.proofs.next.walk.Goals as goal
 
 pub returns-then-tree-eq0-clause-lands : goal.returns-then-tree-eq0-clause-lands
@@ -106,3 +107,6 @@ loop-level-preserved g c =
       calm = calm_then _ _ _ was.calm now.counts.calm;
       reads = g.met.B.Blocks.reads_on c.args.blocks.now c.loop-level.blocks c.first_child.new.blocks was.reads now.reads;
     }
+
+pub first_child-requires-clause-right : goal.first_child-requires-clause-right
+first_child-requires-clause-right g c = λ told. right_on (g.B.Blocks.shown c.args.blocks.now) (g.B.Blocks.shown c.loop-level.blocks) c.args.tree.now c.loop-level.invariant.untouched (c.requires.right told)

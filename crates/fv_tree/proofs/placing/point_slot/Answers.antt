@@ -3,7 +3,9 @@ use Rattle.std.specs.Option.{option_map}
 use Rattle.fv_tree.specs.declared.kept.KeptNode.{KeptNode}
 use Rattle.fv_tree.specs.Flushing.{node_placed}
 use Rattle.fv_tree.proofs.Observed.{elsewhere_same, observed, changed_still}
-use Rattle.fv_tree.proofs.Differing.{node_again}
+use Rattle.fv_tree.proofs.Differing.{node_mark, node_again}
+use Rattle.fv_model.specs.Trees.{spot_cmp}
+use Rattle.fv_tree.proofs.MapMarks.{set_kept}
 use Rattle.fv_tree.proofs.placing.point_slot.Goals as goal
 
 pub returns-in-Some-clause-others : goal.returns-in-Some-clause-others
@@ -20,3 +22,8 @@ returns-in-Some-clause-changed c =
 
 pub returns-in-Some-clause-again : goal.returns-in-Some-clause-again
 returns-in-Some-clause-again c = node_again c.args.nodes.now (c.get_mut.follows.lender c.point_child.new.node) (c.args.level, c.args.place) c.in-Some.node.now c.point_child.new.node c.in-Some.ensures.value (c.get_mut.follows.holds c.point_child.new.node).0
+
+pub returns-in-Some-clause-counted : goal.returns-in-Some-clause-counted
+returns-in-Some-clause-counted c =
+    set_kept spot_cmp node_mark c.args.nodes.now (c.get_mut.follows.lender c.point_child.new.node) (c.args.level, c.args.place) c.in-Some.node.now c.point_child.new.node c.in-Some.ensures.value (c.get_mut.follows.holds c.point_child.new.node).0 c.point_child.ensures.changed c.args.changed.now c.recounted.result
+    c.requires.counted c.recounted.ensures

@@ -26,6 +26,7 @@ use Rattle.fv_tree.proofs.Removing.{none_past}
 use Rattle.fv_tree.proofs.Writes.{no_stamp, same_alike, same_standing}
 use Rattle.fv_tree.proofs.Calls.{counts_err, loading_err, loading_none, loading_ok, rises_but, steady_from, steady_loaded, steady_on, steady_read}
 use Rattle.fv_tree.specs.Costs.{changes_in}
+use Rattle.fv_tree.proofs.Right.{cell_loads, right_loaded}
 use Rattle.fv_tree.proofs.rewrite.ready_cell.Given as given
 use Rattle.fv_tree.proofs.rewrite.ready_cell.Goals as goal
 
@@ -220,3 +221,11 @@ returns-clause-steady g c =
     let nodes = ap changes_in hold.fields.nodes in
     steady_on u 0 1 _ first hold.fields.owner (λ told. carries_held (g.B.Blocks.shown c.read_pointed.new.blocks) v u c.args.index c.read_pointed.new.into hold.holds (reached g c told) (block_now g c told))
     (held_ready v u c.args.index c.read_pointed.new.into hold.holds) (record { pending = omega (arith, nodes, hold.changes); cells = hold.held }) tt
+
+pub read_pointed-requires-clause-right : goal.read_pointed-requires-clause-right
+read_pointed-requires-clause-right g c = λ told.
+    let mid = g.B.Blocks.shown c.keep_path.new.blocks in
+    let v = c.keep_path.new.tree in
+    let path = c.in_ok-pointer.ensures in
+    cell_loads mid v c.args.index c.in_ok-pointer.pointer (path.pointer told ∙ sym ((path.loading.same told).pointers 0 c.args.index))
+    (right_loaded path.loading told (c.requires.right told))

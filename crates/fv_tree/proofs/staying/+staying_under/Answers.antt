@@ -7,6 +7,7 @@ use Rattle.fv_tree.specs.Flushing.{loaded, loaded_over}
 use Rattle.fv_tree.specs.Counting.{staying_under}
 use Rattle.fv_tree.proofs.Causes.{calm_then, fails_on, node_fails, untouched_then}
 use Rattle.fv_tree.proofs.Stays.{child_meets, range_low, few_all, few_end, few_fit, few_more, some_all, some_more, some_none, under_end}
+use Rattle.fv_tree.proofs.Right.{node_loads}
 use Rattle.fv_tree.proofs.staying.+staying_under.Goals.{then-level-eq0-via-then-level-eq0, then-level-eq0-via-else-level-eq0+then-pointer-eq0}
 use Rattle.fv_tree.proofs.staying.+staying_under.Goals as goal
 
@@ -39,7 +40,7 @@ overflow_add-place g t c = let small = range_low c.args.tree.now c.args.level c.
 
 pub staying_under-requires : goal.staying_under-requires
 staying_under-requires g t c κs within = let measure = c.decreases in
-    (omega (arith, measure, c.if-level-eq0.false), (within, child_meets g.B.Blocks.told (g.B.Blocks.shown c.args.blocks.now) (g.B.Blocks.shown c.loop-slot.blocks) c.args.tree.now c.args.level c.args.place c.loop-slot.slot c.args.pointer.now c.in_ok-children.children c.loop-slot.invariant.untouched c.if-level-eq0.false c.requires.high c.requires.range c.requires.pointer c.in_ok-children.ensures.children c.loop-slot-test.true))
+    (omega (arith, measure, c.if-level-eq0.false), (within, child_meets g.B.Blocks.told (g.B.Blocks.shown c.args.blocks.now) (g.B.Blocks.shown c.loop-slot.blocks) c.args.tree.now c.args.level c.args.place c.loop-slot.slot c.args.pointer.now c.in_ok-children.children c.loop-slot.invariant.untouched c.if-level-eq0.false c.requires.high c.requires.range c.requires.pointer c.in_ok-children.ensures.children c.requires.right c.loop-slot-test.true))
 
 pub returns-in_err-children-clause-cause : goal.returns-in_err-children-clause-cause
 returns-in_err-children-clause-cause g t c =
@@ -95,3 +96,6 @@ returns-clause-few g t c =
     let low : 1 ≤ c.args.level = omega (arith, c.if-level-eq0.false) in
     let all : c.loop-slot.slot ≡ fan = omega (arith, c.loop-slot-test.false) in
     few_all c.loop-slot.count c.loop-slot.slot c.args.level low all c.loop-slot.invariant.few
+
+pub children_of-requires-clause-right : goal.children_of-requires-clause-right
+children_of-requires-clause-right g t c = λ told. let low : 1 ≤ c.args.level = omega (arith, c.if-level-eq0.false) in node_loads (g.B.Blocks.shown c.args.blocks.now) c.args.tree.now c.args.level c.args.place c.args.pointer.now low (c.requires.pointer told) (c.requires.right told)

@@ -9,6 +9,7 @@ use Rattle.fv_tree.specs.Taking.{goes_by, IsPart}
 use Rattle.fv_tree.proofs.Causes.{calm_then, fails_on, untouched_then}
 use Rattle.fv_tree.proofs.Stays.{child_meets, range_low, few_all, few_end, few_fit, few_more, few_whole}
 use Rattle.fv_tree.proofs.Taking.{hole_part, kept_part, cell_part, whole_part, own_stays, more_sum, at_most_one}
+use Rattle.fv_tree.proofs.Right.{node_loads}
 use Rattle.fv_tree.proofs.taken.+taken_under.Goals as goal
 
 pub returns-then-pointer-eq0-clause-part : goal.returns-then-pointer-eq0-clause-part
@@ -46,7 +47,7 @@ returns-then-level-eq0-clause-part g t c = λ told holds.
 
 pub taken_under-requires : goal.taken_under-requires
 taken_under-requires g t c κs within = let measure = c.decreases in
-    (omega (arith, measure, c.if-level-eq0.false), (within, child_meets g.B.Blocks.told (g.B.Blocks.shown c.args.blocks.now) (g.B.Blocks.shown c.loop-slot.blocks) c.args.tree.now c.args.level c.args.place c.loop-slot.slot c.args.pointer.now c.in_ok-children.children c.loop-slot.invariant.untouched c.if-level-eq0.false c.requires.high c.requires.range c.requires.pointer c.in_ok-children.ensures.children c.loop-slot-test.true))
+    (omega (arith, measure, c.if-level-eq0.false), (within, child_meets g.B.Blocks.told (g.B.Blocks.shown c.args.blocks.now) (g.B.Blocks.shown c.loop-slot.blocks) c.args.tree.now c.args.level c.args.place c.loop-slot.slot c.args.pointer.now c.in_ok-children.children c.loop-slot.invariant.untouched c.if-level-eq0.false c.requires.high c.requires.range c.requires.pointer c.in_ok-children.ensures.children c.requires.right c.loop-slot-test.true))
 
 pub overflow_mul-place : goal.overflow_mul-place
 overflow_mul-place g t c = let small = range_low c.args.tree.now c.args.level c.args.place c.if-level-eq0.false c.requires.high c.requires.range in omega (arith, small)
@@ -139,3 +140,6 @@ returns-clause-few g t c =
           let own = at_most_one c.loop-slot.sum.some c.stays_at-staying.result c.stays_at-staying.ensures.few in
           omega (arith, most, own, is.staying);
     }
+
+pub children_of-requires-clause-right : goal.children_of-requires-clause-right
+children_of-requires-clause-right g t c = λ told. let low : 1 ≤ c.args.level = omega (arith, c.if-level-eq0.false) in node_loads (g.B.Blocks.shown c.args.blocks.now) c.args.tree.now c.args.level c.args.place c.args.pointer.now low (c.requires.pointer told) (c.requires.right told)

@@ -8,7 +8,7 @@ use Rattle.fv_tree.proofs.taken.taken_in.Goals as goal
 
 pub taken_under-requires : goal.taken_under-requires
 taken_under-requires g c = let wide : 1 ≤ fan ^ (3 - c.args.tree.now.levels) = one-le-pow (3 - c.args.tree.now.levels) fan (omega arith) in
-    record { high = omega arith; range = omega (arith, wide); pointer = λ told. sym ((own_way (standing (under (g.B.Blocks.shown c.args.blocks.now)) c.args.tree.now)).top 0) }
+    record { high = omega arith; range = omega (arith, wide); pointer = λ told. sym ((own_way (standing (under (g.B.Blocks.shown c.args.blocks.now)) c.args.tree.now)).top 0); right = c.requires.right }
 
 pub returns-clause-few : goal.returns-clause-few
 returns-clause-few g c = record {

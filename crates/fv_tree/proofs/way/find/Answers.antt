@@ -8,6 +8,7 @@ use Rattle.fv_tree.proofs.Below.{at_the_cell}
 use Rattle.fv_tree.proofs.Causes.{calm_itself, calm_then, untouched_itself, untouched_then}
 use Rattle.fv_tree.proofs.Costly.{cost_last, cost_step}
 use Rattle.fv_tree.proofs.Calls.{loads_on}
+use Rattle.fv_tree.proofs.Right.{right_on}
 use Rattle.fv_tree.proofs.way.find.Goals as goal
 
 pub returns-in_err-pointer-clause-loads : goal.returns-in_err-pointer-clause-loads
@@ -63,3 +64,6 @@ returns-in_err-pointer-clause-held g c = λ way.
     let level = c.loop-level.level in
     let node = way level (omega arith) (let high = c.loop-level.invariant.high in omega (arith, high)) in
     absurd (c.in_err-pointer.ensures.held (ap is_some node.1))
+
+pub step-requires-clause-right : goal.step-requires-clause-right
+step-requires-clause-right g c = λ told. right_on (g.B.Blocks.shown c.args.blocks.now) (g.B.Blocks.shown c.loop-level.blocks) c.args.tree.now c.loop-level.invariant.untouched (c.requires.right told)

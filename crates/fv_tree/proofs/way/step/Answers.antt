@@ -6,6 +6,7 @@ use Rattle.fv_tree.specs.Standing.{standing, under}
 use Rattle.fv_tree.proofs.Below.{below, on_the_way}
 use Rattle.fv_tree.proofs.Causes.{err_unless, node_fails}
 use Rattle.fv_tree.proofs.Costly.{node_costs}
+use Rattle.fv_tree.proofs.Right.{way_loads}
 use Rattle.fv_tree.proofs.way.step.Goals as goal
 
 pub returns-clause-below : goal.returns-clause-below
@@ -23,3 +24,6 @@ returns-clause-spent g c = λ told.
     let old = g.B.Blocks.shown c.args.blocks.now in
     on_ok_weaker c.child.result (λ is. is ∙ ap (λ n. old.spent + n) (node_costs old.cost (standing (under old) c.args.tree.now) c.args.level c.args.index (c.args.index / c.width.result) c.args.pointer.now c.requires.low c.requires.high
     (ap (λ w. c.args.index / w) c.width.ensures.is) (c.requires.pointer told))) c.child.ensures.spent
+
+pub child-requires-clause-right : goal.child-requires-clause-right
+child-requires-clause-right g c = λ told. way_loads (g.B.Blocks.shown c.args.blocks.now) c.args.tree.now c.args.level c.args.index (c.args.index / c.width.result) c.args.pointer.now c.requires.low c.requires.high (ap (λ w. c.args.index / w) c.width.ensures.is) (c.requires.pointer told) (c.requires.right told)

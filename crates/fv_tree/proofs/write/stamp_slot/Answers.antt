@@ -1,8 +1,10 @@
 use Rattle.std.proofs.Common.{subst, IsSome, refl}
 use Rattle.fv_tree.specs.Writing.{stamped_in}
 use Rattle.fv_tree.proofs.Bordered.{still_ordered}
-use Rattle.fv_tree.proofs.Differing.{marks_node, node_again}
+use Rattle.fv_tree.proofs.Differing.{node_mark, marks_node, node_again}
 use Rattle.fv_tree.proofs.Written.{changed}
+use Rattle.fv_model.specs.Trees.{spot_cmp}
+use Rattle.fv_tree.proofs.MapMarks.{set_kept}
 use Rattle.fv_tree.proofs.write.stamp_slot.Goals as goal
 
 pub returns-in-Some-clause-children : goal.returns-in-Some-clause-children
@@ -20,3 +22,8 @@ returns-in-Some-clause-again c = node_again c.args.nodes.now (c.get_mut.follows.
 pub returns-in-Some-clause-ordered : goal.returns-in-Some-clause-ordered
 returns-in-Some-clause-ordered c =
     still_ordered c.args.nodes.now (c.get_mut.follows.lender c.stamp_child.new.node) (c.args.level, c.args.place) c.stamp_child.new.node c.get_mut.ensures.ordered (c.get_mut.follows.holds c.stamp_child.new.node).0
+
+pub returns-in-Some-clause-counted : goal.returns-in-Some-clause-counted
+returns-in-Some-clause-counted c =
+    set_kept spot_cmp node_mark c.args.nodes.now (c.get_mut.follows.lender c.stamp_child.new.node) (c.args.level, c.args.place) c.in-Some.node.now c.stamp_child.new.node c.in-Some.ensures.value (c.get_mut.follows.holds c.stamp_child.new.node).0 c.stamp_child.ensures.changed c.args.changed.now c.recounted.result
+    c.requires.counted c.recounted.ensures

@@ -1,4 +1,4 @@
-use Rattle.std.proofs.Common.{◌≡◌, ◌≤◌, ◌+◌, ℕ, ◌/◌, true, inl, inr, ◌^◌, ◌<◌, cond, Some, nat_eq, sym, ap, refl, ◌∙◌, arith, subst}
+use Rattle.std.proofs.Common.{◌≡◌, ◌≤◌, ◌+◌, ℕ, ◌/◌, true, inl, inr, ◌^◌, ◌<◌, cond, List, Option, Some, nat_eq, sym, ap, refl, ◌∙◌, arith, subst}
 use Rattle.std.specs.BTreeMap as tree
 use Rattle.std.proofs.Math.Nat.{div-eq_of_lt, pow-le-pow_right}
 use Rattle.std.proofs.lemmas.Bool.{cases_eq, cases_lt}
@@ -6,7 +6,7 @@ use Rattle.fv_model.specs.Trees.{fan, Spot}
 use Rattle.fv_tree.specs.declared.kept.KeptNode.{KeptNode}
 use Rattle.fv_tree.specs.declared.kept.KeptCell.{KeptCell}
 use Rattle.fv_tree.specs.Costs.{cells_changed, cells_held, changes_in, pending}
-use Rattle.fv_tree.specs.Standing.{standing, cell_in, IsSameButCells}
+use Rattle.fv_tree.specs.Standing.{standing, IsSameButCells}
 use Rattle.fv_tree.specs.Writing.{IsAlike, HasNewLevels}
 use Rattle.fv_tree.proofs.Causes.{at_err}
 use Rattle.fv_tree.specs.Flushing.{loaded_over, changed_in}
@@ -19,6 +19,7 @@ use Rattle.fv_tree.proofs.StillReady.{cells_same, ready_then}
 use Rattle.fv_tree.proofs.Ready.{cells_again, cells_loaded}
 use Rattle.fv_tree.proofs.Ungrown.{still_hints, still_same, still_sound, still_leads, still_keeps}
 use Rattle.fv_tree.proofs.Past.{Raises, past_base}
+use Rattle.fv_tree.proofs.Ways.{same_cells}
 use Rattle.fv_tree.proofs.Steps.{stamps_way, stamped_cells, moved}
 use Rattle.fv_tree.proofs.Writes.{same_alike, same_standing, hidden_same, levels_grow, written_is}
 use Rattle.fv_tree.proofs.write.write_past.Goals as goal
@@ -56,7 +57,7 @@ returns-clause-done c = λ blocks.
     (stamps_way blocks v v u c.args.index c.args.stamp none c.stamp_path.ensures.stamps)
     (omega (arith, c.requires.stamp))
     (λ j. stamped_cells t held u c.args.index c.args.stamp c.args.block.now c.in_ok-keep_cell.ensures.cell (c.stamp_path.ensures.stamps.cells ∙ c.raise.ensures.cells) j
-    ∙ ap (λ x. cond (nat_eq j c.args.index) (Some c.args.block.now) (cell_in (record s { cells = x }) j)) fields.cells)
+    ∙ ap (λ (see : ℕ → Option (List ℕ)). cond (nat_eq j c.args.index) (Some c.args.block.now) (see j)) (same_cells s t fields.cells))
 
 pub returns-in_err-keep_new_levels-clause-leaves : goal.returns-in_err-keep_new_levels-clause-leaves
 returns-in_err-keep_new_levels-clause-leaves c = λ blocks.

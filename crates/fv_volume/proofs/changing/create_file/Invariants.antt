@@ -1,10 +1,11 @@
 use Rattle.fv_inode.specs.Files.{rooted, IsLeastFree}
-use Rattle.fv_pool.specs.Lending.{IsTold, sees}
+use Rattle.fv_pool.specs.Calls.{TellsTable}
+use Rattle.fv_pool.specs.Lending.{sees}
 use Rattle.fv_volume.proofs.changing.create_file.Given as goal
 
 abbrev pub ghosts-create_told-K-Guard : goal.ghosts-create_told-K-Guard
 ghosts-create_told-K-Guard g a = record {
-  told = IsTold (g.D.Disk.shown a.disk.now) a.pool.now a.map.now a.home.now.slot
+  told = TellsTable (g.D.Disk.shown a.disk.now) a.pool.now a.map.now a.home.now a.files.now
       × IsLeastFree (rooted (sees a.pool.now a.map.now (g.D.Disk.shown a.disk.now) a.home.now) a.files.now.inode) a.number;
 }
 

@@ -10,9 +10,9 @@ pub take_table-files-requires-clause-root : goal.take_table-files-requires-claus
 take_table-files-requires-clause-root g c = root_fits (g.D.Disk.shown c.args.disk.now) c.args.pool.now c.args.volume.now c.requires.ready
 
 pub returns-clause-added : goal.returns-clause-added
-returns-clause-added g c = given_says (g.D.Disk.shown c.args.disk.now) c.args.pool.now c.args.volume.now c.take_table-files.result c.take_table-files.ensures.table
+returns-clause-added g c = given_says (g.D.Disk.shown c.args.disk.now) c.args.pool.now c.args.volume.now c.take_table-files.result c.take_table-files.ensures.table c.take_table-files.ensures.trees
     (λ (s : Standing). IsInfoOf s.inode c.args.info.now) c.requires.there (λ (s : Standing). IfOk c.added_told-answer.result (AddsCell s c.args.info.now.number c.args.index)) c.added_told-answer.ensures.added
 
 pub returns-clause-cause : goal.returns-clause-cause
-returns-clause-cause g c = given_cause (g.D.Disk.shown c.args.disk.now) c.args.pool.now c.args.volume.now c.take_table-files.result c.take_table-files.ensures.table
+returns-clause-cause g c = given_cause (g.D.Disk.shown c.args.disk.now) c.args.pool.now c.args.volume.now c.take_table-files.result c.take_table-files.ensures.table c.take_table-files.ensures.trees
     (λ (s : Standing). IsInfoOf s.inode c.args.info.now) c.requires.there (g.D.Disk.shown c.added_told-answer.new.disk).faults c.added_told-answer.result c.added_told-answer.ensures.cause

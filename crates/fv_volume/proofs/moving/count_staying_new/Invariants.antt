@@ -1,8 +1,8 @@
-use Rattle.fv_pool.specs.Lending.{IsTold}
+use Rattle.fv_pool.specs.Calls.{TellsTable}
 use Rattle.fv_volume.proofs.moving.count_staying_new.Given as goal
 
 abbrev pub ghosts-staying_new_told-K-Guard : goal.ghosts-staying_new_told-K-Guard
-ghosts-staying_new_told-K-Guard g a = record { told = IsTold (g.D.Disk.shown a.disk.now) a.pool.now a.map.now a.home.now.slot }
+ghosts-staying_new_told-K-Guard g a = record { told = TellsTable (g.D.Disk.shown a.disk.now) a.pool.now a.map.now a.home.now a.files.now }
 
 abbrev pub ghosts-staying_new_told-L-Ledger : goal.ghosts-staying_new_told-L-Ledger
 ghosts-staying_new_told-L-Ledger g a = record { name = a.blank.name; parts = a.blank.parts }

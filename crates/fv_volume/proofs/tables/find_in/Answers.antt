@@ -5,10 +5,12 @@ use Rattle.fv_tree.specs.Standing.{under}
 use Rattle.fv_files.specs.Numbering.{AreNumbersIf}
 use Rattle.fv_files.specs.Tables.{table_in}
 use Rattle.fv_volume.specs.Asking.{numbers_asked, standing_of}
-use Rattle.fv_pool.specs.Lending.{IsTold, lent_for}
+use Rattle.fv_pool.specs.Calls.{TellsTable}
+use Rattle.fv_pool.specs.Lending.{lent_for}
 use Rattle.fv_volume.specs.OneVolume.{home_in, shows, IsStanding}
 use Rattle.fv_pool.proofs.CallCauses.{cause_for}
 use Rattle.fv_volume.proofs.KeptReads.{asked_numbers}
+use Rattle.fv_volume.proofs.RightTables.{asked_right}
 use Rattle.fv_volume.proofs.tables.find_in.Given as given
 use Rattle.fv_volume.proofs.tables.find_in.Goals as goal
 
@@ -22,8 +24,8 @@ numbered g c is = subst (λ n. AreNumbersIf n (table_told (table_in (shows (g.D.
     (subst (λ (s : Standing). AreNumbersIf (numbers_asked c.args.table.now c.args.volume.now.numbers) (table_told s)) (sym (c.open_table-files.ensures.table (under (shows (g.D.Disk.shown c.args.disk.now) c.args.pool.now c.args.volume.now)))) (asked_numbers (g.D.Disk.shown c.args.disk.now) c.args.pool.now c.args.volume.now is c.args.table.now))
 
 pub returns-clause-found : goal.returns-clause-found
-returns-clause-found g c = λ is. subst (λ (s : Standing). IfOk c.find_told-answer.result (Finds s.inode c.args.name.now)) (same g c) (c.find_told-answer.ensures.found (is.told, numbered g c is))
+returns-clause-found g c = λ is. subst (λ (s : Standing). IfOk c.find_told-answer.result (Finds s.inode c.args.name.now)) (same g c) (c.find_told-answer.ensures.found ((is.told, asked_right (g.D.Disk.shown c.args.disk.now) c.args.pool.now c.args.volume.now is c.args.table.now c.requires.of c.open_table-files.result c.open_table-files.ensures.opens), numbered g c is))
 
 pub returns-clause-cause : goal.returns-clause-cause
-returns-clause-cause g c = cause_for (IsStanding (g.D.Disk.shown c.args.disk.now) c.args.pool.now c.args.volume.now) (IsTold (g.D.Disk.shown c.args.disk.now) c.args.pool.now c.args.volume.now.map c.args.volume.now.slot × AreNumbersIf c.numbers_for.result.now (table_told (table_in (shows (g.D.Disk.shown c.args.disk.now) c.args.pool.now c.args.volume.now) c.open_table-files.result))) (λ is. (is.told, numbered g c is)) (lent_for c.args.pool.now c.args.volume.now.map (g.D.Disk.shown c.args.disk.now) 0 (home_in c.args.volume.now) 0) (g.D.Disk.shown c.find_told-answer.new.disk).faults
+returns-clause-cause g c = cause_for (IsStanding (g.D.Disk.shown c.args.disk.now) c.args.pool.now c.args.volume.now) (TellsTable (g.D.Disk.shown c.args.disk.now) c.args.pool.now c.args.volume.now.map (home_in c.args.volume.now) c.open_table-files.result × AreNumbersIf c.numbers_for.result.now (table_told (table_in (shows (g.D.Disk.shown c.args.disk.now) c.args.pool.now c.args.volume.now) c.open_table-files.result))) (λ is. ((is.told, asked_right (g.D.Disk.shown c.args.disk.now) c.args.pool.now c.args.volume.now is c.args.table.now c.requires.of c.open_table-files.result c.open_table-files.ensures.opens), numbered g c is)) (lent_for c.args.pool.now c.args.volume.now.map (g.D.Disk.shown c.args.disk.now) 0 (home_in c.args.volume.now) 0) (g.D.Disk.shown c.find_told-answer.new.disk).faults
     (table_in (shows (g.D.Disk.shown c.args.disk.now) c.args.pool.now c.args.volume.now) c.open_table-files.result) (standing_of (g.D.Disk.shown c.args.disk.now) c.args.pool.now c.args.volume.now c.args.table.now) c.find_told-answer.result (same g c) c.find_told-answer.ensures.cause

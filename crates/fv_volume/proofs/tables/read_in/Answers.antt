@@ -2,13 +2,15 @@ use Rattle.std.proofs.Common.{◌≡◌, ◌+◌, OnOk, sym, subst}
 use Rattle.fv_tables.specs.Told.{Standing}
 use Rattle.fv_tree.specs.Standing.{under}
 use Rattle.fv_inode.specs.Files.{rooted}
-use Rattle.fv_files.specs.Calls.{path_cost, GivesCell}
+use Rattle.fv_files.specs.Calls.{GivesCell}
 use Rattle.fv_files.specs.Tables.{table_in, IsInfoOf}
 use Rattle.fv_volume.specs.Asking.{standing_of}
-use Rattle.fv_pool.specs.Lending.{IsTold, lent_for}
+use Rattle.fv_pool.specs.Calls.{TellsTable}
+use Rattle.fv_pool.specs.Lending.{lent_for}
+use Rattle.fv_volume.specs.Paths.{unknown_over}
 use Rattle.fv_volume.specs.OneVolume.{home_in, shows, IsStanding}
 use Rattle.fv_pool.proofs.CallCauses.{cause_for}
-use Rattle.fv_volume.proofs.KeptReads.{asked_path}
+use Rattle.fv_volume.proofs.RightTables.{asked_right}
 use Rattle.fv_volume.proofs.tables.read_in.Given as given
 use Rattle.fv_volume.proofs.tables.read_in.Goals as goal
 
@@ -23,13 +25,13 @@ known g c there is = subst (λ (s : Standing). IsInfoOf s.inode c.args.info.now)
 
 pub returns-clause-block : goal.returns-clause-block
 returns-clause-block g c = λ is. subst (λ (s : Standing). OnOk c.cell_told-answer.result (GivesCell s c.args.info.now.number c.args.index c.cell_told-answer.new.into)) (same g c)
-    (c.cell_told-answer.ensures.block (is.told, known g c c.requires.there is))
+    (c.cell_told-answer.ensures.block ((is.told, asked_right (g.D.Disk.shown c.args.disk.now) c.args.pool.now c.args.volume.now is c.args.table.now c.requires.of c.open_table-files.result c.open_table-files.ensures.opens), known g c c.requires.there is))
 
 pub returns-clause-steps : goal.returns-clause-steps
-returns-clause-steps g c = λ is. subst (λ n. OnOk c.cell_told-answer.result (c.cell_told-answer.new.steps ≡ c.args.steps.now + n)) (asked_path (g.D.Disk.shown c.args.disk.now) c.args.pool.now c.args.volume.now is c.args.table.now c.requires.of c.args.info.now (c.requires.there is) c.args.index)
-    (subst (λ (s : Standing). OnOk c.cell_told-answer.result (c.cell_told-answer.new.steps ≡ c.args.steps.now + path_cost (shows (g.D.Disk.shown c.args.disk.now) c.args.pool.now c.args.volume.now).cost s c.args.info.now c.args.index)) (same g c)
-    (c.cell_told-answer.ensures.steps (is.told, known g c c.requires.there is)))
+returns-clause-steps g c = λ is.
+    subst (λ (s : Standing). OnOk c.cell_told-answer.result (c.cell_told-answer.new.steps ≡ c.args.steps.now + unknown_over s c.args.info.now c.args.index)) (same g c)
+    (c.cell_told-answer.ensures.steps ((is.told, asked_right (g.D.Disk.shown c.args.disk.now) c.args.pool.now c.args.volume.now is c.args.table.now c.requires.of c.open_table-files.result c.open_table-files.ensures.opens), known g c c.requires.there is))
 
 pub returns-clause-cause : goal.returns-clause-cause
-returns-clause-cause g c = cause_for (IsStanding (g.D.Disk.shown c.args.disk.now) c.args.pool.now c.args.volume.now) (IsTold (g.D.Disk.shown c.args.disk.now) c.args.pool.now c.args.volume.now.map c.args.volume.now.slot × IsInfoOf (rooted (shows (g.D.Disk.shown c.args.disk.now) c.args.pool.now c.args.volume.now) c.open_table-files.result.inode) c.args.info.now) (λ is. (is.told, known g c c.requires.there is)) (lent_for c.args.pool.now c.args.volume.now.map (g.D.Disk.shown c.args.disk.now) c.args.steps.now (home_in c.args.volume.now) 0) (g.D.Disk.shown c.cell_told-answer.new.disk).faults
+returns-clause-cause g c = cause_for (IsStanding (g.D.Disk.shown c.args.disk.now) c.args.pool.now c.args.volume.now) (TellsTable (g.D.Disk.shown c.args.disk.now) c.args.pool.now c.args.volume.now.map (home_in c.args.volume.now) c.open_table-files.result × IsInfoOf (rooted (shows (g.D.Disk.shown c.args.disk.now) c.args.pool.now c.args.volume.now) c.open_table-files.result.inode) c.args.info.now) (λ is. ((is.told, asked_right (g.D.Disk.shown c.args.disk.now) c.args.pool.now c.args.volume.now is c.args.table.now c.requires.of c.open_table-files.result c.open_table-files.ensures.opens), known g c c.requires.there is)) (lent_for c.args.pool.now c.args.volume.now.map (g.D.Disk.shown c.args.disk.now) c.args.steps.now (home_in c.args.volume.now) 0) (g.D.Disk.shown c.cell_told-answer.new.disk).faults
     (table_in (shows (g.D.Disk.shown c.args.disk.now) c.args.pool.now c.args.volume.now) c.open_table-files.result) (standing_of (g.D.Disk.shown c.args.disk.now) c.args.pool.now c.args.volume.now c.args.table.now) c.cell_told-answer.result (same g c) c.cell_told-answer.ensures.cause

@@ -1,4 +1,4 @@
-use Rattle.std.proofs.Common.{◌≡◌, ◌+◌, ◌++◌, ◌∷◌, cond, take}
+use Rattle.std.proofs.Common.{◌≡◌, ◌+◌, ◌∷◌, cond, take}
 use Rattle.std.specs.Prelude.{Some, map}
 use Rattle.std.specs.List.{All}
 use Rattle.fv_image.specs.Views.{Placed}
@@ -19,6 +19,6 @@ invariant-loop-child g l = record {
   under : All (IsUnder l.visit) l.child-items;
   are : g.S.Source.fits l.fn.source → (x : Placed) → place_at (g.S.Source.volume l.fn.source) (item_of l.visit) ≡ Some x
       → l.child-items ≡ visits_in (g.S.Source.volume l.fn.source) l.of_inodes l.visit x.pvbn (pointers_under (item_of l.visit) x);
-  saw : g.S.Source.fits l.fn.source → g.V.Visitor.saw l.visitor ≡ g.V.Visitor.saw l.fn.visitor
-      ++ map (sight_of (g.S.Source.volume l.fn.source)) (spot_of l.visit ∷ met_along (g.S.Source.volume l.fn.source) l.of_inodes l.visit (take l.child-index l.child-items));
+  saw : g.S.Source.fits l.fn.source → g.V.Visitor.sees l.fn.visitor
+      (map (sight_of (g.S.Source.volume l.fn.source)) (spot_of l.visit ∷ met_along (g.S.Source.volume l.fn.source) l.of_inodes l.visit (take l.child-index l.child-items))) l.visitor;
 }

@@ -1,4 +1,4 @@
-use Rattle.std.proofs.Common.{◌≡◌, ◌++◌, true, subst}
+use Rattle.std.proofs.Common.{true, subst}
 use Rattle.std.specs.Prelude.{OnOk, map}
 use Rattle.fv_faults.specs.Met.{met}
 use Rattle.fv_walk.specs.declared.visit.Visit.{Visit}
@@ -10,6 +10,6 @@ use Rattle.fv_walk.proofs.plain.walk.Goals as goal
 pub returns-clause-saw : goal.returns-clause-saw
 unfolding met
 returns-clause-saw g c = λ fits.
-    subst (λ (v : Visit). OnOk c.walk_from.result (g.V.Visitor.saw c.walk_from.new.visitor ≡ g.V.Visitor.saw c.args.visitor.now
-    ++ map (sight_of (g.S.Source.volume c.args.source.now)) (met_from (g.S.Source.volume c.args.source.now) true (item_of v) v.block)))
+    subst (λ (v : Visit). OnOk c.walk_from.result (g.V.Visitor.sees c.args.visitor.now
+    (map (sight_of (g.S.Source.volume c.args.source.now)) (met_from (g.S.Source.volume c.args.source.now) true (item_of v) v.block)) c.walk_from.new.visitor))
     c.root.ensures.visit (c.walk_from.ensures.saw fits)

@@ -15,6 +15,8 @@ use Rattle.fv_aggregate.proofs.Added.{not_refused}
 use Rattle.fv_aggregate.proofs.Applied.{cp_asks, cp_built, cp_goes, cp_goes_for, cp_no_files, cp_no_list, cp_no_names, cp_no_snap, cp_no_whole, cp_replies, list_no_point, create_asks, create_built, create_goes, create_goes_for, create_no_files, create_no_list, create_no_names, create_no_point, create_no_snap, create_no_whole, create_replies, create_room, list_after, list_done, list_fails, list_replies, no_files, some_room}
 use Rattle.fv_aggregate.proofs.Applying.{booked_each, no_step, not_dead, pointed_same, rests_as}
 use Rattle.fv_aggregate.proofs.Keeping.{keeps_but}
+use Rattle.fv_aggregate.specs.Reclaiming.{MakesRoom}
+use Rattle.fv_aggregate.proofs.MadeRoom.{cp_room, list_room, none_roomy, snaps_room}
 use Rattle.fv_aggregate.proofs.Serving.{failed_applied, own_applied, rests_answers, rests_lacks}
 use Rattle.fv_aggregate.proofs.SnapListed.{snaps_after, snaps_done, snaps_fail, snaps_no_point, snaps_replies}
 use Rattle.fv_aggregate.proofs.session.Session.apply_into.Goals as goal
@@ -55,6 +57,7 @@ returns-in-VolCreate g c =
       on_files = λ files. create_no_files command _ _ _ c.in-VolCreate.is _ files;
       point = λ tells last m stands cp. create_no_point command _ _ _ c.in-VolCreate.is _ cp;
       sides = λ tells last m stands cp. create_no_point command _ _ _ c.in-VolCreate.is _ cp;
+      roomy = subst (λ (k : ℕ). MakesRoom k d s e (answer c.create.new.into c.create.result)) (sym room) c.create.ensures.roomy;
       calm = λ other few. rests_as g.D.Disk.shown c.args.disk.now c.create.new.disk (c.create.ensures.calm (low few));
       entries = λ other few stays. c.create.ensures.entries (low few);
       files = λ tells none without. c.create.ensures.holding.files tells without;
@@ -92,6 +95,7 @@ returns-in-Cp g c =
       on_files = λ files. cp_no_files _ command c.in-Cp.is files;
       point = λ tells last m stands cp. c.reclaim.ensures.points.point tells last m stands;
       sides = λ tells last m stands cp. c.reclaim.ensures.points.sides tells last m stands;
+      roomy = none_roomy (room_by s.volumes command) d s e (answer c.reclaim.new.into c.reclaim.result) (cp_room s.volumes command c.in-Cp.is);
       calm = λ other. absurd (other c.in-Cp.is);
       entries = λ other. absurd (other c.in-Cp.is);
       files = λ tells none without. c.reclaim.ensures.files tells;
@@ -105,7 +109,7 @@ pub returns-in_err-names_of-in-VolList : goal.returns-in_err-names_of-in-VolList
 returns-in_err-names_of-in-VolList g c =
     let d = g.D.Disk.shown c.args.disk.now in
     let fresh : IsNone c.args.self.now.failed = subst (λ (k : Session). IsNone k.failed) c.self.view_is (subst IsNone (sym c.in_default.is) refl) in
-    rests_lacks c.args.command.now d c.args.disk.now c.args.self.now c.args.steps.now (g.met.D.Disk.laws c.args.disk.now) fresh (c.requires.stands fresh) (no_files c.args.command.now (ap volume_asked c.in-VolList.is) (ap changed_by c.in-VolList.is)) (list_no_point _ c.args.command.now c.in-VolList.is)
+    rests_lacks c.args.command.now d c.args.disk.now c.args.self.now c.args.steps.now (g.met.D.Disk.laws c.args.disk.now) fresh (c.requires.stands fresh) (no_files c.args.command.now (ap volume_asked c.in-VolList.is) (ap changed_by c.in-VolList.is)) (list_no_point _ c.args.command.now c.in-VolList.is) (list_room c.args.self.now.volumes c.args.command.now c.in-VolList.is)
     (list_fails c.args.command.now c.in-VolList.is d c.args.disk.now c.args.self.now) (answer c.args.into.now c.from_residual.result) (fails c.args.into.now c.from_residual.result Memory (search rules))
 
 pub returns-in-VolList : goal.returns-in-VolList
@@ -114,7 +118,7 @@ returns-in-VolList g c =
     let fresh : IsNone c.args.self.now.failed = subst (λ (k : Session). IsNone k.failed) c.self.view_is (subst IsNone (sym c.in_default.is) refl) in
     let listed = subst (λ (k : Session). c.in_ok-names_of-in-VolList.field-0 ≡ names_from k.volumes 0 64) c.self.view_is c.in_ok-names_of-in-VolList.ensures in
     subst (λ (z : Reply). HasApplied c.args.command.now d c.args.disk.now c.args.self.now c.args.steps.now d c.args.disk.now c.args.self.now c.args.steps.now (Ok z)) (sym c.list.ensures)
-    (rests_answers c.args.command.now d c.args.disk.now c.args.self.now c.args.steps.now (g.met.D.Disk.laws c.args.disk.now) (Names c.in_ok-names_of-in-VolList.field-0) fresh (c.requires.stands fresh) (no_files c.args.command.now (ap volume_asked c.in-VolList.is) (ap changed_by c.in-VolList.is)) (list_no_point _ c.args.command.now c.in-VolList.is)
+    (rests_answers c.args.command.now d c.args.disk.now c.args.self.now c.args.steps.now (g.met.D.Disk.laws c.args.disk.now) (Names c.in_ok-names_of-in-VolList.field-0) fresh (c.requires.stands fresh) (no_files c.args.command.now (ap volume_asked c.in-VolList.is) (ap changed_by c.in-VolList.is)) (list_no_point _ c.args.command.now c.in-VolList.is) (list_room c.args.self.now.volumes c.args.command.now c.in-VolList.is)
     (λ m. list_after c.args.command.now m c.in-VolList.is) (λ tells last m stands. list_replies c.args.command.now c.in-VolList.is d c.args.self.now last m stands c.in_ok-names_of-in-VolList.field-0 listed)
     (list_done c.args.command.now c.in-VolList.is d c.args.disk.now c.args.self.now c.in_ok-names_of-in-VolList.field-0 listed))
 
@@ -122,7 +126,7 @@ pub returns-in_err-snapshots-in-SnapList : goal.returns-in_err-snapshots-in-Snap
 returns-in_err-snapshots-in-SnapList g c =
     let d = g.D.Disk.shown c.args.disk.now in
     let fresh : IsNone c.args.self.now.failed = subst (λ (k : Session). IsNone k.failed) c.self.view_is (subst IsNone (sym c.in_default.is) refl) in
-    rests_lacks c.args.command.now d c.args.disk.now c.args.self.now c.args.steps.now (g.met.D.Disk.laws c.args.disk.now) fresh (c.requires.stands fresh) (no_files c.args.command.now (ap volume_asked c.in-SnapList.is) (ap changed_by c.in-SnapList.is)) (snaps_no_point c.args.command.now c.in-SnapList.volume c.in-SnapList.is _)
+    rests_lacks c.args.command.now d c.args.disk.now c.args.self.now c.args.steps.now (g.met.D.Disk.laws c.args.disk.now) fresh (c.requires.stands fresh) (no_files c.args.command.now (ap volume_asked c.in-SnapList.is) (ap changed_by c.in-SnapList.is)) (snaps_no_point c.args.command.now c.in-SnapList.volume c.in-SnapList.is _) (snaps_room c.args.self.now.volumes c.args.command.now c.in-SnapList.volume c.in-SnapList.is)
     (snaps_fail c.args.command.now c.in-SnapList.volume c.in-SnapList.is d c.args.disk.now c.args.self.now) (answer c.snapshots.new.into c.from_residual-in_err-snapshots-in-SnapList.result) (fails c.snapshots.new.into c.from_residual-in_err-snapshots-in-SnapList.result Memory (search rules))
 
 pub returns-in-SnapList : goal.returns-in-SnapList
@@ -131,7 +135,7 @@ returns-in-SnapList g c =
     let fresh : IsNone c.args.self.now.failed = subst (λ (k : Session). IsNone k.failed) c.self.view_is (subst IsNone (sym c.in_default.is) refl) in
     let reply = c.snapshots.new.into in
     let long = subst (λ (k : Session). length k.volumes ≡ 64) c.self.view_is (c.self.invariant (subst IsNone (sym c.in_default.is) refl)).housed.long in
-    rests_answers c.args.command.now d c.args.disk.now c.args.self.now c.args.steps.now (g.met.D.Disk.laws c.args.disk.now) reply fresh (c.requires.stands fresh) (no_files c.args.command.now (ap volume_asked c.in-SnapList.is) (ap changed_by c.in-SnapList.is)) (snaps_no_point c.args.command.now c.in-SnapList.volume c.in-SnapList.is _)
+    rests_answers c.args.command.now d c.args.disk.now c.args.self.now c.args.steps.now (g.met.D.Disk.laws c.args.disk.now) reply fresh (c.requires.stands fresh) (no_files c.args.command.now (ap volume_asked c.in-SnapList.is) (ap changed_by c.in-SnapList.is)) (snaps_no_point c.args.command.now c.in-SnapList.volume c.in-SnapList.is _) (snaps_room c.args.self.now.volumes c.args.command.now c.in-SnapList.volume c.in-SnapList.is)
     (snaps_after c.args.command.now c.in-SnapList.volume c.in-SnapList.is) (λ tells last m stands. snaps_replies c.args.command.now c.in-SnapList.volume c.in-SnapList.is d c.args.self.now long last m stands reply c.in_ok-snapshots-in-SnapList.ensures)
     (snaps_done c.args.command.now c.in-SnapList.volume c.in-SnapList.is d c.args.disk.now c.args.self.now reply c.in_ok-snapshots-in-SnapList.ensures)
 

@@ -41,7 +41,7 @@ returns-in-Change g c =
     let did = c.change_at.ensures in
     let change : changed_by command ≡ Some aimed.name = suits_as _ _ _ _ _ c.in-Change.is aimed in
     make_applied command aimed.name change (g.D.Disk.shown c.args.disk.now) c.args.disk.now s (g.D.Disk.shown c.change_at.new.disk) c.change_at.new.disk c.change_at.new.self c.args.steps.now (answer c.change_at.new.into c.change_at.result)
-    c.requires.fresh did.makes (record {
+    c.requires.fresh did.makes did.roomy (record {
       range = λ far. absurd (true≢false (sym aimed.near ∙ far));
       missing = λ near none. not_none _ s.volumes slot aimed.name aimed.within aimed.named none;
       kept = λ alive. loses_named command aimed.name (change_of_volume aimed.name command change) s.volumes slot aimed.named.named c.change_at.new.self.volumes (did.kept alive);
@@ -52,4 +52,4 @@ pub returns-in-Snap : goal.returns-in-Snap
 returns-in-Snap g c =
     let aimed = c.requires.aimed in
     snap_applied c.args.command.now aimed.name (suits_as _ _ _ _ _ c.in-Snap.is aimed) g.D.Disk.shown c.args.disk.now c.args.self.now c.snap_at.new.disk c.snap_at.new.self c.args.steps.now (answer c.snap_at.new.into c.snap_at.result)
-    c.requires.fresh c.snap_at.ensures.snapped (λ none. not_none _ c.args.self.now.volumes c.args.aim.slot aimed.name aimed.within aimed.named none)
+    c.requires.fresh c.snap_at.ensures.snapped (λ none. not_none _ c.args.self.now.volumes c.args.aim.slot aimed.name aimed.within aimed.named none) c.snap_at.ensures.needs c.snap_at.ensures.roomy

@@ -1,9 +1,11 @@
-use Rattle.std.proofs.Common.{rules, ap}
+use Rattle.std.proofs.Common.{rules}
 use Rattle.fv_aggregate.specs.Answers.{answer}
 use Rattle.fv_aggregate.proofs.Answered.{fails}
 use Rattle.fv_aggregate.proofs.Asked.{damaged_at}
 use Rattle.fv_aggregate.proofs.Numbered.{make_numbered, make_unnumbered}
 use Rattle.fv_aggregate.proofs.PointFirst.{aimed_read}
+use Rattle.fv_aggregate.specs.Commands.{file_room}
+use Rattle.fv_aggregate.proofs.MadeRoom.{failed_roomy, roomy_numbered}
 use Rattle.fv_aggregate.proofs.session.Session.change_at.Goals as goal
 
 pub returns-in_err-read_numbers-clause-makes : goal.returns-in_err-read_numbers-clause-makes
@@ -20,3 +22,13 @@ returns-clause-makes g c =
     let d = g.D.Disk.shown c.args.disk.now in let e = g.D.Disk.shown c.read_numbers.new.disk in let of = c.requires.aimed in
     make_numbered d c.args.self.now c.args.command.now (damaged_at d c.args.self.now c.args.slot of.state of.there c.requires.fresh) e c.read_numbers.new.self tt c.in_ok-read_numbers.ensures.numbered
     (g.D.Disk.shown c.decide.new.disk) c.decide.new.self (answer c.decide.new.into c.decide.result) c.decide.ensures.makes
+
+pub returns-in_err-read_numbers-clause-roomy : goal.returns-in_err-read_numbers-clause-roomy
+returns-in_err-read_numbers-clause-roomy g c =
+    failed_roomy file_room (g.D.Disk.shown c.args.disk.now) c.args.self.now (g.D.Disk.shown c.read_numbers.new.disk) c.in_err-read_numbers.field-0.0 (answer c.args.into.now c.from_residual.result)
+    (fails c.args.into.now c.from_residual.result c.in_err-read_numbers.field-0.0 (search rules))
+
+pub returns-clause-roomy : goal.returns-clause-roomy
+returns-clause-roomy g c =
+    roomy_numbered (g.D.Disk.shown c.args.disk.now) c.args.self.now c.args.command.now (g.D.Disk.shown c.read_numbers.new.disk) c.read_numbers.new.self c.in_ok-read_numbers.ensures.numbered
+    file_room (g.D.Disk.shown c.decide.new.disk) (answer c.decide.new.into c.decide.result) c.decide.ensures.roomy

@@ -13,6 +13,8 @@ use Rattle.fv_aggregate.specs.Calls.{Runs}
 use Rattle.fv_aggregate.proofs.Added.{accepted_for, done_allowed, refusal_allowed, refused_as, refused_for}
 use Rattle.fv_aggregate.proofs.Calls.{rests_asks, rests_done}
 use Rattle.fv_aggregate.proofs.Holes.{kept_entries, no_holes}
+use Rattle.fv_aggregate.specs.Reclaiming.{MakesRoom}
+use Rattle.fv_aggregate.proofs.MadeRoom.{refused_roomy}
 use Rattle.fv_aggregate.proofs.session.Session.create.Goals as goal
 
 pub returns-in-Ok-clause-runs : goal.returns-in-Ok-clause-runs
@@ -54,3 +56,12 @@ returns-in-Err-clause-reply g c = λ tells last m stands.
 
 pub returns-in-Err-clause-entries : goal.returns-in-Err-clause-entries
 returns-in-Err-clause-entries g c = λ few. no_holes c.args.self.now c.args.self.now (kept_entries c.args.self.now c.args.self.now refl)
+
+pub returns-in-Ok-clause-roomy : goal.returns-in-Ok-clause-roomy
+returns-in-Ok-clause-roomy g c =
+    subst (λ (k : ℕ). MakesRoom k (g.D.Disk.shown c.args.disk.now) c.args.self.now (g.D.Disk.shown c.make.new.disk) (answer c.make.new.into c.make.result)) (ap overhead c.in-Ok.ensures.admitted.span_is) c.make.ensures.roomy
+
+pub returns-in-Err-clause-roomy : goal.returns-in-Err-clause-roomy
+returns-in-Err-clause-roomy g c =
+    let d = g.D.Disk.shown c.args.disk.now in
+    subst (λ (y : Reply). MakesRoom (overhead (span_of c.args.size 0 0)) d c.args.self.now d (Ok y)) (sym c.refuse.ensures) (refused_roomy (overhead (span_of c.args.size 0 0)) d c.args.self.now d c.in-Err.refusal)

@@ -1,4 +1,4 @@
-use Rattle.std.proofs.Common.{◌≡◌, rules, Ok, Err, sym, ap, subst}
+use Rattle.std.proofs.Common.{◌≡◌, rules, Ok, Err, sym, subst}
 use Rattle.fv_model.specs.declared.answers.Reply.{Reply}
 use Rattle.fv_aggregate.specs.Answers.{answer}
 use Rattle.fv_aggregate.specs.Commands.{file_room}
@@ -8,6 +8,8 @@ use Rattle.fv_aggregate.proofs.Asked.{damaged_at}
 use Rattle.fv_aggregate.proofs.Changing.{judged_refusal}
 use Rattle.fv_aggregate.proofs.Holes.{passes_limit}
 use Rattle.fv_aggregate.proofs.PointFirst.{aimed_read, judged_refused, judging_failed, made_after, room_failed, still_aimed}
+use Rattle.fv_aggregate.specs.Reclaiming.{MakesRoom}
+use Rattle.fv_aggregate.proofs.MadeRoom.{failed_roomy, refused_roomy, roomy_judged}
 use Rattle.fv_aggregate.proofs.session.Session.decide.Goals as goal
 
 pub returns-in_err-judge-clause-makes : goal.returns-in_err-judge-clause-makes
@@ -45,3 +47,26 @@ returns-in-None-clause-makes g c =
     let past = passes_limit s.pending 16 _ c.has_room.ensures c.if-has_room.false in
     made_after d s c.args.command.now past (damaged_at d s c.args.slot aimed.state aimed.there c.requires.fresh) e c.judge.new.self c.judge.new.into c.in_ok-judge.ensures.judged h c.make_room.new.self
     aimed.state.name aimed.change (sym c.in-None.ensures) tt c.in_ok-make_room-in-None.ensures.runs.goes c.in_ok-make_room-in-None.ensures.pending c.in_ok-make_room-in-None.ensures.runs.goes_for k c.carry_out-in-None.new.self (answer c.carry_out-in-None.new.into c.carry_out-in-None.result) c.carry_out-in-None.ensures.makes
+
+pub returns-in_err-judge-clause-roomy : goal.returns-in_err-judge-clause-roomy
+returns-in_err-judge-clause-roomy g c =
+    failed_roomy file_room (g.D.Disk.shown c.args.disk.now) c.args.self.now (g.D.Disk.shown c.judge.new.disk) c.in_err-judge.field-0.0 (answer c.judge.new.into c.from_residual.result)
+    (fails c.judge.new.into c.from_residual.result c.in_err-judge.field-0.0 (search rules))
+
+pub returns-in-Some-clause-roomy : goal.returns-in-Some-clause-roomy
+returns-in-Some-clause-roomy g c =
+    let d = g.D.Disk.shown c.args.disk.now in let e = g.D.Disk.shown c.judge.new.disk in
+    let is = judged_refusal c.judge.new.into c.in-Some.field-0 (sym c.in-Some.ensures) in
+    subst (λ (y : Reply). MakesRoom file_room d c.args.self.now e (Ok y)) (sym is) (refused_roomy file_room d c.args.self.now e c.in-Some.field-0)
+
+pub returns-in_err-make_room-in-None-clause-roomy : goal.returns-in_err-make_room-in-None-clause-roomy
+returns-in_err-make_room-in-None-clause-roomy g c =
+    failed_roomy file_room (g.D.Disk.shown c.args.disk.now) c.args.self.now (g.D.Disk.shown c.make_room.new.disk) c.in_err-make_room-in-None.field-0.0 (answer c.judge.new.into c.from_residual-in_err-make_room-in-None.result)
+    (fails c.judge.new.into c.from_residual-in_err-make_room-in-None.result c.in_err-make_room-in-None.field-0.0 (search rules))
+
+pub returns-in-None-clause-roomy : goal.returns-in-None-clause-roomy
+returns-in-None-clause-roomy g c =
+    let made = c.in_ok-make_room-in-None.ensures in
+    roomy_judged (g.D.Disk.shown c.args.disk.now) c.args.self.now c.args.command.now (g.D.Disk.shown c.judge.new.disk) c.judge.new.self c.judge.new.into c.in_ok-judge.ensures.judged
+    file_room (g.D.Disk.shown c.make_room.new.disk) c.make_room.new.self (made.runs.goes.stands made.runs.goes.done.goes_on) made.reclaimed
+    (g.D.Disk.shown c.carry_out-in-None.new.disk) c.carry_out-in-None.ensures.reads (answer c.carry_out-in-None.new.into c.carry_out-in-None.result)

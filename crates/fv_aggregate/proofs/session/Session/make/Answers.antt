@@ -16,6 +16,8 @@ use Rattle.fv_aggregate.proofs.Added.{added_asks, added_for, added_goes, made_fi
 use Rattle.fv_aggregate.proofs.Applying.{rests_as, same_map}
 use Rattle.fv_aggregate.proofs.Calls.{fails_alike}
 use Rattle.fv_aggregate.proofs.Holes.{added_entries, kept_entries, no_holes}
+use Rattle.fv_aggregate.specs.Reclaiming.{HasMadeRoom}
+use Rattle.fv_aggregate.proofs.MadeRoom.{failed_roomy, made_room}
 use Rattle.fv_aggregate.proofs.Keeping.{keeps_added}
 use Rattle.fv_aggregate.proofs.session.Session.make.Goals as goal
 
@@ -115,3 +117,20 @@ returns-clause-entries g c = λ few.
     let room : c.from-room.result ≡ overhead c.args.admitted.span = search rules in
     subst (λ (s : Session). MakesNoHoles s c.add.new.self) (c.in_ok-make_room.ensures.calm (subst (λ (n : ℕ). c.args.self.now.pending + n ≤ 256) (sym room) few)).1
     (added_entries c.make_room.new.self c.args.name.now c.args.size c.args.kind c.from-room.result c.add.new.self c.in_ok-add.ensures.added)
+
+pub returns-in_err-make_room-clause-roomy : goal.returns-in_err-make_room-clause-roomy
+returns-in_err-make_room-clause-roomy g c =
+    failed_roomy _ (g.D.Disk.shown c.args.disk.now) c.args.self.now (g.D.Disk.shown c.make_room.new.disk) c.in_err-make_room.field-0.0 (answer c.args.into.now c.from_residual.result)
+    (fails c.args.into.now c.from_residual.result c.in_err-make_room.field-0.0 (search rules))
+
+pub returns-in_err-add-clause-roomy : goal.returns-in_err-add-clause-roomy
+returns-in_err-add-clause-roomy g c =
+    failed_roomy _ (g.D.Disk.shown c.args.disk.now) c.args.self.now (g.D.Disk.shown c.make_room.new.disk) Memory (answer c.args.into.now c.from_residual-in_err-add.result)
+    (fails c.args.into.now c.from_residual-in_err-add.result Memory (search rules))
+
+pub returns-clause-roomy : goal.returns-clause-roomy
+returns-clause-roomy g c = λ tells last m stands some past accepted.
+    let old = c.args.self.now in let mid = g.D.Disk.shown c.make_room.new.disk in
+    let room : c.from-room.result ≡ overhead c.args.admitted.span = search rules in
+    subst (λ (k : ℕ). HasMadeRoom k old mid m) room
+    (made_room c.from-room.result old mid c.make_room.new.self m (c.in_ok-make_room.ensures.reclaimed tells last m stands (omega (arith, past, room))))

@@ -8,6 +8,10 @@ use Rattle.fv_aggregate.specs.declared.session.Session.{Session}
 use Rattle.fv_aggregate.specs.Looking.{HasSnapped}
 use Rattle.fv_aggregate.specs.Snapping.{HasGrant, JudgesSnap}
 use Rattle.fv_aggregate.proofs.Returned.{same_there}
+use Rattle.fv_aggregate.specs.Commands.{room_by}
+use Rattle.fv_aggregate.specs.Reclaiming.{MakesRoom}
+use Rattle.fv_aggregate.proofs.MadeRoom.{refused_roomy}
+use Rattle.fv_aggregate.proofs.SnapLost.{judged_needs, needs_none}
 use Rattle.fv_aggregate.proofs.SnapDone.{refused_snapped}
 use Rattle.fv_aggregate.proofs.SnapRoom.{grant_given, refused_given}
 use Rattle.fv_aggregate.proofs.session.Session.snap_at.Goals as goal
@@ -38,4 +42,6 @@ returns-in-Err g c =
     record {
       snapped = subst (λ (z : Reply). HasSnapped d c.args.disk.now s command d c.args.disk.now s (Ok z)) (sym c.refuse.ensures) (refused_snapped d c.args.disk.now (g.met.D.Disk.laws c.args.disk.now) s c.requires.fresh c.requires.stands command c.in-Err.refusal
           (refused_given d s long slot aimed.state aimed.there c.commits_beside-others.result others c.in-Err.refusal command aimed.snaps (subst (λ (z : VolumeState). JudgesSnap z s.pool.found.blocks c.commits_beside-others.result command (Err c.in-Err.refusal)) (same_there _ _ _ there aimed.there) said)));
+      needs = needs_none s.volumes command _ (judged_needs x s.pool.found.blocks c.commits_beside-others.result c.in-Err.refusal aimed.state.name command aimed.snaps said);
+      roomy = subst (λ (z : Reply). MakesRoom (room_by s.volumes command) d s d (Ok z)) (sym c.refuse.ensures) (refused_roomy (room_by s.volumes command) d s d c.in-Err.refusal);
     }

@@ -2,11 +2,11 @@ use Rattle.std.proofs.Common.{◌≡◌, ◌≤◌, ◌+◌, ◌-◌, ◌⊎◌,
 use Rattle.std.specs.Prelude.{IsNone}
 use Rattle.std.specs.Result.{is_ok}
 use Rattle.fv_model.specs.declared.answers.Reply.{Reply}
-use Rattle.fv_model.specs.declared.answers.Reply.TheVariants.{Done}
-use Rattle.fv_volume.specs.Slots.{committed_by, sum_of}
+use Rattle.fv_volume.specs.Slots.{HasName, committed_by, sum_of}
 use Rattle.fv_volume.specs.States.{state_at}
 use Rattle.fv_aggregate.specs.Answers.{answer}
 use Rattle.fv_aggregate.specs.declared.session.Session.{Session}
+use Rattle.fv_aggregate.specs.Calls.{NeedsSnapshot}
 use Rattle.fv_aggregate.specs.Commands.{dirty_limit, snapped_by}
 use Rattle.fv_aggregate.specs.Looking.{IsSnapAimed}
 use Rattle.fv_volume.specs.declared.state.VolumeState.{VolumeState}
@@ -17,6 +17,7 @@ use Rattle.fv_aggregate.specs.Standing.{Stands}
 use Rattle.fv_aggregate.proofs.SnapDone.{IsCarried}
 use Rattle.fv_aggregate.proofs.SnapFits.{fits_after}
 use Rattle.fv_aggregate.proofs.SnapNow.{carried_now}
+use Rattle.fv_aggregate.proofs.SnapLost.{needs_now}
 use Rattle.fv_aggregate.proofs.session.Session.snap_now.Goals as goal
 use Rattle.fv_aggregate.proofs.session.Session.snap_now.Goals.{then-is_ok, else-is_ok}
 
@@ -75,4 +76,6 @@ returns g c =
     let carried = carried_now d c.args.disk.now (g.met.D.Disk.laws c.args.disk.now) v fresh stands (c.self.invariant fresh) slot command aimed x c.volume_at-state.ensures.state of c.args.others others c.args.granted few grant
     q y c.change_snaps-made.ensures.ready r c.change_snaps-made.ensures.snaps c.if-is_ok.self before (answer c.done.new.into c.change_snaps-made.result) (ap (λ (z : Reply). answer z c.change_snaps-made.result) c.done.ensures) c.replied.new.self (answer c.replied.new.into c.replied.result) c.replied.ensures in
     let it = subst (λ (n : Session). IsCarried d c.args.disk.now n command room c.replied.new.self (answer c.replied.new.into c.replied.result)) c.self.view_is carried in
-    record { snapped = it.snapped; placed = it.placed; accepted = it.accepted }
+    let needs = needs_now v slot x c.volume_at-state.ensures.state aimed.within (subst (λ (z : VolumeState). HasName v.volumes slot z.name) (same_there _ _ _ aimed.there c.volume_at-state.ensures.state) aimed.named) command
+    d v.pool q y c.args.others r c.change_snaps-made.ensures.snaps d (answer c.done.new.into c.change_snaps-made.result) (ap (λ (z : Reply). answer z c.change_snaps-made.result) c.done.ensures) c.if-is_ok.self c.replied.new.self (answer c.replied.new.into c.replied.result) c.replied.ensures in
+    record { snapped = it.snapped; placed = it.placed; accepted = it.accepted; needs = subst (λ (n : Session). NeedsSnapshot n.volumes command (answer c.replied.new.into c.replied.result)) c.self.view_is needs }

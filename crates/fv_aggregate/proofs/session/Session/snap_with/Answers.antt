@@ -1,15 +1,30 @@
-use Rattle.std.proofs.Common.{◌≡◌, Option, Some, rules, inr, Err, sym, ap, subst, ◌∙◌, arith}
+use Rattle.std.proofs.Common.{◌≡◌, ℕ, Option, Some, rules, inr, Err, sym, ap, subst, ◌∙◌, arith}
 use Rattle.fv_volume.specs.declared.state.VolumeState.{VolumeState}
 use Rattle.fv_aggregate.specs.Answers.{answer}
 use Rattle.fv_aggregate.specs.Looking.{HasSnapped}
 use Rattle.fv_aggregate.specs.Snapping.{snap_blocks}
 use Rattle.fv_aggregate.proofs.Answered.{fails}
 use Rattle.fv_aggregate.proofs.Asked.{damaged_at}
-use Rattle.fv_aggregate.proofs.Holes.{passes_limit}
+use Rattle.fv_aggregate.proofs.Holes.{keeps_limit, passes_limit}
+use Rattle.fv_aggregate.specs.Commands.{room_by}
+use Rattle.fv_aggregate.specs.Reclaiming.{HasMadeRoom}
+use Rattle.fv_aggregate.proofs.MadeRoom.{always, calm_roomy, failed_roomy, made_room, none_roomy}
 use Rattle.fv_aggregate.proofs.Rooms.{room_most}
 use Rattle.fv_aggregate.proofs.SnapCommands.{aimed_room, snap_low}
+use Rattle.fv_aggregate.proofs.SnapLost.{needs_none, room_needs}
 use Rattle.fv_aggregate.proofs.SnapRoom.{room_places, snap_roomless, snap_roomy, still_beside, still_granted, still_room_by, still_snap_aimed}
+use Rattle.fv_aggregate.proofs.session.Session.snap_with.Goals.{then-granted-eq0-via-then-granted-eq0, then-granted-eq0-via-else-granted-eq0+then-has_room}
 use Rattle.fv_aggregate.proofs.session.Session.snap_with.Goals as goal
+
+pub returns-then-granted-eq0-clause-roomy : goal.returns-then-granted-eq0-clause-roomy
+returns-then-granted-eq0-clause-roomy g c =
+    let s = c.args.self.now in let d = g.D.Disk.shown c.args.disk.now in let room = room_by s.volumes c.args.command.now in
+    let exact = c.requires.granted.room ∙ aimed_room s.volumes c.args.slot c.args.command.now c.requires.aimed in
+    elim c.then-granted-eq0.branch [
+      | then-granted-eq0-via-then-granted-eq0 w ↦ none_roomy room d s d (answer c.snap_now.new.into c.snap_now.result) (sym exact ∙ w.if-granted-eq0.true)
+      | then-granted-eq0-via-else-granted-eq0+then-has_room w ↦ calm_roomy room d s d (answer c.snap_now.new.into c.snap_now.result)
+          (λ past. let low = keeps_limit s.pending c.args.granted.room _ w.has_room.ensures w.if-has_room.true in omega (arith, exact, low, past))
+    ]
 
 pub returns-in_err-make_room : goal.returns-in_err-make_room
 returns-in_err-make_room g c =
@@ -24,6 +39,8 @@ returns-in_err-make_room g c =
           (snap_roomless d c.args.disk.now s command room past c.if-granted-eq0.false (c.requires.granted.room ∙ aimed_room s.volumes c.args.slot command aimed)
           (room_places aimed.state aimed.state.name command aimed.snaps (λ none. c.if-granted-eq0.false (same ∙ none))) (damaged_at d s c.args.slot aimed.state aimed.there c.requires.fresh) e c.make_room.new.disk c.make_room.new.self c.in_err-make_room.field-0.0
           made.runs.goes made.runs.goes_for made.runs.damage made.runs.numbers);
+      needs = needs_none s.volumes command _ (room_needs aimed.state aimed.state.name command aimed.snaps (λ none. c.if-granted-eq0.false (same ∙ none)));
+      roomy = failed_roomy (room_by s.volumes command) d s e c.in_err-make_room.field-0.0 (answer c.args.into.now c.from_residual.result) failed;
     }
 
 pub snap_now-requires-2 : goal.snap_now-requires-2
@@ -61,4 +78,8 @@ returns g c =
       snapped = snap_roomy d c.args.disk.now s command room past c.if-granted-eq0.false (c.requires.granted.room ∙ aimed_room s.volumes c.args.slot command aimed)
           (room_places aimed.state aimed.state.name command aimed.snaps (λ none. c.if-granted-eq0.false (same ∙ none))) (damaged_at d s c.args.slot aimed.state aimed.there c.requires.fresh) e c.make_room.new.disk c.make_room.new.self c.in_ok-make_room.field-0
           (still_room_by s.volumes c.make_room.new.self.volumes made.cores c.args.slot command aimed) made.runs.goes made.pending made.runs.goes_for (made.pointed past) made.runs.numbers c.snap_now-2.new.self (answer c.snap_now-2.new.into c.snap_now-2.result) (record { snapped = did.snapped; placed = did.placed; accepted = did.accepted });
+      needs = needs_none s.volumes command _ (room_needs aimed.state aimed.state.name command aimed.snaps (λ none. c.if-granted-eq0.false (same ∙ none)));
+      roomy = λ tells last m stands some over.
+          let exact = c.requires.granted.room ∙ aimed_room s.volumes c.args.slot command aimed in
+          always _ (subst (λ (k : ℕ). HasMadeRoom k s e m) exact (made_room room s e c.make_room.new.self m (made.reclaimed tells last m stands past))) (answer c.snap_now-2.new.into c.snap_now-2.result);
     }

@@ -6,6 +6,8 @@ use Rattle.fv_files.specs.Tables.{table_in, tree_known, IsInfoOf}
 use Rattle.fv_files.specs.Calls.{GivesCell}
 use Rattle.fv_files.specs.Failing.{Looks}
 use Rattle.fv_files.proofs.Looked.{earlier, looks_failed, looks_inode, looks_then, over, Held}
+use Rattle.std.specs.Prelude.{None}
+use Rattle.fv_files.proofs.Right.{trees_on}
 use Rattle.fv_files.proofs.files.Files.read_by_path.Goals as goal
 
 pub read-requires-clause-there : goal.read-requires-clause-there
@@ -52,3 +54,9 @@ returns-in_err-read-clause-looks g c =
     let failed : c.from_residual-in_err-read.result ≡ Err c.in_err-read.field-0.0 = search rules in
     subst (Looks told (table_in old c.args.self.now) old new) (sym failed) (looks_then told c.args.self.now old mid new c.in_ok-look.field-0 (Err c.in_err-read.field-0.0)
     (looks_inode told (table_in old c.args.self.now) old mid (Ok c.in_ok-look.field-0) c.in_ok-look.ensures.looks) c.in_err-read.ensures.looks)
+
+pub look-requires : goal.look-requires
+look-requires g c = record { right = λ told. c.requires.right told None }
+
+pub read-requires-clause-right : goal.read-requires-clause-right
+read-requires-clause-right g c = λ told. trees_on (g.B.Blocks.shown c.args.blocks.now) (g.B.Blocks.shown c.look.new.blocks) c.args.self.now c.look.ensures.looks.untouched (c.requires.right told)

@@ -1,7 +1,11 @@
 use Rattle.std.proofs.Common.{◌/◌, refl, ◌∙◌}
+use Rattle.fv_files.specs.Tables.{table_in}
 use Rattle.fv_files.specs.Failing.{Looks}
-use Rattle.fv_files.proofs.Looked.{handed_on, looks_past}
+use Rattle.fv_files.proofs.Looked.{handed_on, looks_handed, looks_past}
 use Rattle.fv_files.proofs.TakenCells.{cut_takes, staying_same}
+use Rattle.fv_files.proofs.Right.{right_known}
+use Rattle.fv_tree.proofs.Right.{right_on}
+use Rattle.std.specs.Prelude.{None}
 use Rattle.fv_files.proofs.files.Files.taken_by_cut.Goals as goal
 
 pub returns-in_err-inode-clause-looks : goal.returns-in_err-inode-clause-looks
@@ -13,3 +17,15 @@ returns-clause-taken g c = λ told.
     let same = staying_same c.args.self.now.inode.tree (g.B.Blocks.shown c.args.blocks.now) (g.B.Blocks.shown c.taken_tree.new.blocks) (g.B.Sharing.shared c.args.blocks.now) (g.B.Sharing.shared c.taken_tree.new.blocks) (c.args.info.now.number / 16) c.in_ok-tree.ensures.loads.untouched.held (g.met.B.Sharing.reads_share c.args.blocks.now c.taken_tree.new.blocks c.in_ok-tree.ensures.loads.reads) in
     cut_takes (g.B.Blocks.shown c.args.blocks.now) c.args.self.now c.args.info.now (g.B.Sharing.shared c.args.blocks.now) c.args.length c.in_ok-tree.tree c.in_ok-inode.inode _ (c.requires.there told)
     (λ holds. c.in_ok-tree.ensures.gone told holds) (λ holds. c.in_ok-tree.ensures.staying told holds) (c.in_ok-inode.ensures.staying told ∙ same) refl refl
+
+pub taken_tree-requires-clause-right : goal.taken_tree-requires-clause-right
+taken_tree-requires-clause-right g c = λ told. right_known (g.B.Blocks.shown c.args.blocks.now) c.args.self.now c.args.info.now (c.requires.there told) (c.requires.right told)
+
+pub staying-requires : goal.staying-requires
+staying-requires g c = record { right = λ told. right_on (g.B.Blocks.shown c.args.blocks.now) (g.B.Blocks.shown c.taken_tree.new.blocks) c.args.self.now.inode.tree c.in_ok-tree.ensures.loads.untouched (c.requires.right told None) }
+
+pub returns-in_err-tree-clause-looks : goal.returns-in_err-tree-clause-looks
+returns-in_err-tree-clause-looks g c =
+    let is = c.in_err-tree.ensures in
+    let old = g.B.Blocks.shown c.args.blocks.now in
+    looks_handed g.B.Blocks.told (table_in old c.args.self.now) c.args.info.now old (g.B.Blocks.shown c.taken_tree.new.blocks) c.in_err-tree.field-0.0 c.from_residual.result c.from_residual.ensures.1 c.requires.there is.loads.untouched is.loads.counts is.loads.cause

@@ -12,6 +12,7 @@ use Rattle.fv_inode.proofs.Looked.{earlier, loaded_as, loads_leaves, loads_then,
 use Rattle.fv_inode.proofs.Slots.{put_used}
 use Rattle.fv_inode.proofs.Rewritten.{rewrites}
 use Rattle.fv_inode.proofs.Numbered.{new_is, makes}
+use Rattle.fv_tree.proofs.Right.{right_on}
 use Rattle.fv_inode.proofs.file.InodeFile.create.Goals as goal
 
 pub returns-in_err-files-clause-loads : goal.returns-in_err-files-clause-loads
@@ -80,3 +81,6 @@ returns-clause-alters g c = λ told.
     let mid = g.B.Blocks.shown c.read_files.new.blocks in
     let new = g.B.Blocks.shown c.write_files.new.blocks in
     earlier (λ v. Alters c.args.stamp (loaded_as c.args.self.now.tree v) (loaded new c.write_files.new.tree)) c.args.self.now.tree old mid c.in_ok-files.ensures.looks.untouched.held (c.in_ok-write_files.ensures.alters told)
+
+pub write_files-requires-clause-right : goal.write_files-requires-clause-right
+write_files-requires-clause-right g c = λ told. right_on (g.B.Blocks.shown c.args.blocks.now) (g.B.Blocks.shown c.read_files.new.blocks) c.args.self.now.tree c.in_ok-files.ensures.looks.untouched (c.requires.right told)

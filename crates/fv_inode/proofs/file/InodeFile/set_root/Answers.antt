@@ -10,6 +10,7 @@ use Rattle.fv_inode.specs.Changing.{FillsFiles}
 use Rattle.fv_inode.proofs.Looked.{earlier, later, loaded_as, loads_leaves, stands_on, looks_done, loads_none, loads_then, loads_none_failed}
 use Rattle.fv_inode.proofs.Slots.{block_there, still_used, no_such, such}
 use Rattle.fv_inode.proofs.Rewritten.{sets_root}
+use Rattle.fv_tree.proofs.Right.{right_on}
 use Rattle.fv_inode.proofs.file.InodeFile.set_root.Goals as goal
 
 pub returns-in_err-files-clause-loads : goal.returns-in_err-files-clause-loads
@@ -76,3 +77,6 @@ returns-clause-leaves g c = λ told stands changed.
     let new = g.B.Blocks.shown c.refill_files.new.blocks in
     let same = c.in_ok-files.ensures.looks.untouched in
     earlier (λ v. Leaves (loaded_as c.args.self.now.tree v) (loaded new c.refill_files.new.tree)) c.args.self.now.tree old mid same.held (c.refill_files.ensures.leaves told (stands_on c.args.self.now.tree old mid same.held same.used stands) changed)
+
+pub refill_files-requires-clause-right : goal.refill_files-requires-clause-right
+refill_files-requires-clause-right g c = λ told. right_on (g.B.Blocks.shown c.args.blocks.now) (g.B.Blocks.shown c.read_files.new.blocks) c.args.self.now.tree c.in_ok-files.ensures.looks.untouched (c.requires.right told)

@@ -1,30 +1,31 @@
-use Rattle.std.proofs.Common.{Err, ◌<◌, ◌≤◌, ◌+◌, ◌≡◌, ◌⊎◌, refl, sym, ap, subst, inl, inr, ⊎_elim, arith}
+use Rattle.std.proofs.Common.{Ok, Err, ◌<◌, ◌≤◌, ◌+◌, ◌≡◌, ◌⊎◌, refl, sym, ap, subst, inl, inr, ⊎_elim, arith}
 use Rattle.fv_image.specs.Layout.{root_place}
 use Rattle.fv_container.specs.Chains.{container_at, own_entry}
 use Rattle.fv_pool.specs.declared.pool.Pool.{Pool}
 use Rattle.fv_pool.specs.Lending.{IsOutOfRoom, lent_by, shown_over}
-use Rattle.fv_pool.specs.Putting.{PutsOver, unasked}
+use Rattle.fv_pool.specs.Putting.{PutsOver, trusting, unasked}
 use Rattle.fv_tree.specs.Sources.{Places}
 use Rattle.fv_pool.proofs.Going.{entry_stays, goes_failed, goes_placed, place_notes}
-use Rattle.fv_pool.proofs.PlaceShown.{placed_shown, unplaced_shown}
+use Rattle.fv_pool.proofs.PlaceShown.{placed_shown, trusting_places, unplaced_shown}
 use Rattle.fv_pool.proofs.volume_places.VolumePlacesBlocks.place.Goals as goal
 
 pub returns-in-Ok-clause-places : goal.returns-in-Ok-clause-places
 returns-in-Ok-clause-places g c =
     let self = c.args.self.now in
     let fewer : self.room ≤ c.saturating_sub-self.result + 1 = omega (arith, c.saturating_sub-self.ensures) in
-    placed_shown self.pool.now c.place_block.new.pool self.map.now c.place_block.new.map (unasked (g.D.Disk.shown self.disk.now)) 0 self.home self.room c.saturating_sub-self.result self.strays self.noted _ self.apart
-    c.args.kind c.args.block.now c.in-Ok.placed c.in-Ok.ensures.valid c.in-Ok.ensures.placed c.in-Ok.ensures.holds c.in-Ok.ensures.vvbn fewer
+    trusting_places _ _ _ c.args.kind c.args.block.now (Ok c.in-Ok.placed)
+    (placed_shown self.pool.now c.place_block.new.pool self.map.now c.place_block.new.map (unasked (g.D.Disk.shown self.disk.now)) 0 self.home self.room c.saturating_sub-self.result self.strays self.noted _ self.apart
+    c.args.kind c.args.block.now c.in-Ok.placed c.in-Ok.ensures.valid c.in-Ok.ensures.placed c.in-Ok.ensures.holds c.in-Ok.ensures.vvbn fewer)
 
 pub returns-in-Err-clause-places : goal.returns-in-Err-clause-places
 returns-in-Err-clause-places g c =
     let self = c.args.self.now in
     let disk = (unasked (g.D.Disk.shown self.disk.now)) in
-    let old = shown_over (lent_by self.pool.now self.map.now disk 0 self.home self.room self.strays self.noted) in
-    let shown = unplaced_shown self.pool.now self.map.now disk 0 self.home self.room self.strays self.noted c.note.new.noted _ c.args.kind c.args.block.now c.in-Err.fault c.in-Err.ensures.fault c.note.ensures.notes self.numbers self.blocks in
-    subst (λ e. Places _ old c.args.kind c.args.block.now (shown_over (lent_by c.place_block.new.pool c.place_block.new.map disk 0 self.home self.room self.strays c.note.new.noted)) (Err e)) (sym c.note.ensures.same)
-    (subst (λ p. Places _ old c.args.kind c.args.block.now (shown_over (lent_by p c.place_block.new.map disk 0 self.home self.room self.strays c.note.new.noted)) (Err c.in-Err.fault)) (sym c.in-Err.ensures.failed)
-    (subst (λ m. Places _ old c.args.kind c.args.block.now (shown_over (lent_by self.pool.now m disk 0 self.home self.room self.strays c.note.new.noted)) (Err c.in-Err.fault)) (sym c.in-Err.ensures.failed_map) shown))
+    let old = trusting (shown_over (lent_by self.pool.now self.map.now disk 0 self.home self.room self.strays self.noted)) in
+    let shown = trusting_places _ _ _ c.args.kind c.args.block.now (Err c.in-Err.fault) (unplaced_shown self.pool.now self.map.now disk 0 self.home self.room self.strays self.noted c.note.new.noted _ c.args.kind c.args.block.now c.in-Err.fault c.in-Err.ensures.fault c.note.ensures.notes self.numbers self.blocks) in
+    subst (λ e. Places _ old c.args.kind c.args.block.now (trusting (shown_over (lent_by c.place_block.new.pool c.place_block.new.map disk 0 self.home self.room self.strays c.note.new.noted))) (Err e)) (sym c.note.ensures.same)
+    (subst (λ p. Places _ old c.args.kind c.args.block.now (trusting (shown_over (lent_by p c.place_block.new.map disk 0 self.home self.room self.strays c.note.new.noted))) (Err c.in-Err.fault)) (sym c.in-Err.ensures.failed)
+    (subst (λ m. Places _ old c.args.kind c.args.block.now (trusting (shown_over (lent_by self.pool.now m disk 0 self.home self.room self.strays c.note.new.noted))) (Err c.in-Err.fault)) (sym c.in-Err.ensures.failed_map) shown))
 
 pub returns-in-Ok-clause-calls : goal.returns-in-Ok-clause-calls
 returns-in-Ok-clause-calls g c =

@@ -7,6 +7,7 @@ use Rattle.fv_tree.specs.Seeking.{Lands, IsFurther}
 use Rattle.fv_tree.proofs.Causes.{calm_then, fails_on, untouched_then}
 use Rattle.fv_tree.proofs.Removing.{none_past}
 use Rattle.fv_tree.proofs.Seeking.{holes_then}
+use Rattle.fv_tree.proofs.Right.{right_on}
 use Rattle.fv_tree.proofs.kept.Tree.next.Goals as goal
 
 pub returns-in-Cell-clause-next : goal.returns-in-Cell-clause-next
@@ -45,3 +46,6 @@ returns-clause-next g c = λ told i low.
       | inl lt ↦ c.loop-at.invariant.holes told i low lt
       | inr le ↦ none_past t i (omega (arith, le, c.loop-at-test.false, c.width-end.ensures.is))
     ]
+
+pub walk-requires-clause-right : goal.walk-requires-clause-right
+walk-requires-clause-right g c = λ told. right_on (g.B.Blocks.shown c.args.blocks.now) (g.B.Blocks.shown c.loop-at.blocks) c.args.self.now c.loop-at.invariant.untouched (c.requires.right told)

@@ -7,6 +7,7 @@ use Rattle.fv_tree.specs.Standing.{standing, under}
 use Rattle.fv_tree.specs.Flushing.{changed_of, loaded}
 use Rattle.fv_tree.proofs.Causes.{calm_itself, calm_then, fails_on, untouched_itself, untouched_then}
 use Rattle.fv_tree.proofs.Stays.{staying_end, staying_next, staying_top}
+use Rattle.fv_tree.proofs.Right.{right_on}
 use Rattle.fv_tree.proofs.kept.Tree.staying.Goals as goal
 
 pub loop-level-init : goal.loop-level-init
@@ -70,3 +71,6 @@ loop-level-preserved g c =
 pub returns-clause-staying : goal.returns-clause-staying
 returns-clause-staying g c = λ told.
     staying_end (loaded (g.B.Blocks.shown c.args.blocks.now) c.args.self.now) (g.B.Sharing.shared c.args.blocks.now) c.args.index c.loop-level.level c.loop-level.count (omega (arith, c.loop-level-test.false)) (c.loop-level.invariant.count told)
+
+pub step-requires-clause-right : goal.step-requires-clause-right
+step-requires-clause-right g c = λ told. right_on (g.B.Blocks.shown c.args.blocks.now) (g.B.Blocks.shown c.loop-level.blocks) c.args.self.now c.loop-level.invariant.untouched (c.requires.right told)

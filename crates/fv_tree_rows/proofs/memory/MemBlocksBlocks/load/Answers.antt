@@ -8,8 +8,8 @@ use Rattle.fv_tree_rows.proofs.memory.MemBlocksBlocks.load.Goals as goal
 
 pub returns-clause-loads : goal.returns-clause-loads
 returns-clause-loads c = record {
-  untouched = record { held = ap held_in_memory c.is_spent.ensures.blocks; used = ap used_in_memory c.is_spent.ensures.blocks; strays = c.is_spent.ensures.strays; room = omega (arith, c.is_spent.ensures.next); cost = refl };
-  gives = λ _. found (λ (kept : List ℕ × ℕ × ℕ). kept.0) c.args.self.now.blocks c.args.pointer.now.vvbn
+  untouched = record { held = ap held_in_memory c.is_spent.ensures.blocks; used = ap used_in_memory c.is_spent.ensures.blocks; strays = c.is_spent.ensures.strays; room = omega (arith, c.is_spent.ensures.next); cost = refl; right = λ v pvbn right. right };
+  gives = λ _ _. found (λ (kept : List ℕ × ℕ × ℕ). kept.0) c.args.self.now.blocks c.args.pointer.now.vvbn
       ∙ ap (λ (b : tree.BTreeMap ℕ (List ℕ × ℕ × ℕ)). option_map (λ (kept : List ℕ × ℕ × ℕ). kept.0) (tree.get nat_cmp b c.args.pointer.now.vvbn)) (sym c.is_spent.ensures.blocks)
       ∙ ap (option_map (λ (kept : List ℕ × ℕ × ℕ). kept.0)) (sym c.in-Some.ensures.value);
   answers = refl;

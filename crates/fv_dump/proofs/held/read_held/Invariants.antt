@@ -1,0 +1,6 @@
+use Rattle.std.specs.Prelude.{None}
+use Rattle.fv_dump.specs.Looking.{Looks}
+use Rattle.fv_dump.proofs.held.read_held.Given as goal
+
+abbrev pub invariant-loop-map : goal.invariant-loop-map
+invariant-loop-map g l = Looks (g.L.Look.shown l.fn.look) (g.L.Look.shown l.look) None

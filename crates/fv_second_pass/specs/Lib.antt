@@ -1,0 +1,4 @@
+pub mod Told
+pub mod Lent
+pub mod LentLaws
+pub mod Reaching

@@ -1,0 +1,158 @@
+-- What is judged along a clean walk is what rules 9 and 10 say of its steps.
+use Rattle.std.proofs.Common.{◌≡◌, ℕ, ◌+◌, Bool, true, false, List, [], ◌∷◌, ◌++◌, map, refl, sym, ap, subst, ◌∙◌, ⊎_elim, arith, Ok, Err}
+use Rattle.std.specs.Prelude.{flat_map, fold, max, nat_le, Option, Some, None, Result, ◌==◌, if◌then◌else◌}
+use Rattle.std.specs.Option.{option_map, option_map_or}
+use Rattle.std.specs.List.{enumerate_from}
+use Rattle.std.proofs.lemmas.Grind.{flat_map-append}
+use Rattle.std.proofs.lemmas.Bool.Decides.{nat_tests}
+use Rattle.std.proofs.lemmas.List.{append-nil, append_assoc}
+use Rattle.std.proofs.lemmas.List.Folds.{flat_map-map}
+use Rattle.fv_codec.specs.declared.shape.Shape.{Shape}
+use Rattle.fv_codec.specs.declared.pointer.Pointer.{Pointer}
+use Rattle.fv_codec.specs.declared.node.Node as nodes
+use Rattle.fv_codec.specs.declared.inode.InodeBlock.{InodeBlock}
+use Rattle.fv_codec.specs.Blocks.{greatest_word, node_at, inodes_at}
+use Rattle.fv_laws.proofs.Lists.{In, in_left, in_right, in_either, in_flat_map, from_flat_map}
+use Rattle.fv_tables.specs.Reached.{Item}
+use Rattle.fv_image.specs.Views.{Placed, Rooted, kind_at}
+use Rattle.fv_image.specs.ReachRules.{kind_of}
+use Rattle.fv_faults.specs.declared.fault.Fault.{Fault}
+use Rattle.fv_faults.specs.declared.lines.Lines.{Lines}
+use Rattle.fv_faults.specs.Adding.{Adds}
+use Rattle.fv_faults.specs.Lines.{expects, unless, line}
+use Rattle.fv_faults.specs.Walks.{Ground, Step, step, steps, child_of, children_of, file_root, files_under, pointers_under}
+use Rattle.fv_faults.specs.Met.{Spot, place_at, met, run, IsClean}
+use Rattle.fv_faults.specs.ThirdPass.{kind_lines, mark_lines, stamp_lines, greatest_stamp}
+use Rattle.fv_faults.proofs.Plain.{steps_are}
+use Rattle.fv_walk.specs.Sources.{found_of}
+use Rattle.fv_walk.specs.declared.below.Below.TheVariants.{Nothing}
+use Rattle.fv_walk.specs.Sights.{sight_of, spelled, node_in, inodes_in, below_of}
+use Rattle.fv_third_pass.specs.Judged.{kind_found, kinds_of, marks_in, marks_of, stamps_of, own_lines, judged, judged_lines}
+use Rattle.fv_third_pass.proofs.Noting.{same_added}
+
+-- ---- of one step
+
+kind_same : (at : Option Placed) → kind_found (option_map found_of at) ≡ kind_at at
+kind_same None = refl
+kind_same (Some x) = refl
+
+-- the stamps of the children of a node
+greatest_same : (e : Item) (k n : ℕ) (cs : List Pointer) → fold (λ n (c : Item). max n c.pointer.stamp) n (map (child_of e) (enumerate_from k cs)) ≡ fold (λ n (p : Pointer). max n p.stamp) n cs
+greatest_same e k n [] = refl
+greatest_same e k n (c ∷ cs) = greatest_same e (k + 1) (max n c.stamp) cs
+
+abbrev mark_by : Item → ℕ → Placed → List Fault
+mark_by e block x = unless (nat_le (greatest_stamp (pointers_under e x)) e.pointer.stamp) (line 10 block (greatest_stamp (pointers_under e x)) e.pointer.stamp)
+
+marks_by : (e : Item) (block : ℕ) (at : Option Placed) → marks_in block e.pointer.stamp (below_of e at) ≡ (if e.level == 0 then [] else option_map_or (mark_by e block) at [])
+unfolding below_of spelled pointers_under
+marks_by e block None = so (e.level == 0)
+  where
+    so : (b : Bool) → ◌≡◌ {A = List Fault} [] (if b then [] else [])
+    so true = refl
+    so false = refl
+marks_by e block (Some x) = so (e.level == 0)
+  where
+    inodes : (r : Result InodeBlock Shape) → marks_in block e.pointer.stamp (inodes_in r) ≡ []
+    inodes (Ok b) = refl
+    inodes (Err shape) = refl
+
+    cells : (b : Bool) → marks_in block e.pointer.stamp (if b then inodes_in (inodes_at x.block) else Nothing) ≡ []
+    cells true = inodes (inodes_at x.block)
+    cells false = refl
+
+    by_most : ℕ → List Fault
+    by_most n = unless (nat_le n e.pointer.stamp) (line 10 block n e.pointer.stamp)
+
+    node : (r : Result nodes.Node Shape) → marks_in block e.pointer.stamp (node_in r) ≡ by_most (greatest_stamp (children_of e r))
+    node (Ok n) = ap by_most (sym (greatest_same e 0 0 n.children))
+    node (Err shape) = let low : nat_le 0 e.pointer.stamp ≡ true = grind (arith, nat_tests) in sym (ap (λ b. unless b (line 10 block 0 e.pointer.stamp)) low)
+
+    so : (b : Bool) → marks_in block e.pointer.stamp (if b then (if e.owner == greatest_word then inodes_in (inodes_at x.block) else Nothing) else node_in (node_at x.block))
+        ≡ (if b then [] else by_most (greatest_stamp (if b then map (file_root e) (files_under e x) else children_of e (node_at x.block))))
+    so true = cells (e.owner == greatest_word)
+    so false = node (node_at x.block)
+
+module _ (g : Ground) (done : List Step) (p : Spot) where
+  kinds_are : kinds_of (sight_of g p) ≡ kind_lines (step g done p.0 p.1)
+  unfolding kind_lines step
+  kinds_are = ap (λ n. expects 9 p.1 (kind_of p.0) n) (kind_same (place_at g p.0))
+
+  stamps_are : (last : ℕ) → stamps_of last (sight_of g p) ≡ stamp_lines last (step g done p.0 p.1)
+  unfolding stamp_lines step
+  stamps_are last = refl
+
+  marks_are : marks_of (sight_of g p) ≡ mark_lines (step g done p.0 p.1)
+  unfolding mark_lines step
+  marks_are = marks_by p.0 p.1 (place_at g p.0)
+
+-- ---- of a walk
+
+module _ (g : Ground) (f : Step → List Fault) (h : Spot → List Fault) (same : (done : List Step) (p : Spot) → f (step g done p.0 p.1) ≡ h p) where
+  run_lines : (done : List Step) (ps : List Spot) → flat_map f (run g done ps) ≡ flat_map f done ++ flat_map h ps
+  unfolding run
+  run_lines done [] = sym (append-nil (flat_map f done))
+  run_lines done (p ∷ ps) =
+      run_lines (done ++ (step g done p.0 p.1 ∷ [])) ps
+      ∙ ap (λ ls. ls ++ flat_map h ps) (flat_map-append f done (step g done p.0 p.1 ∷ []))
+      ∙ append_assoc (flat_map f done) (f (step g done p.0 p.1) ++ []) (flat_map h ps)
+      ∙ ap (λ ls. flat_map f done ++ (ls ++ flat_map h ps)) (append-nil (f (step g done p.0 p.1)) ∙ same done p)
+
+-- two lists for each element
+module _ {X : Type 0} (a b : X → List Fault) (xs : List X) (f : Fault) where
+  spread : In f (flat_map (λ x. a x ++ b x) xs) → In f (flat_map a xs ++ flat_map b xs)
+  spread there =
+      let at = from_flat_map (λ x. a x ++ b x) f xs there in ⊎_elim
+      (λ one. in_left f (flat_map a xs) (flat_map b xs) (in_flat_map a at.0 f xs at.1 one))
+      (λ two. in_right f (flat_map a xs) (flat_map b xs) (in_flat_map b at.0 f xs at.1 two))
+      (in_either f (a at.0) (b at.0) at.2)
+
+  gathered : In f (flat_map a xs ++ flat_map b xs) → In f (flat_map (λ x. a x ++ b x) xs)
+  gathered there = ⊎_elim
+      (λ one. let at = from_flat_map a f xs one in in_flat_map (λ x. a x ++ b x) at.0 f xs at.1 (in_left f (a at.0) (b at.0) at.2))
+      (λ two. let at = from_flat_map b f xs two in in_flat_map (λ x. a x ++ b x) at.0 f xs at.1 (in_right f (a at.0) (b at.0) at.2))
+      (in_either f (flat_map a xs) (flat_map b xs) there)
+
+module _ (g : Ground) (label : ℕ) (r : Rooted) (last : ℕ) (clean : IsClean (steps g label r)) where
+  abbrev ps : List Spot
+  ps = met g label r
+
+  -- the lines of the steps, pointer by pointer
+  kinds_along : flat_map kind_lines (steps g label r) ≡ flat_map (λ p. kinds_of (sight_of g p)) ps
+  kinds_along = ap (flat_map kind_lines) (steps_are g label r clean) ∙ run_lines g kind_lines (λ p. kinds_of (sight_of g p)) (λ done p. sym (kinds_are g done p)) [] ps
+
+  marks_along : flat_map mark_lines (steps g label r) ≡ flat_map (λ p. marks_of (sight_of g p)) ps
+  marks_along = ap (flat_map mark_lines) (steps_are g label r clean) ∙ run_lines g mark_lines (λ p. marks_of (sight_of g p)) (λ done p. sym (marks_are g done p)) [] ps
+
+  stamps_along : flat_map (stamp_lines last) (steps g label r) ≡ flat_map (λ p. stamps_of last (sight_of g p)) ps
+  stamps_along = ap (flat_map (stamp_lines last)) (steps_are g label r clean) ∙ run_lines g (stamp_lines last) (λ p. stamps_of last (sight_of g p)) (λ done p. sym (stamps_are g done p last)) [] ps
+
+  own_along : (own : Bool) → (if own then flat_map kind_lines (steps g label r) ++ flat_map mark_lines (steps g label r) else [])
+      ≡ (if own then flat_map (λ p. kinds_of (sight_of g p)) ps ++ flat_map (λ p. marks_of (sight_of g p)) ps else [])
+  own_along true = ap (λ ls. ls ++ flat_map mark_lines (steps g label r)) kinds_along ∙ ap (λ ls. flat_map (λ p. kinds_of (sight_of g p)) ps ++ ls) marks_along
+  own_along false = refl
+
+  own_to : (own : Bool) (f : Fault) → In f (flat_map (λ p. own_lines own (sight_of g p)) ps) → In f (if own then flat_map (λ p. kinds_of (sight_of g p)) ps ++ flat_map (λ p. marks_of (sight_of g p)) ps else [])
+  own_to true f there = spread (λ p. kinds_of (sight_of g p)) (λ p. marks_of (sight_of g p)) ps f there
+  own_to false f there = let at = from_flat_map {X = Spot} (λ p. []) f ps there in absurd at.2
+
+  own_from : (own : Bool) (f : Fault) → In f (if own then flat_map (λ p. kinds_of (sight_of g p)) ps ++ flat_map (λ p. marks_of (sight_of g p)) ps else []) → In f (flat_map (λ p. own_lines own (sight_of g p)) ps)
+  own_from true f there = gathered (λ p. kinds_of (sight_of g p)) (λ p. marks_of (sight_of g p)) ps f there
+  own_from false f there = absurd there
+
+  pub judged_added : (own : Bool) (old new : Lines) → Adds (flat_map (judged own last) (map (sight_of g) ps)) old new → Adds (judged_lines own last (steps g label r)) old new
+  judged_added own old new adds =
+      let stamps : List Fault = flat_map (λ p. stamps_of last (sight_of g p)) ps in
+      let mine : List Fault = if own then flat_map (λ p. kinds_of (sight_of g p)) ps ++ flat_map (λ p. marks_of (sight_of g p)) ps else [] in
+      let owned : List Fault = flat_map (λ p. own_lines own (sight_of g p)) ps in
+      subst (λ ls. Adds ls old new) (sym (ap (λ ls. ls ++ flat_map (stamp_lines last) (steps g label r)) (own_along own) ∙ ap (λ ls. mine ++ ls) stamps_along))
+      (same_added (flat_map (λ p. judged own last (sight_of g p)) ps) (mine ++ stamps) old new
+      (λ f there. ⊎_elim
+      (λ one. in_left f mine stamps (own_to own f one))
+      (λ two. in_right f mine stamps two)
+      (in_either f owned stamps (spread (λ p. own_lines own (sight_of g p)) (λ p. stamps_of last (sight_of g p)) ps f there)))
+      (λ f there. gathered (λ p. own_lines own (sight_of g p)) (λ p. stamps_of last (sight_of g p)) ps f (⊎_elim
+      (λ one. in_left f owned stamps (own_from own f one))
+      (λ two. in_right f owned stamps two)
+      (in_either f mine stamps there)))
+      (subst (λ ls. Adds ls old new) (flat_map-map (judged own last) (sight_of g) ps) adds))

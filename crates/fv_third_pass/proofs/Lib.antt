@@ -1,0 +1,15 @@
+mod Times
+mod Tallying
+mod Blocks
+mod Levels
+mod HeldNodes
+mod HeldSlots
+mod Reading
+mod Sums
+mod Noting
+mod Repeated
+mod Bitwise
+mod Areas
+mod VolumeMaps
+mod Judging
+mod MapKinds
