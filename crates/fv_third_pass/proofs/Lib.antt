@@ -6,10 +6,12 @@ mod HeldNodes
 mod HeldSlots
 mod Reading
 mod Sums
-mod Noting
+pub mod Noting
+mod Least
 mod Repeated
 mod Bitwise
 mod Areas
 mod VolumeMaps
-mod Judging
+pub mod Judging
+mod Cells
 mod MapKinds
