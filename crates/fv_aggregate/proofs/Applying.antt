@@ -166,6 +166,10 @@ module _ (c : Command) (name : List ℕ) (of : changed_by c ≡ Some name) (d : 
   make_entries (inl nothing) = absurd (let some = change_room name c change s.volumes in omega (arith, nothing, some))
   make_entries (inr few) = makes.entries (inr (let some = change_room name c change s.volumes in omega (arith, few, some)))
 
+  pub make_still : (room_by s.volumes c ≡ 0) ⊎ (s.pending + room_by s.volumes c ≤ dirty_limit) → IfOk r (λ reply. IsTrue (is_refusal reply) → WasRead d s e n)
+  make_still (inl nothing) = absurd (let some = change_room name c change s.volumes in omega (arith, nothing, some))
+  make_still (inr few) = makes.still (inr (let some = change_room name c change s.volumes in omega (arith, few, some)))
+
   pub make_unchanged : (X : Type 0) → changed_by c ≡ None → X
   make_unchanged X isnt = absurd (none (sym isnt ∙ of))
 

@@ -17,7 +17,7 @@ use Rattle.fv_pool.specs.declared.fault.VolumeFault.{VolumeFault}
 use Rattle.fv_pool.specs.declared.fault.VolumeFault.TheVariants as volume
 use Rattle.fv_pool.specs.declared.pool.Pool.{Pool}
 use Rattle.fv_volume.specs.declared.state.VolumeState.{VolumeState}
-use Rattle.fv_volume.specs.Asking.{standing_read}
+use Rattle.fv_volume.specs.Asking.{standing_read, TellsRead}
 use Rattle.fv_pool.specs.Calls.{CallCause, CallFails, Reads, TableFails}
 use Rattle.fv_volume.specs.Calls.{Agrees, Asks, Has}
 use Rattle.fv_pool.specs.Lending.{Lent, lent_for}
@@ -25,7 +25,7 @@ use Rattle.fv_volume.specs.OneVolume.{home_in, volume_for, IsStanding}
 use Rattle.fv_volume.specs.Placing.{IsStoredWell}
 use Rattle.fv_volume.specs.Slots.{is_named, NoneHasName}
 use Rattle.fv_volume.specs.States.{States, state_at, with_state}
-use Rattle.fv_volume.proofs.KeptReads.{read_undamaged}
+use Rattle.fv_volume.proofs.RightTables.{read_undamaged}
 use Rattle.fv_tables.specs.Told.{Standing}
 use Rattle.fv_cp.specs.Held.{IsHeldIn}
 use Rattle.fv_cp.specs.Lent.{FitTogether}
@@ -65,7 +65,7 @@ module _ (d e : Shown) (p q : Pool) (x : VolumeState) (reads : Reads d p e q) (c
   abbrev its : Lent
   its = lent_for p x.map d 0 (home_in x) 0
 
-  pub state_answered : {T : Type 0} (says : T → Reply) (y : T) → (IsStanding d p x → Asks has c says (Ok y)) → CallCause {T = T} (IsStanding d p x) (standing_read d p x (snapshot_asked c)) its e.faults (Ok y)
+  pub state_answered : {T : Type 0} (says : T → Reply) (y : T) → (IsStanding d p x → Asks has c says (Ok y)) → CallCause {T = T} (TellsRead d p x (snapshot_asked c)) (standing_read d p x (snapshot_asked c)) its e.faults (Ok y)
       → (IsStanding d p x → IsStoredWell d p x → (m : Machine) → has m → refusal m c ≡ None → steps ≡ start) → AsksState d p x command start e q steps (Ok (says y))
   state_answered says y asks cause known = record {
     reads = reads;
@@ -75,12 +75,12 @@ module _ (d e : Shown) (p q : Pool) (x : VolumeState) (reads : Reads d p e q) (c
     unmoved = tt;
   }
 
-  pub state_failed : (T : Type 0) (says : T → Reply) (f : VolumeFault) → (IsStanding d p x → Asks {T = T} has c says (Err f)) → CallCause {T = T} (IsStanding d p x) (standing_read d p x (snapshot_asked c)) its e.faults (Err f)
+  pub state_failed : (T : Type 0) (says : T → Reply) (f : VolumeFault) → (IsStanding d p x → Asks {T = T} has c says (Err f)) → CallCause {T = T} (TellsRead d p x (snapshot_asked c)) (standing_read d p x (snapshot_asked c)) its e.faults (Err f)
       → ((r : Refusal) → f ≡ volume.Refused r → steps ≡ start) → AsksState d p x command start e q steps (Err f)
   state_failed T says f asks cause unmoved = record {
     reads = reads;
     asked = λ is. subst (λ (k : Command). Asks {T = Reply} has k (λ reply. reply) (Err f)) same (record { agrees = λ m there. agrees_err T Reply m c f ((asks is).agrees m there); reply = tt });
-    cause = subst (λ (k : Command). CallFails (IsStanding d p x) (standing_read d p x (snapshot_asked k)) its e.faults f) same cause;
+    cause = subst (λ (k : Command). CallFails (TellsRead d p x (snapshot_asked k)) (standing_read d p x (snapshot_asked k)) its e.faults f) same cause;
     known = λ is well. tt;
     unmoved = unmoved;
   }

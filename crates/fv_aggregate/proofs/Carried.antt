@@ -19,13 +19,13 @@ use Rattle.fv_volume.specs.Changing.{IsChangeOf}
 use Rattle.fv_pool.specs.Tables.{pending_of}
 use Rattle.fv_volume.specs.Slots.{is_named, NoneHasName}
 use Rattle.fv_volume.specs.States.{States, state_at, with_state}
-use Rattle.fv_volume.proofs.Undamaged.{no_damage}
+use Rattle.fv_volume.proofs.RightTables.{no_damage, no_damage_for}
 use Rattle.fv_cp.specs.Held.{IsHeldIn}
 use Rattle.fv_cp.specs.Lent.{FitTogether}
 use Rattle.fv_aggregate.specs.declared.fault.Fault.{Fault}
 use Rattle.fv_aggregate.specs.declared.fault.Fault.TheVariants.{DiskFault, Damaged, Memory}
 use Rattle.fv_aggregate.specs.declared.session.Session.{Session}
-use Rattle.fv_aggregate.specs.Calls.{GoesFor}
+use Rattle.fv_aggregate.specs.Calls.{GoesFor, WasRead}
 use Rattle.fv_aggregate.specs.Commands.{changed_by, file_room, has_range}
 use Rattle.fv_aggregate.specs.Looking.{done_as, ChangesState, HasJudged, JudgesState, IsChangeAt, Makes, Replied}
 use Rattle.fv_aggregate.specs.Standing.{Stands, StandsFor}
@@ -135,6 +135,7 @@ module _ (d e : Shown) (laws : IsDisk d) (s : Session) (q : Pool) (c : Command) 
       goes_for = λ tells last m is. goes_for_done d e laws s after 16 did.reads.only_reads fresh fresh (stand (Ok u) did) Done last m (next m c) is (for_done u did last m is);
       reply = λ tells last m is. change_allows x.name c change m (is_accepted u did last m is);
       refused = λ tells last m is refused. absurd (true≢false (sym refused));
+      still = λ low refused. absurd (true≢false (sym refused));
       calm = λ low. did.reads.only_reads;
       entries = λ low. kept_entries s after did.reads.leaves.containers;
     })
@@ -144,6 +145,7 @@ module _ (d e : Shown) (laws : IsDisk d) (s : Session) (q : Pool) (c : Command) 
           (goes_for_done d e laws s now 16 did.reads.only_reads fresh fresh (stands_read d e s q did.reads stands) (Refused r) last m m is (stands_for_read d e s q did.reads last m is));
       reply = λ tells last m is. refused_allows m c r (is_refused r did last m is);
       refused = λ tells last m is refused. was_read d e s q did.reads;
+      still = λ low refused. was_read d e s q did.reads;
       calm = λ low. did.reads.only_reads;
       entries = λ low. kept_entries s now did.reads.leaves.containers;
     })
@@ -152,14 +154,16 @@ module _ (d e : Shown) (laws : IsDisk d) (s : Session) (q : Pool) (c : Command) 
       goes_for = λ tells last m is. goes_for_broken d e laws s after 16 did.reads.only_reads fresh fresh (stand (Err volume.DiskFault) did) new.failed last m (next m c) is (for_left volume.DiskFault did last m is);
       reply = λ tells last m is. tt;
       refused = λ tells last m is. tt;
+      still = λ low. tt;
       calm = λ low. did.reads.only_reads;
       entries = λ low. kept_entries s (record after { failed = new.failed }) did.reads.leaves.containers;
     })
     makes_by (Err (volume.Damaged at want found)) did new result b = as_told (Makes file_room d s c e) new after result (Err (Damaged at want found)) b.1.1.1 (b.1.0 ∙ ap (λ (g : Fault). Err g) b.1.1.0) (record {
       goes = goes_damaged d e laws s after 16 did.reads.only_reads fresh fresh (stand (Err (volume.Damaged at want found)) did) at want found (calm_damage _ _ _ e.faults at want found did.cause) (damaged_at d s slot x there fresh after at want found) few_added;
-      goes_for = λ tells last m is. absurd (no_damage d s.pool x (its last m is).stands (its last m is).well 0 e.faults at want found did.cause);
+      goes_for = λ tells last m is. absurd (no_damage_for d s.pool x (its last m is).stands (its last m is).well c 0 e.faults at want found did.cause);
       reply = λ tells last m is. tt;
       refused = λ tells last m is. tt;
+      still = λ low. tt;
       calm = λ low. did.reads.only_reads;
       entries = λ low. kept_entries s after did.reads.leaves.containers;
     })
@@ -168,6 +172,7 @@ module _ (d e : Shown) (laws : IsDisk d) (s : Session) (q : Pool) (c : Command) 
       goes_for = λ tells last m is. goes_for_fault d e laws s after 16 did.reads.only_reads fresh fresh (stand (Err volume.Memory) did) Memory last m (next m c) tt is (for_left volume.Memory did last m is);
       reply = λ tells last m is. tt;
       refused = λ tells last m is. tt;
+      still = λ low. tt;
       calm = λ low. did.reads.only_reads;
       entries = λ low. kept_entries s after did.reads.leaves.containers;
     })
@@ -207,10 +212,14 @@ refused_at_once d laws s fresh stands c r why = record {
   goes_for = λ tells last m is. subst (λ (n : Machine). GoesFor d last m n d s (Ok (Refused r))) (sym (refused_next m c r (why last m is)))
       (goes_for_done d d laws s s 16 (reads_itself d) fresh fresh stands (Refused r) last m m is is);
   reply = λ tells last m is. refused_allows m c r (why last m is);
-  refused = λ tells last m is refused. record { only_reads = reads_itself d; pool = record { map = refl; containers = refl; kept = refl; found = refl }; volumes = λ k. refl; same = refl };
+  refused = λ tells last m is refused. as_it_was;
+  still = λ low refused. as_it_was;
   calm = λ low. reads_itself d;
   entries = λ low. kept_entries s s refl;
 }
+  where
+    as_it_was : WasRead d s d s
+    as_it_was = record { only_reads = reads_itself d; pool = record { map = refl; containers = refl; kept = refl; found = refl }; volumes = λ k. refl; same = refl }
 
 pub refused_missing : (d : Shown) (s : Session) → length s.volumes ≡ 64 → (name : List ℕ) (c : Command) → NoneHasName s.volumes name → changed_by c ≡ Some name → has_range c ≡ true → (last m : Machine) → StandsFor d s last m → refusal m c ≡ Some NoVolume
 refused_missing d s long name c none change near last m is = no_change m name (subst (λ (k : Machine). fin.get k.volumes name ≡ None) is.machine (not_there d s.pool s.volumes long name none)) c change near

@@ -1,5 +1,6 @@
 pub mod Answered
 mod Sums
+mod Commits
 pub mod Clear
 pub mod Rooms
 mod Asking

@@ -70,6 +70,7 @@ makes_early d s c e n f goes goes_for reads entries = record {
   goes_for = λ tells last m is. fails_early d last m (next m c) e n f (goes_for tells last m is);
   reply = λ tells last m is. tt;
   refused = λ tells last m is. tt;
+  still = λ low. tt;
   calm = λ low. reads;
   entries = λ low. entries;
 }
@@ -142,9 +143,13 @@ module _ (d : Shown) (s : Session) (c : Command) (damage : (new : Session) (at w
     goes_for = for_then (λ m. next m c) makes.goes_for;
     reply = holds_then (λ m. IfOk r (Allows m c)) makes.reply;
     refused = λ tells last m is. let first = read.goes_for tells last m is in refused_both r (makes.refused (told tells) first.done.point m first.done.stands);
+    still = λ low. refused_both r (makes.still (low_then low));
     calm = λ low. reads_then d e g read.only_reads (makes.calm (let same = same_pending in omega (arith, low, same)));
-    entries = λ low. read_entries s n new read.read.pool (makes.entries (subst (λ (k : ℕ). (◌≡◌ {A = ℕ} 16 0) ⊎ (k + 16 ≤ 256)) (sym same_pending) low));
+    entries = λ low. read_entries s n new read.read.pool (makes.entries (low_then low));
   }
+    where
+      low_then : (◌≡◌ {A = ℕ} 16 0) ⊎ (s.pending + 16 ≤ 256) → (◌≡◌ {A = ℕ} 16 0) ⊎ (n.pending + 16 ≤ 256)
+      low_then low = subst (λ (k : ℕ). (◌≡◌ {A = ℕ} 16 0) ⊎ (k + 16 ≤ 256)) (sym same_pending) low
 
   -- what the steps are after it
   pub known_numbered : (start steps : ℕ) → (IsTrue e.tells → (last m : Machine) → StandsFor e n last m → OnOk r (steps ≡ start)) → IsTrue d.tells → (last m : Machine) → StandsFor d s last m → OnOk r (steps ≡ start)

@@ -27,7 +27,7 @@ use Rattle.fv_volume.specs.States.{States, state_at, with_state}
 use Rattle.fv_volume.proofs.OneVolumes.{still_volume}
 use Rattle.fv_volume.proofs.OneVolumes.{still_led, still_well}
 use Rattle.fv_volumes.proofs.Told.{is_inside}
-use Rattle.fv_volume.proofs.Undamaged.{no_damage}
+use Rattle.fv_volume.proofs.RightTables.{no_damage}
 use Rattle.fv_cp.specs.Held.{machine_held, IsHeld, IsHeldIn}
 use Rattle.fv_cp.specs.Lent.{asked_by, blocks_asked, maps_waiting, FitTogether}
 use Rattle.fv_cp.specs.Placing.{pending_files}

@@ -1,7 +1,6 @@
 -- What a session stands for after a consistency point.
-use Rattle.std.proofs.Common.{◌≡◌, ◌<◌, ◌≤◌, ◌+◌, ◌*◌, ℕ, Bool, true, false, List, Option, Some, None, Ok, Err, refl, sym, ap, subst, ◌∙◌, ⊎_elim, inl, inr, arith, length, sum_by}
+use Rattle.std.proofs.Common.{◌≡◌, ◌<◌, ◌≤◌, ◌+◌, ◌*◌, ℕ, Bool, true, false, List, Option, Some, None, Ok, Err, refl, sym, ap, subst, ◌∙◌, ⊎_elim, inl, inr, arith, length}
 use Rattle.std.specs.Prelude.{IfSome, IsNone, IsSome, IsTrue, max, replicate}
-use Rattle.std.specs.List.{range_with_len}
 use Rattle.std.specs.Option.{option_map}
 use Rattle.fv_disk.specs.Shown.{Image, Shown}
 use Rattle.fv_disk.specs.Crash.{Leaves}
@@ -19,7 +18,6 @@ use Rattle.fv_image.specs.Volumes.{told_with}
 use Rattle.fv_image.specs.Seen.{seen}
 use Rattle.fv_image.specs.VolumeRules.{commits_seen}
 use Rattle.fv_image.proofs.Committed.{commits_told}
-use Rattle.fv_image.proofs.Counts.{same_sum}
 use Rattle.fv_root.specs.declared.find.Found.{Found}
 use Rattle.fv_root.specs.Commits.{IsFoundOn}
 use Rattle.fv_root.specs.Finding.{IsFound, root_found}
@@ -31,8 +29,9 @@ use Rattle.fv_container.specs.Mapped.{Mapped}
 use Rattle.fv_cp.specs.Held.{machine_held, IsHeld}
 use Rattle.fv_cp.specs.Known.{AreKnown}
 use Rattle.fv_cp.specs.Lent.{blocks_asked, maps_waiting, HaveNoneWaiting, IsLentAt}
-use Rattle.fv_cp.specs.Placing.{pending_files, core_of, HaveNoFiles, KeepCores}
+use Rattle.fv_cp.specs.Placing.{pending_files, core_of, FailsToPlace, HaveNoFiles, KeepCores}
 use Rattle.fv_cp.specs.Points.{LacksRoom}
+use Rattle.fv_cp.proofs.Flushing.{files_there}
 use Rattle.fv_cp.specs.Settling.{GoesOnWhole, HaveFullRoom, IsHeldPoint, IsStill, OldOrHeld, StillHeld, WholeCounts, WholeFails}
 use Rattle.fv_disk.specs.declared.fault.BlockFault.TheVariants as block
 use Rattle.fv_volmap.specs.Slots.{stored_count}
@@ -42,7 +41,7 @@ use Rattle.fv_pool.specs.declared.pool.Pool.{Pool}
 use Rattle.fv_volume.specs.declared.state.VolumeState.{VolumeState}
 use Rattle.fv_volumes.specs.Creating.{Admits}
 use Rattle.fv_volume.specs.Loading.{IsLoaded}
-use Rattle.fv_volume.specs.Slots.{committed_by, is_named, sum_of}
+use Rattle.fv_volume.specs.Slots.{is_named, sum_of}
 use Rattle.fv_volume.specs.Held.{IsHeldIn}
 use Rattle.fv_volume.specs.States.{States, state_at, view_over}
 use Rattle.fv_volumes.proofs.FreeNumbers.{has_numbers}
@@ -54,15 +53,16 @@ use Rattle.fv_aggregate.specs.Calls.{Goes, GoesFor, IsForWant, KeepsAsking}
 use Rattle.fv_aggregate.specs.Standing.{clear_blocks, overheads_in, taken_since, unwritten, OneOf, Stands, StandsFor}
 use Rattle.fv_aggregate.proofs.Asking.{asked_unchanged, asks_more, asks_still, short_is}
 use Rattle.fv_aggregate.proofs.Clear.{clear_is_free, clear_stays, free_and_placed, none_held, none_placed}
+use Rattle.fv_aggregate.proofs.Commits.{commits_kept}
 use Rattle.fv_aggregate.proofs.Standing.{known_still, settled_after_reads}
-use Rattle.fv_aggregate.proofs.Sums.{all_within, none_pending, none_waiting, one_pending, over_slots, overheads_are, overheads_kept, same_overheads}
+use Rattle.fv_aggregate.proofs.Sums.{all_within, none_pending, none_waiting, one_pending, overheads_are, overheads_kept, same_overheads}
 
 -- what a point that was not done says, for the fault that it answered
 pub still_as : (old : Shown) (pool : Pool) (states : States) (new : Shown) (left : Pool) (stay : States) (said fault : VolumeFault) → said ≡ fault → IsStill old pool states new left stay said → IsStill old pool states new left stay fault
 still_as old pool states new left stay said fault is still = subst (IsStill old pool states new left stay) is still
 
-pub fails_as : (was session : Session) → was ≡ session → (left : Pool) (stay : States) (said fault : VolumeFault) → said ≡ fault → WholeFails was.volumes left stay said → WholeFails session.volumes left stay fault
-fails_as was session same left stay said fault is fails = subst (λ (s : Session). WholeFails s.volumes left stay fault) same (subst (WholeFails was.volumes left stay) is fails)
+pub fails_as : (d : Shown) (was session : Session) → was ≡ session → (left : Pool) (stay : States) (said fault : VolumeFault) → said ≡ fault → WholeFails d was.pool was.volumes left stay said → WholeFails d session.pool session.volumes left stay fault
+fails_as d was session same left stay said fault is fails = subst (λ (s : Session). WholeFails d s.pool s.volumes left stay fault) same (subst (WholeFails d was.pool was.volumes left stay) is fails)
 
 -- A session after it: some files may have been placed, and its other parts stayed.
 pub record HasStayed (before : Shown) (old : Session) (after : Shown) (new : Session) : Type 0 where
@@ -182,7 +182,7 @@ module _ (before : Shown) (old : Session) (after : Shown) (new : Session) (has :
   still_asks = λ tells kept asks fresh. asks_more after new kept 0 (asks_still before after old new kept reads still.placed.found still.placed.asked pending_same asks)
 
   -- it lacks blocks, or a place for a file
-  pub still_wants : (at want found : ℕ) → IsNone old.failed → Stands before old → WholeFails old.volumes new.pool new.volumes (cp.Damaged at want found) → IsForWant before old after new (Damaged at want found)
+  pub still_wants : (at want found : ℕ) → IsNone old.failed → Stands before old → WholeFails before old.pool old.volumes new.pool new.volumes (cp.Damaged at want found) → IsForWant before old after new (Damaged at want found)
   still_wants at want found was stands fails = (
     reads,
     ⊎_elim
@@ -198,11 +198,11 @@ module _ (before : Shown) (old : Session) (after : Shown) (new : Session) (has :
           image = λ tells room asks. short_is before old new.pool room at want found tells stands asks still.placed.committed place asked lacks.1.1.0 lacks.1.1.1;
           same = λ none. let idle = still.placed.idle none in parts ∙ (λ j. record old { pool = idle.0 j; volumes = idle.1 j });
         }))
-        (λ (filed : HaveNoFiles old.volumes → ⊥). inr (record { fresh = was; files = filed }))
+        (λ (lacks : FailsToPlace before old.pool old.volumes (cp.Damaged at want found)). inr (record { fresh = was; files = files_there before old.pool old.volumes (cp.Damaged at want found) lacks }))
         fails,
   )
 
-  pub point_lacks : (at want found : ℕ) → IsNone old.failed → Stands before old → WholeCounts before after (Err (cp.Damaged at want found)) → WholeFails old.volumes new.pool new.volumes (cp.Damaged at want found)
+  pub point_lacks : (at want found : ℕ) → IsNone old.failed → Stands before old → WholeCounts before after (Err (cp.Damaged at want found)) → WholeFails before old.pool old.volumes new.pool new.volumes (cp.Damaged at want found)
       → Goes {T = Unit {0}} 0 before old after new (Err (Damaged at want found))
   point_lacks at want found was stands counts fails = record {
     ends = record { tells = counts.tells; given = counts.given; ends = counts.ends };
@@ -257,10 +257,6 @@ module _ (states stay : States) (cores : KeepCores states stay) where
   named_core None name = refl
   named_core (Some x) name = refl
 
-  commits_core : (o : Option VolumeState) → committed_by (option_map core_of o) ≡ committed_by o
-  commits_core None = refl
-  commits_core (Some x) = refl
-
   used_core : (o : Option VolumeState) → IsSome (option_map core_of o) → IsSome o
   used_core None is = is
   used_core (Some x) is = is
@@ -273,12 +269,9 @@ module _ (states stay : States) (cores : KeepCores states stay) where
   free_core None e = refl
   free_core (Some x) e = cc
 
-  commits_same : (s : ℕ) → committed_by (state_at stay s) ≡ committed_by (state_at states s)
-  commits_same s = sym (commits_core (state_at stay s)) ∙ ap committed_by (cores s) ∙ commits_core (state_at states s)
-
   pub admits_by_cores : (blocks : ℕ) (name : List ℕ) (size : ℕ) (kind : Kind) (slot span : ℕ) → length states ≡ 64 → length stay ≡ 64 → Admits states blocks name size kind slot span → Admits stay blocks name size kind slot span
   admits_by_cores blocks name size kind slot span long long_too is =
-      let sum : sum_of stay ≡ sum_of states = over_slots committed_by stay long_too ∙ (λ j. sum_of_slots j) ∙ sym (over_slots committed_by states long) in
+      let sum : sum_of stay ≡ sum_of states = commits_kept states stay cores in
       record {
         size_is = is.size_is;
         name_is = record { none = λ s within. sym (named_core (state_at stay s) name) ∙ ap (λ (o : Option VolumeState). is_named o name) (cores s) ∙ named_core (state_at states s) name ∙ is.name_is.none s within };
@@ -291,9 +284,6 @@ module _ (states stay : States) (cores : KeepCores states stay) where
         most = is.most;
         room = omega (arith, sum, is.room);
       }
-    where
-      sum_of_slots : sum_by (λ s. committed_by (state_at stay s)) (range_with_len 0 64) ≡ sum_by (λ s. committed_by (state_at states s)) (range_with_len 0 64)
-      sum_of_slots = same_sum _ _ 0 64 (λ k low high. commits_same k)
 
 admits_still : (old new : Session) → length old.volumes ≡ 64 → length new.volumes ≡ 64 → KeepCores old.volumes new.volumes → new.pool.found.blocks ≡ old.pool.found.blocks → StillAdmits old new
 admits_still old new long long_too cores blocks name size kind slot span is =

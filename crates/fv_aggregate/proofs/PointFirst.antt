@@ -38,6 +38,7 @@ module _ (d : Shown) (s : Session) (c : Command) (e : Shown) (n : Session) where
     goes_for = λ tells last m is. subst (λ (k : Machine). GoesFor d last m k e n (Ok (Refused r))) (sym (refused_next m c r (judged.judges tells last m is))) (judged.goes_for tells last m is);
     reply = λ tells last m is. refused_allows m c r (judged.judges tells last m is);
     refused = λ tells last m is refused. judged.read;
+    still = λ low refused. judged.read;
     calm = λ low. judged.only_reads;
     entries = λ low. judged.entries;
   }
@@ -60,6 +61,7 @@ module _ (d : Shown) (s : Session) (c : Command) (past : dirty_limit < s.pending
         fails_early d last m (next m c) g p f (goes_for_after reply d e g n p last m m first judged.goes.ends.given (Err f) (goes_for (told tells) first.done.point m first.done.stands));
     reply = λ tells last m is. tt;
     refused = λ tells last m is. tt;
+    still = λ low. tt;
     calm = λ low. absurd (omega (arith, low, past));
     entries = λ low. never_within 16 s.pending (λ e. absurd (omega (arith, e))) past low;
   }
@@ -95,6 +97,7 @@ module _ (d : Shown) (s : Session) (c : Command) (past : dirty_limit < s.pending
       refused = λ tells last m is.
           let first = both_for tells last m is in
           not_refused m (judged_accepted m c reply other (judged.judges tells last m is)) result (makes.reply (told_then tells) first.done.point m first.done.stands);
+      still = λ low. never_within 16 s.pending (λ e. absurd (omega (arith, e))) past low;
       calm = λ low. absurd (omega (arith, low, past));
       entries = λ low. never_within 16 s.pending (λ e. absurd (omega (arith, e))) past low;
     }

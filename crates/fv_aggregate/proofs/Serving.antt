@@ -27,7 +27,7 @@ use Rattle.fv_aggregate.specs.Managing.{Manages}
 use Rattle.fv_aggregate.specs.Reclaiming.{MakesRoom}
 use Rattle.fv_aggregate.specs.Standing.{Stands, StandsFor}
 use Rattle.fv_aggregate.proofs.Applied.{fault_plain, no_files, rests_for, rests_for_fault}
-use Rattle.fv_aggregate.proofs.Applying.{look_asks, look_files, look_goes, look_goes_for, look_name, look_no_point, look_refused, look_reply, look_same, make_asks, make_calm, make_entries, make_goes, make_goes_for, make_name, make_no_point, make_reply, make_unasked, make_unchanged, no_step, not_dead, rests_as, same_map}
+use Rattle.fv_aggregate.proofs.Applying.{look_asks, look_files, look_goes, look_goes_for, look_name, look_no_point, look_refused, look_reply, look_same, make_asks, make_calm, make_entries, make_goes, make_goes_for, make_name, make_no_point, make_reply, make_still, make_unasked, make_unchanged, no_step, not_dead, rests_as, same_map}
 use Rattle.fv_aggregate.proofs.Calls.{reads_itself, rests_asks, rests_done, rests_wanting, stays_failed}
 use Rattle.fv_aggregate.proofs.Changing.{change_of_volume, change_reads, change_room, look_reads, look_room}
 use Rattle.fv_aggregate.proofs.Holes.{kept_entries, no_holes}
@@ -103,6 +103,7 @@ module _ {D : Type 0} (c : Command) (d : Shown) (at : D) (s : Session) (steps : 
       only = λ fresh name of answer. not_dead _ s fresh some;
       asked = λ of. tt;
       refused = λ tells last m stands. tt;
+      still = λ few. tt;
       known = λ finds near name of. tt;
     };
     point = λ tells last m stands cp. tt;
@@ -187,6 +188,7 @@ look_applied c name asks d at s start e left n steps r fresh looks beside = reco
     lost = λ fresh near other of lacks. beside.lost near (subst (λ (v : List ℕ). LacksSnapshot s.volumes v c) (look_name c name asks d s e n r looks other (inr of)) lacks);
     asked = λ of. looks.read;
     refused = λ tells last m stands. look_refused c name asks d s e n r looks;
+    still = λ few. look_refused c name asks d s e n r looks;
     known = λ finds near other of. named_as s.volumes n.volumes r other name (look_name c name asks d s e n r looks other of) (beside.finds finds near);
   };
   point = λ tells last m stands cp. look_no_point c name asks d s e n r looks _ cp;
@@ -225,6 +227,7 @@ make_applied c name of d at s e left n steps r fresh makes roomy beside = record
     lost = λ fresh near other asked lacks. make_unasked c name of d s e n r makes _ (subst IsSome (sym asked) refl);
     asked = λ asked. make_unasked c name of d s e n r makes _ asked;
     refused = makes.refused;
+    still = make_still c name of d s e n r makes;
     known = λ finds near other named. named_as s.volumes n.volumes r other name (make_name c name of d s e n r makes other named) (beside.finds finds near);
   };
   point = λ tells last m stands cp. make_no_point c name of d s e n r makes _ cp;

@@ -157,7 +157,8 @@ module _ {D : Type 0} (d : Shown) (disk : D) (laws : IsDisk d) (s : Session) (fr
         let all = full.free in
         let part = one_pending s.volumes slot in
         let own : pending_by (state_at s.volumes slot) ≡ pending_of x.files = ap pending_by there in
-        other (may.1 (held last m is).stands (subst HasNumbers there (full.numbers slot) may.0) (omega (arith, all, part, own))))
+        let stood = (held last m is).stands in
+        other (may.1.0 (stood.told, stood.trees) (subst HasNumbers there (full.numbers slot) may.0) (omega (arith, all, part, own))))
       where
         other : volume.Damaged at want found ≡ volume.Memory → ⊥
         other e = cc

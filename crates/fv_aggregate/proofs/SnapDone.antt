@@ -44,6 +44,7 @@ refused_snapped d disk laws s fresh stands c r why = record {
         (goes_for_done d d laws s s (room_by s.volumes c) (reads_itself d) fresh fresh stands (Refused r) last m m is is);
     reply = λ tells last m is. refused_allows m c r (why last m is);
     refused = λ tells last m is refused. itself_read d s;
+    still = λ low refused. itself_read d s;
     calm = λ low. reads_itself d;
     entries = λ low. kept_entries s s refl;
   };
@@ -71,6 +72,7 @@ module _ {D : Type 0} (d : Shown) (disk : D) (laws : IsDisk d) (s : Session) (fr
           goes_for = λ tells last m is. goes_for_done d d laws s after (room_by s.volumes c) (reads_itself d) fresh still stands Done last m (next m c) is (for last m is);
           reply = λ tells last m is. allowed last m is;
           refused = λ tells last m is refused. absurd (true≢false (sym refused));
+          still = λ low refused. absurd (true≢false (sym refused));
           calm = λ low. reads_itself d;
           entries = λ low. entries;
         };
@@ -99,6 +101,7 @@ module _ {D : Type 0} (d : Shown) (disk : D) (laws : IsDisk d) (s : Session) (fr
             goes_for = λ tells last m is. goes_for_fault d d laws s after (room_by s.volumes c) (reads_itself d) fresh still stands Memory last m (next m c) tt is (for last m is);
             reply = λ tells last m is. tt;
             refused = λ tells last m is. tt;
+            still = λ low. tt;
             calm = λ low. reads_itself d;
             entries = λ low. entries;
           };
@@ -123,6 +126,7 @@ module _ {D : Type 0} (d : Shown) (disk : D) (laws : IsDisk d) (s : Session) (fr
             goes_for = λ tells last m is. absurd (whole last m is);
             reply = λ tells last m is. tt;
             refused = λ tells last m is. tt;
+            still = λ low. tt;
             calm = λ low. reads_itself d;
             entries = λ low. entries;
           };

@@ -1,8 +1,7 @@
 -- A command on snapshots with the point that its room asks for: it is judged, room is made, and it is carried out.
-use Rattle.std.proofs.Common.{◌≡◌, ◌≢◌, ◌<◌, ◌≤◌, ◌+◌, ◌-◌, ℕ, suc, true, false, List, [], ◌∷◌, length, map, sum_by, Option, Some, None, Result, Ok, Err, inl, inr, true≢false, refl, sym, ap, subst, ◌∙◌, arith}
+use Rattle.std.proofs.Common.{◌≡◌, ◌≢◌, ◌<◌, ◌≤◌, ◌+◌, ◌-◌, ℕ, true, false, List, [], ◌∷◌, length, map, Option, Some, None, Result, Ok, Err, inl, inr, true≢false, refl, sym, ap, subst, ◌∙◌, arith}
 use Rattle.std.specs.Prelude.{IfErr, IfOk, IsNone, IsTrue}
 use Rattle.std.specs.Option.{option_map}
-use Rattle.std.proofs.lemmas.List.Sums.{sum_by-cons}
 use Rattle.fv_disk.specs.Shown.{Shown}
 use Rattle.fv_model.specs.declared.answers.Refusal.{Refusal}
 use Rattle.fv_model.specs.declared.answers.Reply.{Reply}
@@ -18,7 +17,7 @@ use Rattle.fv_volume.specs.Held.{IsHeldIn}
 use Rattle.fv_volume.specs.Calls.{HasBeside}
 use Rattle.fv_volume.specs.OneVolume.{blocks_in, table_for, volume_for}
 use Rattle.fv_volume.specs.Promising.{CanHave}
-use Rattle.fv_volume.specs.Slots.{committed_by, is_named, HasName}
+use Rattle.fv_volume.specs.Slots.{is_named, HasName}
 use Rattle.fv_volume.specs.States.{snaps_in, state_at, States}
 use Rattle.fv_cp.specs.Held.{machine_held}
 use Rattle.fv_cp.specs.Placing.{core_of, KeepCores}
@@ -39,6 +38,7 @@ use Rattle.fv_aggregate.specs.Standing.{StandsFor}
 use Rattle.fv_aggregate.proofs.CallEnds.{fails_early, goes_after, goes_for_after}
 use Rattle.fv_aggregate.proofs.Calls.{goes_as}
 use Rattle.fv_aggregate.proofs.Changed.{beside, has_within, mine}
+use Rattle.fv_aggregate.proofs.Commits.{commits_kept, commits_still}
 use Rattle.fv_aggregate.proofs.Keeping.{keeps_but}
 use Rattle.fv_aggregate.proofs.SnapCommands.{aimed_room, snap_cases}
 use Rattle.fv_aggregate.proofs.SnapDone.{IsCarried}
@@ -90,13 +90,6 @@ module _ (d : Shown) (s : Session) (long : length s.volumes ≡ 64) (slot : ℕ)
 
 -- ---- after a point
 
--- a sum over slots by what is at each, whatever free slots there are at the end
-same_sums : (f : Option VolumeState → ℕ) → f None ≡ 0 → (xs ys : States) → ((k : ℕ) → f (state_at ys k) ≡ f (state_at xs k)) → sum_by f ys ≡ sum_by f xs
-same_sums f none [] [] same = refl
-same_sums f none [] (y ∷ ys) same = let first : f y ≡ 0 = same 0 ∙ none in let rest = same_sums f none [] ys (λ k. same (suc k)) in omega (arith, first, rest, sum_by-cons f y ys)
-same_sums f none (x ∷ xs) [] same = let first : 0 ≡ f x = sym none ∙ same 0 in let rest = same_sums f none xs [] (λ k. same (suc k)) in omega (arith, first, rest, sum_by-cons f x xs)
-same_sums f none (x ∷ xs) (y ∷ ys) same = let first : f y ≡ f x = same 0 in let rest = same_sums f none xs ys (λ k. same (suc k)) in omega (arith, first, rest, sum_by-cons f x xs, sum_by-cons f y ys)
-
 -- what stays of the volume of a slot
 module _ (states stay : States) (cores : KeepCores states stay) (slot : ℕ) where
   none_some : (x : VolumeState) → ◌≡◌ {A = Option VolumeState} None (Some x) → ⊥
@@ -137,14 +130,7 @@ module _ (states stay : States) (cores : KeepCores states stay) (slot : ℕ) whe
 
   -- the others commit what they committed
   pub still_beside : beside stay slot ≡ beside states slot
-  still_beside = λ j. same_sums committed_by refl states stay commits j - commits slot j
-    where
-      commits_core : (o : Option VolumeState) → committed_by (option_map core_of o) ≡ committed_by o
-      commits_core None = refl
-      commits_core (Some x) = refl
-
-      commits : (k : ℕ) → committed_by (state_at stay k) ≡ committed_by (state_at states k)
-      commits k = sym (commits_core (state_at stay k)) ∙ ap committed_by (cores k) ∙ commits_core (state_at states k)
+  still_beside = λ j. commits_kept states stay cores j - commits_still states stay cores slot j
 
   -- its room is the same, and what was accepted is so
   pub still_room : (c : Command) → IsSnapAimed states slot c → snap_blocks (state_at stay slot) c ≡ snap_blocks (state_at states slot) c
@@ -217,6 +203,7 @@ module _ {D : Type 0} (d : Shown) (disk : D) (s : Session) (c : Command) (room :
       goes_for = λ tells last m is. fails_early d last m (next m c) e n f (goes_for tells last m is);
       reply = λ tells last m is. tt;
       refused = λ tells last m is. tt;
+      still = λ low. tt;
       calm = λ low. absurd (omega (arith, low, past, exact));
       entries = λ low. never_calm low;
     };
@@ -250,6 +237,7 @@ module _ {D : Type 0} (d : Shown) (disk : D) (s : Session) (c : Command) (room :
             goes_for_after u d e e n new last m (next m c) first goes.ends.given result (carried.snapped.makes.goes_for (told tells) first.done.point m first.done.stands);
         reply = λ tells last m is. let first = goes_for tells last m is in carried.snapped.makes.reply (told tells) first.done.point m first.done.stands;
         refused = λ tells last m is. never_refused _ result (carried.accepted some);
+        still = λ low. never_calm low;
         calm = λ low. absurd (omega (arith, low, past, exact));
         entries = λ low. never_calm low;
       };

@@ -1,6 +1,5 @@
 -- Disks that change nothing, and images that keep what a session stands for.
-use Rattle.std.proofs.Common.{◌≡◌, ℕ, Bool, List, length, Some, refl, sym, ap, subst, ◌∙◌, inl, inr, ⊎_elim, arith}
-use Rattle.std.specs.Prelude.{IsTrue}
+use Rattle.std.proofs.Common.{◌≡◌, ℕ, Bool, List, Some, refl, sym, ap, subst, ◌∙◌, inl, inr, ⊎_elim}
 use Rattle.fv_disk.specs.Shown.{Image, Shown, IsDisk, IsSettled}
 use Rattle.fv_disk.specs.DiskCalls.{OnlyReads}
 use Rattle.fv_disk.specs.Crash.{Leaves}
@@ -27,10 +26,6 @@ settled_after_reads old new reads settled = λ c now a. settled c (reads.stays.n
 -- What is known of delayed entries stays while the root found, what reads give and the flags do.
 pub known_still : (i j : Image) (f g : Found) (old new : List Bool) → j ≡ i → g ≡ f → new ≡ old → AreKnown i f old → AreKnown j g new
 known_still i j f g old new reads found flags known = subst (AreKnown j g) (sym flags) (known_same i j f g old (λ t. view_at (root_found (found t)) (reads t)) known)
-
--- each block that a disk reads is one of 4096 bytes
-pub reads_whole : (disk : Shown) → IsDisk disk → IsTrue disk.tells → (b : ℕ) → length (disk.reads b) ≡ 4096
-reads_whole disk laws tells b = (laws.blocks disk.moment disk.reads disk.given (laws.counts_now disk.moment disk.reads (omega arith) (laws.read_is_image tells)) b).long
 
 -- ---- what a crash leaves
 

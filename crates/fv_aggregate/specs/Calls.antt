@@ -62,13 +62,14 @@ pub record LacksBlocks (before : Shown) (old new : Session) (at want found : ℕ
   pub image : IsTrue before.tells → (room : ℕ) → AsksWithin before old room → IsShort before.reads room (taken_since new.pool.map) at want found
   pub same : HaveNoFiles old.volumes → new ≡ old
 
--- There was a file to be placed. Such damage comes where no number of its volume is free for it, or no block; that isn't said here.
+-- There was a file to be placed. Such damage comes where no number of its volume is free for it, or no block: the calls of `fv_cp` and `fv_snapshot`
+-- say which volume that was, and it isn't said here.
 pub record HasFilesToPlace (old : Session) : Type 0 where
   pub fresh : IsNone old.failed
   pub files : HaveNoFiles old.volumes → ⊥
 
--- There is a volume. Such damage comes of a block of its table that isn't as it has to be, or of a pointer that leads nowhere; that isn't said here,
--- since the calls of `fv_volume` say it only of a volume that stands for one of a machine, where it never comes.
+-- There is a volume. Such damage comes of a block of its table that isn't as it has to be, or of a pointer that leads nowhere: the calls of
+-- `fv_volume` say which, and it isn't said here.
 pub record HasVolume (old : Session) : Type 0 where
   pub fresh : IsNone old.failed
   pub slot : ℕ
@@ -254,8 +255,8 @@ pub record LacksSnapshot (states : States) (name : List ℕ) (command : Command)
 
 -- What a command on files does beside. Whatever the disk holds, it is refused out of range, without its volume, and without the snapshot that it
 -- asks, in this order, and leaves all as it was then. It is refused for want of a snapshot only where the volume lacks that snapshot. One that
--- asks leaves all but the cache and the numbers of files in memory where it is answered. So does a change that is refused, where the session
--- stands for a machine. Once a command that finds a file of the active table of a volume by its name is answered, refused or not, the numbers of
+-- asks leaves all but the cache and the numbers of files in memory where it is answered. So does a change that is refused, where no point comes before
+-- it, or the session stands for a machine. Once a command that finds a file of the active table of a volume by its name is answered, refused or not, the numbers of
 -- the volume's files are in memory.
 pub record IsOnFiles {D : Type 0} (command : Command) (shown : Shown) (before : D) (old : Session) (shown_after : Shown) (after : D) (new : Session) (result : Result Reply Fault) : Type 0 where
   pub range : IsNone old.failed → has_range command ≡ false → (result ≡ Ok (Refused Range)) × IsUntouched before old after new
@@ -264,6 +265,7 @@ pub record IsOnFiles {D : Type 0} (command : Command) (shown : Shown) (before : 
   pub only : IsNone old.failed → (name : List ℕ) → volume_asked command ≡ Some name → result ≡ Ok (Refused NoSnapshot) → LacksSnapshot old.volumes name command
   pub asked : IsSome (volume_asked command) → OnOk result (WasRead shown old shown_after new)
   pub refused : IsTrue shown.tells → (last m : Machine) → StandsFor shown old last m → IfOk result (λ reply. IsTrue (is_refusal reply) → WasRead shown old shown_after new)
+  pub still : IsWithinLimit old command → IfOk result (λ reply. IsTrue (is_refusal reply) → WasRead shown old shown_after new)
   pub known : finds_file command ≡ true → has_range command ≡ true → (name : List ℕ) → (changed_by command ≡ Some name) ⊎ (volume_asked command ≡ Some name) → OnOk result (KnowsNamed old.volumes name new.volumes)
 
 -- No steps are counted but for a `get`, and none where the session stands for a machine, or has failed.

@@ -13,10 +13,10 @@ use Rattle.fv_model.specs.Refusals.{next, refusal}
 use Rattle.fv_model.specs.Replies.{Allows}
 use Rattle.fv_volume.specs.declared.state.VolumeState.{VolumeState}
 use Rattle.fv_pool.specs.declared.pool.Pool.{Pool}
-use Rattle.fv_volume.specs.Asking.{standing_read}
+use Rattle.fv_volume.specs.Asking.{standing_read, TellsActive, TellsRead}
 use Rattle.fv_pool.specs.Calls.{CallCause, Reads}
 use Rattle.fv_volume.specs.Calls.{Agrees, Asks, Changes, Has, HasWithin, KeepsHead}
-use Rattle.fv_volume.specs.Changing.{keeps_numbers, IsChangeOf, KeepsTable}
+use Rattle.fv_volume.specs.Changing.{keeps_numbers, IsChangeOf, KeepsTable, TellsFor}
 use Rattle.fv_pool.specs.Lending.{lent_for}
 use Rattle.fv_volume.specs.OneVolume.{home_in, standing_for, volume_for, IsReady, IsStanding}
 use Rattle.fv_volume.specs.Placing.{IsStoredWell}
@@ -54,6 +54,7 @@ pub record Makes (room : ℕ) (before : Shown) (old : Session) (command : Comman
   pub goes_for : IsTrue before.tells → (last m : Machine) → StandsFor before old last m → GoesFor before last m (next m command) after new result
   pub reply : IsTrue before.tells → (last m : Machine) → StandsFor before old last m → IfOk result (Allows m command)
   pub refused : IsTrue before.tells → (last m : Machine) → StandsFor before old last m → IfOk result (λ reply. IsTrue (is_refusal reply) → WasRead before old after new)
+  pub still : (room ≡ 0) ⊎ (old.pending + room ≤ dirty_limit) → IfOk result (λ reply. IsTrue (is_refusal reply) → WasRead before old after new)
   pub calm : old.pending + room ≤ dirty_limit → OnlyReads before after
   pub entries : (room ≡ 0) ⊎ (old.pending + room ≤ dirty_limit) → KeepsEntries old new
 
@@ -64,7 +65,7 @@ pub record Makes (room : ℕ) (before : Shown) (old : Session) (command : Comman
 pub record AsksState (before : Shown) (pool : Pool) (x : VolumeState) (command : Command) (start : ℕ) (after : Shown) (left : Pool) (steps : ℕ) (result : Result Reply VolumeFault) : Type 0 where
   pub reads : Reads before pool after left
   pub asked : IsStanding before pool x → Asks (Has x.name (volume_for before pool x)) command (λ reply. reply) result
-  pub cause : CallCause (IsStanding before pool x) (standing_read before pool x (snapshot_asked command)) (lent_for pool x.map before 0 (home_in x) 0) after.faults result
+  pub cause : CallCause (TellsRead before pool x (snapshot_asked command)) (standing_read before pool x (snapshot_asked command)) (lent_for pool x.map before 0 (home_in x) 0) after.faults result
   pub known : IsStanding before pool x → IsStoredWell before pool x → OnOk result ((m : Machine) → Has x.name (volume_for before pool x) m → steps ≡ start)
   pub unmoved : IfErr result (λ e. (r : Refusal) → e ≡ volume.Refused r → steps ≡ start)
 
@@ -75,7 +76,7 @@ pub record AsksState (before : Shown) (pool : Pool) (x : VolumeState) (command :
 pub record JudgesState (before : Shown) (pool : Pool) (x : VolumeState) (others : ℕ) (command : Command) (after : Shown) (left : Pool) (result : Result Unit VolumeFault) : Type 0 where
   pub reads : Reads before pool after left
   pub agrees : IsStanding before pool x → (m : Machine) → HasWithin x.name (volume_for before pool x) others pool.found.blocks m → Agrees m command result
-  pub cause : CallCause (IsStanding before pool x) (standing_for before pool x) (lent_for pool x.map before 0 (home_in x) 0) after.faults result
+  pub cause : CallCause (TellsActive before pool x) (standing_for before pool x) (lent_for pool x.map before 0 (home_in x) 0) after.faults result
 
 -- The files of a volume were changed in memory, beside others that commit so much. Calls can be made on it still. Where it stood it stands, for the
 -- volume that the command makes of it in each machine that has it, or after a fault for what it stood for. Of the pool only the cache changed. The
@@ -88,7 +89,7 @@ pub record ChangesState (before : Shown) (pool : Pool) (x : VolumeState) (others
   pub ready : IsReady after left y
   pub head : KeepsHead x y result
   pub numbers : keeps_numbers command ≡ true → y.numbers ≡ x.numbers
-  pub cause : CallCause (IsStanding before pool x) (standing_for before pool x) (lent_for pool x.map before 0 (home_in x) 0) after.faults result
+  pub cause : CallCause (TellsFor command before pool x) (standing_for before pool x) (lent_for pool x.map before 0 (home_in x) 0) after.faults result
 
 -- ---- a volume whose snapshots change
 

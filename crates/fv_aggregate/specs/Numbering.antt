@@ -9,6 +9,7 @@ use Rattle.fv_pool.specs.declared.pool.Pool.{Pool}
 use Rattle.fv_volume.specs.declared.state.VolumeState.{VolumeState}
 use Rattle.fv_pool.specs.Calls.{BlockCause, Reads}
 use Rattle.fv_pool.specs.Lending.{lent_for}
+use Rattle.fv_volume.specs.Asking.{TellsActive}
 use Rattle.fv_volume.specs.OneVolume.{home_in, standing_for, IsReady, IsStanding}
 use Rattle.fv_aggregate.specs.declared.fault.Fault.{Fault}
 use Rattle.fv_aggregate.specs.declared.session.Session.{Session}
@@ -36,4 +37,4 @@ pub record NumbersState (before : Shown) (pool : Pool) (x : VolumeState) (after 
   pub idle : is_some x.numbers ≡ true → y ≡ x
   pub standing : IsStanding before pool x → IsStanding after left y
   pub ready : IsReady after left y
-  pub cause : BlockCause (IsStanding before pool x) (standing_for before pool x) (lent_for pool x.map before 0 (home_in x) 0) after.faults result
+  pub cause : BlockCause (TellsActive before pool x) (standing_for before pool x) (lent_for pool x.map before 0 (home_in x) 0) after.faults result

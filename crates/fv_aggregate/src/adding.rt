@@ -110,6 +110,7 @@ impl Session {
     {
         self.volumes
             .create(&mut self.pool, name, size, kind, admitted)?;
+        self.commits = self.volumes.commits();
         self.pending += room;
         Ok(())
     }

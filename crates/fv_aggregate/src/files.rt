@@ -88,11 +88,12 @@ impl Session {
         ensures reads { OnlyReads (D.shown disk.old) (D.shown disk.new) }
         ensures kept { KeepsNumbersBut (λ s. (s ≡ slot) × (keeps_numbers command.now ≡ false)) self.old.volumes self.new.volumes }
     {
-        let others = self.volumes.commits_beside(slot);
+        let others = self.commits_beside(slot);
         let state = volume_at(&mut self.volumes, slot);
         let before = state.pending();
         let made = state.change(self.alloc, &mut self.pool, disk, others, command);
         let more = added(before, state.pending());
+        self.commits = others + state.ledger.commit();
         self.pending += more;
         done(into);
         self.replied(disk, made, into)
@@ -112,7 +113,7 @@ impl Session {
         ensures judged { HasJudged (D.shown disk.old) self.old command.now (D.shown disk.new) self.new (answer into.new result) }
         ensures volumes { self.new.volumes ≡ self.old.volumes }
     {
-        let others = self.volumes.commits_beside(slot);
+        let others = self.commits_beside(slot);
         let state = volume_at(&mut self.volumes, slot);
         let judged = state.judge(self.alloc, &mut self.pool, disk, others, command);
         done(into);

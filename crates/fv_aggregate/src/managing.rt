@@ -1,8 +1,10 @@
 //! The commands on a whole volume: what it holds, its size and its kind of guarantee, and its removal.
 
-ghost use Rattle.std.specs.Prelude.{◌≡◌, ℕ, IsNone, IfSome};
+ghost use Rattle.std.specs.Prelude.{◌≡◌, ◌<◌, ◌≤◌, ◌-◌, ◌^◌, ℕ, IsNone, IfSome};
+ghost use Rattle.fv_container.specs.Chains.{slot_count};
 ghost use Rattle.fv_model.specs.declared.commands.Command.TheVariants.{VolDestroy, VolGuarantee, VolResize, VolStat};
 ghost use Rattle.fv_volume.specs.OneVolume.{IsBooked};
+ghost use Rattle.fv_volume.specs.Slots.{committed_by, sum_of};
 ghost use Rattle.fv_volume.specs.States.{state_at};
 ghost use Rattle.fv_aggregate.specs.Managing.{Manages, told_as};
 
@@ -17,7 +19,9 @@ impl Session {
         requires fresh { IsNone self.old.failed }
         ensures { Manages self.old (VolDestroy volume.now) self.new into.new }
     {
-        tell(self.volumes.destroy(&mut self.pool, volume), into);
+        let made = self.volumes.destroy(&mut self.pool, volume);
+        self.commits = self.volumes.commits();
+        tell(made, into);
     }
 
     /// Gives a volume another size, in blocks.
@@ -26,10 +30,9 @@ impl Session {
         requires booked { (s : ℕ) → IfSome (state_at self.old.volumes s) IsBooked }
         ensures { Manages self.old (VolResize volume.now size) self.new into.new }
     {
-        tell(
-            self.volumes.resize(self.pool.found.blocks, volume, size),
-            into,
-        );
+        let made = self.volumes.resize(self.pool.found.blocks, volume, size);
+        self.commits = self.volumes.commits();
+        tell(made, into);
     }
 
     /// Gives a volume another kind of guarantee.
@@ -38,10 +41,24 @@ impl Session {
         requires booked { (s : ℕ) → IfSome (state_at self.old.volumes s) IsBooked }
         ensures { Manages self.old (VolGuarantee volume.now kind) self.new into.new }
     {
-        tell(
-            self.volumes.guarantee(self.pool.found.blocks, volume, kind),
-            into,
-        );
+        let made = self.volumes.guarantee(self.pool.found.blocks, volume, kind);
+        self.commits = self.volumes.commits();
+        tell(made, into);
+    }
+
+    /// What all volumes but that of a slot commit together, in blocks. Costs a step: the sum of all is kept.
+    pub(crate) fn commits_beside(&self, slot: u8) -> u64
+        requires fresh { IsNone self.now.failed }
+        requires slot { slot < slot_count }
+        requires few { sum_of self.now.volumes ≤ 2 ^ 40 }
+        ensures sum { result ≡ sum_of self.entry.now.volumes - committed_by (state_at self.entry.now.volumes slot) }
+        ensures most { result ≤ 2 ^ 40 }
+    {
+        let own = match self.volumes.get(slot) {
+            Some(state) => state.ledger.commit(),
+            None => 0,
+        };
+        self.commits.saturating_sub(own)
     }
 
     /// Tells what a volume holds and is promised.

@@ -32,12 +32,14 @@ pub(crate) fn load<D: Disk>(alloc: Global, disk: &mut D) -> Result<Session, Open
     let found = find_root(disk)?;
     let mut pool = Pool::open(alloc, disk, found)?;
     let volumes = Volumes::open(alloc, &mut pool, disk)?;
+    let commits = volumes.commits();
     Ok(Session {
         alloc,
         volumes,
         pool,
         delays: [true; 64],
         pending: 0,
+        commits,
         failed: None,
     })
 }

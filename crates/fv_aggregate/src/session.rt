@@ -43,13 +43,16 @@ pub struct Session {
     pub(crate) delays: [bool; 64],
     /// How many blocks were added since the last consistency point, at most: overheads of new volumes, and blocks of files.
     pub(crate) pending: u64,
+    /// What all volumes commit together, in blocks.
+    pub(crate) commits: u64,
     /// The disk's count of faults after the call in which a write or a barrier failed.
     pub(crate) failed: Option<u64>,
 }
 
 impl Model for Session {
-    ghost use Rattle.std.specs.Prelude.{IsNone};
+    ghost use Rattle.std.specs.Prelude.{◌≡◌, IsNone};
     ghost use Rattle.fv_cp.specs.Lent.{FitTogether};
+    ghost use Rattle.fv_volume.specs.Slots.{sum_of};
     ghost use Rattle.fv_aggregate.specs.Parts.{Parts, parts_code};
 
     ghost Value = { Parts };
@@ -58,7 +61,7 @@ impl Model for Session {
 
     ghost view = { λ s. record { volumes = s.volumes; pool = s.pool; delays = s.delays; pending = s.pending; failed = s.failed } };
 
-    ghost invariant = { λ s. IsNone s.failed → FitTogether s.pool s.volumes };
+    ghost invariant = { λ s. (IsNone s.failed → FitTogether s.pool s.volumes) × (IsNone s.failed → s.commits ≡ sum_of s.volumes) };
 }
 
 impl Session {
@@ -94,8 +97,9 @@ impl Session {
     }
 
     /// Applies a command, and answers the machine's reply, refusals included. A command whose room, in blocks, would pass the dirty
-    /// limit of 256 together with the blocks pending is preceded by a consistency point; one that is refused is refused before that, and
-    /// changes nothing but the cache and the numbers of files in memory. So far the commands that begin with `vol` or `snap`, `cp`, `new`
+    /// limit of 256 together with the blocks pending is preceded by a consistency point, and contracts say that no other one is. One that is
+    /// refused changes nothing but the cache and the numbers of files in memory: so no point comes before it. Of a command on files whose room
+    /// passes the limit contracts say this where the session stands for a machine. So far the commands that begin with `vol` or `snap`, `cp`, `new`
     /// without a reserve, `put`, `get`, `len`, `cut`, `rm` and `ls` are built, and every other command is refused as none.
     ///
     /// `steps` counts the unknown pointers that a `get` passes; there are none in what a session stands for yet.
@@ -106,7 +110,7 @@ impl Session {
     /// disk no more. `Memory` comes where memory ran out: contracts rule it out for a `cp` without files in memory alone. `Damaged` comes
     /// where fewer blocks or numbers are free than a consistency point asks for, or a block of a volume's files isn't as it has to be. Over an
     /// image that stands for a machine it never comes; over another one contracts tell its reason for commands that read no files, and
-    /// without a file in memory. After these, and after a read that failed, the session goes on and stands for the machine of before.
+    /// without a file in memory. After these, and after a read that failed, the session goes on; where it stood for a machine it still stands for it.
     ///
     /// Costs a step for each slot, and memory for the names in `vol list`. A command on files costs what the call of `VolumeState` does.
     /// The first one that names a file of a volume costs a block for each inode block and each node over them, and the session
@@ -193,7 +197,8 @@ impl Session {
     /// placed; for each volume that changed or may have delayed entries a step for each entry, and up to 25 more for one that is no hole, and so
     /// again, twice in these regions, where a region of it is reclaimed; for each one that changed, or of which a region is reclaimed, in writes at
     /// most its overhead and the blocks of its snapshots' maps that wait; and then, also without changes, a commit: the blocks of one map area,
-    /// a root and at most two gates in writes, and two barriers or three. It reads nothing, and without a file in memory it takes none.
+    /// a root and at most two gates in writes, and two barriers or three. It reads nothing, though no clause says so, and it takes no
+    /// memory without a file there.
     /// `docs/SPACE.md` has the order.
     pub fn consistency_point<D: Disk>(&mut self, disk: &mut D) -> Result<(), Fault>
         requires stands { IsNone self.old.failed → Stands (D.shown disk.old) self.old }

@@ -49,7 +49,7 @@ impl Session {
         ensures roomy { MakesRoom (room_by self.old.volumes command.now) (D.shown disk.old) self.old (D.shown disk.new) (answer into.new result) }
         ensures needs { NeedsSnapshot self.old.volumes command.now (answer into.new result) }
     {
-        let others = self.volumes.commits_beside(slot);
+        let others = self.commits_beside(slot);
         let state = volume_in(&self.volumes, slot);
         match judge_snap(state, self.pool.found.blocks, others, command) {
             Ok(granted) => return self.snap_with(disk, slot, others, granted, command, into),
@@ -111,6 +111,7 @@ impl Session {
     {
         let state = volume_at(&mut self.volumes, slot);
         let made = change_snaps(state, &mut self.pool, disk, others, granted, command);
+        self.commits = others + state.ledger.commit();
         if made.is_ok() {
             self.pending += granted.room;
         }

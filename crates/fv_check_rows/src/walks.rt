@@ -1,4 +1,4 @@
-//! The first two passes over an image, and over images with one number changed.
+//! The first three passes over an image, and over images with one number changed.
 
 ghost use Rattle.fv_root.specs.Finding.{IsInRange};
 
@@ -9,6 +9,7 @@ use fv_first_pass::{CheckFault, Known, pass_one};
 use fv_memdisk::{Call, MemHost};
 use fv_root::{Found, find_root};
 use fv_second_pass::{Reached, entry_word, pass_two};
+use fv_third_pass::pass_three;
 use std::alloc::Global;
 use std::test::Fail;
 
@@ -65,6 +66,19 @@ fn passes<D: Disk>(alloc: Global, disk: &mut D, root: &Found) -> Result<Checked,
     })
 }
 
+/// Makes three passes over the aggregate with a root, the third where the first two find nothing, and answers the lines.
+fn three_passes<D: Disk>(alloc: Global, disk: &mut D, root: &Found) -> Result<Lines, CheckFault>
+    requires { IsInRange root.now }
+{
+    let mut lines = Lines::new(alloc);
+    let known = pass_one(alloc, disk, root, &mut lines)?;
+    let reached = pass_two(alloc, disk, root, &known, &mut lines)?;
+    if !lines.is_empty() {
+        return Ok(lines);
+    }
+    pass_three(alloc, disk, root, &known, &reached, lines)
+}
+
 /// The image with one piece changed.
 fn changed(alloc: Global, piece: Piece) -> Result<MemHost, Failed> {
     let mut host = MemHost::new(alloc, Vec::new(alloc));
@@ -93,6 +107,23 @@ const CHANGES: [(Piece, (u8, u64, u64, u64)); 6] = [
     ((11, 359, "01"), (5, 11, 1, 2)),
     // the snapshot has a second file of the same name
     ((7, 496, "0166"), (4, 7, 0, 1)),
+];
+
+/// One number of the image in which the first two passes find nothing, with the lines that the third one finds.
+const THIRD_CHANGES: [(Piece, &[(u8, u64, u64, u64)]); 7] = [
+    (SAME, &[]),
+    // the active map lacks a VVBN that the active root reaches
+    ((13, 0, "02"), &[(6, 13, 1, 0)]),
+    // it has one that this root doesn't reach
+    ((13, 0, "0e"), &[(6, 13, 0, 1)]),
+    // the clone has the block of its parent's data for its own, and nobody has the one that it had
+    ((20, 1067, "0a"), &[(7, 10, 1, 2), (8, 12, 0, 1)]),
+    // the aggregate map lacks the label of the parent
+    ((6, 2, "fb"), &[(8, 18, 1, 0)]),
+    // the clone's data has another kind
+    ((20, 1071, "02"), &[(9, 11, 1, 2)]),
+    // the clone's last change is older than two of its stamps
+    ((23, 119, "03"), &[(10, 11, 3, 4), (10, 23, 3, 4)]),
 ];
 
 /// Which of the first six VVBNs a root reaches.
@@ -144,6 +175,28 @@ fn each_change_makes_its_line(rt: HostRuntime) -> Result<(), Fail> {
         let checked = passes(rt.alloc(), &mut host, &root)?;
         assert_eq!(rt; checked.lines.lines.len(), 1);
         assert_eq!(rt; checked.lines.lines.first().copied(), Some(line));
+    }
+    Ok(())
+}
+
+#[test]
+fn each_change_makes_its_lines_in_the_third_pass(rt: HostRuntime) -> Result<(), Fail> {
+    for (change, wanted) in THIRD_CHANGES {
+        let mut host = changed(rt.alloc(), change)?;
+        let root = find_root(&mut host)?;
+        let lines = three_passes(rt.alloc(), &mut host, &root)?;
+        assert_eq!(rt; lines.lines.len(), wanted.len());
+        for ((rule, block, want, found), line) in wanted.iter().zip(lines.lines.iter()) {
+            assert_eq!(rt;
+                *line,
+                Fault {
+                    rule: *rule,
+                    block: *block,
+                    want: *want,
+                    found: *found
+                }
+            );
+        }
     }
     Ok(())
 }

@@ -5,6 +5,7 @@ pub mod Named
 pub mod Leading
 mod Trees
 mod Walks
+mod Whole
 mod Positions
 mod Regions
 mod Taking

@@ -53,7 +53,7 @@ few_inner entries few = omega (arith, few)
 one_top : (entries number : ℕ) → entries ≤ most_entries → number < level_width entries 2 → number ≡ 0
 one_top entries number few within = omega (arith, few, within, few_inner entries few)
 
-top_root : (i : Image) (root : ℕ) → node_of i root 2 2 0 ≡ root
+pub top_root : (i : Image) (root : ℕ) → node_of i root 2 2 0 ≡ root
 unfolding node_below
 top_root i root = refl
 

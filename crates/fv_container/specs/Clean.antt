@@ -1,6 +1,8 @@
 -- What the nodes on the disk say that aren't dirty.
-use Rattle.std.specs.Prelude.{◌≡◌, ◌≢◌, ◌<◌, ◌/◌, ℕ, true, false, List, length, get_or, Option, None}
+use Rattle.std.specs.Prelude.{◌≡◌, ◌≢◌, ◌<◌, ◌≤◌, ◌/◌, ℕ, true, false, List, length, get_or, Option, None}
 use Rattle.fv_disk.specs.Shown.{Image}
+use Rattle.fv_codec.specs.Blocks.{last_place}
+use Rattle.fv_image.specs.Containers.{HasNonePast, IsNodePlace, IsWholeTree}
 use Rattle.fv_container.specs.declared.entry.Entry.{Entry}
 use Rattle.fv_container.specs.Mapped.{Mapped}
 use Rattle.fv_container.specs.Written.{AreWritten}
@@ -24,6 +26,13 @@ StaysClean old new = (i : Image) → IsCleanOn i old → IsCleanOn i new
 -- no node is dirty
 abbrev pub AreClean : Mapped → Type 0
 AreClean map = (m : ℕ) → m < length map.dirty → get_or map.dirty m true ≡ false
+
+-- a tree on the disk that needn't be written anew: each node is the one of its position, has nothing past the entries, and stands at a
+-- number that is a place
+pub record IsCleanTree (i : Image) (root height entries : ℕ) : Type 0 where
+  pub whole : IsWholeTree i root height entries
+  pub ends : HasNonePast i root height entries
+  pub bounded : (b : ℕ) → IsNodePlace i root height entries b → b ≤ last_place
 
 -- a node that isn't dirty has a place of its own
 abbrev pub AreAlone : Mapped → Type 0

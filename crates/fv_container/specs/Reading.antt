@@ -1,5 +1,5 @@
 -- Nodes as they are read.
-use Rattle.std.specs.Prelude.{◌≡◌, ◌≢◌, ◌<◌, ◌≤◌, ◌+◌, ◌-◌, ◌*◌, ◌/◌, ◌%◌, ◌^◌, ◌⊎◌, ℕ, List, length, get_or, Option, None, Result, Ok, Err}
+use Rattle.std.specs.Prelude.{true, ◌≡◌, ◌≢◌, ◌<◌, ◌≤◌, ◌+◌, ◌-◌, ◌*◌, ◌/◌, ◌%◌, ◌^◌, ◌⊎◌, ℕ, List, length, get_or, Option, None, Result, Ok, Err}
 use Rattle.fv_disk.specs.Shown.{Image, Shown}
 use Rattle.fv_disk.specs.DiskCalls.{OnlyReads}
 use Rattle.fv_disk.specs.Faults.{HasBlockCause}
@@ -7,7 +7,7 @@ use Rattle.fv_codec.specs.declared.shape.Shape.{Shape}
 use Rattle.fv_codec.specs.declared.container.ContainerLeaf.{ContainerLeaf}
 use Rattle.fv_codec.specs.declared.container.ContainerInner.{ContainerInner}
 use Rattle.fv_codec.specs.Blocks.{inner_at, leaf_at}
-use Rattle.fv_image.specs.Containers.{node_shape, lying, child_in, most_entries}
+use Rattle.fv_image.specs.Containers.{node_shape, node_verdict, has_none_past, lying, child_in, most_entries}
 use Rattle.fv_disk.specs.declared.fault.BlockFault.{BlockFault}
 use Rattle.fv_disk.specs.declared.fault.BlockFault.TheVariants.{DiskFault, Damaged, Memory}
 use Rattle.fv_store.specs.Held.{Pairs, StandsOn}
@@ -99,6 +99,11 @@ StandLeaves i entries places count = (k : ℕ) → k < count → get_or places k
 
 abbrev pub StandInner : Image → List ℕ → ℕ → ℕ → Type 0
 StandInner i places leaves count = (q : ℕ) → q < count → get_or places (leaves + q) 0 ≢ 0 → StandsInner i (get_or places (leaves + q) 0) 1 q (leaves - 256 * q)
+
+-- so many leaves, whose places stand in a row, are the ones of their positions, and have no entry past so many
+abbrev pub AreWholeLeaves : Image → ℕ → List ℕ → ℕ → Type 0
+AreWholeLeaves i entries places count = (k : ℕ) → k < count → get_or places k 0 ≢ 0
+    → (node_verdict 0 k (i (get_or places k 0)) ≡ Ok tt) × (has_none_past entries 0 k (i (get_or places k 0)) ≡ true)
 
 -- What each read leaves, whatever it answers: the disk was only read, what the cache holds stands on it, and its count of faults tells of the
 -- answer.

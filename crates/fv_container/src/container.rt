@@ -6,7 +6,7 @@ ghost use Rattle.fv_codec.specs.Blocks.{last_place};
 ghost use Rattle.fv_disk.specs.declared.fault.BlockFault.TheVariants.{DiskFault};
 ghost use Rattle.fv_disk.specs.Sparing.{Spares};
 ghost use Rattle.fv_container.specs.Written.{HasReleased, blocks_needed};
-ghost use Rattle.fv_container.specs.Clean.{AreClean, IsCleanOn, IsOver};
+ghost use Rattle.fv_container.specs.Clean.{AreClean, IsCleanOn, IsCleanTree, IsOver};
 ghost use Rattle.fv_container.specs.Flushed.{GivesUp, IsApart, IsFlushed, IsMoved, WasTaken, without_value};
 ghost use Rattle.fv_disk.specs.Shown.{Shown};
 ghost use Rattle.fv_image.specs.Containers.{height_of, level_width, most_entries};
@@ -103,6 +103,7 @@ impl Container {
         requires stands { StandsOn (D.shown disk.old) store.old.pairs }
         ensures spelled { IsTrue (D.shown disk.old).tells → IfOk result (Spelled (D.shown disk.old).reads root height) }
         ensures clean { IsTrue (D.shown disk.old).tells → IfOk result (IsCleanOn (D.shown disk.old).reads) }
+        ensures kept { IsTrue (D.shown disk.old).tells → IsCleanTree (D.shown disk.old).reads root height entries → IfOk result AreClean }
         ensures size { IfOk result (λ container. length container.entries ≡ entries) }
         ensures valid { IfOk result IsMapped }
         ensures fault { IsTrue (D.shown disk.old).tells → IfErr result (IsFault (D.shown disk.old).reads root height entries) }

@@ -10,8 +10,9 @@ ghost use Rattle.fv_disk.specs.Faults.{HasBlockCause};
 ghost use Rattle.fv_container.specs.Kept.{map_of};
 ghost use Rattle.fv_container.specs.Mapped.{IsHeld};
 ghost use Rattle.fv_container.specs.Spelled.{IsFault, Spelled, pair_of};
-ghost use Rattle.fv_container.specs.Reading.{AreChildren, AreShaped, FillsFrom, HasLevels, HasRead, IsBadNode, IsBlank, IsLevelFault, ReadsAs, StandInner, StandLeaves, StandsInner, StaysOutside};
+ghost use Rattle.fv_container.specs.Reading.{AreChildren, AreShaped, AreWholeLeaves, FillsFrom, HasLevels, HasRead, IsBadNode, IsBlank, IsLevelFault, ReadsAs, StandInner, StandLeaves, StandsInner, StaysOutside};
 ghost use Rattle.fv_container.specs.Written.{AreWritten};
+ghost use Rattle.fv_container.specs.Clean.{IsCleanTree};
 
 use crate::entry::Entry;
 use crate::layout::{FAN, inner_count, leaf_count};
@@ -169,6 +170,7 @@ fn read_level<D: Disk>(
     ensures shaped { IsTrue (D.shown disk.old).tells → OnOk result (AreShaped (D.shown disk.old).reads 1 places.old leaves inner) }
     ensures whole { IsTrue (D.shown disk.old).tells
         → IfOk result (λ whole. whole ≡ true → StandInner (D.shown disk.old).reads places.old leaves inner) }
+    ensures kept { IsTrue (D.shown disk.old).tells → StandInner (D.shown disk.old).reads places.old leaves inner → IfOk result IsTrue }
     ensures fault { IsTrue (D.shown disk.old).tells → IfErr result (IsLevelFault (D.shown disk.old).reads 1 places.old leaves inner) }
     ensures read { HasRead (D.shown disk.old) (D.shown disk.new) store.new.pairs result }
 {
@@ -239,6 +241,8 @@ fn read_leaves<D: Disk>(
         → OnOk result (AreShaped (D.shown disk.old).reads 0 places.now 0 (level_width (length entries.old) 0)) }
     ensures whole { IsTrue (D.shown disk.old).tells
         → IfOk result (λ whole. whole ≡ true → StandLeaves (D.shown disk.old).reads (length entries.old) places.now (level_width (length entries.old) 0)) }
+    ensures kept { IsTrue (D.shown disk.old).tells
+        → AreWholeLeaves (D.shown disk.old).reads (length entries.old) places.now (level_width (length entries.old) 0) → IfOk result IsTrue }
     ensures fault { IsTrue (D.shown disk.old).tells
         → IfErr result (IsLevelFault (D.shown disk.old).reads 0 places.now 0 (level_width (length entries.old) 0)) }
     ensures read { HasRead (D.shown disk.old) (D.shown disk.new) store.new.pairs result }
@@ -281,6 +285,8 @@ fn read_root<D: Disk>(
         → OnOk result (height ≡ 2 → root ≢ 0 → node_shape 1 ((D.shown disk.old).reads root) ≡ Ok tt) }
     ensures whole { IsTrue (D.shown disk.old).tells
         → IfOk result (λ whole. whole ≡ true → height ≡ 2 → root ≢ 0 → StandsInner (D.shown disk.old).reads root 2 0 inner) }
+    ensures kept { IsTrue (D.shown disk.old).tells
+        → (height ≡ 2 → root ≢ 0 → StandsInner (D.shown disk.old).reads root 2 0 inner) → IfOk result IsTrue }
     ensures fault { IsTrue (D.shown disk.old).tells → IfErr result (λ fault. (height ≡ 2) × IsBadNode (D.shown disk.old).reads root 1 fault) }
     ensures read { HasRead (D.shown disk.old) (D.shown disk.new) store.new.pairs result }
 {
@@ -316,6 +322,8 @@ pub(crate) fn read_tree<D: Disk>(
         → OnOk result ((dirty : List Bool) → Spelled (D.shown disk.old).reads root height (map_of entries.new places.new dirty)) }
     ensures whole { IsTrue (D.shown disk.old).tells
         → IfOk result (λ whole. whole ≡ true → AreWritten entries.new places.new (length places.new) (D.shown disk.old).reads) }
+    ensures kept { IsTrue (D.shown disk.old).tells
+        → IsCleanTree (D.shown disk.old).reads root height (length entries.old) → IfOk result IsTrue }
     ensures fault { IsTrue (D.shown disk.old).tells → IfErr result (IsFault (D.shown disk.old).reads root height (length entries.old)) }
     ensures read { HasRead (D.shown disk.old) (D.shown disk.new) store.new.pairs result }
 {

@@ -18,7 +18,8 @@ pub(crate) fn is_inner_as(
     number: usize,
     width: usize,
 ) -> bool
-    ensures { result ≡ true → at ≢ 0 → IsInnerAs node.now level number width }
+    ensures whole { result ≡ true → at ≢ 0 → IsInnerAs node.now level number width }
+    ensures kept { (at ≢ 0 → IsInnerAs node.now level number width) → result ≡ true }
 {
     at == 0
         || (node.level == level
@@ -28,7 +29,8 @@ pub(crate) fn is_inner_as(
 
 /// Whether an inner node has no child from a number on.
 fn has_no_child(children: &[u32; 256], from: usize) -> bool
-    ensures { result ≡ true → (c : ℕ) → from ≤ c → c < 256 → get_or children.now c 0 ≡ 0 }
+    ensures whole { result ≡ true → (c : ℕ) → from ≤ c → c < 256 → get_or children.now c 0 ≡ 0 }
+    ensures kept { ((c : ℕ) → from ≤ c → c < 256 → get_or children.now c 0 ≡ 0) → result ≡ true }
 {
     for c in 0..FAN {
         if c >= from && children[c] != 0 {
@@ -40,7 +42,8 @@ fn has_no_child(children: &[u32; 256], from: usize) -> bool
 
 /// Whether what was read at a place is the leaf of an index, with at most so many entries. Where `at` is 0 nothing was.
 pub(crate) fn is_leaf_as(at: u32, leaf: &ContainerLeaf, index: usize, width: usize) -> bool
-    ensures { result ≡ true → at ≢ 0 → IsLeafAs leaf.now index width }
+    ensures whole { result ≡ true → at ≢ 0 → IsLeafAs leaf.now index width }
+    ensures kept { (at ≢ 0 → IsLeafAs leaf.now index width) → result ≡ true }
 {
     at == 0 || (leaf.index == index as u64 && has_no_entry(leaf, width))
 }
@@ -49,6 +52,8 @@ pub(crate) fn is_leaf_as(at: u32, leaf: &ContainerLeaf, index: usize, width: usi
 fn has_no_entry(leaf: &ContainerLeaf, from: usize) -> bool
     ensures pvbns { result ≡ true → (c : ℕ) → from ≤ c → c < 256 → get_or leaf.now.pvbns c 0 ≡ 0 }
     ensures kinds { result ≡ true → (c : ℕ) → from ≤ c → c < 256 → get_or leaf.now.kinds c 0 ≡ 0 }
+    ensures kept { ((c : ℕ) → from ≤ c → c < 256 → get_or leaf.now.pvbns c 0 ≡ 0)
+        → ((c : ℕ) → from ≤ c → c < 256 → get_or leaf.now.kinds c 0 ≡ 0) → result ≡ true }
 {
     for c in 0..FAN {
         if c >= from && (leaf.pvbns[c] != 0 || leaf.kinds[c] != 0) {
@@ -60,7 +65,8 @@ fn has_no_entry(leaf: &ContainerLeaf, from: usize) -> bool
 
 /// Whether each number of a row is a place, or 0.
 pub(crate) fn are_places(places: &[u32]) -> bool
-    ensures { result ≡ true → (m : ℕ) → get_or places.now m 0 ≤ last_place }
+    ensures whole { result ≡ true → (m : ℕ) → get_or places.now m 0 ≤ last_place }
+    ensures kept { ((m : ℕ) → get_or places.now m 0 ≤ last_place) → result ≡ true }
 {
     for n in 0..places.len() {
         if places[n] > LAST_PLACE {

@@ -37,7 +37,7 @@ use Rattle.fv_volume.proofs.Spending.{spent_one}
 use Rattle.fv_volumes.proofs.Staying.{only_itself}
 use Rattle.fv_cp.specs.Held.{machine_held, named_held, IsHeld, IsHeldIn}
 use Rattle.fv_cp.specs.Lent.{asked_all, asked_by, asked_of, blocks_asked, maps_waiting, waiting_by, FitTogether}
-use Rattle.fv_cp.specs.Placing.{pending_by, pending_files, HasNumbers, HaveNoFiles, HaveRoom, HaveSpent, IsPlacedAs, AreButPlaced, ArePlaced, AreReady, but_placed, HasNoFiles, HasWholeMap, IsReadyIn, IsSlotPlaced, IsSpareEntry, MayFail, LeavesUnused, PlacesEntries, PlacesSlot, RestsPlaced}
+use Rattle.fv_cp.specs.Placing.{pending_by, pending_files, HasNumbers, HaveNoFiles, HaveRoom, HaveSpent, IsPlacedAs, AreButPlaced, ArePlaced, AreReady, but_placed, FailsToPlace, HasNoFiles, HasWholeMap, IsReadyIn, IsSlotPlaced, IsSpareEntry, MayFail, LeavesUnused, PlacesEntries, PlacesSlot, RestsPlaced}
 use Rattle.fv_disk.proofs.Resting.{reads_then}
 use Rattle.fv_store.specs.Held.{StandsOn}
 use Rattle.fv_pool.specs.declared.fault.VolumeFault.{VolumeFault}
@@ -227,7 +227,7 @@ module _ (disk : Shown) (pool : Pool) (states : States) (mid : Shown) (held : Po
           let part = sum_by-set pending_by between slot None None (omega (arith, inside, long)) in
           let is : pending_by (state_at between slot) ≡ pending_of x.files = ap pending_by there in
           let blocks = now.blocks in
-          fails.1 own.stands (subst HasNumbers there (now.numbers slot) fails.0) (omega (arith, part, is, blocks))
+          fails.1.0 (own.stands.told, own.stands.trees) (subst HasNumbers there (now.numbers slot) fails.0) (omega (arith, part, is, blocks))
 
   -- it fails with a file in memory alone
   pub filed_more : (e : VolumeFault) → MayFail mid held (state_at between slot) e → HaveNoFiles states → ⊥
@@ -343,3 +343,19 @@ module _ (disk : Shown) (pool : Pool) (states : States) (mid : Shown) (held : Po
           (λ (e : s ≡ slot). subst (λ (n : ℕ). P (state_at stay n)) (sym e) here)
           (λ (differ : s ≢ slot). subst P (sym (other_slot s differ did (λ e. (idle e).1))) (before s (omega (arith, low, differ))))
           (cases_eq s slot)
+
+-- ---- where a slot fails
+
+pub lacks_place : (disk : Shown) (pool : Pool) (states : States) (held : Pool) (between : States) → ArePlaced disk pool states disk held between → (slot : ℕ) → container_at held.containers slot ≡ container_at pool.containers slot
+    → (e : VolumeFault) → MayFail disk held (state_at between slot) e → FailsToPlace disk pool states e
+lacks_place disk pool states held between placed slot same e fails = by (state_at between slot) refl fails
+  where
+    by : (o : Option VolumeState) → state_at between slot ≡ o → MayFail disk held o e → FailsToPlace disk pool states e
+    by None there fails = absurd fails
+    by (Some x) there fails = record { mid = held; between = between; placed = placed; slot = slot; entries = same; state = x; there = there; fails = fails }
+
+-- it does so with files in memory alone
+pub files_there : (disk : Shown) (pool : Pool) (states : States) (e : VolumeFault) → FailsToPlace disk pool states e → HaveNoFiles states → ⊥
+files_there disk pool states e lacks none =
+    let still : state_at states lacks.slot ≡ Some lacks.state = ap (λ (xs : States). state_at xs lacks.slot) (sym (lacks.placed.idle none).1) ∙ lacks.there in
+    true≢false (sym lacks.fails.0 ∙ ap is_some (subst HasNoFiles still (none lacks.slot)))

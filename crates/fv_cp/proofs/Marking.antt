@@ -35,7 +35,7 @@ use Rattle.fv_volumes.specs.UnderRoot.{IsLentAt, IsLentSlot}
 use Rattle.fv_volume.specs.Writing.{asked}
 use Rattle.fv_volumes.proofs.Settled.{relabelled}
 use Rattle.fv_volumes.proofs.Settling.{turned_all, turned_more}
-use Rattle.fv_cp.specs.Choosing.{AreMarkedTo, ReclaimsChanged, asked_marked, asked_with, greatest_number, has_slot, holding_with, holdings, marked, marked_as, marked_at, missing_for, needs, needs_by, regions_chosen}
+use Rattle.fv_cp.specs.Choosing.{AreMarkedTo, ReclaimsChanged, asked_marked, asked_with, greatest_number, has_slot, holding_with, holdings, marked, marked_as, marked_at, claimed, claimed_by, missing_for, regions_chosen}
 use Rattle.fv_cp.specs.Lent.{FitTogether, IsLent, asked_all, asked_by, asked_of, blocks_asked}
 use Rattle.fv_cp.specs.Points.{machine_lent}
 use Rattle.fv_cp.proofs.Sums.{over_slots}
@@ -323,10 +323,10 @@ pub missing_still : (pool : Pool) (states now : States) (marks : ℕ → Bool) �
 unfolding missing_for
 missing_still pool states now marks marked_is long long_too want = λ k. min ((max 256 want + needed k) + total (counts_of (holdings_marked pool.containers states now marks marked_is k))) greatest_number - (pool.found.blocks - first_block pool.found.blocks)
   where
-    needed : needs now ≡ needs states
-    needed = over_slots needs_by now long_too
-        ∙ same_sum (λ s. needs_by (state_at now s)) (λ s. needs_by (state_at states s)) 0 64 (λ s low high. ap needs_by (marked_is s) ∙ marked_same needs_by (λ x. refl) (marks s) (state_at states s))
-        ∙ sym (over_slots needs_by states long)
+    needed : claimed now ≡ claimed states
+    needed = over_slots claimed_by now long_too
+        ∙ same_sum (λ s. claimed_by (state_at now s)) (λ s. claimed_by (state_at states s)) 0 64 (λ s low high. ap claimed_by (marked_is s) ∙ marked_same claimed_by (λ x. refl) (marks s) (state_at states s))
+        ∙ sym (over_slots claimed_by states long)
 
 -- and the same regions are chosen for them.
 pub chosen_still : (pool : Pool) (states now : States) (marks : ℕ → Bool) → ((s : ℕ) → state_at now s ≡ marked_at marks states s) → length states ≡ 64 → length now ≡ 64 → (want : ℕ) → regions_chosen pool now want ≡ regions_chosen pool states want

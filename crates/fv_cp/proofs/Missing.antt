@@ -1,4 +1,4 @@
--- What the space rule lacks is at most what a point counts as missing, and just that for volumes that use what they need.
+-- What the space rule lacks is at most what a point counts as missing, and just that for volumes that use what they claim.
 use Rattle.std.proofs.Common.{◌≡◌, ℕ, zero, suc, ◌+◌, ◌-◌, ◌*◌, ◌<◌, ◌≤◌, max, true, length, refl, sym, ap, subst, ◌∙◌, arith}
 use Rattle.std.specs.Prelude.{Option, Some, None, IfSome, nat_le, nat_lt, sum_by}
 use Rattle.std.specs.List.{range_with_len}
@@ -11,6 +11,8 @@ use Rattle.fv_model.specs.declared.commands.Kind.{Kind}
 use Rattle.fv_model.specs.declared.commands.Kind.TheVariants.{Volume as Whole, File as ByFile, Thin}
 use Rattle.fv_model.specs.Machines.{first_block}
 use Rattle.fv_model.specs.Space.{charge, commit, need, overhead, promised, use_of}
+use Rattle.fv_laws.specs.Positions.{HasNoReserve}
+use Rattle.fv_laws.proofs.PathCharges.{no_need}
 use Rattle.fv_image.specs.Containers.{most_entries}
 use Rattle.fv_image.specs.Views.{Head, View, slots, overheads}
 use Rattle.fv_image.specs.Volumes.{volume_told, volume_with}
@@ -28,7 +30,7 @@ use Rattle.fv_volume.specs.Files.{AreStates, IsState}
 use Rattle.fv_volume.specs.States.{States, head_in, state_at, view_over}
 use Rattle.fv_volume.specs.Trees.{no_trees}
 use Rattle.fv_volumes.proofs.Standings.{active_is}
-use Rattle.fv_cp.specs.Choosing.{greatest_number, holdings, missing_for, needs, needs_by}
+use Rattle.fv_cp.specs.Choosing.{greatest_number, holdings, claimed, claimed_by, missing_for}
 use Rattle.fv_cp.proofs.Sums.{over_slots}
 
 -- ---- sums
@@ -84,7 +86,7 @@ module _ (w : View) (tables : AreTables (seen w)) where
           let c : option_map_or (λ x. commit x.volume) ((seen w).volume s) 0 ≡ commit (volume_told w s h) = ap (λ (o : Option VolumeSeen). option_map_or (λ x. commit x.volume) o 0) (seen_at w s h inside e) in
           omega (arith, a, b, c, use_promised s h inside e)
 
--- What the volumes of a view use, with all overheads twice, is what they need by their ledgers.
+-- What the volumes of a view use, with all overheads twice, is what they claim by their ledgers: no file has a reserve.
 module _ (pool : Pool) (states : States) (i : Image) (long : length states ≡ 64) (are : AreStates (view_over pool states i) no_trees states) where
   abbrev v : View
   v = view_over pool states i
@@ -97,17 +99,22 @@ module _ (pool : Pool) (states : States) (i : Image) (long : length states ≡ 6
   unfolding view_over
   head_none s none = ap (option_map head_in) none
 
-  pub uses_needed : 2 * overheads v + uses_seen (seen v) ≡ needs states
+  -- a volume needs nothing for reserves
+  pub none_needed : (s : ℕ) (x : VolumeState) → state_at states s ≡ Some x → IsState v no_trees s x → need (volume_told v s (head_in x)) ≡ 0
+  unfolding volume_with
+  none_needed s x is state = no_need (volume_told v s (head_in x)) (subst HasNoReserve (active_is v s (head_in x) (head_there s x is)) state.reserves)
+
+  pub uses_claimed : 2 * overheads v + uses_seen (seen v) ≡ claimed states
   unfolding overheads uses_seen slots volume_seen
-  uses_needed = subst (λ (n : ℕ). 2 * overheads v + uses_seen (seen v) ≡ n) (sym (over_slots needs_by states long))
-      (both_are (λ s. option_map_or (λ h. overhead h.span) (v.head s) 0) (λ s. option_map_or (λ x. use_of x.volume) ((seen v).volume s) 0) (λ s. needs_by (state_at states s)) 0 64 (λ s low high. so s (omega (arith, high)) (state_at states s) refl))
+  uses_claimed = subst (λ (n : ℕ). 2 * overheads v + uses_seen (seen v) ≡ n) (sym (over_slots claimed_by states long))
+      (both_are (λ s. option_map_or (λ h. overhead h.span) (v.head s) 0) (λ s. option_map_or (λ x. use_of x.volume) ((seen v).volume s) 0) (λ s. claimed_by (state_at states s)) 0 64 (λ s low high. so s (omega (arith, high)) (state_at states s) refl))
     where
       so : (s : ℕ) → s < 64 → (o : Option VolumeState) → state_at states s ≡ o
-          → 2 * option_map_or (λ h. overhead h.span) (v.head s) 0 + option_map_or (λ x. use_of x.volume) ((seen v).volume s) 0 ≡ needs_by (state_at states s)
+          → 2 * option_map_or (λ h. overhead h.span) (v.head s) 0 + option_map_or (λ x. use_of x.volume) ((seen v).volume s) 0 ≡ claimed_by (state_at states s)
       so s inside None e =
           let a : option_map_or (λ h. overhead h.span) (v.head s) 0 ≡ 0 = ap (λ (o : Option Head). option_map_or (λ h. overhead h.span) o 0) (head_none s e) in
           let b : option_map_or (λ x. use_of x.volume) ((seen v).volume s) 0 ≡ 0 = ap (λ (o : Option VolumeSeen). option_map_or (λ x. use_of x.volume) o 0) (none_seen v s inside (head_none s e)) in
-          let c : needs_by (state_at states s) ≡ 0 = ap needs_by e in
+          let c : claimed_by (state_at states s) ≡ 0 = ap claimed_by e in
           omega (arith, a, b, c)
       so s inside (Some x) e =
           let h : Head = head_in x in
@@ -115,9 +122,9 @@ module _ (pool : Pool) (states : States) (i : Image) (long : length states ≡ 6
           let table = ap (volume_with v s h) (active_is v s h (head_there s x e)) in
           let a : option_map_or (λ h. overhead h.span) (v.head s) 0 ≡ overhead x.span = ap (λ (o : Option Head). option_map_or (λ h. overhead h.span) o 0) (head_there s x e) in
           let b : option_map_or (λ x. use_of x.volume) ((seen v).volume s) 0 ≡ use_of (volume_told v s h) = ap (λ (o : Option VolumeSeen). option_map_or (λ x. use_of x.volume) o 0) (seen_at v s h inside (head_there s x e)) in
-          let c : needs_by (state_at states s) ≡ 2 * overhead x.span + (x.ledger.charge + x.ledger.need) = ap needs_by e in
+          let c : claimed_by (state_at states s) ≡ 2 * overhead x.span + x.ledger.charge = ap claimed_by e in
           let d : x.ledger.charge ≡ charge (volume_told v s h) = state.ledger.charged ∙ ap charge table in
-          let f : x.ledger.need ≡ need (volume_told v s h) = state.ledger.needed ∙ ap need table in
+          let f : need (volume_told v s h) ≡ 0 = none_needed s x e state in
           omega (arith, a, b, c, d, f)
 
 -- ---- what they have delayed
@@ -137,15 +144,15 @@ few_delayed volumes few = sum_few (λ s. option_map_or (λ x. delayed_of x.map x
 -- ---- what is missing
 
 -- What the rule lacks for volumes that use so much is at most what is counted as missing for so much room or more, where it is a number of 64 bits.
-pub lacks_missing : (pool : Pool) (states : States) (want room used : ℕ) → used ≤ needs states → max 256 room ≤ max 256 want → used + all_delayed (holdings pool.containers states) + max 256 room ≤ greatest_number
+pub lacks_missing : (pool : Pool) (states : States) (want room used : ℕ) → used ≤ claimed states → max 256 room ≤ max 256 want → used + all_delayed (holdings pool.containers states) + max 256 room ≤ greatest_number
     → (used + all_delayed (holdings pool.containers states) + max 256 room) - (pool.found.blocks - first_block pool.found.blocks) ≤ missing_for pool states want
 unfolding missing_for
 lacks_missing pool states want room used needed more small =
     let same = counts_total (holdings pool.containers states) in
     omega (arith, needed, more, small, same)
 
--- It is that where the volumes use just what they need.
-pub missing_is : (pool : Pool) (states : States) (want used : ℕ) → used ≡ needs states → used + all_delayed (holdings pool.containers states) + max 256 want ≤ greatest_number
+-- It is that where the volumes use just what they claim.
+pub missing_is : (pool : Pool) (states : States) (want used : ℕ) → used ≡ claimed states → used + all_delayed (holdings pool.containers states) + max 256 want ≤ greatest_number
     → missing_for pool states want ≡ (used + all_delayed (holdings pool.containers states) + max 256 want) - (pool.found.blocks - first_block pool.found.blocks)
 unfolding missing_for
 missing_is pool states want used needed small =

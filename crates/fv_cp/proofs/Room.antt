@@ -8,11 +8,9 @@ use Rattle.std.proofs.lemmas.Option.{none-some, same_Some}
 use Rattle.fv_disk.specs.Shown.{Image}
 use Rattle.fv_model.specs.Machines.{capacity, first_block}
 use Rattle.fv_model.specs.Space.{need, overhead}
-use Rattle.fv_laws.specs.Positions.{HasNoReserve}
-use Rattle.fv_laws.proofs.PathCharges.{no_need}
 use Rattle.fv_image.specs.Containers.{most_entries}
 use Rattle.fv_image.specs.Views.{Head, View, slots, overheads}
-use Rattle.fv_image.specs.Volumes.{volume_told, volume_with}
+use Rattle.fv_image.specs.Volumes.{volume_told}
 use Rattle.fv_image.specs.Seen.{Seen, VolumeSeen, seen, volume_seen}
 use Rattle.fv_image.specs.Soundness.{AreMaps, AreTables}
 use Rattle.fv_image.specs.VolumeRules.{commits_seen, has_commits_in_capacity, uses_seen}
@@ -38,10 +36,9 @@ use Rattle.fv_volume.specs.Loading.{Houses}
 use Rattle.fv_volume.specs.States.{States, head_in, state_at, view_over}
 use Rattle.fv_volume.specs.Trees.{no_trees}
 use Rattle.fv_volume.proofs.Labels.{label_head}
-use Rattle.fv_volumes.proofs.Standings.{active_is}
 use Rattle.fv_volumes.proofs.Told.{head_at, head_there}
-use Rattle.fv_cp.specs.Choosing.{CountsMissing, LeavesRoom, greatest_number, holding_with, holdings, lacking, missing_for, needs, regions_chosen}
-use Rattle.fv_cp.proofs.Missing.{few_delayed, lacks_missing, missing_is, uses_needed, uses_promised}
+use Rattle.fv_cp.specs.Choosing.{CountsMissing, LeavesRoom, greatest_number, holding_with, holdings, lacking, claimed, missing_for, regions_chosen}
+use Rattle.fv_cp.proofs.Missing.{few_delayed, lacks_missing, missing_is, none_needed, uses_claimed, uses_promised}
 use Rattle.fv_cp.proofs.OwnCharged.{IsLone, owns_used}
 
 -- the entries of a volume's container are few
@@ -69,8 +66,8 @@ module _ (pool : Pool) (states : States) (i : Image) (housed : AreHoused pool.co
   unfolding overheads
   overheads_same = λ k. sum_by (λ s. option_map_or (λ h. overhead h.span) (heads s k) 0) slots
 
-  used : 2 * overheads v + uses_seen (seen v) ≡ needs states
-  used = let uses_same = ap uses_seen same in let needed = uses_needed pool states i housed.long are in omega (arith, overheads_same, uses_same, needed)
+  used : 2 * overheads v + uses_seen (seen v) ≡ claimed states
+  used = let uses_same = ap uses_seen same in let needed = uses_claimed pool states i housed.long are in omega (arith, overheads_same, uses_same, needed)
 
   committed : commits_seen (seen v) ≤ capacity v.blocks
   unfolding has_commits_in_capacity seen
@@ -88,12 +85,7 @@ module _ (pool : Pool) (states : States) (i : Image) (housed : AreHoused pool.co
       let over : w.head s ≡ Some (head_in x) = head_there pool states i s x is in
       ap (λ (z : VolumeSeen). z.volume) (same_Some (volume_seen v s (head_in x)) (volume_seen w s (head_in x)) (sym (seen_at v s (head_in x) inside (heads s ∙ over)) ∙ ap (λ (z : Seen). z.volume s) same ∙ seen_at w s (head_in x) inside over))
 
-  -- it needs nothing for reserves
-  none_needed : (s : ℕ) (x : VolumeState) → state_at states s ≡ Some x → IsState w no_trees s x → need (volume_told w s (head_in x)) ≡ 0
-  unfolding volume_with
-  none_needed s x is state = no_need (volume_told w s (head_in x)) (subst HasNoReserve (active_is w s (head_in x) (head_there pool states i s x is)) state.reserves)
-
-  -- and stands on no other
+  -- it stands on no other
   lone : (s : ℕ) (h : Head) → s < 64 → v.head s ≡ Some h → IsLone v s h
   lone s h inside there = by (state_at states s) refl
     where
@@ -104,7 +96,7 @@ module _ (pool : Pool) (states : States) (i : Image) (housed : AreHoused pool.co
             numbers = subst HasLabelNumbers (label_head x label.form label.named label.snapshots 0 1) (label_numbers (label_said x 0 1) (label.label 0 1 (omega arith) (omega arith) (omega arith)));
             order = label.snapshots.slots;
             alone = form_base (head_in x) label.form;
-            need = ap need (told_same s x inside is) ∙ none_needed s x is state;
+            need = ap need (told_same s x inside is) ∙ none_needed pool states i housed.long are s x is state;
           }
 
       by : (o : Option VolumeState) → state_at states s ≡ o → IsLone v s h

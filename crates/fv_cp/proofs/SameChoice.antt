@@ -25,7 +25,7 @@ use Rattle.fv_volumes.specs.Housed.{as_written, settled_as}
 use Rattle.fv_volume.specs.Loading.{Houses}
 use Rattle.fv_volume.specs.States.{States, state_at}
 use Rattle.fv_volumes.proofs.Settled.{settled_keeps}
-use Rattle.fv_cp.specs.Choosing.{greatest_number, holding_with, holdings, marked_as, missing_for, needs, needs_by, regions_chosen}
+use Rattle.fv_cp.specs.Choosing.{greatest_number, holding_with, holdings, marked_as, claimed, claimed_by, missing_for, regions_chosen}
 use Rattle.fv_cp.specs.Placing.{but_placed, AreButPlaced, HasWholeMap, LeavesUnused}
 use Rattle.fv_cp.proofs.Marking.{marked_same}
 use Rattle.fv_cp.proofs.Sums.{over_slots}
@@ -98,7 +98,7 @@ module _ (pool : Pool) (states : States) (mid : Pool) (between : States) (found 
   chosen_before want = λ k. regions_counted (chosen (counts_all k) (lacks k))
     where
       lacks : missing_for mid between want ≡ missing_for pool between want
-      lacks = λ k. min ((max 256 want + needs between) + total (counts_all k)) greatest_number - ((found k).blocks - first_block (found k).blocks)
+      lacks = λ k. min ((max 256 want + claimed between) + total (counts_all k)) greatest_number - ((found k).blocks - first_block (found k).blocks)
 
 -- what doesn't look at label, change and maps that wait is of a volume that was written as it was
 written_same : {T : Type 0} (f : Option VolumeState → T) → ((x : VolumeState) → f (Some (record x { changed = true })) ≡ f (Some x)) → ((x : VolumeState) (label : ℕ) → f (Some (as_written x label)) ≡ f (Some x))
@@ -125,11 +125,11 @@ module _ (pool : Pool) (states now : States) (label : ℕ → ℕ) (marks : ℕ 
           ∙ written_same (λ (o : Option VolumeState). holding_with o (container_at pool.containers s)) (λ x. of_map (container_at pool.containers s) (record x { changed = true }) x refl)
           (λ x place. of_map (container_at pool.containers s) (as_written x place) x refl) (label s) (marks s) (state_at states s)) k
 
-      needed : needs now ≡ needs states
-      needed = over_slots needs_by now long_too
-          ∙ same_sum (λ s. needs_by (state_at now s)) (λ s. needs_by (state_at states s)) 0 64
-          (λ s low high. ap needs_by (is s) ∙ written_same needs_by (λ x. refl) (λ x place. refl) (label s) (marks s) (state_at states s))
-          ∙ sym (over_slots needs_by states long)
+      needed : claimed now ≡ claimed states
+      needed = over_slots claimed_by now long_too
+          ∙ same_sum (λ s. claimed_by (state_at now s)) (λ s. claimed_by (state_at states s)) 0 64
+          (λ s low high. ap claimed_by (is s) ∙ written_same claimed_by (λ x. refl) (λ x place. refl) (label s) (marks s) (state_at states s))
+          ∙ sym (over_slots claimed_by states long)
 
       lacks : missing_for pool now want ≡ missing_for pool states want
       lacks = λ k. min ((max 256 want + needed k) + total (counts_of (held k))) greatest_number - (pool.found.blocks - first_block pool.found.blocks)

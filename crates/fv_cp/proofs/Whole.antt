@@ -31,7 +31,7 @@ use Rattle.fv_volumes.proofs.Staying.{kept_stands}
 use Rattle.fv_volumes.proofs.HeldSettled.{core_parent, ready_of, settled_core, settled_no_files, settled_numbers, settled_ready, settled_unchanged, settled_whole}
 use Rattle.fv_cp.specs.Held.{machine_held, IsHeld}
 use Rattle.fv_cp.specs.Lent.{FitTogether, IsLent}
-use Rattle.fv_cp.specs.Placing.{core_of, ArePlaced, AreReady, HasNoFiles, HasWholeMap, HaveNoFiles, HaveRoom, IsPlaceFault, IsReadyIn}
+use Rattle.fv_cp.specs.Placing.{core_of, ArePlaced, AreReady, FailsToPlace, HasNoFiles, HasWholeMap, HaveNoFiles, HaveRoom, IsPlaceFault, IsReadyIn}
 use Rattle.fv_cp.specs.Points.{machine_lent, Counts, GoesOn, IsCalm, IsNew, IsOld, IsPoint, LacksRoom, LeavesAll, LeavesContainers, OldOrLent}
 use Rattle.fv_cp.specs.Settling.{GoesOnWhole, HasWholeCause, HaveFullRoom, IsHeldPoint, IsNoDamage, IsStill, OldOrHeld, StillHeld, WholeCounts, WholeFails}
 use Rattle.fv_volumes.specs.Housed.{settled_as}
@@ -246,7 +246,7 @@ module _ (disk : Shown) (pool : Pool) (states : States) (mid : Shown) (held : Po
       absurd (omega (arith, lacks.1.0, lacks.1.1.0, lacks.1.1.1, asked_least between placed.fit.housed.long, spent.blocks, asked, blocks))
 
   -- why it wasn't done, with the files in their places
-  pub fails_left : (new : Shown) (left : Pool) (stay : States) (e : BlockFault) → LacksRoom held between e → LeavesAll mid held between new left stay e → WholeFails states left stay (of_block e)
+  pub fails_left : (new : Shown) (left : Pool) (stay : States) (e : BlockFault) → LacksRoom held between e → LeavesAll mid held between new left stay e → WholeFails disk pool states left stay (of_block e)
   fails_left new left stay DiskFault lacks leaves = tt
   fails_left new left stay Memory lacks leaves = absurd lacks
   fails_left new left stay (Damaged at want found) lacks leaves =
@@ -265,8 +265,11 @@ of_fault P damaged memory volume.Memory fault = memory
 pub still_placing : (disk : Shown) (pool : Pool) (states : States) (left : Pool) (stay : States) (e : VolumeFault) → IsPlaceFault e → StillHeld disk pool states disk left stay → IsStill disk pool states disk left stay e
 still_placing disk pool states left stay e fault still = of_fault (IsStill disk pool states disk left stay) (λ at want found. still) still e fault
 
-pub fails_placed : (states : States) (left : Pool) (stay : States) (e : VolumeFault) → IsPlaceFault e → (HaveNoFiles states → ⊥) → WholeFails states left stay e
-fails_placed states left stay e fault filed = of_fault (WholeFails states left stay) (λ at want found. inr filed) filed e fault
+pub fails_placed : (disk : Shown) (pool : Pool) (states : States) (left : Pool) (stay : States) (e : VolumeFault) → IsPlaceFault e → (HaveNoFiles states → ⊥) → FailsToPlace disk pool states e → WholeFails disk pool states left stay e
+fails_placed disk pool states left stay (volume.Refused r) fault filed lacks = absurd fault
+fails_placed disk pool states left stay volume.DiskFault fault filed lacks = absurd fault
+fails_placed disk pool states left stay (volume.Damaged at want found) fault filed lacks = inr lacks
+fails_placed disk pool states left stay volume.Memory fault filed lacks = filed
 
 pub counts_placed : (disk : Shown) (e : VolumeFault) → IsPlaceFault e → WholeCounts disk disk (Err e)
 counts_placed disk e fault = record { tells = refl; given = refl; ends = refl; cause = of_fault (λ e. HasWholeCause disk disk (Err e)) (λ at want found. (refl, refl)) (refl, refl) e fault }

@@ -42,19 +42,22 @@ counts_at s volume = option_map_or (counts_in s) volume []
 abbrev pub greatest_number : ℕ
 greatest_number = 2 ^ 64 - 1
 
--- the blocks that a volume needs by the space rule: twice its overhead, and what it is charged for and needs by its ledger
-abbrev pub needs_by : Option VolumeState → ℕ
-needs_by None = 0
-needs_by (Some x) = 2 * overhead x.span + (x.ledger.charge + x.ledger.need)
+-- The blocks that a volume claims by the space rule: twice its overhead, and the entries that it owns, which its ledger charges. What its
+-- reserves need isn't claimed. The charge is just the entries of its own for each volume that isn't being split from its base. One that is being
+-- split is charged for numbers of data that have no entry of their own yet, and those would have to be taken off; no volume of a session is being
+-- split (`IsLabelled.form`).
+abbrev pub claimed_by : Option VolumeState → ℕ
+claimed_by None = 0
+claimed_by (Some x) = 2 * overhead x.span + x.ledger.charge
 
--- those that all volumes need
-abbrev pub needs : States → ℕ
-needs states = sum_by needs_by states
+-- those that all volumes claim
+abbrev pub claimed : States → ℕ
+claimed states = sum_by claimed_by states
 
--- The blocks that the space rule lacks before any reclaim, where so many are wanted: what the volumes need, what they have delayed and what
+-- The blocks that the space rule lacks before any reclaim, where so many are wanted: what the volumes claim, what they have delayed and what
 -- is wanted, less the blocks behind the fixed ones. A sum past 64 bits is taken for the greatest number of them.
 unfoldable pub missing_for : Pool → States → ℕ → ℕ
-missing_for pool states want = min ((max 256 want + needs states) + total (counts_of (holdings pool.containers states))) greatest_number - (pool.found.blocks - first_block pool.found.blocks)
+missing_for pool states want = min ((max 256 want + claimed states) + total (counts_of (holdings pool.containers states))) greatest_number - (pool.found.blocks - first_block pool.found.blocks)
 
 -- What the space rule lacks for a view where so many blocks are wanted and so many entries are delayed: all overheads twice, the entries that are
 -- the volumes' own, what is delayed and what is wanted, less the blocks behind the fixed ones.

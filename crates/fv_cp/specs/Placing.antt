@@ -9,6 +9,7 @@ use Rattle.fv_model.specs.Machines.{Machine}
 use Rattle.fv_image.specs.Reclaimed.{IsAllocatable}
 use Rattle.fv_container.specs.declared.entry.Entry.{Entry}
 use Rattle.fv_container.specs.Chains.{Slots, container_at, own_entry}
+use Rattle.fv_pool.specs.declared.fault.VolumeFault.{VolumeFault}
 use Rattle.fv_pool.specs.declared.pool.Pool.{Pool}
 use Rattle.fv_volume.specs.declared.state.VolumeState.{VolumeState}
 use Rattle.fv_aggmap.specs.Space.{Space, blocks_of, free_blocks}
@@ -111,3 +112,17 @@ pub record ArePlaced (disk : Shown) (pool : Pool) (states : States) (after : Sho
   pub rest : RestsPlaced pool states left stay
   pub only_reads : OnlyReads disk after
   pub idle : HaveNoFiles states → (left ≡ pool) × (stay ≡ states)
+
+-- ---- why it isn't done
+
+-- The files of the volume of a slot weren't placed, once those of the slots before it were: `mid` is the pool then, and `between` are the volumes.
+-- The volume's container is as it was.
+pub record FailsToPlace (disk : Shown) (pool : Pool) (states : States) (e : VolumeFault) : Type 0 where
+  pub mid : Pool
+  pub between : States
+  pub placed : ArePlaced disk pool states disk mid between
+  pub slot : ℕ
+  pub entries : container_at mid.containers slot ≡ container_at pool.containers slot
+  pub state : VolumeState
+  pub there : state_at between slot ≡ Some state
+  pub fails : MayFail disk mid (Some state) e

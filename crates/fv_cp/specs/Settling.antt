@@ -23,7 +23,7 @@ use Rattle.fv_cp.specs.Lent.{asked_all, FitTogether}
 use Rattle.fv_cp.specs.Choosing.{CountsMissing, LeavesRoom, regions_chosen}
 use Rattle.fv_cp.specs.Known.{AreKnown}
 use Rattle.fv_disk.specs.declared.fault.BlockFault.TheVariants as block
-use Rattle.fv_cp.specs.Placing.{pending_files, AreButPlaced, ArePlaced, AreReady, HasNumbers, HaveNoFiles, KeepCores, LeavesUnused, PlacesEntries, RestsPlaced}
+use Rattle.fv_cp.specs.Placing.{pending_files, AreButPlaced, ArePlaced, AreReady, FailsToPlace, HasNumbers, HaveNoFiles, KeepCores, LeavesUnused, PlacesEntries, RestsPlaced}
 use Rattle.fv_cp.specs.Points.{IsNew, IsOld, LacksRoom, LeavesContainers}
 
 -- an image is of the old side, or of the new one with the machine of the session
@@ -105,11 +105,11 @@ HasWholeCause old new (Err (Damaged at want found)) = (new.faults ≡ old.faults
 HasWholeCause old new (Err Memory) = (new.faults ≡ old.faults) × (new.write_faults ≡ old.write_faults)
 
 -- Why such a point isn't done. Fewer blocks are free than it asks for, with the files in their places; or a file was in memory that wasn't placed.
-abbrev pub WholeFails : States → Pool → States → VolumeFault → Type 0
-WholeFails states left stay (Refused r) = ⊥
-WholeFails states left stay DiskFault = Unit {0}
-WholeFails states left stay (Damaged at want found) = LacksRoom left stay (block.Damaged at want found) ⊎ (HaveNoFiles states → ⊥)
-WholeFails states left stay Memory = HaveNoFiles states → ⊥
+abbrev pub WholeFails : Shown → Pool → States → Pool → States → VolumeFault → Type 0
+WholeFails disk pool states left stay (Refused r) = ⊥
+WholeFails disk pool states left stay DiskFault = Unit {0}
+WholeFails disk pool states left stay (Damaged at want found) = LacksRoom left stay (block.Damaged at want found) ⊎ FailsToPlace disk pool states (Damaged at want found)
+WholeFails disk pool states left stay Memory = HaveNoFiles states → ⊥
 
 -- what is told and given and the ends of a host stay
 pub record WholeCounts (old new : Shown) (result : Result Unit VolumeFault) : Type 0 where

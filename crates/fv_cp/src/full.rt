@@ -57,7 +57,7 @@ pub fn full_point<D: Disk>(
     ensures enough { IsTrue (D.shown disk.old).tells → (before : Machine) → IsHeld (D.shown disk.old) pool.old volumes.old before
         → HaveFullRoom pool.old volumes.old → IfErr result IsNoDamage }
     ensures counts { WholeCounts (D.shown disk.old) (D.shown disk.new) result }
-    ensures fails { IfErr result (WholeFails volumes.old pool.new volumes.new) }
+    ensures fails { IfErr result (WholeFails (D.shown disk.old) pool.old volumes.old pool.new volumes.new) }
     ensures delays { OnErr result (delays.new ≡ delays.old) }
 {
     flush(volumes, pool, &*disk)?;

@@ -8,7 +8,7 @@ ghost use Rattle.fv_cp.specs.Lent.{FitTogether};
 ghost use Rattle.fv_model.specs.Machines.{Machine};
 ghost use Rattle.fv_pool.specs.declared.fault.VolumeFault.TheVariants.{Memory};
 ghost use Rattle.fv_cp.specs.Held.{IsHeld};
-ghost use Rattle.fv_cp.specs.Placing.{ArePlaced, AreReady, HasNoFiles, HasWholeMap, HaveNoFiles, HaveRoom, IsPlaceFault, IsPlacedAs, IsReadyIn, MayFail, PlacesSlot};
+ghost use Rattle.fv_cp.specs.Placing.{ArePlaced, AreReady, FailsToPlace, HasNoFiles, HasWholeMap, HaveNoFiles, HaveRoom, IsPlaceFault, IsPlacedAs, IsReadyIn, MayFail, PlacesSlot};
 
 use fv_codec::SLOTS;
 use fv_disk::Disk;
@@ -20,8 +20,8 @@ use fv_volumes::Volumes;
 /// machine that they stood for, and a later call goes on where one failed. It makes no call of the disk.
 ///
 /// # Errors
-/// `Damaged` and `Memory` come as in `VolumeState::flush`, for the volume of the least slot that they come for. Where volumes stand for a
-/// machine, and each with files in memory has more free numbers, and the aggregate more free blocks, than are pending, only `Memory` comes.
+/// `Damaged` and `Memory` come as in `VolumeState::flush`, for the volume of the least slot that they come for: `Damaged` at the place of its
+/// label or of the root, with 1 and 0, where the trees of its table stand on their blocks. Where volumes stand for a machine, and each with files in memory has more free numbers, and the aggregate more free blocks, than are pending, only `Memory` comes.
 /// Nothing is `Refused`, and `DiskFault` doesn't come. Without a file in memory no fault comes.
 ///
 /// Costs a step for each slot, and for each volume with files in memory a step for each number of its span and what its flush costs.
@@ -37,6 +37,7 @@ pub fn flush<D: Disk>(volumes: &mut Volumes, pool: &mut Pool, disk: &D) -> Resul
     ensures enough { (before : Machine) → IsHeld (D.shown disk.now) pool.old volumes.old before → HaveRoom pool.old volumes.old → IfErr result (λ e. e ≡ Memory) }
     ensures cause { IfErr result IsPlaceFault }
     ensures filed { IfErr result (λ e. HaveNoFiles volumes.old → ⊥) }
+    ensures lacks { IfErr result (FailsToPlace (D.shown disk.now) pool.old volumes.old) }
 {
     for slot in 0..SLOTS {
         flush_slot(volumes, pool, disk, slot)?;

@@ -17,7 +17,7 @@ ghost use Rattle.fv_volumes.specs.Housed.{AreHoused};
 ghost use Rattle.fv_volume.specs.Loading.{Houses};
 ghost use Rattle.fv_volume.specs.States.{state_at};
 ghost use Rattle.fv_cp.specs.Lent.{blocks_asked};
-ghost use Rattle.fv_cp.specs.Choosing.{asked_marked, asked_with, counts_at, greatest_number, holdings, missing_for, needs, needs_by, regions_chosen};
+ghost use Rattle.fv_cp.specs.Choosing.{asked_marked, asked_with, claimed, claimed_by, counts_at, greatest_number, holdings, missing_for, regions_chosen};
 ghost use Rattle.fv_cp.specs.Planning.{AreCounted, AreTables, FlagsDelayed, IsAdded, IsPlan, IsSlotCounted, is_set, no_holding};
 
 use crate::asking::blocks_asked;
@@ -187,36 +187,34 @@ fn missing(volumes: &Volumes, delayed: u64, blocks: u32, want: u64) -> u64
     requires size { IsSize blocks }
     requires long { length volumes.now ≡ slot_count }
     requires volumes { (s : ℕ) → IfSome (state_at volumes.now s) (IsLabelled s) }
-    ensures { result ≡ min ((max 256 want + needs volumes.now) + delayed) greatest_number - (blocks - first_block blocks) }
+    ensures { result ≡ min ((max 256 want + claimed volumes.now) + delayed) greatest_number - (blocks - first_block blocks) }
 {
     let behind = u64::from(blocks - first_block(blocks));
-    let needed = add_needs(want.max(LEAST), volumes);
-    needed.saturating_add(delayed).saturating_sub(behind)
+    let claimed = add_claims(want.max(LEAST), volumes);
+    claimed.saturating_add(delayed).saturating_sub(behind)
 }
 
-/// A number with what all volumes need, as far as it goes.
-fn add_needs(first: u64, volumes: &Volumes) -> u64
+/// A number with what all volumes claim, as far as it goes.
+fn add_claims(first: u64, volumes: &Volumes) -> u64
     requires long { length volumes.now ≡ slot_count }
     requires volumes { (s : ℕ) → IfSome (state_at volumes.now s) (IsLabelled s) }
-    ensures { result ≡ min (first + needs volumes.now) greatest_number }
+    ensures { result ≡ min (first + claimed volumes.now) greatest_number }
 {
     let mut sum = first;
     for slot in 0..SLOTS {
-        sum = sum.saturating_add(needs_of(volumes.get(slot)));
+        sum = sum.saturating_add(claim_of(volumes.get(slot)));
     }
     sum
 }
 
-/// What the volume of a slot needs: twice its overhead, and what it is charged for and needs by its ledger.
-fn needs_of(state: Option<&VolumeState>) -> u64
+/// What the volume of a slot claims by the space rule: twice its overhead, and the entries that it owns, which its ledger charges. Of a volume
+/// that is being split from its base the charge would be too much.
+fn claim_of(state: Option<&VolumeState>) -> u64
     requires { IfSome (option_copied state) (λ x. x.span ≤ greatest_span) }
-    ensures { result ≡ needs_by (option_copied state.entry) }
+    ensures { result ≡ claimed_by (option_copied state.entry) }
 {
     match state {
-        Some(state) => {
-            u64::from(2 * overhead(state.span))
-                + (u64::from(state.ledger.charge()) + u64::from(state.ledger.need()))
-        }
+        Some(state) => u64::from(2 * overhead(state.span)) + u64::from(state.ledger.charge()),
         None => 0,
     }
 }

@@ -3,3 +3,4 @@ mod Giving
 pub mod Moments
 pub mod Resting
 pub mod Sparing
+pub mod Reading

@@ -40,6 +40,18 @@ adds_then first second old mid new one two = record {
   );
 }
 
+pub nothing_added : (lines : List Fault) (x : Lines) → lines ≡ [] → Adds lines x x
+nothing_added lines x none = subst (λ ls. Adds ls x x) (sym none) (adds_none x x refl)
+
+-- the same lines, in whatever order and number
+pub same_added : (one two : List Fault) (old new : Lines) → ((f : Fault) → In f one → In f two) → ((f : Fault) → In f two → In f one) → Adds one old new → Adds two old new
+same_added one two old new to from adds = record {
+  each = λ f. (
+    (λ there. ⊎_elim (λ before. inl before) (λ is. inr (to f is)) ((adds.each f).0 there)),
+    λ there. (adds.each f).1 (⊎_elim (λ before. inl before) (λ is. inr (from f is)) there),
+  );
+}
+
 -- ---- what is noted in the end
 
 -- Where nothing is noted, no line was to be added.

@@ -4,6 +4,7 @@ pub mod Adding
 pub mod BlockLines
 pub mod Twins
 pub mod Plain
+pub mod LinesAlong
 pub mod Members
 pub mod TableMembers
 pub mod Reached

@@ -19,4 +19,3 @@ mod Spelled
 mod OneSlot
 mod Passing
 mod RootShapes
-pub mod Whole

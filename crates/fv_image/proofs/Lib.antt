@@ -53,3 +53,4 @@ pub mod RootTables
 pub mod SnapLists
 pub mod LabelSlots
 pub mod SettledItems
+pub mod Moved

@@ -6,7 +6,6 @@ use Rattle.std.specs.Option.{is_some, option_map, option_map_or, option_and_then
 use Rattle.std.specs.Ordering.{eq_by_cmp}
 use Rattle.std.specs.FinMap as fin
 use Rattle.std.proofs.lemmas.Bool.{cases_eq, and_parts, not-true, both_ways}
-use Rattle.std.proofs.lemmas.Bool.Decides.{nat_tests}
 use Rattle.std.proofs.lemmas.Cmp.{eq_by_cmp_equiv}
 use Rattle.std.proofs.lemmas.List.{length-append}
 use Rattle.fv_model.specs.Spelling.{name_cmp, is_same_name}

@@ -23,3 +23,4 @@ pub mod SoundSlots
 pub mod Charged
 pub mod Turned
 pub mod Mapped
+pub mod Moves

@@ -1,13 +1,12 @@
 -- What the rules on blocks and on maps ask of one slot by itself. With held blocks that are spaced they are all that those rules ask.
 use Rattle.std.specs.Prelude.{◌≡◌, ◌≢◌, ◌<◌, ◌≤◌, ℕ, Bool, true, Some, Ok, ◌==◌}
-use Rattle.std.specs.List.{list_all, range_with_len}
+use Rattle.std.specs.List.{list_all}
 use Rattle.fv_disk.specs.Shown.{Image}
 use Rattle.fv_codec.specs.declared.label.Label.{Label}
 use Rattle.fv_codec.specs.Blocks.{label_at}
-use Rattle.fv_model.specs.Space.{map_blocks}
 use Rattle.fv_image.specs.NewerRoot.{Taken}
 use Rattle.fv_image.specs.Containers.{level_width, height_of, node_verdict, has_none_past, HasNonePast, IsWholeTree}
-use Rattle.fv_image.specs.Views.{Head, Rooted, View, head_of, kind_at, entry_count, map_vvbn}
+use Rattle.fv_image.specs.Views.{Head, View, head_of, kind_at, entry_count}
 use Rattle.fv_image.specs.Held.{Lying, Layout, label_place, view_at}
 use Rattle.fv_image.specs.BlockRules.{is_place}
 use Rattle.fv_image.specs.Seen.{own_blocks}

@@ -14,7 +14,7 @@ use Rattle.fv_lines.specs.declared.reading.Found.TheVariants as found
 use Rattle.fv_lines.specs.declared.script.Next.{Next}
 use Rattle.fv_lines.specs.declared.script.Next.TheVariants as next
 use Rattle.fv_lines.specs.Held.{Held, begun}
-use Rattle.fv_lines.specs.Reading.{unread, HasNoEnd, SaysAs, Asks, IsNext, found_last, IsFound, HasEnded, IsOver, HasRoom, Finds}
+use Rattle.fv_lines.specs.Reading.{unread, KnowsEnd, HasNoEnd, SaysAs, Asks, IsNext, found_last, IsFound, HasEnded, IsOver, HasRoom, Finds}
 use Rattle.fv_lines.proofs.Ends.{none_in, one_in}
 use Rattle.fv_lines.proofs.Asking.{asks_none, asks_then, asks_as, asks_failed}
 use Rattle.fv_lines.proofs.Spans.{says_then, same_size}
@@ -49,6 +49,8 @@ pub record HasRead (old_held : Held) (old : Shown) (held : Held) (now : Shown) :
   pub going : held.closed ≡ false
   pub room : old_held.room ≡ length front + held.room
   pub bytes : IsTrue old.tells → unread old_held old ≡ front ++ unread held now
+  pub stays : old_held.ended ≡ true → held.ended ≡ true
+  pub knows : IsTrue old.tells → KnowsEnd old_held old → KnowsEnd held now
   pub asks : Asks {T = Unit {0}} old now (Ok tt)
 
 no_byte : IsOneLine []
@@ -56,7 +58,7 @@ no_byte = λ k d below. absurd (omega (arith, below))
 
 pub begins : (held mid : Held) (host : Shown) → IsDisk host → mid ≡ begun held → HasRead held host mid host
 begins held mid host laws is =
-    subst (λ (h : Held). HasRead held host h host) (sym is) (record { front = []; one = no_byte; kept = refl; going = refl; room = omega arith; bytes = λ tells. refl; asks = asks_none (tt {0}) host laws })
+    subst (λ (h : Held). HasRead held host h host) (sym is) (record { front = []; one = no_byte; kept = refl; going = refl; room = omega arith; bytes = λ tells. refl; stays = λ ended. ended; knows = λ tells known. known; asks = asks_none (tt {0}) host laws })
 
 module _ (old_held : Held) (old : Shown) (held : Held) (now : Shown) (so_far : HasRead old_held old held now) (new_held : Held) (new : Shown) where
   told : IsTrue old.tells → IsTrue now.tells
@@ -64,6 +66,9 @@ module _ (old_held : Held) (old : Shown) (held : Held) (now : Shown) (so_far : H
 
   asked : (n : Next) → IsNext held now new_held new (Ok n) → Asks {T = Unit {0}} old new (Ok tt)
   asked n comes = asks_then old now new (tt {0}) (Ok (tt {0})) so_far.asks (asks_as now new n (tt {0}) comes.asks)
+
+  known : (IsTrue now.tells → KnowsEnd held now → KnowsEnd new_held new) → IsTrue old.tells → KnowsEnd old_held old → KnowsEnd new_held new
+  known next tells first = next (told tells) (so_far.knows tells first)
 
   -- the line so far with the bytes that are read
   further : (run rest : List ℕ) → IsTrue old.tells → unread held now ≡ run ++ rest → unread old_held old ≡ (so_far.front ++ run) ++ rest
@@ -84,6 +89,8 @@ module _ (old_held : Held) (old : Shown) (held : Held) (now : Shown) (so_far : H
     going = comes.on;
     room = omega (arith, so_far.room, comes.room.1, length-append so_far.front comes.run);
     bytes = λ tells. further comes.run (unread new_held new) tells (comes.bytes (told tells));
+    stays = λ ended. comes.stays (so_far.stays ended);
+    knows = known comes.knows;
     asks = asked next.Part comes;
   }
 
@@ -109,10 +116,16 @@ module _ (old_held : Held) (old : Shown) (held : Held) (now : Shown) (so_far : H
           room = omega (arith, so_far.room, comes.room, size, ended);
           found = (first_line front (unread new_held new) (unread old_held old) one kept (script tells), inl (one_in front one));
           ended = inl (one_in front one);
+          one = omega (arith, one_in front one);
+          part = tt;
         };
         room = omega (arith, so_far.room, comes.room);
         over = tt;
         none = tt;
+        few = comes.few;
+        going = tt;
+        stays = λ ended. comes.stays (so_far.stays ended);
+        knows = known comes.knows;
         asks = asks_as old new (tt {0}) found.Line (asked next.Line comes);
       }
 
@@ -154,10 +167,16 @@ module _ (old_held : Held) (old : Shown) (held : Held) (now : Shown) (so_far : H
               room = so_far.room ∙ ap (λ (n : ℕ). length so_far.front + n) (sym comes.room.1);
               found = last_found new_held.line so_far.front (unread old_held old) (unread new_held new) so_far.one kept (so_far.bytes tells ∙ ap (λ (l : List ℕ). so_far.front ++ l) end.0 ∙ append-nil so_far.front) end.1;
               ended = last_ended new_held.line so_far.front comes.on;
+              one = omega (arith, none_in so_far.front so_far.one);
+              part = tt;
             };
         room = last_room new_held.line so_far.front kept so_far.room comes.room.1;
         over = last_over new_held.line comes.on;
         none = tt;
+        few = comes.few;
+        going = tt;
+        stays = λ ended. comes.stays (so_far.stays ended);
+        knows = known comes.knows;
         asks = asks_as old new (tt {0}) (found_last new_held.line) (asked next.End comes);
       }
 
@@ -170,10 +189,16 @@ module _ (old_held : Held) (old : Shown) (held : Held) (now : Shown) (so_far : H
       room = omega (arith, so_far.room, comes.room.1, comes.room.2, length-append so_far.front comes.run);
       found = none_in (so_far.front ++ comes.run) (both_one comes.run comes.one);
       ended = tt;
+      one = omega (arith, none_in (so_far.front ++ comes.run) (both_one comes.run comes.one));
+      part = tt;
     };
     room = (comes.room.0, comes.room.2, comes.room.3);
     over = tt;
     none = tt;
+    few = comes.few;
+    going = tt;
+    stays = λ ended. comes.stays (so_far.stays ended);
+    knows = known comes.knows;
     asks = asks_as old new (tt {0}) found.PastLimit (asked next.PastLimit comes);
   }
 
@@ -185,9 +210,15 @@ module _ (old_held : Held) (old : Shown) (held : Held) (now : Shown) (so_far : H
       room = so_far.room ∙ ap (λ (n : ℕ). length so_far.front + n) (sym comes.none.1);
       found = tt;
       ended = tt;
+      one = omega (arith, none_in so_far.front so_far.one);
+      part = none_in so_far.front so_far.one;
     };
     room = tt;
     over = tt;
     none = comes.none.0;
+    few = comes.few;
+    going = comes.going;
+    stays = λ ended. comes.stays (so_far.stays ended);
+    knows = known comes.knows;
     asks = asks_then old now new (tt {0}) (Err e) so_far.asks (asks_failed now new e comes.asks);
   }

@@ -1,7 +1,7 @@
 -- Bytes that are taken of the source, and read up to the ends of lines.
 use Rattle.std.proofs.Common.{◌≡◌, ℕ, zero, suc, ◌+◌, ◌-◌, ◌<◌, ◌≤◌, ◌++◌, min, Bool, true, false, List, [], ◌∷◌, length, get_or, take, drop, refl, sym, ap, ◌∙◌, subst, arith, append_assoc, append-nil}
 use Rattle.std.specs.List.{between}
-use Rattle.std.proofs.lemmas.List.{get_or-take, length-take, length-take-le, take-take, take-append-drop, drop_more}
+use Rattle.std.proofs.lemmas.List.{get_or-take, length-append, length-take, length-take-le, take-take, take-append-drop, drop_more}
 use Rattle.std.proofs.lemmas.List.Edits.{length-between}
 use Rattle.std.proofs.lemmas.List.Sums.{prefix_len-le-length, prefix_len_passes, prefix_len_stops}
 use Rattle.std.proofs.lemmas.Slice.{between_is}
@@ -146,28 +146,39 @@ popped_none from to start end room bytes closed ended same = record {
 no_first : (n : ℕ) (xs : List ℕ) → length xs ≡ n → 0 < n → xs ≡ [] → ⊥
 no_first n xs size some none = omega (arith, sym size ∙ ap (λ (l : List ℕ). length l) none, some)
 
+none_few : (bytes : List ℕ) → bytes ≡ [] → length bytes ≤ 65536
+none_few bytes none = rw none (omega arith)
+
 -- some bytes are still held
-pub held_still : (from to start end room : ℕ) (bytes : List ℕ) (closed ended : Bool) (host : Shown) → IsDisk host → start < end → end ≤ length bytes
+pub held_still : (from to start end room : ℕ) (bytes : List ℕ) (closed ended : Bool) (host : Shown) → IsDisk host → start < end → end ≤ length bytes → end ≤ start + 65536
     → Fills (held_of from to start end bytes closed room ended) host (held_of from to start end bytes closed room ended) host (Ok tt)
-held_still from to start end room bytes closed ended host laws before within = record {
+held_still from to start end room bytes closed ended host laws before within few = record {
   same = λ tells. refl;
   line = refl;
   closed = refl;
   room = refl;
   end = λ none. absurd (no_first (end - start) (between start end bytes) (length-between bytes start end within) (omega (arith, before)) none);
   none = tt;
+  few = omega (arith, length-between bytes start end within, few);
+  going = tt;
+  stays = λ ended. ended;
+  knows = λ tells known. known;
   asks = asks_none tt host laws;
 }
 
 -- the source has said that it ends
-pub over : (held : Held) (host : Shown) → IsDisk host → held.ended ≡ true → Fills held host held host (Ok tt)
-over held host laws ended = record {
+pub over : (held : Held) (host : Shown) → IsDisk host → held.ended ≡ true → held.bytes ≡ [] → Fills held host held host (Ok tt)
+over held host laws ended empty = record {
   same = λ tells. refl;
   line = refl;
   closed = refl;
   room = refl;
   end = λ none. ended;
   none = tt;
+  few = none_few held.bytes empty;
+  going = tt;
+  stays = λ ended. ended;
+  knows = λ tells known. known;
   asks = asks_none tt host laws;
 }
 
@@ -178,6 +189,11 @@ unread_of held host none going = rw (none, going) refl
 taken : (n : ℕ) (front left old_left : List ℕ) → old_left ≡ front ++ left → (n ≡ 0 → old_left ≡ []) → (n ≡ 0 → front ≡ []) → old_left ≡ front ++ to_come (nat_eq n 0) left
 taken zero front left old_left is end none = end refl ∙ sym (ap (λ (l : List ℕ). l ++ []) (none refl))
 taken (suc n) front left old_left is end none = let more : nat_eq (suc n) 0 ≡ false = grind (arith, nat_tests) in rw more is
+
+-- where a source says that it ends, none is left
+ends_there : (n : ℕ) (front left old_left : List ℕ) → old_left ≡ front ++ left → (n ≡ 0 → old_left ≡ []) → (n ≡ 0 → front ≡ []) → nat_eq n 0 ≡ true → left ≡ []
+ends_there zero front left old_left is end none ended = ap (λ (l : List ℕ). l ++ left) (sym (none refl)) ∙ sym is ∙ end refl
+ends_there (suc n) front left old_left is end none ended = let more : nat_eq (suc n) 0 ≡ false = grind (arith, nat_tests) in absurd (differ (sym more ∙ ended))
 
 no_count : (n : ℕ) (front : List ℕ) → length front ≡ n → front ≡ [] → nat_eq n 0 ≡ true
 no_count zero front size none = refl
@@ -196,14 +212,19 @@ module _ (held : Held) (from to : ℕ) (bytes other : List ℕ) (old new : Shown
       → Fills held old (record { line = between from to other; closed = held.closed; bytes = between to (to + n) other; room = held.room; ended = nat_eq n 0 }) new (Ok tt)
   filled n few room takes =
       let into : take n (between to (to + 65536) other) ≡ between to (to + n) other = cut_between to (to + 65536) n other (omega (arith, few)) in
+      let size : length (between to (to + n) other) ≡ n = length-between other to (to + n) (omega (arith, few, room)) ∙ (let d : (to + n) - to ≡ n = omega arith in d) in
       record {
         same = λ tells. unread_of held old none going
             ∙ taken n (between to (to + n) other) new.ends.left old.ends.left (takes.bytes tells ∙ ap (λ (l : List ℕ). l ++ new.ends.left) into) (λ nothing. takes.end tells (ap Ok nothing)) (λ nothing. none_between to (to + n) other (omega (arith, nothing)));
         line = still;
         closed = refl;
         room = refl;
-        end = λ empty. no_count n (between to (to + n) other) (length-between other to (to + n) (omega (arith, few, room)) ∙ (let d : (to + n) - to ≡ n = omega arith in d)) empty;
+        end = λ empty. no_count n (between to (to + n) other) size empty;
         none = tt;
+        few = omega (arith, size, few);
+        going = tt;
+        stays = λ ended. absurd (differ (sym going ∙ ended));
+        knows = λ tells known. ends_there n (between to (to + n) other) new.ends.left old.ends.left (takes.bytes tells ∙ ap (λ (l : List ℕ). l ++ new.ends.left) into) (λ nothing. takes.end tells (ap Ok nothing)) (λ nothing. none_between to (to + n) other (omega (arith, nothing)));
         asks = asks_take old new (between to (to + 65536) other) n laws takes;
       }
 
@@ -216,6 +237,10 @@ module _ (held : Held) (from to : ℕ) (bytes other : List ℕ) (old new : Shown
     room = refl;
     end = tt;
     none = none_between to to other (omega arith);
+    few = none_few (between to to other) (none_between to to other (omega arith));
+    going = going;
+    stays = λ ended. absurd (differ (sym going ∙ ended));
+    knows = λ tells known ended. absurd (differ (sym going ∙ ended));
     asks = asks_take_failed old new (between to (to + 65536) other) e laws takes;
   }
 
@@ -249,6 +274,13 @@ module _ (old_held mid new_held : Held) (host : Shown) (ends : mid.bytes ≡ [] 
   on_popped next.End run ended pops = ended ∙ ends pops.0
   on_popped next.PastLimit run ended pops = tt
 
+-- no more is held than before
+few_popped : (mid new_held : Held) (n : Next) (run : List ℕ) → Pops mid n run new_held → length mid.bytes ≤ 65536 → length new_held.bytes ≤ 65536
+few_popped mid new_held next.Line run pops few = omega (arith, ap (λ (l : List ℕ). length l) pops.0, length-append run (10 ∷ new_held.bytes), few)
+few_popped mid new_held next.Part run pops few = none_few new_held.bytes pops.1
+few_popped mid new_held next.End run pops few = none_few new_held.bytes pops.2
+few_popped mid new_held next.PastLimit run pops few = omega (arith, ap (λ (l : List ℕ). length l) pops.0, length-append run new_held.bytes, few)
+
 pub nexts : (old_held mid_held new_held : Held) (old mid : Shown) (n : Next) → Fills old_held old mid_held mid (Ok tt) → ReadsOn mid_held n new_held → IsNext old_held old new_held mid (Ok n)
 nexts old_held mid_held new_held old mid n fills reads = record {
   run = reads.run;
@@ -259,6 +291,10 @@ nexts old_held mid_held new_held old mid n fills reads = record {
   on = on_popped old_held mid_held new_held mid fills.end fills.room n reads.run reads.ended reads.pops;
   same = λ tells. tt;
   none = tt;
+  few = few_popped mid_held new_held n reads.run reads.pops fills.few;
+  going = tt;
+  stays = λ ended. reads.ended ∙ fills.stays ended;
+  knows = λ tells known ended. fills.knows tells known (sym reads.ended ∙ ended);
   asks = asks_as old mid tt n fills.asks;
 }
 
@@ -272,5 +308,9 @@ no_next old_held new_held old new e fills = record {
   on = tt;
   same = fills.same;
   none = (fills.none, fills.room);
+  few = fills.few;
+  going = fills.going;
+  stays = fills.stays;
+  knows = fills.knows;
   asks = asks_failed old new e fills.asks;
 }

@@ -22,6 +22,10 @@ to_come false left = left
 abbrev pub unread : Held → Shown → List ℕ
 unread held host = held.bytes ++ to_come held.ended host.ends.left
 
+-- where a source has said that it ends, it has none left
+abbrev pub KnowsEnd : Held → Shown → Type 0
+KnowsEnd held host = held.ended ≡ true → host.ends.left ≡ []
+
 -- an image of a crash as before, with the bytes that had been given
 abbrev pub IsStill : Shown → Image → List ℕ → Type 0
 IsStill old c g = old.images c × (g ≡ old.given)
@@ -61,8 +65,8 @@ pub record ReadsOn (old : Held) (n : Next) (new : Held) : Type 0 where
   pub ended : new.ended ≡ old.ended
   pub pops : Pops old n run new
 
--- Nothing is read. Where no byte is held then, the source has said that it ends, or it failed. Of a line that is too long bytes may be
--- forgotten.
+-- Nothing is read. Where no byte is held then, the source has said that it ends, or it failed. No more is held than one piece that was taken. Of a
+-- line that is too long bytes may be forgotten.
 pub record Fills (old_held : Held) (old : Shown) (new_held : Held) (new : Shown) (result : Result Unit Failed) : Type 0 where
   pub same : IsTrue old.tells → unread old_held old ≡ unread new_held new
   pub line : SaysAs new_held.line old_held.line
@@ -70,6 +74,10 @@ pub record Fills (old_held : Held) (old : Shown) (new_held : Held) (new : Shown)
   pub room : new_held.room ≡ old_held.room
   pub end : OnOk result (new_held.bytes ≡ [] → new_held.ended ≡ true)
   pub none : OnErr result (new_held.bytes ≡ [])
+  pub few : length new_held.bytes ≤ 65536
+  pub going : OnErr result (new_held.ended ≡ false)
+  pub stays : old_held.ended ≡ true → new_held.ended ≡ true
+  pub knows : IsTrue old.tells → KnowsEnd old_held old → KnowsEnd new_held new
   pub asks : Asks old new result
 
 -- these bytes of the script are read, and the end of the line where it is there; a byte that may not be read is held
@@ -101,6 +109,10 @@ pub record IsNext (old_held : Held) (old : Shown) (new_held : Held) (new : Shown
   pub on : IfOk result (λ n. GoesOn n new_held)
   pub same : IsTrue old.tells → OnErr result (unread old_held old ≡ unread new_held new)
   pub none : OnErr result ((new_held.bytes ≡ []) × (new_held.room ≡ old_held.room))
+  pub few : length new_held.bytes ≤ 65536
+  pub going : OnErr result (new_held.ended ≡ false)
+  pub stays : old_held.ended ≡ true → new_held.ended ≡ true
+  pub knows : IsTrue old.tells → KnowsEnd old_held old → KnowsEnd new_held new
   pub asks : Asks old new result
 
 -- what the bytes before the end of a script are
@@ -132,18 +144,25 @@ abbrev pub IsOver : Found → Held → Type 0
 IsOver found.End held = held.ended ≡ true
 IsOver f held = Unit {0}
 
--- These bytes are read from the front of the script.
+-- These bytes are read from the front of the script: one line at most, and none where the source failed.
 pub record IsRead (old_held : Held) (old : Shown) (new_held : Held) (new : Shown) (line : List ℕ) (result : Result Found Failed) : Type 0 where
   pub read : List ℕ
   pub front : unread old_held old ≡ read ++ unread new_held new
   pub room : old_held.room ≡ length read + new_held.room
   pub found : IfOk result (λ f. IsFound f line read (unread old_held old) (unread new_held new))
   pub ended : IfOk result (λ f. HasEnded f read new_held)
+  pub one : whole read ≤ 1
+  pub part : OnErr result (whole read ≡ 0)
 
--- The next line of the script is found, or there is none. The source has failed only where all that it gave was read.
+-- The next line of the script is found, or there is none. The source has failed only where all that it gave was read, and it hadn't said that it
+-- ends. Of what it gave at most one piece isn't read.
 pub record Finds (old_held : Held) (old : Shown) (new_held : Held) (new : Shown) (line : List ℕ) (result : Result Found Failed) : Type 0 where
   pub reads : IsTrue old.tells → IsRead old_held old new_held new line result
   pub room : IfOk result (λ f. HasRoom f old_held new_held)
   pub over : IfOk result (λ f. IsOver f new_held)
   pub none : OnErr result (new_held.bytes ≡ [])
+  pub few : length new_held.bytes ≤ 65536
+  pub going : OnErr result (new_held.ended ≡ false)
+  pub stays : old_held.ended ≡ true → new_held.ended ≡ true
+  pub knows : IsTrue old.tells → KnowsEnd old_held old → KnowsEnd new_held new
   pub asks : Asks old new result

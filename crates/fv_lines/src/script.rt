@@ -53,7 +53,7 @@ pub(crate) enum Next {
 }
 
 impl Model for Script {
-    ghost use Rattle.std.specs.Prelude.{◌≡◌, ◌≤◌, true, false};
+    ghost use Rattle.std.specs.Prelude.{◌≡◌, ◌≤◌, ◌+◌, true, false};
     ghost use Rattle.std.specs.List.{between};
     ghost use Rattle.fv_lines.specs.Held.{Held};
 
@@ -61,7 +61,7 @@ impl Model for Script {
 
     ghost view = { λ s. record { line = between s.from s.to s.bytes; closed = s.closed; bytes = between s.start s.end s.bytes; room = s.room; ended = s.ended } };
 
-    ghost invariant = { λ s. (s.from ≤ s.to) × (s.to ≤ s.start) × (s.start ≤ s.end) × (s.end ≤ 98304) × (s.ended ≡ true → s.start ≡ s.end) × (s.closed ≡ false → s.to ≡ s.start) };
+    ghost invariant = { λ s. (s.from ≤ s.to) × (s.to ≤ s.start) × (s.start ≤ s.end) × (s.end ≤ 98304) × (s.ended ≡ true → s.start ≡ s.end) × (s.closed ≡ false → s.to ≡ s.start) × (s.end ≤ s.start + 65536) };
 }
 
 impl Script {

@@ -8,22 +8,26 @@ use Rattle.fv_disk.specs.Crash.{Leaves}
 use Rattle.fv_disk.specs.Partly.{PartlyGiven}
 use Rattle.fv_disk.proofs.Moments.{then, weaken}
 use Rattle.fv_disk.proofs.Resting.{settled_image}
-use Rattle.fv_root.specs.Formatted.{KeepsVolumes, WritesFixed}
+use Rattle.fv_root.specs.Formatted.{KeepsVolumes, OldClosedOrNew, WritesFixed}
 use Rattle.fv_model.specs.Machines.{empty_machine}
 use Rattle.fv_image.specs.WholeMachine.{machine_of}
 use Rattle.fv_run.specs.declared.ending.Fault.TheVariants.{Disk, Sink}
-use Rattle.fv_run.specs.Creating.{created_text, IsAcknowledged, Creates}
+use Rattle.fv_run.specs.Creating.{created_text, IsAcknowledged, IsOldOrNew, Creates}
 
 before_it : (blocks : ℕ) (old mid : Shown) (result : Result Unit Failed) → WritesFixed blocks old mid result → Leaves old mid (IsAcknowledged blocks old)
 before_it blocks old mid result w = weaken old mid (λ c g. KeepsVolumes blocks old c × (g ≡ old.given)) (IsAcknowledged blocks old) (λ c g kept. inl kept.1) w.any_moment
 
+while_made : (blocks : ℕ) (old mid : Shown) → Leaves old mid (OldClosedOrNew blocks old) → Leaves old mid (IsOldOrNew blocks old)
+while_made blocks old mid moments = weaken old mid (OldClosedOrNew blocks old) (IsOldOrNew blocks old) (λ c g one. one.0) moments
+
 -- the disk failed
-pub untold : (blocks : ℕ) (old mid : Shown) (e : Failed) → WritesFixed blocks old mid (Err e) → Creates blocks old mid (Err Disk)
-untold blocks old mid e w = record {
+pub untold : (blocks : ℕ) (old mid : Shown) (e : Failed) → WritesFixed blocks old mid (Err e) → (IsTrue old.tells → Leaves old mid (OldClosedOrNew blocks old)) → Creates blocks old mid (Err Disk)
+untold blocks old mid e w moments = record {
   created = λ tells. tt;
   only = tt;
   given = λ tells. w.counted.given;
   acknowledged = λ tells. before_it blocks old mid (Err e) w;
+  any_moment = λ tells. while_made blocks old mid (moments tells);
   volumes = w.reads;
   counts = record { tells = w.counted.tells; source = ap (λ (ends : Ends). ends.source_faults) w.counted.ends; sink = ap (λ (ends : Ends). ends.sink_faults) w.counted.ends; disk = w.counted.cause.rose };
   left = ap (λ (ends : Ends). ends.left) w.counted.ends;
@@ -35,13 +39,17 @@ while_telling blocks old mid new bytes settled stands given = weaken mid new (Pa
 
 -- what holds once the new aggregate was made, and the line was given as far as the sink let it
 module _ (blocks : ℕ) (old mid new : Shown) (made : WritesFixed blocks old mid (Ok tt)) (stands : IsTrue old.tells → machine_of mid.reads ≡ Some (empty_machine blocks))
-    (settled : IsTrue old.tells → IsSettled mid) (meanwhile : Leaves mid new (PartlyGiven mid (created_text blocks))) where
+    (settled : IsTrue old.tells → IsSettled mid) (moments : IsTrue old.tells → Leaves old mid (OldClosedOrNew blocks old)) (meanwhile : Leaves mid new (PartlyGiven mid (created_text blocks))) where
   still_told : IsTrue old.tells → IsTrue mid.tells
   still_told tells = rw made.counted.tells tells
 
   acknowledged : IsTrue old.tells → Leaves old new (IsAcknowledged blocks old)
   acknowledged tells = then old mid new (IsAcknowledged blocks old) (before_it blocks old mid (Ok tt) made)
       (while_telling blocks old mid new (created_text blocks) (settled tells) (stands tells) meanwhile)
+
+  any_moment : IsTrue old.tells → Leaves old new (IsOldOrNew blocks old)
+  any_moment tells = then old mid new (IsOldOrNew blocks old) (while_made blocks old mid (moments tells))
+      (weaken mid new (PartlyGiven mid (created_text blocks)) (IsOldOrNew blocks old) (λ c g part. inr (inr (ap machine_of (settled_image mid c (settled tells) part.0) ∙ stands tells))) meanwhile)
 
   pub told : GivesAll mid (created_text blocks) new (Ok tt) → Creates blocks old new (Ok tt)
   told gives = record {
@@ -53,6 +61,7 @@ module _ (blocks : ℕ) (old mid new : Shown) (made : WritesFixed blocks old mid
     only = tt;
     given = λ tells. tt;
     acknowledged = acknowledged;
+    any_moment = any_moment;
     volumes = λ tells b volumes. rw gives.rests.stays.reads (made.reads tells b volumes);
     counts = record {
       tells = gives.rests.stays.tells ∙ made.counted.tells;
@@ -69,6 +78,7 @@ module _ (blocks : ℕ) (old mid new : Shown) (made : WritesFixed blocks old mid
     only = tt;
     given = λ tells. let part = gives.part (still_told tells) in (part.0, part.1, part.2 ∙ ap (λ (x : List ℕ). x ++ take part.0 (created_text blocks)) made.counted.given);
     acknowledged = acknowledged;
+    any_moment = any_moment;
     volumes = λ tells b volumes. rw gives.rests.stays.reads (made.reads tells b volumes);
     counts = record {
       tells = gives.rests.stays.tells ∙ made.counted.tells;

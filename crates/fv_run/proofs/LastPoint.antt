@@ -14,7 +14,7 @@ use Rattle.fv_script.proofs.ScriptLines.{no_line}
 use Rattle.fv_model.specs.Texts.{text, done_text}
 use Rattle.fv_image.specs.WholeMachine.{machine_of}
 use Rattle.fv_lines.specs.Counts.{Counts}
-use Rattle.fv_lines.specs.Reading.{unread}
+use Rattle.fv_lines.specs.Reading.{to_come, unread}
 use Rattle.fv_lines.proofs.Counting.{counts_then}
 use Rattle.fv_lines.proofs.Counting as counting
 use Rattle.fv_lines.proofs.Ends.{whole_append}
@@ -29,10 +29,11 @@ use Rattle.fv_run.specs.declared.ending.Fault.{Fault}
 use Rattle.fv_run.specs.declared.ending.Fault.TheVariants.{Disk, Memory, Damaged}
 use Rattle.fv_run.specs.Built.{built, lines_built}
 use Rattle.fv_run.specs.Endings.{count_of, IsWholeFault, of_session}
-use Rattle.fv_run.specs.Running.{HasChanged, IsAtRest, IsOverLimit, most_rooms, rooms_along, Survives, IsQuiet}
+use Rattle.fv_run.specs.Running.{HasChanged, IsAtRest, IsOverLimit, KeepsUp, most_rooms, rooms_along, Survives, IsQuiet}
 use Rattle.fv_run.specs.Answering.{AsksFor, HasAnswered, IsAtEnd, IsEndOf, LacksSpace, IsLine, TellsLine, BeginsFor}
 use Rattle.fv_run.proofs.Acked.{acked_all, acked_whole, up_to_take}
 use Rattle.fv_run.proofs.Following.{follows_part, follows_whole, full}
+use Rattle.fv_run.proofs.KeepingUp.{keeps_up_between, none_before}
 use Rattle.fv_run.proofs.Limits.{all_read, same_behind}
 use Rattle.fv_run.proofs.Lines.{no_end, one_end}
 use Rattle.fv_run.proofs.Sessions.{images_stand, lacks, never_failed, reads_stand, rests_standing_for}
@@ -71,6 +72,13 @@ module _ (limit : ℕ) (session : Session) (mid : Shown) (last : Session) (end :
   never_past new tells past =
       let read = at_end.stands.reads tells in
       all_read limit at_end.held.room mid.ends.left read.read [] [] new.ends.left (read.front ∙ ap (λ (l : List ℕ). read.read ++ l) (at_end.none tells)) (read.room ∙ omega arith) (omega arith) past.taken
+
+  no_byte_held : IsTrue mid.tells → at_end.held.bytes ≡ []
+  no_byte_held tells = none_before at_end.held.bytes (to_come at_end.held.ended end.ends.left) (at_end.none tells)
+
+  -- all that was read is answered
+  keeps_up_after : (new : Shown) (result : Result Unit Fault) → IsTrue mid.tells → (more : List ℕ) → new.given ≡ end.given ++ more → new.ends.left ≡ end.ends.left → KeepsUp limit mid new result
+  keeps_up_after new result tells more given same = keeps_up_between limit mid at_end.held end count (at_end.stands.reads tells) new result more given same (λ is. no_byte_held tells)
 
   calm_since : (new : Shown) → ¬ Rose mid.write_faults new.write_faults → ¬ Rose end.write_faults new.write_faults
   calm_since new calm rose = calm (subst (λ (n : ℕ). Rose n new.write_faults) at_end.stands.writes rose)
@@ -116,6 +124,7 @@ module _ (limit : ℕ) (session : Session) (mid : Shown) (last : Session) (end :
       counts = counts_then mid end point (count_of fault) at_end.stands.counts counts;
       reason = reason;
       cut_off = λ tells past. absurd (never_past point tells past);
+      keeps_up = λ tells. keeps_up_after point (Err fault) tells [] (keeps.given ∙ sym (append-nil end.given)) (ap (λ (e : Ends). e.left) keeps.ends);
       quiet = λ tells none. never_quiet most_rooms point tells [] (keeps.given ∙ sym (append-nil end.given));
     }
 
@@ -223,6 +232,7 @@ module _ (limit : ℕ) (session : Session) (mid : Shown) (last : Session) (end :
         counts = counts_then mid point new None point_counts (counting.told point new (done_text count) told.tells);
         reason = tt;
         cut_off = λ tells past. absurd (never_past new tells past);
+        keeps_up = λ tells. keeps_up_after new (Ok tt) tells (done_text count) (told.tells.gives.all (point_told tells) ∙ ap (λ (l : List ℕ). l ++ done_text count) keeps.given) (told.tells.gives.left ∙ ap (λ (e : Ends). e.left) keeps.ends);
         quiet = λ tells none. never_quiet most_rooms new tells (done_text count) (told.tells.gives.all (point_told tells) ∙ ap (λ (l : List ℕ). l ++ done_text count) keeps.given);
       }
       told_whole (Err fault) told = record {
@@ -244,6 +254,8 @@ module _ (limit : ℕ) (session : Session) (mid : Shown) (last : Session) (end :
         counts = counts_then mid point new (count_of fault) point_counts (subst (λ (f : Fault). Counts point new (count_of f)) (sym told.sink) (counting.untold point new (done_text count) (record {}) told.tells));
         reason = subst (λ (f : Fault). IsEndOf limit session mid new f) (sym told.sink) tt;
         cut_off = λ tells past. absurd (never_past new tells past);
+        keeps_up = λ tells. let part = told.tells.gives.part (point_told tells) in
+            keeps_up_after new (Err fault) tells (take part.0 (done_text count)) (part.2 ∙ ap (λ (l : List ℕ). l ++ take part.0 (done_text count)) keeps.given) (told.tells.gives.left ∙ ap (λ (e : Ends). e.left) keeps.ends);
         quiet = λ tells none. let part = told.tells.gives.part (point_told tells) in never_quiet most_rooms new tells (take part.0 (done_text count)) (part.2 ∙ ap (λ (l : List ℕ). l ++ take part.0 (done_text count)) keeps.given);
       }
 

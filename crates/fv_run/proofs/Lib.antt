@@ -10,6 +10,7 @@ mod Drawn
 mod EndPoint
 mod Following
 mod Generated
+mod KeepingUp
 mod LastPoint
 mod Limits
 mod Lines

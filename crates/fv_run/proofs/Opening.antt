@@ -22,6 +22,7 @@ use Rattle.fv_run.specs.Running.{HasFollowed, HasReason, IsAtRest, IsOverLimit, 
 use Rattle.fv_run.proofs.Admitted.{image_is_admitted}
 use Rattle.fv_run.proofs.Acked.{acked_part, up_to_take}
 use Rattle.fv_run.proofs.Following.{follows_first}
+use Rattle.fv_run.proofs.KeepingUp.{keeps_up_unread}
 use Rattle.fv_run.proofs.Promises.{are_guaranteed, are_isolated}
 use Rattle.fv_run.proofs.Sessions.{not_damaged}
 use Rattle.fv_run.proofs.Surviving.{after_some}
@@ -83,6 +84,7 @@ module _ (limit : ℕ) (old mid : Shown) (laws : IsDisk old) (unwritten : IsUnwr
       quiet = λ tells output given asks. unwritten.reads;
       opened = λ tells. inr (refl, unwritten);
       cut_off = λ tells past. absurd (none_taken past);
+      keeps_up = λ tells. keeps_up_unread limit old mid (Err fault) (unwritten.kept.given ∙ sym (append-nil old.given)) (ap (λ (e : Ends). e.left) unwritten.kept.ends);
     }
 
     no_count : mid.faults ≡ old.faults → Counts old mid None

@@ -22,9 +22,10 @@ use Rattle.fv_run.specs.declared.ending.Fault.TheVariants.{Usage, NotAggregate, 
 use Rattle.fv_run.specs.Built.{lines_built}
 use Rattle.fv_run.specs.Endings.{IsWholeFault, raised_by}
 use Rattle.fv_run.specs.Promises.{line_at}
-use Rattle.fv_run.specs.Running.{asks_behind, EndsInPoint, HasAnsweredAll, HasChanged, HasFollowed, HasReason, Holds, IsAskedFor, IsAtRest, IsFileDamage, IsLacking, IsLastFor, IsOverLimit, IsPastLimit, most_rooms, rooms_along, IsSessionDamage, Ran, reads_blocks, Survives, SurvivesFrom, AsksNone, IsQuiet}
+use Rattle.fv_run.specs.Running.{asks_behind, EndsInPoint, HasAnsweredAll, HasChanged, HasFollowed, HasReason, Holds, IsAskedFor, IsAtRest, IsFileDamage, IsLacking, IsLastFor, IsOverLimit, IsPastLimit, KeepsUp, most_rooms, rooms_along, IsSessionDamage, Ran, reads_blocks, Survives, SurvivesFrom, AsksNone, IsQuiet}
 use Rattle.fv_run.specs.Answering.{IsEndOf, Stopped, BeginsFor}
 use Rattle.fv_run.proofs.Admitted.{image_is_admitted}
+use Rattle.fv_run.proofs.KeepingUp.{keeps_up_since}
 use Rattle.fv_run.proofs.Sessions.{not_opened}
 use Rattle.fv_run.proofs.Opening.{crash_opened, crash_unsettled}
 use Rattle.fv_run.proofs.Promises.{are_guaranteed, are_isolated}
@@ -37,6 +38,7 @@ pub record RanOpen (limit : ℕ) (session : Session) (mid new : Shown) (result :
   pub counts : Counts mid new (raised_by result)
   pub reason : IfErr result (IsEndOf limit session mid new)
   pub cut_off : IsTrue mid.tells → IsOverLimit limit mid new → result ≡ Err Limit
+  pub keeps_up : IsTrue mid.tells → KeepsUp limit mid new result
   pub quiet : IsTrue mid.tells → session.pending ≡ 0 → IsQuiet most_rooms (lines_built mid.ends.left) mid new
 
 -- the last point of such a run
@@ -57,6 +59,7 @@ stopped_open limit session mid new fault stopped = record {
   counts = stopped.counts;
   reason = stopped.reason;
   cut_off = λ tells past. ap Err (stopped.cut_off tells past);
+  keeps_up = stopped.keeps_up;
   quiet = stopped.quiet;
 }
 
@@ -197,4 +200,5 @@ module _ (limit : ℕ) (session : Session) (old mid new : Shown) (laws : IsDisk 
     quiet = λ tells. quiet_since (λ l. most_rooms) (r.quiet (mid_told tells) begins);
     opened = λ tells. inl (session, loaded tells);
     cut_off = λ tells past. r.cut_off (mid_told tells) (past_before past);
+    keeps_up = λ tells. keeps_up_since limit old mid new result unwritten.kept.given same_left (r.keeps_up (mid_told tells));
   }

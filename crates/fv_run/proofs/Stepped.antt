@@ -1,5 +1,5 @@
 -- The loop over the lines of a script: how it goes on, and how it ends.
-use Rattle.std.proofs.Common.{◌≡◌, ◌⊎◌, inl, inr, ⊎_elim, ℕ, ◌+◌, ◌<◌, ◌≤◌, ◌++◌, Bool, true, false, List, [], ◌∷◌, length, map, max, take, drop, refl, sym, ap, subst, ◌∙◌, arith, append_assoc, append-nil}
+use Rattle.std.proofs.Common.{◌≡◌, ◌⊎◌, inl, inr, ⊎_elim, ℕ, ◌+◌, ◌<◌, ◌≤◌, ◌++◌, Bool, true, false, List, [], ◌∷◌, length, map, max, take, drop, refl, sym, ap, subst, ◌∙◌, true≢false, arith, append_assoc, append-nil}
 use Rattle.std.specs.Prelude.{flat_map, Contains, Ok, Err, None, IsTrue, Result}
 use Rattle.std.proofs.lemmas.List.{length-append}
 use Rattle.fv_disk.specs.declared.Failed.{Failed}
@@ -28,9 +28,10 @@ use Rattle.fv_run.specs.declared.ending.Fault.TheVariants.{Usage, NotAggregate, 
 use Rattle.fv_run.specs.Built.{built, lines_built}
 use Rattle.fv_run.specs.Endings.{count_of, IsWholeFault}
 use Rattle.fv_run.specs.Promises.{line_at}
-use Rattle.fv_run.specs.Running.{begun, changes_volumes, HasChanged, Holds, IsOverLimit, IsPastLimit, IsSessionDamage, most_rooms, reads_blocks, rooms_along, Survives, asks_point, pending_behind, IsQuiet}
+use Rattle.fv_run.specs.Running.{begun, changes_volumes, HasChanged, Holds, IsOverLimit, IsPastLimit, IsSessionDamage, KeepsUp, most_rooms, reads_blocks, rooms_along, Survives, asks_point, pending_behind, IsQuiet}
 use Rattle.fv_run.specs.Answering.{Applies, AsksFor, BeginsFor, HasAnswered, HasRead, IsAtEnd, IsCounted, IsEndOf, LacksSpace, IsReady, IsSessionFault, StandsAt, Stopped, TellsLine}
 use Rattle.fv_run.proofs.Following.{left_next, line_behind}
+use Rattle.fv_run.proofs.KeepingUp.{keeps_up_source, keeps_up_limit, keeps_up_line, next_most, next_all, end_most, knows_on}
 use Rattle.fv_run.proofs.Lines.{no_end, one_end}
 use Rattle.fv_run.proofs.Limits.{all_read, ends_before, ends_all, past_limit, same_behind, none_behind, to_come_most}
 use Rattle.fv_run.proofs.Counted.{bound_for, bound_most, calm_next, counted_next, counted_none, counted_still, quiet_next, quiet_still}
@@ -45,7 +46,7 @@ starts limit first old laws ready = record {
   counts = counts_none old;
   writes = refl;
   room = omega arith;
-  reads = λ tells. record { output = []; given = sym (append-nil old.given); answered = refl; read = []; front = refl; room = omega arith; ended = inl refl };
+  reads = λ tells. record { output = []; given = sym (append-nil old.given); answered = refl; read = []; front = refl; room = omega arith; ended = inl refl; most = omega arith; all = λ going. refl; piece = omega arith; knows = λ ended. absurd (true≢false (sym ended)) };
   lines = λ tells line is. is;
   behind = λ tells. refl;
   counted = λ tells none. counted_none most_rooms (lines_built old.ends.left) old first none;
@@ -108,6 +109,7 @@ module _ (limit : ℕ) (first : Session) (old : Shown) (held : Held) (session : 
       counts = counts_then old now mid (count_of Source) so_far.counts (counting.asked_failed now mid e finds.asks);
       reason = tt;
       cut_off = λ tells past. absurd (source_limit tells past);
+      keeps_up = λ tells. keeps_up_source limit old held now count (so_far.reads tells) new_held mid bytes e finds (told tells);
       quiet = λ tells none. quiet_so_far most_rooms (so_far.counted tells none) tells mid finds.asks.given finds.asks.rests.stays.reads;
     }
 
@@ -142,6 +144,7 @@ module _ (limit : ℕ) (first : Session) (old : Shown) (held : Held) (session : 
       counts = counts_then old now mid None so_far.counts (counting.asked now mid found.PastLimit finds.asks);
       reason = is_past;
       cut_off = λ tells past. refl;
+      keeps_up = λ tells. keeps_up_limit limit old held now count (so_far.reads tells) new_held mid bytes finds (told tells);
       quiet = λ tells none. quiet_so_far most_rooms (so_far.counted tells none) tells mid finds.asks.given finds.asks.rests.stays.reads;
     }
 
@@ -158,6 +161,10 @@ module _ (limit : ℕ) (first : Session) (old : Shown) (held : Held) (session : 
           front = read.front ∙ ap (λ (l : List ℕ). read.read ++ l) more.front ∙ sym (append_assoc read.read more.read (unread new_held mid));
           room = omega (arith, read.room, more.room, length-append read.read more.read);
           ended = inr more.found.1;
+          most = end_most limit old held now count read new_held mid bytes finds (told tells);
+          all = λ going. absurd (true≢false (sym finds.over ∙ going));
+          piece = finds.few;
+          knows = finds.knows (told tells) read.knows;
         }
 
     pub at_end : IsAtEnd limit first old session mid count
@@ -341,6 +348,7 @@ module _ (limit : ℕ) (first : Session) (old : Shown) (held : Held) (session : 
         reason = ends_so applies.given fault applies.ends;
         quiet = λ tells none. stays_quiet most_rooms (mid_counted tells none) mid_bound (Err fault) applies tells end refl (unanswered tells applies.given);
         cut_off = λ tells past. absurd (not_past end tells past (output_since end tells [] past.output (applies.given ∙ sym (append-nil mid.given)) past.given ∙ omega arith));
+        keeps_up = λ tells. keeps_up_line limit old held now count (so_far.reads tells) new_held mid bytes finds (told tells) end fault [] (applies.given ∙ sym (append-nil mid.given)) applies.left (in_line fault applies.ends);
       }
 
       -- it was applied
@@ -378,6 +386,12 @@ module _ (limit : ℕ) (first : Session) (old : Shown) (held : Held) (session : 
         part_past : (fault : Fault) → TellsLine end (text reply) new (Err fault) → IsTrue old.tells → IsOverLimit limit old new → ⊥
         part_past fault tells_it tells past = not_past new tells past (part_answered fault tells_it tells past.output past.given)
 
+        keeps_up_part : (fault : Fault) → TellsLine end (text reply) new (Err fault) → IsTrue old.tells → KeepsUp limit old new (Err Sink)
+        keeps_up_part fault tells_it tells =
+            let part = tells_it.tells.gives.part (end_told tells) in
+            keeps_up_line limit old held now count (so_far.reads tells) new_held mid bytes finds (told tells) new Sink (take part.0 (text reply)) (part.2 ∙ ap (λ (l : List ℕ). l ++ take part.0 (text reply)) applies.given)
+            (tells_it.tells.gives.left ∙ applies.left) (λ output. refl)
+
         -- the sink failed
         pub tell_failed : (fault : Fault) → TellsLine end (text reply) new (Err fault) → Stopped limit first old new fault
         tell_failed fault tells_it = record {
@@ -385,6 +399,7 @@ module _ (limit : ℕ) (first : Session) (old : Shown) (held : Held) (session : 
           counts = counts_then old end new (count_of fault) end_counts (subst (λ (f : Fault). Counts end new (count_of f)) (sym tells_it.sink) (counting.untold end new (text reply) (record {}) tells_it.tells));
           reason = subst (λ (f : Fault). IsEndOf limit first old new f) (sym tells_it.sink) tt;
           cut_off = λ tells past. absurd (part_past fault tells_it tells past);
+          keeps_up = λ tells. subst (λ (f : Fault). KeepsUp limit old new (Err f)) (sym tells_it.sink) (keeps_up_part fault tells_it tells);
           quiet = λ tells none. stays_quiet most_rooms (mid_counted tells none) mid_bound (Ok reply) applies tells new tells_it.tells.gives.rests.stays.reads (part_answered fault tells_it tells);
         }
 
@@ -408,6 +423,10 @@ module _ (limit : ℕ) (first : Session) (old : Shown) (held : Held) (session : 
                   read.ended)
                   (λ (none : unread new_held mid ≡ []). inr (same_left tells_it ∙ none))
                   more.found.1;
+              most = next_most limit old held now count read new_held mid bytes (Ok found.Line) finds (told tells);
+              all = next_all limit old held now count read new_held mid bytes finds (told tells);
+              piece = finds.few;
+              knows = knows_on new_held mid new (tells_it.tells.gives.left ∙ applies.left) (finds.knows (told tells) read.knows);
             }
 
         asks_next : TellsLine end (text reply) new (Ok tt) → IsTrue old.tells → AsksWithin old first 0 → IsWithoutFiles first → AsksFor script new next_session ⊎ HasChanged script (count + 1)

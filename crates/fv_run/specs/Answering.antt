@@ -10,7 +10,7 @@ use Rattle.fv_model.specs.Texts.{text}
 use Rattle.fv_script.specs.Telling.{Tells, unnamed}
 use Rattle.fv_lines.specs.Counts.{Counts}
 use Rattle.fv_lines.specs.Held.{Held}
-use Rattle.fv_lines.specs.Reading.{unread}
+use Rattle.fv_lines.specs.Reading.{KnowsEnd, unread}
 use Rattle.fv_aggregate.specs.declared.session.Session.{Session}
 use Rattle.fv_aggregate.specs.Asking.{AsksWithin, IsShort}
 use Rattle.fv_aggregate.specs.Commands.{room_by}
@@ -19,7 +19,7 @@ use Rattle.fv_run.specs.declared.ending.Fault.{Fault}
 use Rattle.fv_run.specs.declared.ending.Fault.TheVariants.{Source, Sink, Disk, Memory, Damaged, Limit}
 use Rattle.fv_run.specs.Endings.{IsWholeFault, count_of, raised_by}
 use Rattle.fv_run.specs.Built.{lines_built}
-use Rattle.fv_run.specs.Running.{asks_behind, asks_point, changes_volumes, HasChanged, Holds, IsOverLimit, IsPastLimit, IsRoomIn, IsSessionDamage, most_rooms, reads_blocks, rooms_along, Survives, left_by, pending_behind, IsQuiet}
+use Rattle.fv_run.specs.Running.{asks_behind, asks_point, changes_volumes, HasChanged, Holds, IsOverLimit, IsPastLimit, IsRoomIn, IsSessionDamage, KeepsUp, most_rooms, reads_blocks, rooms_along, Survives, left_by, pending_behind, IsQuiet}
 
 -- ---- lines and their replies
 
@@ -96,7 +96,7 @@ pub record Applies (session : Session) (line : Line) (old : Shown) (new_session 
 -- ---- all lines
 
 -- What was read and given so far: as many bytes of the script as the room fell by, and a line for each line read. A last line may have had
--- no end.
+-- no end, where the source has said that it ends. At most one piece that was taken isn't read.
 pub record HasRead (limit : ℕ) (old : Shown) (held : Held) (now : Shown) (count : ℕ) : Type 0 where
   pub output : List ℕ
   pub given : now.given ≡ old.given ++ output
@@ -105,6 +105,10 @@ pub record HasRead (limit : ℕ) (old : Shown) (held : Held) (now : Shown) (coun
   pub front : old.ends.left ≡ read ++ unread held now
   pub room : limit ≡ length read + held.room
   pub ended : (whole read ≡ count) ⊎ (unread held now ≡ [])
+  pub most : whole read ≤ count
+  pub all : held.ended ≡ false → whole read ≡ count
+  pub piece : length held.bytes ≤ 65536
+  pub knows : KnowsEnd held now
 
 -- The last point of a session that answered the first `count` lines is after the last `cp` of them, or before one that asks for a point.
 abbrev pub IsLastPoint : Machine → List Line → ℕ → ℕ → Type 0
@@ -173,6 +177,7 @@ pub record Stopped (limit : ℕ) (first : Session) (old new : Shown) (fault : Fa
   pub counts : Counts old new (count_of fault)
   pub reason : IsEndOf limit first old new fault
   pub cut_off : IsTrue old.tells → IsOverLimit limit old new → fault ≡ Limit
+  pub keeps_up : IsTrue old.tells → KeepsUp limit old new (Err fault)
   pub quiet : IsTrue old.tells → first.pending ≡ 0 → IsQuiet most_rooms (lines_built old.ends.left) old new
 
 abbrev pub AnswersLines : ℕ → Session → Shown → Session → Shown → Result ℕ Fault → Type 0

@@ -3,7 +3,8 @@ use Rattle.std.specs.Prelude.{◌≡◌, ◌⊎◌, ◌<◌, ℕ, List, [], ◌�
 use Rattle.fv_disk.specs.Shown.{Image, Shown, IsSettled}
 use Rattle.fv_disk.specs.Crash.{Leaves}
 use Rattle.fv_lines.specs.Counts.{Counts}
-use Rattle.fv_root.specs.Formatted.{SameVolumes}
+use Rattle.fv_disk.specs.Sparing.{LeftBefore}
+use Rattle.fv_root.specs.Formatted.{AreClosed, IsNoGate, SameVolumes}
 use Rattle.fv_model.specs.Machines.{capacity, empty_machine}
 use Rattle.fv_image.specs.WholeMachine.{machine_of}
 use Rattle.fv_run.specs.declared.ending.Fault.{Fault}
@@ -24,6 +25,10 @@ pub record HasCreated (blocks : ℕ) (old new : Shown) : Type 0 where
 abbrev pub IsAcknowledged : ℕ → Shown → Image → List ℕ → Type 0
 IsAcknowledged blocks old c g = (g ≡ old.given) ⊎ (machine_of c ≡ Some (empty_machine blocks))
 
+-- a crash leaves all blocks but the gates as one before might have left them, or both gates closed, or the new aggregate
+abbrev pub IsOldOrNew : ℕ → Shown → Image → List ℕ → Type 0
+IsOldOrNew blocks old c g = LeftBefore IsNoGate old c ⊎ (AreClosed c ⊎ (machine_of c ≡ Some (empty_machine blocks)))
+
 -- the disk failed, or the sink
 abbrev pub IsCreationFault : Fault → Type 0
 IsCreationFault Disk = Unit {0}
@@ -42,6 +47,7 @@ pub record Creates (blocks : ℕ) (old new : Shown) (result : Result Unit Fault)
   pub only : IfErr result IsCreationFault
   pub given : IsTrue old.tells → IfErr result (GaveUpTo blocks old new)
   pub acknowledged : IsTrue old.tells → Leaves old new (IsAcknowledged blocks old)
+  pub any_moment : IsTrue old.tells → Leaves old new (IsOldOrNew blocks old)
   pub volumes : IsTrue old.tells → SameVolumes blocks old.reads new.reads
   pub counts : Counts old new (raised_by result)
   -- nothing is asked of the source

@@ -161,6 +161,22 @@ pub record EndsInPoint (lines : List Line) (old new : Shown) : Type 0 where
   pub stands : Stands new next
   pub machine : (m : Machine) → machine_of old.reads ≡ Some m → IsLastFor m lines old.reads before last new next
 
+-- ---- what is read
+
+-- A run keeps up with what it reads, as far as its end shows: of all that the source gave it has read the front, and no line of that but one that was
+-- begun isn't answered. The rest is one piece at most, which was taken last; where the source failed it is none. Of a longer script than its
+-- limit it takes no more than that piece, either.
+pub record KeepsUp (limit : ℕ) (old new : Shown) (result : Result Unit Fault) : Type 0 where
+  pub output : List ℕ
+  pub given : new.given ≡ old.given ++ output
+  pub read : List ℕ
+  pub ahead : List ℕ
+  pub taken : old.ends.left ≡ read ++ (ahead ++ new.ends.left)
+  pub within : length read ≤ limit
+  pub piece : length ahead ≤ 65536
+  pub none : result ≡ Err Source → ahead ≡ []
+  pub answered : whole read ≤ begun result output
+
 -- ---- causes
 
 -- the source gave a byte past the limit, and each line that ends before it was answered
@@ -181,7 +197,7 @@ pub record IsOverLimit (limit : ℕ) (old new : Shown) : Type 0 where
 abbrev pub IsRoomIn : List Line → ℕ → Type 0
 IsRoomIn lines room = (room ≡ 0) ⊎ ((command : Command) × Contains lines (Says command) × (room ≡ most_room command))
 
--- whether a line changes a volume that was there before it and is there after it: its files, its size or its kind of guarantee
+-- whether a line changes a volume that was there before it and is there after it: its files, its snapshots, its size or its kind of guarantee
 abbrev pub changes_volumes : Line → Bool
 changes_volumes (Says command) = changes_volume command
 changes_volumes NoCommand = false
@@ -210,8 +226,8 @@ pub record IsLacking (lines : List Line) (i : Image) : Type 0 where
   pub short : IsShort i room 0 at want found
 
 -- The script came to what volumes hold: the line behind those that are answered reads blocks of files, or a line that is answered changes the files
--- of a volume, its size or its kind of guarantee. Such damage comes of a block of files that isn't as it has to be, or of a point that lacks blocks
--- or numbers for what changed or beside it; that isn't said here.
+-- of a volume, its snapshots, its size or its kind of guarantee. Such damage comes of a block of files that isn't as it has to be, or of a point that
+-- lacks blocks or numbers for what changed or beside it; that isn't said here.
 pub record IsFileDamage (lines : List Line) (old end : Shown) : Type 0 where
   pub output : List ℕ
   pub given : end.given ≡ old.given ++ output
@@ -292,6 +308,8 @@ pub record Ran (limit : ℕ) (old new : Shown) (result : Result Unit Fault) : Ty
   -- what doesn't open stays as it is, whatever the fault, and nothing is given
   pub opened : IsTrue old.tells → Opens old.reads ⊎ (IsErr result × IsUnwritten old new)
   pub cut_off : IsTrue old.tells → IsOverLimit limit old new → result ≡ Err Limit
+  -- each line that was read is answered, but for the one at work
+  pub keeps_up : IsTrue old.tells → KeepsUp limit old new result
 
 -- a run, with the status that tells how it ended
 abbrev pub IsRun : ℕ → Shown → Shown → ℕ → Type 0

@@ -27,7 +27,9 @@ use std::sync::ledger::{Blank, Ledger};
 /// further consistency point: where no write and no barrier failed the disk is settled then, with the image of the last acknowledged
 /// point, or of one that a later line asked for: a `cp`, a line whose room passes the dirty limit with the rooms behind the last `cp`, or
 /// the end of the script.
-/// That each reply comes before the next line is applied, and that no point follows a fault in a line that asks for one, the tests show.
+/// However it ends, each line that was read is answered but for the one at work, and of what the source gave at most 65,536 bytes
+/// aren't read; where the source failed all is read and answered. An end doesn't show whether a reply was kept for the fault that ends
+/// the run. That no point follows a fault in a line that asks for one the tests show.
 /// It holds 98,304 bytes of the script beside the session, and costs for each line what `Session::apply` does.
 pub fn run_script<H: Host>(alloc: Global, host: &mut H, limit: u64) -> u8
     ensures { IsRun limit (H.shown host.old) (H.shown host.new) result }

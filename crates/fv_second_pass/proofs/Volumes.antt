@@ -20,7 +20,7 @@ use Rattle.fv_faults.proofs.FromLines.{roots_from}
 use Rattle.fv_first_pass.specs.declared.first.Known.{Known}
 use Rattle.fv_first_pass.specs.Heads.{head_in, label_read}
 use Rattle.fv_root.specs.Formatted.{IsSize}
-use Rattle.fv_first_pass.proofs.Whole.{reads_whole}
+use Rattle.fv_disk.proofs.Reading.{reads_whole}
 use Rattle.fv_walk.specs.declared.limits.Limits.{Limits}
 use Rattle.fv_walk.specs.Limiting.{IsLimitsOf}
 use Rattle.fv_second_pass.specs.Told.{AreWithin, IsKnown, IsLabelled, IsPassed, IsVolume, ground_at, shaped_label}

@@ -41,6 +41,7 @@ use Rattle.fv_volume.specs.States.{head_in, snap_in, snaps_in}
 use Rattle.fv_volume.proofs.CountedMaps.{members}
 use Rattle.fv_volume.proofs.EachRoot.{all_in}
 use Rattle.fv_pool.proofs.Holding.{has_taken}
+use Rattle.fv_volume.proofs.SnapSlots.{stored_taken}
 use Rattle.fv_volume.proofs.KeptReads.{each_sayable}
 use Rattle.fv_pool.proofs.Shows.{slot_below}
 use Rattle.fv_snapshot.proofs.OwnIds.{all_items, items_in, of_root, root_lies}
@@ -176,7 +177,7 @@ module _ (d : Disk) (p : Pool) (x : VolumeState) (root : RootStands d p x 0 x.ac
           (table_of (blocks_in d p x)) (λ q. items_in d p x q.slot q.table) (snaps_in x.snapshots) distinct kept_ids_of
 
       member_is : (v : ℕ) → is_member union v ≡ is_charged es [] v
-      member_is v = united.members v ∙ taken_listed v ∙ and_true (is_listed es v)
+      member_is v = united.members v ∙ sym (stored_taken x.map.slots v whole.count (ap (has v) labelled.slots.base)) ∙ taken_listed v ∙ and_true (is_listed es v)
         where
           and_true : (b : Bool) → b ≡ (b && not false)
           and_true true = refl

@@ -67,7 +67,7 @@ module _ (d : Disk) (p : Pool) (x : VolumeState) (others : ℕ) (name : List ℕ
     abbrev pub done : VolumeState
     done = turned.y x whole labelled name q found ledger
 
-    module _ (valid : IsVolume done.map) (counted : HasCounted done.map (length done.snapshots) done.span done.size done.kind ledger) where
+    module _ (valid : IsVolume done.map) (counted : HasCounted done.map None (length done.snapshots) done.span done.size done.kind ledger) where
       booked : IsBooked done
       booked = counted_booked done counted labelled.map labelled.span (few_snaps (head_in x) x.snapshots refl labelled.snapshots.slots)
 
@@ -127,13 +127,13 @@ module _ (d : Disk) (p : Pool) (x : VolumeState) (others : ℕ) (name : List ℕ
 
   -- So the calls leave it.
   pub turned_restores : (ready : IsReady d p x) (whole : IsVolume x.map) (q : Snap) (found : snap_named x.snapshots name ≡ Some q) (a : VolumeState) (m : Maps) (new : VolumeState) → a ≡ turned_to x q.table
-      → m ≡ with_slot a.map 0 (slot_at a.map q.slot) → IsVolume m → HasCounted m (length a.snapshots) a.span a.size a.kind new.ledger → new ≡ record a { map = m; ledger = new.ledger }
+      → m ≡ with_slot a.map 0 (slot_at a.map q.slot) → IsVolume m → HasCounted m None (length a.snapshots) a.span a.size a.kind new.ledger → new ≡ record a { map = m; ledger = new.ledger }
       → Restores d p x others name new (Ok tt) × IsReady d p new
   turned_restores ready whole q found a m new turn moved valid counted now =
       let ledger : Ledger = new.ledger in
       let map_is : m ≡ with_slot x.map 0 (slot_at x.map q.slot) = moved ∙ ap (λ (z : VolumeState). with_slot z.map 0 (slot_at z.map q.slot)) turn in
       let same : new ≡ done ready whole q found ledger = now ∙ ap₂ (λ (z : VolumeState) (n : Maps). record z { map = n; ledger = ledger }) turn map_is in
-      let right : HasCounted (with_slot x.map 0 (slot_at x.map q.slot)) (length x.snapshots) x.span x.size x.kind ledger =
-      subst (λ (n : Maps). HasCounted n (length x.snapshots) x.span x.size x.kind ledger) map_is (subst (λ (z : VolumeState). HasCounted m (length z.snapshots) z.span z.size z.kind ledger) turn counted) in
+      let right : HasCounted (with_slot x.map 0 (slot_at x.map q.slot)) None (length x.snapshots) x.span x.size x.kind ledger =
+      subst (λ (n : Maps). HasCounted n None (length x.snapshots) x.span x.size x.kind ledger) map_is (subst (λ (z : VolumeState). HasCounted m None (length z.snapshots) z.span z.size z.kind ledger) turn counted) in
       let is : IsVolume (with_slot x.map 0 (slot_at x.map q.slot)) = subst IsVolume map_is valid in
       subst (λ (z : VolumeState). Restores d p x others name z (Ok tt) × IsReady d p z) (sym same) (done_restores ready whole q found ledger is right, done_ready ready whole q found ledger is right)

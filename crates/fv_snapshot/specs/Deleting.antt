@@ -43,7 +43,7 @@ pub record IsUnsnapped (disk : Disk) (pool : Pool) (x : VolumeState) (left : Poo
   pub snap : Snap
   pub there : (some : Snap) → slice_index_or x.snapshots at some ≡ snap
   pub ledger : Ledger
-  pub counted : HasCounted y.map (length y.snapshots) y.span y.size y.kind ledger
+  pub counted : HasCounted y.map None (length y.snapshots) y.span y.size y.kind ledger
   pub now : y ≡ record (without_snapshot mid at snap.slot) { ledger = ledger }
 
 -- The snapshot of a name was removed from a volume, or not. It is answered as in each machine that has the volume and no clone on the snapshot, and

@@ -1,5 +1,5 @@
 -- What making a snapshot's table the active one answers and leaves.
-use Rattle.std.specs.Prelude.{length, ◌≡◌, ℕ, List, Some, Result, OnErr, OnOk, IfErr}
+use Rattle.std.specs.Prelude.{length, ◌≡◌, ℕ, List, None, Some, Result, OnErr, OnOk, IfErr}
 use Rattle.fv_disk.specs.Shown.{Shown as Disk}
 use Rattle.fv_charge.specs.declared.ledger.Ledger.{Ledger}
 use Rattle.fv_model.specs.declared.answers.Refusal.TheVariants.{NoSnapshot}
@@ -23,7 +23,7 @@ pub record IsTurned (x : VolumeState) (name : List ℕ) (y : VolumeState) : Type
   pub snap : Snap
   pub there : snap_named x.snapshots name ≡ Some snap
   pub ledger : Ledger
-  pub counted : HasCounted y.map (length y.snapshots) y.span y.size y.kind ledger
+  pub counted : HasCounted y.map None (length y.snapshots) y.span y.size y.kind ledger
   pub now : y ≡ record (turned_to x snap.table) { map = with_slot x.map 0 (slot_at x.map snap.slot); ledger = ledger }
 
 -- The table of the snapshot of a name was made the active one, or not. It is answered as in each machine in which the volume is within its size and

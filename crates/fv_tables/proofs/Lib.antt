@@ -6,3 +6,4 @@ pub mod Bare
 pub mod Listed
 pub mod TablePlaces
 pub mod IdsTold
+pub mod AlikeTables

@@ -3,3 +3,4 @@ pub mod Told
 pub mod Reached
 pub mod Kept
 pub mod Ids
+pub mod Alike

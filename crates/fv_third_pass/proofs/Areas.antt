@@ -22,7 +22,7 @@ use Rattle.fv_third_pass.specs.declared.holders.Holders.{Holders}
 use Rattle.fv_third_pass.specs.Tallied.{holds, further}
 use Rattle.fv_third_pass.specs.Bits.{differing, differs, area_to}
 use Rattle.fv_third_pass.specs.Counted.{IsCounted}
-use Rattle.fv_third_pass.proofs.Noting.{same_added}
+use Rattle.fv_faults.proofs.Adding.{same_added}
 use Rattle.fv_third_pass.proofs.Repeated.{unlisted}
 
 module _ (t : Taken) (i : Image) (h : Holders) (counted : IsCounted (layout_at t i) h) where

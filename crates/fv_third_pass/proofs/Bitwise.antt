@@ -11,7 +11,8 @@ use Rattle.fv_faults.specs.Adding.{Adds}
 use Rattle.fv_faults.specs.ThirdPass.{bit_lines}
 use Rattle.fv_third_pass.specs.Bits.{differing, differs, said_of}
 use Rattle.fv_first_pass.proofs.Ranges.{same_parts}
-use Rattle.fv_third_pass.proofs.Noting.{nothing_added, range_next}
+use Rattle.fv_faults.proofs.Adding.{nothing_added}
+use Rattle.fv_third_pass.proofs.Noting.{range_next}
 
 -- bits that are the same have no line
 pub same_bits : (rule block : ℕ) (a b : Bool) (x : Lines) → a ≡ b → Adds (bit_lines rule block a b) x x

@@ -4,12 +4,28 @@ mod Blocks
 mod Levels
 mod HeldNodes
 mod HeldSlots
-mod Reading
 mod Sums
-mod Noting
+pub mod Noting
+mod Least
 mod Repeated
 mod Bitwise
 mod Areas
 mod VolumeMaps
-mod Judging
+pub mod Judging
+mod Cells
+mod Keeping
+mod Firsts
+mod MapRoots
+mod Showing
+mod BaseIds
+mod OwnTables
+mod MapsOfRoots
+mod SameLines
+mod TwinSteps
+mod WalkedFacts
+mod SnapTables
+mod VolumeLaw
+mod VolumeParts
+mod BaseParts
+mod ThirdSlots
 mod MapKinds

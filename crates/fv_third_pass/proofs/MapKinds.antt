@@ -17,13 +17,12 @@ use Rattle.fv_faults.specs.declared.lines.Lines.{Lines}
 use Rattle.fv_faults.specs.Adding.{Adds}
 use Rattle.fv_faults.specs.Lines.{expects}
 use Rattle.fv_faults.specs.ThirdPass.{map_kind_lines}
-use Rattle.fv_faults.proofs.Adding.{adds_then}
+use Rattle.fv_faults.proofs.Adding.{adds_then, nothing_added}
 use Rattle.fv_first_pass.specs.Records.{free, snap_in, snap_if}
 use Rattle.fv_first_pass.specs.Passed.{spelled}
 use Rattle.fv_first_pass.proofs.Ranges.{same_parts}
 use Rattle.fv_first_pass.proofs.Snaps.{snaps_more}
 use Rattle.fv_third_pass.specs.Maps.{HasWords, kinds_if, kinds_to, kinds_with}
-use Rattle.fv_third_pass.proofs.Noting.{nothing_added}
 
 -- ---- one record
 

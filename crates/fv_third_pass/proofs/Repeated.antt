@@ -15,7 +15,7 @@ use Rattle.fv_faults.specs.ThirdPass.{holders, twice_held}
 use Rattle.fv_third_pass.specs.declared.holders.Holders.{Holders}
 use Rattle.fv_third_pass.specs.Bits.{twice_lines, twice_to}
 use Rattle.fv_third_pass.specs.Counted.{IsCounted}
-use Rattle.fv_third_pass.proofs.Noting.{same_added}
+use Rattle.fv_faults.proofs.Adding.{same_added}
 
 pub unlisted : (b : ℕ) (xs : List ℕ) → list_any (λ x. x == b) xs ≡ true → In b xs
 unlisted b [] there = absurd cc

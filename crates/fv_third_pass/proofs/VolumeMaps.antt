@@ -20,7 +20,7 @@ use Rattle.fv_first_pass.specs.Passed.{spelled}
 use Rattle.fv_third_pass.specs.Bits.{differing, differs, said_of}
 use Rattle.fv_third_pass.specs.Maps.{HasWords, IsReachOf, reach_to}
 use Rattle.fv_first_pass.proofs.Ranges.{same_parts}
-use Rattle.fv_third_pass.proofs.Noting.{same_added}
+use Rattle.fv_faults.proofs.Adding.{same_added}
 
 -- ---- holes
 

@@ -1,4 +1,5 @@
--- What rules 9 and 10 say of a pointer by itself: the kind of its entry, the stamps under a mark, and the volume's last stamp.
+-- What rules 9 and 10 say of a pointer by itself: the kind of its entry, the stamps under a mark, the levels of the files whose records stand
+-- in its block, and the volume's last stamp.
 use Rattle.std.specs.Prelude.{ℕ, max, Bool, List, [], ◌++◌, flat_map, fold, nat_le, Option, if◌then◌else◌}
 use Rattle.std.specs.Option.{option_map_or}
 use Rattle.fv_codec.specs.declared.pointer.Pointer.{Pointer}
@@ -7,12 +8,13 @@ use Rattle.fv_image.specs.ReachRules.{kind_of}
 use Rattle.fv_faults.specs.declared.fault.Fault.{Fault}
 use Rattle.fv_faults.specs.Lines.{line, unless, says, expects}
 use Rattle.fv_faults.specs.Walks.{Step}
-use Rattle.fv_faults.specs.ThirdPass.{kind_lines, mark_lines, stamp_lines}
+use Rattle.fv_faults.specs.ThirdPass.{kind_lines, mark_lines, file_level_lines, stamp_lines}
 use Rattle.fv_walk.specs.declared.source.Found.{Found}
 use Rattle.fv_walk.specs.declared.below.Below.{Below}
 use Rattle.fv_walk.specs.declared.below.Below.TheVariants.{Nothing, Node, Inodes}
 use Rattle.fv_walk.specs.Sights.{Sight}
 use Rattle.fv_walk.specs.Visits.{item_of}
+use Rattle.fv_third_pass.specs.Files.{levels_of}
 
 -- the kind of the entry at which a VVBN is found, 0 for a hole
 abbrev pub kind_found : Option Found → ℕ
@@ -38,11 +40,11 @@ stamps_of now s = says 10 s.visit.block (in_range 0 now s.visit.pointer.stamp)
 
 -- what is said of a pointer in a table of the volume itself alone
 abbrev pub own_lines : Bool → Sight → List Fault
-own_lines own s = if own then kinds_of s ++ marks_of s else []
+own_lines own s = if own then kinds_of s ++ (marks_of s ++ levels_of s) else []
 
 -- Of a pointer in a base table the stamp alone is judged.
 abbrev pub judged : Bool → ℕ → Sight → List Fault
 judged own last s = own_lines own s ++ stamps_of last s
 
 abbrev pub judged_lines : Bool → ℕ → List Step → List Fault
-judged_lines own last ss = (if own then flat_map kind_lines ss ++ flat_map mark_lines ss else []) ++ flat_map (stamp_lines last) ss
+judged_lines own last ss = (if own then flat_map kind_lines ss ++ (flat_map mark_lines ss ++ flat_map file_level_lines ss) else []) ++ flat_map (stamp_lines last) ss

@@ -4,5 +4,13 @@ pub mod Nodes
 pub mod Counted
 pub mod Bits
 pub mod Maps
+pub mod Files
 pub mod Judged
 pub mod Judges
+pub mod Lengths
+pub mod LengthJudges
+pub mod Kept
+pub mod Keepings
+pub mod Twinned
+pub mod TwinJudges
+pub mod Volumes

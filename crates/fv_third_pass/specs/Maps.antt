@@ -1,5 +1,5 @@
--- The maps of a volume: rule 6, and rule 9 of their blocks.
-use Rattle.std.specs.Prelude.{◌≡◌, ℕ, ◌/◌, Bool, List, [], ◌++◌, flat_map, get_or, Some, ◌==◌, if◌then◌else◌}
+-- The maps of a volume: rule 6, and rule 9 of their blocks. Rule 2 of its span.
+use Rattle.std.specs.Prelude.{◌≡◌, ℕ, ◌+◌, ◌/◌, nat_le, Bool, List, [], ◌++◌, flat_map, get_or, Some, ◌==◌, if◌then◌else◌}
 use Rattle.std.specs.List.{range_with_len}
 use Rattle.fv_disk.specs.Shown.{Image}
 use Rattle.fv_bits.specs.Members.{is_member}
@@ -7,7 +7,7 @@ use Rattle.fv_codec.specs.declared.label.SnapRecord.{SnapRecord}
 use Rattle.fv_model.specs.Space.{map_blocks}
 use Rattle.fv_image.specs.Views.{Snap, View, block_in, map_kind, map_vvbn, snaps_from}
 use Rattle.fv_faults.specs.declared.fault.Fault.{Fault}
-use Rattle.fv_faults.specs.Lines.{expects}
+use Rattle.fv_faults.specs.Lines.{expects, line, unless}
 use Rattle.fv_faults.specs.Walks.{Step, has_reached}
 use Rattle.fv_faults.specs.ThirdPass.{pvbn_at}
 use Rattle.fv_first_pass.specs.Passed.{spelled}
@@ -41,3 +41,7 @@ kinds_if row label span slot r = if r.name_length == 0 then [] else kinds_to row
 abbrev pub kinds_with : List ℕ → ℕ → ℕ → List SnapRecord → List Fault
 kinds_with row label span rs =
     kinds_to row label span 0 (map_blocks span) ++ flat_map (λ (p : Snap). kinds_to row label span p.slot (map_blocks span)) (snaps_from 1 rs)
+
+-- rule 2 of a span, by the greatest size of its volume and the number of its base's ids
+abbrev pub room_lines : ℕ → ℕ → ℕ → ℕ → List Fault
+room_lines label most ids span = unless (nat_le (most + (ids + 256)) span) (line 2 label (most + (ids + 256)) span)

@@ -32,7 +32,7 @@ fn label_in(labels: &[Option<Result<Label, Shape>>], slot: usize) -> Option<Labe
 }
 
 /// The words of a slot's entries; where there is no row, there are none.
-fn words_in(rows: &[Option<Vec<u32>>], slot: usize) -> &[u32]
+pub(crate) fn words_in(rows: &[Option<Vec<u32>>], slot: usize) -> &[u32]
     ensures { result.now ≡ words_of (get_or rows.now slot None) }
 {
     if slot >= rows.len() {

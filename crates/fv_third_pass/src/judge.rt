@@ -10,7 +10,9 @@ ghost use Rattle.fv_faults.specs.Walks.{steps};
 ghost use Rattle.fv_walk.specs.Causes.{HasWalkCause};
 ghost use Rattle.fv_walk.specs.Visits.{item_of, rooted};
 ghost use Rattle.fv_third_pass.specs.Judged.{greatest, judged_lines, kind_found, marks_in, own_lines};
+ghost use Rattle.fv_third_pass.specs.Files.{levels_of};
 
+use crate::files::note_file_levels;
 use fv_codec::Pointer;
 use fv_faults::{Fault, Lines};
 use fv_walk::{Below, Found, Source, Table, Visit, Visitor, WalkFault, walk};
@@ -50,7 +52,7 @@ fn kind_found(at: Option<Found>) -> u64
 }
 
 /// Notes a line of rule 9 where the entry has another kind than its block.
-#[tactic(auto, using(crate::proofs::Noting::nothing_added))]
+#[tactic(auto, using(fv_faults::proofs::Adding::nothing_added))]
 fn note_kind(lines: &mut Lines, block: u64, want: u64, found: u64) -> Result<(), AllocError>
     ensures { OnOk result (Adds (expects 9 block want found) lines.old lines.new) }
 {
@@ -77,7 +79,7 @@ fn greatest(pointers: &[Pointer]) -> u64
 }
 
 /// Notes a line of rule 10 where a number passes a bound.
-#[tactic(auto, using(crate::proofs::Noting::nothing_added))]
+#[tactic(auto, using(fv_faults::proofs::Adding::nothing_added))]
 fn note_past(lines: &mut Lines, block: u64, want: u64, found: u64) -> Result<(), AllocError>
     ensures { OnOk result (Adds (says 10 block (in_range 0 want found)) lines.old lines.new) }
 {
@@ -93,7 +95,7 @@ fn note_past(lines: &mut Lines, block: u64, want: u64, found: u64) -> Result<(),
 }
 
 /// Notes a line of rule 10 where a mark is below the greatest stamp under it.
-#[tactic(auto, using(crate::proofs::Noting::nothing_added))]
+#[tactic(auto, using(fv_faults::proofs::Adding::nothing_added))]
 fn note_under(lines: &mut Lines, block: u64, want: u64, found: u64) -> Result<(), AllocError>
     ensures { OnOk result (Adds (unless (nat_le want found) (line 10 block want found)) lines.old lines.new) }
 {
@@ -109,7 +111,7 @@ fn note_under(lines: &mut Lines, block: u64, want: u64, found: u64) -> Result<()
 }
 
 /// Notes the line of a mark, by what stands in the block to which it leads.
-#[tactic(auto, using(crate::proofs::Noting::nothing_added))]
+#[tactic(auto, using(fv_faults::proofs::Adding::nothing_added))]
 fn note_mark(lines: &mut Lines, block: u64, stamp: u64, below: &Below) -> Result<(), AllocError>
     ensures { OnOk result (Adds (marks_in block stamp below.now) lines.old lines.new) }
 {
@@ -120,8 +122,24 @@ fn note_mark(lines: &mut Lines, block: u64, stamp: u64, below: &Below) -> Result
     }
 }
 
+/// Notes the lines of the levels of files, by what stands in the block to which a pointer leads.
+#[tactic(auto, using(fv_faults::proofs::Adding::nothing_added))]
+fn note_files(
+    lines: &mut Lines,
+    visit: &Visit,
+    at: Option<Found>,
+    below: &Below,
+) -> Result<(), AllocError>
+    ensures { OnOk result (Adds (levels_of (record { visit = visit.now; at = at; below = below.now })) lines.old lines.new) }
+{
+    let Some(found) = at else {
+        return Ok(());
+    };
+    note_file_levels(lines, found.pvbn, below)
+}
+
 /// Notes what is said of a pointer in a table of the volume itself alone.
-#[tactic(auto, using(crate::proofs::Noting::nothing_added))]
+#[tactic(auto, using(fv_faults::proofs::Adding::nothing_added))]
 fn note_own(
     lines: &mut Lines,
     own: bool,
@@ -136,6 +154,7 @@ fn note_own(
     }
     note_kind(lines, visit.block, kind_of(visit), kind_found(at))?;
     note_mark(lines, visit.block, visit.pointer.stamp, below)?;
+    note_files(lines, visit, at, below)?;
     Ok(())
 }
 
@@ -156,9 +175,9 @@ impl Visitor for Judge {
 }
 
 /// Walks along the pointers of a table, whose root stands in the label at a place, and notes what rules 9 and 10 (`docs/FORMAT.md`) say of
-/// each by itself: its entry has the kind of its block, no stamp is below one under it, and none passes the volume's last stamp. Of a base
-/// table (`own` is false) the last alone is said. The lines come back with those that are noted. The table is one of which the second pass
-/// found nothing.
+/// each by itself: its entry has the kind of its block, no stamp is below one under it, the files whose records stand there have the levels
+/// that their reserves ask for, and no stamp passes the volume's last. Of a base table (`own` is false) the last alone is said. The lines
+/// come back with those that are noted. The table is one of which the second pass found nothing.
 ///
 /// The one other error is want of memory. Costs what `walk` costs.
 pub fn judge_table<S: Source>(

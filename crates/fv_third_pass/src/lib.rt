@@ -1,20 +1,37 @@
 //! The third pass of a check: the fault lines (`fv_faults`) of held blocks and of the aggregate map.
 #![tactic(auto)]
 
+mod bases;
 mod bits;
 mod counting;
+mod files;
 mod holders;
+mod ids;
 mod judge;
+mod lengths;
 mod map;
 mod nodes;
+mod reaching;
+mod records;
+mod roots;
 mod sizes;
+mod span;
+mod tables;
+mod third;
 mod twice;
+mod twins;
+mod volume;
 mod volume_map;
 mod words;
 
 pub use counting::count_holders;
+pub use files::note_table_levels;
 pub use holders::Holders;
 pub use judge::judge_table;
+pub use lengths::judge_lengths;
 pub use map::note_map;
+pub use span::note_span;
+pub use tables::note_table;
+pub use third::pass_three;
 pub use twice::note_twice;
 pub use volume_map::{VolumeMap, note_map_kinds, note_reach};

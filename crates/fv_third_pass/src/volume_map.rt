@@ -133,7 +133,7 @@ pub fn note_reach<D: Disk>(
 }
 
 /// Notes the line of a map's block whose entry has another kind.
-#[tactic(auto, using(crate::proofs::Noting::nothing_added))]
+#[tactic(auto, using(fv_faults::proofs::Adding::nothing_added))]
 fn note_kind(lines: &mut Lines, label: u64, kind: u32) -> Result<(), AllocError>
     ensures { OnOk result (Adds (expects 9 label map_kind kind) lines.old lines.new) }
 {
@@ -164,13 +164,13 @@ fn note_kinds(row: &[u32], map: VolumeMap, label: u64, lines: &mut Lines) -> Res
 fn note_snapshot_kinds(
     row: &[u32],
     map: VolumeMap,
-    record: &SnapRecord,
+    snapshot: &SnapRecord,
     label: u64,
     lines: &mut Lines,
 ) -> Result<(), AllocError>
-    ensures { OnOk result (Adds (kinds_if row.now label map.span map.slot record.now) lines.old lines.new) }
+    ensures { OnOk result (Adds (kinds_if row.now label map.span map.slot snapshot.now) lines.old lines.new) }
 {
-    if record.name_length == 0 {
+    if snapshot.name_length == 0 {
         return Ok(());
     }
     note_kinds(row, map, label, lines)?;

@@ -1,9 +1,9 @@
 -- Slots in a row.
-use Rattle.std.proofs.Common.{◌≡◌, ℕ, zero, suc, ◌+◌, ◌-◌, ◌<◌, ◌≤◌, Bool, true, false, ◌||◌, List, [], ◌∷◌, ◌++◌, length, take, drop, get_or, set, Some, None, All, refl, sym, ap, ◌∙◌, ◌==◌, cond, arith, length-set}
+use Rattle.std.proofs.Common.{◌≡◌, ℕ, zero, suc, ◌+◌, ◌-◌, ◌<◌, ◌≤◌, Bool, true, false, ◌||◌, List, [], ◌∷◌, ◌++◌, length, take, drop, get_or, set, Some, None, All, refl, sym, ap, subst, ◌∙◌, ◌==◌, cond, arith, length-set}
 use Rattle.std.proofs.lemmas.Bool.Decides.{nat_tests}
 use Rattle.std.proofs.lemmas.List.Folds.{list_any_more, list_any_at, list_any-append}
 use Rattle.std.proofs.lemmas.List.{length-take-le, set_split}
-use Rattle.std.proofs.lemmas.List.Elements.{All-set}
+use Rattle.std.proofs.lemmas.List.Elements.{All-set, All-take}
 use Rattle.fv_bits.specs.Members.{is_member}
 use Rattle.fv_bits.proofs.Laws.{is_member-set, is_member_past}
 use Rattle.fv_volmap.specs.Slots.{Slot, has, taken_in}
@@ -120,6 +120,9 @@ module _ (span : ℕ) (active : List Bool) (others : List Slot) (union : List Bo
 -- the 24 slots of snapshots
 pub stored_slots : (slots items : List Slot) → slots ≡ items → length items ≡ 25 → 24 ≡ length (take 24 slots)
 stored_slots slots items same count = sym (length-take-le 24 slots (omega (arith, ap length same)))
+
+pub stored_long : (span : ℕ) (slots items : List Slot) (union : List Bool) → slots ≡ items → All (IsLong span) items → length union ≡ span → All (IsLong (length union)) (take 24 slots)
+stored_long span slots items union same long whole = subst (λ n. All (IsLong n) (take 24 slots)) (sym whole) (All-take (IsLong span) 24 slots (subst (All (IsLong span)) (sym same) long))
 
 -- no slot has a number from the span on
 pub past_none : (span v n : ℕ) (slots : List Slot) → All (IsLong span) slots → span ≤ v → taken_in (take n slots) v ≡ false

@@ -51,13 +51,13 @@ snapshot_count = 24
 abbrev pub is_in_snapshot : Volume → ℕ → Bool
 is_in_snapshot volume v = taken_in (take snapshot_count (drop 1 volume.slots)) v
 
--- whether a slot has a number that no other slot has
+-- whether a slot has a number that no other one of these slots has
 abbrev pub has_alone : List Slot → ℕ → ℕ → Bool
 has_alone slots slot v = has v (slice_index_or slots slot None) && not (taken_in (slice_set slots slot None) v)
 
--- how many numbers a slot has that no other slot has
+-- how many numbers a slot has that no other slot has; what the base reaches is left out
 unfoldable pub alone_in : Volume → ℕ → ℕ
-alone_in volume slot = count_by (has_alone volume.slots slot) (range_with_len 0 volume.span)
+alone_in volume slot = count_by (has_alone (take stored_count volume.slots) slot) (range_with_len 0 volume.span)
 
 -- the volume with another slot
 abbrev pub with_slot : Volume → ℕ → Slot → Volume
@@ -79,10 +79,10 @@ pub record Loads (old : Volume) (slot index : ℕ) (block : List ℕ) (new : Vol
   pub volume : new ≡ with_slot old slot (Some map)
   pub taken : TakesBlock (map_or_empty old.span (slot_at old slot)) map index block
 
--- a map has the members of all slots, the base's among them
+-- a map has the members of the used slots that stand on the disk, 0 to 24; what the base reaches is left out
 pub record AreUnited (volume : Volume) (map : List Bool) : Type 0 where
   pub len : length map ≡ volume.span
-  pub members : (v : ℕ) → is_member map v ≡ taken_in volume.slots v
+  pub members : (v : ℕ) → is_member map v ≡ taken_in (take stored_count volume.slots) v
 
 -- v is a number below the span that no slot had, and the active slot has it now
 pub record Allocates (old : Volume) (v : ℕ) (new : Volume) : Type 0 where

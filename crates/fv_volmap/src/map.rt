@@ -22,7 +22,7 @@ pub struct VolMap {
     active: BitMap,
     /// Slots 1 to 25.
     others: Vec<Option<BitMap>>,
-    /// The union of all slots, where `united`.
+    /// The union of all slots, the base's among them, where `united`.
     union: BitMap,
     united: bool,
     /// Where `allocate` looks first: after the number that it found last.
@@ -151,32 +151,30 @@ impl VolMap {
         }
     }
 
-    /// The union of all slots, the base's among them. It takes no memory. Costs a step for each word of each
-    /// used slot where slots were loaded, forgotten or restored since the last call of this or `allocate`,
-    /// and else one step.
+    /// The union of the used slots from 0 to 24; what the base reaches is left out. It takes no memory. Costs
+    /// a step for each word of each used slot; the next `allocate` unites the used slots anew.
+    #[tactic(auto, using(crate::proofs::Rows::stored_slots))]
     pub fn united(&mut self) -> &BitMap
         ensures* same { sem 𝓛 (StaysLent self.entry) }
         ensures union { AreUnited self.old result.now }
         ensures valid { IsVolume self.old }
     {
-        slots::refresh(&mut self.union, self.united, &self.active, &self.others);
-        self.united = true;
+        slots::unite(&mut self.union, &self.active, &self.others[..24]);
+        self.united = false;
         &self.union
     }
 
-    /// How many numbers a snapshot's slot has that no other slot has, the base's among the others; none for a
-    /// free slot. Costs a step for each number below the span, and for each that the slot has one for each
-    /// slot.
-    #[tactic(auto, unfolding(crate::specs::Slots::alone_in))]
+    /// How many numbers a snapshot's slot has that no other slot from 0 to 24 has; what the base reaches is
+    /// left out. None for a free slot. Costs a step for each number below the span, and for each that the
+    /// slot has one for each slot.
+    #[tactic(auto, using(crate::proofs::Rows::stored_slots))]
     pub fn count_alone(&self, slot: u8) -> u32
         requires above { 0 < slot }
         requires slot { slot < stored_count }
         ensures { result ≡ alone_in self.now slot }
     {
         let at = slot as usize - 1;
-        (0..self.span)
-            .filter(|v| slots::has_alone(&self.active, &self.others, at, *v))
-            .count() as u32
+        slots::count_alone(&self.active, &self.others[..24], at, self.span)
     }
 
     /// Adds to the active set a number below the span that no slot has, the base's slot among them, and

@@ -1,6 +1,7 @@
 //! Slots in a row, each free or with a map.
 
-ghost use Rattle.std.specs.Prelude.{◌≡◌, ℕ, ◌*◌, ◌<◌, ◌≤◌, ◌||◌, ◌∷◌, suc, false, true, cond, length, replicate, slice_set, All, Some, None, IsSome, IfSome, IfNone, IfOk, OnErr, OnSome};
+ghost use Rattle.std.specs.Prelude.{◌≡◌, ℕ, ◌*◌, ◌<◌, ◌≤◌, ◌||◌, ◌∷◌, suc, false, true, cond, count_by, length, replicate, slice_set, All, Some, None, IsSome, IfSome, IfNone, IfOk, OnErr, OnSome};
+ghost use Rattle.std.specs.List.{range_with_len};
 ghost use Rattle.fv_bits.specs.Bits.{block_bits};
 ghost use Rattle.fv_bits.specs.Members.{is_member, IsFullFrom, IsFirstPast};
 ghost use Rattle.fv_volmap.specs.Slots.{has, taken_in, has_alone};
@@ -50,12 +51,22 @@ fn any_other_has(slots: &[Option<BitMap>], at: usize, v: u32) -> bool
     any_has(&slots[..at], v) || any_has(&slots[at + 1..], v)
 }
 
-/// Whether one of the slots after the active one has this number, and no other slot and not the active one has it.
-pub(crate) fn has_alone(active: &BitMap, others: &[Option<BitMap>], at: usize, v: u32) -> bool
+/// Whether one of these slots after the active one has this number, and no other of them and not the active one has it.
+fn has_alone(active: &BitMap, others: &[Option<BitMap>], at: usize, v: u32) -> bool
     requires { at < length others.now }
     ensures { result ≡ has_alone (Some active.now ∷ others.now) (suc at) v }
 {
     has(&others[at], v) && !has_member(active, v) && !any_other_has(others, at, v)
+}
+
+/// How many numbers below the span one of these slots after the active one has alone.
+pub(crate) fn count_alone(active: &BitMap, others: &[Option<BitMap>], at: usize, span: u32) -> u32
+    requires { at < length others.now }
+    ensures { result ≡ count_by (has_alone (Some active.now ∷ others.now) (suc at)) (range_with_len 0 span) }
+{
+    (0..span)
+        .filter(|v| has_alone(active, others, at, *v))
+        .count() as u32
 }
 
 /// Adds the members of a slot.
@@ -80,8 +91,8 @@ pub(crate) fn add_all(union: &mut BitMap, slots: &[Option<BitMap>])
     }
 }
 
-/// Makes `union` the union of all slots.
-fn unite(union: &mut BitMap, active: &BitMap, others: &[Option<BitMap>])
+/// Makes `union` the union of the active slot and these others.
+pub(crate) fn unite(union: &mut BitMap, active: &BitMap, others: &[Option<BitMap>])
     requires active { length active.now ≡ length union.old }
     requires others { All (IsLong (length union.old)) others.now }
     ensures { Unites active.now others.now union.new }

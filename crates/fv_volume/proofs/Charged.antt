@@ -43,6 +43,7 @@ use Rattle.fv_volume.specs.Charging.{CutMoves, MovesBlocks, RemovalMoves, StaysB
 use Rattle.fv_pool.specs.Lending.{lent_for}
 use Rattle.fv_pool.specs.Tables.{standing_by, trees_by}
 use Rattle.fv_volume.specs.OneVolume.{home_in, shows, standing_for, table_for, trees_for, volume_for, IsReady, IsStanding}
+use Rattle.fv_volume.specs.Asking.{TellsActive}
 use Rattle.fv_volume.proofs.CallCauses.{fails_later}
 use Rattle.fv_volume.proofs.FileCounts.{least_is}
 use Rattle.fv_volume.proofs.OneVolumes.{still_standing, still_table, still_volume}
@@ -170,10 +171,10 @@ module _ (d e : Disk) (p q : Pool) (reads : Reads d p e q) (x y : VolumeState) (
       }
 
   -- and a call that failed failed for the same cause
-  pub cause_before : e.faults ≡ d.faults → (faults : ℕ) (fault : VolumeFault) → CallFails (IsStanding e q y) (standing_for e q y) (lent_for q y.map e 0 (home_in y) 0) faults fault → CallFails (IsStanding d p x) (standing_for d p x) (lent_for p x.map d 0 (home_in x) 0) faults fault
-  cause_before calm faults fault fails = so fault (subst (λ (z : VolumeState). CallFails (IsStanding e q z) (standing_for e q z) (lent_for q z.map e 0 (home_in z) 0) faults fault) same fails)
+  pub cause_before : e.faults ≡ d.faults → (faults : ℕ) (fault : VolumeFault) → CallFails (TellsActive e q y) (standing_for e q y) (lent_for q y.map e 0 (home_in y) 0) faults fault → CallFails (TellsActive d p x) (standing_for d p x) (lent_for p x.map d 0 (home_in x) 0) faults fault
+  cause_before calm faults fault fails = so fault (subst (λ (z : VolumeState). CallFails (TellsActive e q z) (standing_for e q z) (lent_for q z.map e 0 (home_in z) 0) faults fault) same fails)
     where
-      so : (fault : VolumeFault) → CallFails (IsStanding e q x) (standing_for e q x) (lent_for q x.map e 0 (home_in x) 0) faults fault → CallFails (IsStanding d p x) (standing_for d p x) (lent_for p x.map d 0 (home_in x) 0) faults fault
+      so : (fault : VolumeFault) → CallFails (TellsActive e q x) (standing_for e q x) (lent_for q x.map e 0 (home_in x) 0) faults fault → CallFails (TellsActive d p x) (standing_for d p x) (lent_for p x.map d 0 (home_in x) 0) faults fault
       so (Refused r) h = h ∙ calm
       so DiskFault h = fails_later d e p q reads x calm 0 {T = Unit {0}} faults (Err block.DiskFault) h
       so (Damaged at want found) h = fails_later d e p q reads x calm 0 {T = Unit {0}} faults (Err (block.Damaged at want found)) h

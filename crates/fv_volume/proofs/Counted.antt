@@ -1,10 +1,11 @@
 -- The ledger of a volume with files, counted from its maps.
-use Rattle.std.proofs.Common.{◌≡◌, ℕ, ◌+◌, ◌*◌, ◌<◌, ◌≤◌, true, length, refl, sym, ap, subst, ◌∙◌, arith}
+use Rattle.std.proofs.Common.{◌≡◌, ℕ, ◌+◌, ◌*◌, ◌<◌, ◌≤◌, Bool, true, List, length, refl, sym, ap, subst, ◌∙◌, arith}
 use Rattle.std.specs.Prelude.{Option, Some, None}
 use Rattle.std.specs.List.{list_all}
-use Rattle.std.specs.Option.{option_map_or}
+use Rattle.std.specs.Option.{option_map, option_map_or}
 use Rattle.std.proofs.Math.Nat.{mul-le-mul_left}
-use Rattle.fv_bits.specs.Members.{is_member, count_of}
+use Rattle.fv_bits.specs.Members.{is_member}
+use Rattle.fv_bits.proofs.Counts.{passing_le}
 use Rattle.fv_bits.proofs.Laws.{count_of-le}
 use Rattle.fv_model.specs.declared.commands.Kind.{Kind}
 use Rattle.fv_model.specs.Numbers.{greatest_span}
@@ -23,19 +24,21 @@ use Rattle.fv_image.specs.Mapped.{AreInSlots}
 use Rattle.fv_image.proofs.CountedCharge.{HasParentNumbers, held_is_listed}
 use Rattle.fv_image.proofs.OwnUses.{HasLabelNumbers}
 use Rattle.fv_image.proofs.SoundFacts.{of_slot}
+use Rattle.fv_charge.specs.Counted.{count_apart, count_held, is_apart}
 use Rattle.fv_charge.specs.declared.ledger.Ledger.{Ledger}
 use Rattle.fv_charge.specs.Ledgers.{IsLedgerOf}
-use Rattle.fv_volmap.specs.Slots.{IsVolume, Volume as Maps, has}
+use Rattle.fv_volmap.specs.Slots.{Volume as Maps}
+use Rattle.fv_volume.specs.declared.state.Base.{Base}
 use Rattle.fv_volume.specs.declared.state.VolumeState.{VolumeState}
 use Rattle.fv_volume.specs.Files.{HasSlotsOf}
-use Rattle.fv_volume.specs.Loading.{HasCounted, HaveBits, IsCounted}
+use Rattle.fv_volume.specs.Loading.{HasCounted, HaveBits, IsCounted, base_counted}
 use Rattle.fv_volume.specs.OneVolume.{greatest_charge}
+use Rattle.fv_volume.specs.States.{footing_in}
 use Rattle.fv_volume.proofs.CountedMaps.{counted_charge}
 use Rattle.fv_volume.proofs.KeptSlots.{taken_bits}
-use Rattle.fv_volume.proofs.SnapSlots.{stored_taken}
 
 module _ (w : View) (s : ℕ) (h : Head) (small : s < 64) (there : w.head s ≡ Some h) (tables : AreTables (seen w)) (maps : AreMaps w) (numbers : HasLabelNumbers h) (base : h.base ≡ None)
-    (m : Maps) (is : IsVolume m) (span : m.span ≡ h.span) (slots : HasSlotsOf h m) (order : AreInSlots h) (bits : HaveBits w s h.span m) where
+    (m : Maps) (span : m.span ≡ h.span) (slots : HasSlotsOf h m) (order : AreInSlots h) (bits : HaveBits w s h.span m) where
   each_reach : list_all (is_reach w s h) (roots_of h) ≡ true
   unfolding has_maps_of_reach
   each_reach = subst (λ (o : Option Head). option_map_or (λ h. list_all (is_reach w s h) (roots_of h)) o true ≡ true) there (of_slot (λ s. option_map_or (λ h. list_all (is_reach w s h) (roots_of h)) (w.head s) true) s maps.reach small)
@@ -46,12 +49,11 @@ module _ (w : View) (s : ℕ) (h : Head) (small : s < 64) (there : w.head s ≡ 
       no_base : (b : Footing) → ◌≡◌ {A = Option Footing} None (Some b) → ⊥
       no_base b e = cc
 
-  module _ (ledger : Ledger) (counted : HasCounted m (length h.snapshots) h.span h.size h.kind ledger) where
+  module _ (ledger : Ledger) (counted : HasCounted m None (length h.snapshots) h.span h.size h.kind ledger) where
     -- what the slots have together is what the roots reach
     listed : (v : ℕ) → v < h.span → is_member counted.union v ≡ is_listed (own_items w s h) v
     listed v low =
         counted.united.members v
-        ∙ stored_taken m.slots v is.count (ap (has v) slots.base)
         ∙ taken_bits w s h m slots order bits v
         ∙ held_is_listed w s h each_reach v (omega (arith, low))
 
@@ -68,14 +70,24 @@ module _ (w : View) (s : ℕ) (h : Head) (small : s < 64) (there : w.head s ≡ 
     })
 
 -- A ledger that is counted has no more blocks than the span has numbers, and the maps of 24 snapshots blocks.
-pub charge_within : (m : Maps) (snapshots span size : ℕ) (kind : Kind) (ledger : Ledger) → HasCounted m snapshots span size kind ledger → snapshots ≤ 24 → m.span ≡ span → span ≤ greatest_span → ledger.charge ≤ greatest_charge
-charge_within m snapshots span size kind ledger c most_snaps same most =
-    let count : ledger.charge ≡ count_of c.union + map_blocks span * snapshots = ap (λ (l : Ledger). l.charge) c.ledger_is in
+count_within : (held : List Bool) (base : Option (List Bool)) → count_held held base ≤ length held
+unfolding count_apart
+count_within held None = count_of-le held
+count_within held (Some base) = passing_le (is_apart held base) 0 (length held)
+
+pub charge_within : (m : Maps) (base : Option (List Bool)) (snapshots span size : ℕ) (kind : Kind) (ledger : Ledger) → HasCounted m base snapshots span size kind ledger → snapshots ≤ 24 → m.span ≡ span → span ≤ greatest_span → ledger.charge ≤ greatest_charge
+charge_within m base snapshots span size kind ledger c most_snaps same most =
+    let count : ledger.charge ≡ count_held c.union base + map_blocks span * snapshots = ap (λ (l : Ledger). l.charge) c.ledger_is in
     let few : map_blocks span ≤ 32 = omega (arith, most) in
     let first : map_blocks span * snapshots ≤ map_blocks span * 24 = mul-le-mul_left (map_blocks span) most_snaps in
-    let held = count_of-le c.union in
+    let held = count_within c.union base in
     let long = c.united.len in
     omega (arith, count, few, first, held, long, same, most)
 
 pub counted_within : (x : VolumeState) → IsCounted x → x.map.span ≡ x.span → x.span ≤ greatest_span → x.ledger.charge ≤ greatest_charge
-counted_within x is = charge_within x.map (length x.snapshots) x.span x.size x.kind x.ledger is.ledger is.few
+counted_within x is = charge_within x.map (base_counted x.base x.map) (length x.snapshots) x.span x.size x.kind x.ledger is.ledger is.few
+
+-- a volume without a base has none that is counted
+pub none_counted : (b : Option Base) (m : Maps) → option_map footing_in b ≡ None → base_counted b m ≡ None
+none_counted None m e = refl
+none_counted (Some b) m e = absurd cc

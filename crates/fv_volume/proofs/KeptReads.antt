@@ -5,7 +5,6 @@ use Rattle.std.specs.Option.{option_map}
 use Rattle.std.proofs.lemmas.List.Elements.{All-cons, All-head, All-nil, All-tail}
 use Rattle.fv_disk.specs.Shown.{Shown as Disk}
 use Rattle.fv_disk.specs.declared.fault.BlockFault.{BlockFault}
-use Rattle.fv_disk.specs.declared.fault.BlockFault.TheVariants as block
 use Rattle.fv_codec.specs.declared.inode.InodeRecord.{InodeRecord}
 use Rattle.fv_codec.specs.declared.pointer.Pointer.{Pointer}
 use Rattle.fv_codec.specs.Blocks.{greatest_word, IsPointer}
@@ -32,7 +31,7 @@ use Rattle.fv_volume.specs.declared.state.Snap.{Snap}
 use Rattle.fv_volume.specs.declared.state.VolumeState.{VolumeState}
 use Rattle.fv_volume.specs.declared.tables.TableAsked.{TableAsked}
 use Rattle.fv_volume.specs.declared.tables.TableAsked.TheVariants.{Active, Kept}
-use Rattle.fv_volume.specs.Asking.{numbers_asked, root_asked, snap_named, standing_asked, standing_of, standing_read, table_named, IsTableOf}
+use Rattle.fv_volume.specs.Asking.{numbers_asked, root_asked, snap_named, standing_asked, standing_of, standing_read, table_named, IsTableOf, TellsAsked, TellsRead}
 use Rattle.fv_pool.specs.Calls.{CallCause, Reads, TableFails}
 use Rattle.fv_pool.specs.Causes.{of_block}
 use Rattle.fv_pool.specs.declared.fault.VolumeFault.{VolumeFault}
@@ -44,7 +43,7 @@ use Rattle.fv_volume.specs.SnapRecords.{IsSayableSnap}
 use Rattle.fv_volume.specs.States.{snap_in}
 use Rattle.fv_volume.proofs.OneVolumes.{levels_fit, root_fits, still_standing, still_table, still_under, stood_before}
 use Rattle.fv_volume.proofs.SnapReads.{found_among, slot_held}
-use Rattle.fv_volume.proofs.Undamaged.{active_holds, none_damaged, HoldsWell, TableHolds}
+use Rattle.fv_volume.proofs.Undamaged.{active_holds, HoldsWell, TableHolds}
 
 -- ---- the table of a snapshot
 
@@ -168,11 +167,6 @@ module _ (d : Disk) (p : Pool) (x : VolumeState) (is : IsStanding d p x) where
 
   -- ---- the table that is asked
 
-  -- the numbers that are known of it are its own
-  pub asked_numbers : (t : TableAsked) → AreNumbersIf (numbers_asked t x.numbers) (table_told (standing_of d p x t))
-  asked_numbers Active = is.numbers
-  asked_numbers (Kept root) = tt
-
   -- A table stands whole on the blocks that the volume holds, some of which are in use.
   pub record HoldsTable (t : Standing) : Type 0 where
     pub uses : ℕ → Option Use
@@ -191,10 +185,6 @@ module _ (d : Disk) (p : Pool) (x : VolumeState) (is : IsStanding d p x) where
         by None named = of_holds Active (None, refl)
         by (Some t) named = of_holds t (s, named)
 
-    -- so no load for it answers damage
-    pub read_undamaged : (s : Option (List ℕ)) (steps faults at want found : ℕ) → TableFails (IsStanding d p x) (standing_read d p x s) (lent_for p x.map d steps (home_in x) 0) faults (block.Damaged at want found) → ⊥
-    read_undamaged s = let mine = read_holds s in none_damaged d p x is mine.uses (standing_read d p x s) mine.holds
-
 -- ---- by what is asked
 
 module _ (d : Disk) (p : Pool) (x : VolumeState) (s : Option (List ℕ)) where
@@ -210,9 +200,10 @@ module _ (d : Disk) (p : Pool) (x : VolumeState) (s : Option (List ℕ)) where
 
     -- the cause of a call that a fault of blocks of this table ended
     pub asked_cause : {T : Type 0} (steps left : ℕ) (e : BlockFault) (r : Result T VolumeFault) → r ≡ Err (of_block e)
-        → TableFails (IsStanding d p x) (standing_of d p x t) (lent_for p x.map d steps (home_in x) 0) left e → CallCause (IsStanding d p x) (standing_read d p x s) (lent_for p x.map d steps (home_in x) 0) left r
-    asked_cause steps left e r failed cause = subst (λ (u : Standing). CallCause (IsStanding d p x) u (lent_for p x.map d steps (home_in x) 0) left r) read_is
-        (failed_cause (IsStanding d p x) (standing_of d p x t) (lent_for p x.map d steps (home_in x) 0) left e r failed cause)
+        → TableFails (TellsAsked d p x t) (standing_of d p x t) (lent_for p x.map d steps (home_in x) 0) left e → CallCause (TellsRead d p x s) (standing_read d p x s) (lent_for p x.map d steps (home_in x) 0) left r
+    asked_cause steps left e r failed cause = subst (λ (u : TableAsked). CallCause (TellsAsked d p x u) (standing_read d p x s) (lent_for p x.map d steps (home_in x) 0) left r) (sym (ap (λ (o : Option TableAsked). unwrap_or o Active) named))
+        (subst (λ (u : Standing). CallCause (TellsAsked d p x t) u (lent_for p x.map d steps (home_in x) 0) left r) read_is
+        (failed_cause (TellsAsked d p x t) (standing_of d p x t) (lent_for p x.map d steps (home_in x) 0) left e r failed cause))
 
 -- ---- after reads
 
@@ -228,7 +219,3 @@ module _ (d e : Disk) (p q : Pool) (reads : Reads d p e q) (x : VolumeState) (t 
   -- what was said after them of a volume that they left is so of it before
   pub of_before : (y : VolumeState) → y ≡ x → (says : Standing → Type 0) → (IsStanding e q y → says (standing_of e q y t)) → IsStanding d p x → says (standing_of d p x t)
   of_before y same says made is = subst says still_of (subst (λ (z : VolumeState). IsStanding e q z → says (standing_of e q z t)) same made (still_standing d e p q reads x is))
-
-  -- and what is known of a table before is known after
-  pub of_after : (y : VolumeState) → y ≡ x → (says : Standing → Type 0) → (IsStanding d p x → says (standing_of d p x t)) → IsStanding e q y → says (standing_of e q y t)
-  of_after y same says known is = subst (λ (z : VolumeState). says (standing_of e q z t)) (sym same) (subst says (sym still_of) (known (stood_before d e p q reads x (subst (λ (z : VolumeState). IsStanding e q z) same is))))

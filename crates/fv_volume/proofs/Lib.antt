@@ -33,7 +33,8 @@ mod ReadyAgain
 pub mod EachRoot
 pub mod JudgedCut
 mod Calling
-mod RightTables
+pub mod RightTables
+pub mod Differing
 mod TakenTable
 pub mod Judged
 pub mod JudgedNew

@@ -128,6 +128,9 @@ module _ (d e : Disk) (p q : Pool) (reads : Reads d p e q) (x : VolumeState) whe
   pub still_told : IsTold d p x.map x.slot → IsTold e q x.map x.slot
   still_told = same_told d e p q x reads.leaves.map reads.leaves.containers reads.leaves.kept stays.reads stays.tells
 
+  pub told_there : IsTold e q x.map x.slot → IsTold d p x.map x.slot
+  told_there = same_told e d q p x (sym reads.leaves.map) (sym reads.leaves.containers) (sym reads.leaves.kept) (sym stays.reads) (sym stays.tells)
+
   pub still_standing : IsStanding d p x → IsStanding e q x
   still_standing = same_standing d e p q x reads.leaves.map reads.leaves.containers reads.leaves.kept stays.reads stays.tells
 
@@ -150,14 +153,6 @@ module _ (d e : Disk) (p q : Pool) (reads : Reads d p e q) (x : VolumeState) whe
     changed = is.changed;
     fresh = is.fresh;
   }
-
-  -- what was said after them of a volume that they left is so of it before
-  pub said_before : (y : VolumeState) → y ≡ x → (says : Standing → Type 0) → (IsStanding e q y → says (standing_for e q y)) → IsStanding d p x → says (standing_for d p x)
-  said_before y same says made is = subst says still_table (subst (λ (z : VolumeState). IsStanding e q z → says (standing_for e q z)) same made (still_standing is))
-
-  -- and what is known of its table before is known after
-  pub said_after : (y : VolumeState) → y ≡ x → (says : Standing → Type 0) → (IsStanding d p x → says (standing_for d p x)) → IsStanding e q y → says (standing_for e q y)
-  said_after y same says known is = subst (λ (z : VolumeState). says (standing_for e q z)) (sym same) (subst says (sym still_table) (known (stood_before (subst (λ (z : VolumeState). IsStanding e q z) same is))))
 
 -- After reads what is in use is led to still.
 pub still_led : (d e : Disk) (p q : Pool) → Reads d p e q → (x : VolumeState) → IsLedTo d p x → IsLedTo e q x

@@ -36,7 +36,7 @@ use Rattle.fv_pool.specs.Lending.{IsTold, KeepsSlots, lent_by, lent_for, sees}
 use Rattle.fv_pool.specs.Tables.{standing_by, AreLaidBy, AreSoundBy, AreLedBy, AreStoredBy, pending_of, trees_by}
 use Rattle.fv_volume.specs.OneVolume.{blocks_in, home_in, shows, snaps_by, standing_for, table_for, volume_for, IsKeptTable, IsReady, IsStanding}
 use Rattle.fv_pool.specs.Placing.{Goes, IsInNoSnap, PlacesTable}
-use Rattle.fv_volume.specs.Placing.{IsLedTo, IsStoredWell}
+use Rattle.fv_volume.specs.Placing.{IsLedTo, IsStoredWell, TellsSound}
 use Rattle.fv_volume.specs.Sharing.{AreShared}
 use Rattle.fv_volume.proofs.KeptTables.{kept_shared, kept_snaps, kept_tables}
 use Rattle.fv_volume.proofs.SnapRecords.{all_said}
@@ -80,11 +80,14 @@ module _ (d : Disk) (p : Pool) (x : VolumeState) (f : Files) (held : x.files ≡
   pub was_table : standing_for d p x ≡ table_in before f
   was_table = ap (standing_by (under before) x.active) held
 
+  pub sound_told : TellsSound d p x → IsTold d p x.map x.slot × AreStanding before f
+  sound_told told = (told.0, subst (AreSoundBy (under before) before.used x.active) held told.1)
+
   pub was_standing : IsStanding d p x → AreStanding before f
-  was_standing is = subst (AreSoundBy (under before) before.used x.active) held is.trees
+  was_standing is = (sound_told (is.told, is.trees)).1
 
   pub was_told : IsStanding d p x → IsTold d p x.map x.slot × AreStanding before f
-  was_told is = (is.told, was_standing is)
+  was_told is = sound_told (is.told, is.trees)
 
   pub was_led : IsLedTo d p x → IsLed before f
   was_led led = subst (AreLedBy (under before) before.used x.active) held led

@@ -1,36 +1,50 @@
--- The pointers of a volume's tables tell no wrong places: those of the table that is asked, the active one or that of a snapshot.
-use Rattle.std.proofs.Common.{◌≡◌, ℕ, zero, suc, Bool, true, false, cond, Option, Some, None, refl, sym, ap, subst, ◌∙◌, inl, inr, arith}
+-- What is told of a volume's tables: the pointers of the one that is asked, the active one or that of a snapshot, tell no wrong places. So where the
+-- volume stands no load for it answers damage.
+use Rattle.std.proofs.Common.{◌≡◌, ℕ, zero, suc, Bool, true, false, cond, List, Option, Some, None, refl, sym, ap, subst, ◌∙◌, inl, inr, arith}
+use Rattle.std.specs.Prelude.{unwrap_or, IfSome}
 use Rattle.std.specs.Option.{option_map}
 use Rattle.fv_disk.specs.Shown.{Shown as Disk}
+use Rattle.fv_disk.specs.declared.fault.BlockFault.TheVariants as block
 use Rattle.fv_bits.specs.Members.{is_member}
 use Rattle.fv_codec.specs.declared.inode.InodeRecord.{InodeRecord}
+use Rattle.fv_codec.specs.declared.pointer.Pointer.{Pointer}
 use Rattle.fv_codec.specs.Blocks.{greatest_word}
+use Rattle.fv_container.specs.Chains.{Slots}
+use Rattle.fv_laws.specs.WellFormed.{IsWellTable}
+use Rattle.fv_model.specs.declared.commands.Command.{Command}
 use Rattle.fv_container.specs.declared.entry.Entry.{Entry}
 use Rattle.fv_tables.specs.Spelled.{Rooted as Spelled, Under, pointer_at, stored}
-use Rattle.fv_tables.specs.Told.{file_at}
+use Rattle.fv_tables.specs.Told.{Standing, file_at, table_told}
 use Rattle.fv_tree.specs.Beside.{unread}
-use Rattle.fv_tree.specs.Flushing.{Loaded, loaded_over}
+use Rattle.fv_tree.specs.Flushing.{Loaded, loaded_over, ReachesOnce}
 use Rattle.fv_tree.specs.Places.{AreRight}
 use Rattle.fv_tree.specs.Sources.{Use}
 use Rattle.fv_tree.specs.Standing.{under}
+use Rattle.fv_tree.proofs.Beside.{unread_sound}
 use Rattle.fv_tree.proofs.Right.{sound_right}
 use Rattle.fv_files.specs.declared.files.Files.{Files}
 use Rattle.fv_files.specs.Apart.{stored_trees, AlikeIn, AreAlike}
 use Rattle.fv_files.specs.Right.{HasRightTrees, RightIn}
-use Rattle.fv_files.specs.Tables.{loaded_trees, AreStanding}
+use Rattle.fv_files.specs.Numbering.{AreNumbersIf}
+use Rattle.fv_files.specs.Tables.{loaded_trees}
 use Rattle.fv_files.proofs.Right.{stands_right}
 use Rattle.fv_volmap.specs.Slots.{active_of, has, slot_at}
 use Rattle.fv_pool.specs.declared.pool.Pool.{Pool}
 use Rattle.fv_pool.specs.declared.rooted.Rooted.{Rooted}
 use Rattle.fv_pool.specs.BlocksOver.{held_entry, IsRightPlace}
-use Rattle.fv_pool.specs.Lending.{use_of}
+use Rattle.fv_pool.specs.Calls.{Reads, TableFails, TellsTable}
+use Rattle.fv_pool.specs.Lending.{lent_for, use_of}
+use Rattle.fv_pool.specs.Tables.{trees_by, AreSoundBy}
 use Rattle.fv_volume.specs.declared.state.VolumeState.{VolumeState}
 use Rattle.fv_volume.specs.declared.tables.TableAsked.{TableAsked}
 use Rattle.fv_volume.specs.declared.tables.TableAsked.TheVariants.{Active, Kept}
-use Rattle.fv_volume.specs.Asking.{IsTableOf, OpensAs}
-use Rattle.fv_volume.specs.OneVolume.{shows, IsStanding}
-use Rattle.fv_volume.proofs.KeptReads.{kept, root_holds}
-use Rattle.fv_volume.proofs.Undamaged.{HoldsWell}
+use Rattle.fv_volume.specs.Asking.{numbers_asked, standing_of, standing_read, table_named, trees_opened, IsTableOf, OpensAs, TellsActive, TellsAsked, TellsRead, TellsWhole}
+use Rattle.fv_volume.specs.Changing.{takes_away, TellsFor, TellsMore}
+use Rattle.fv_volume.specs.OneVolume.{home_in, shows, standing_for, IsStanding}
+use Rattle.fv_volume.specs.Placing.{IsStoredWell}
+use Rattle.fv_volume.proofs.KeptReads.{kept, read_holds, root_holds, still_of}
+use Rattle.fv_volume.proofs.OneVolumes.{still_table, still_told, still_under, told_there}
+use Rattle.fv_volume.proofs.Undamaged.{active_holds, none_damaged, HoldsWell}
 
 -- ---- one VVBN
 
@@ -62,8 +76,20 @@ module _ (d : Disk) (p : Pool) (x : VolumeState) where
 
   -- ---- the active table
 
-  pub standing_right : (f : Files) → AreStanding (shows d p x) f → HasRightTrees (shows d p x) f
-  standing_right f sound a = stands_right right (shows d p x).used unknown (used (λ v. is_member (active_of x.map) v)) (loaded_trees whole f a) (sound.trees a)
+  unread_right : (t : Spelled) → ((level place : ℕ) → t.nodes level place ≡ None) → ((index : ℕ) → t.cells index ≡ None) → ReachesOnce (shows d p x).used t → AreRight right (unread t)
+  unread_right t nodes cells reached = sound_right right (shows d p x).used (unread t) unknown (used (λ v. is_member (active_of x.map) v)) (unread_sound (shows d p x).used t nodes cells reached)
+
+  -- the tree of a file of which nothing is in memory
+  file_right : (n : ℕ) (q : Option InodeRecord) → ((r : InodeRecord) → q ≡ Some r → AreRight right (unread (stored whole n r.levels r.root))) → RightIn right (option_map (λ r. unread (stored whole n r.levels r.root)) q)
+  file_right n None are = tt
+  file_right n (Some r) are = are r refl
+
+  active_right : (o : Option Files) → AreSoundBy whole (shows d p x).used x.active o → (a : Option ℕ) → RightIn right (trees_by whole x.active o a)
+  active_right None sound None = unread_right (stored whole greatest_word x.active.levels x.active.root) (λ level place. refl) (λ index. refl) sound.inode
+  active_right None sound (Some n) =
+      file_right n (file_at (stored whole greatest_word x.active.levels x.active.root) n)
+      (λ r there. unread_right (stored whole n r.levels r.root) (λ level place. refl) (λ index. refl) (sound.files n r there))
+  active_right (Some f) sound a = stands_right right (shows d p x).used unknown (used (λ v. is_member (active_of x.map) v)) (loaded_trees whole f a) (sound.trees a)
 
   -- ---- the table of a snapshot
 
@@ -83,6 +109,40 @@ module _ (d : Disk) (p : Pool) (x : VolumeState) where
           vvbn = ap (λ (s : Spelled). (pointer_at s level place).vvbn) holds.tree ∙ led.vvbn;
         }))
 
+  module _ (is : IsStanding d p x) where
+    kept_right : (root : Rooted) (of : IsTableOf x (Kept root)) (a : Option ℕ) → RightIn right (stored_trees whole root.levels root.root a)
+    kept_right root of None =
+        holds_right (λ v. has v (slot_at x.map (kept d p x is root of).snap.slot)) (stored whole greatest_word root.levels root.root) (root_holds d p x is root of).inode (λ level place. refl) (λ index. refl)
+    kept_right root of (Some n) =
+        file_right n (file_at (stored whole greatest_word root.levels root.root) n)
+        (λ r there. holds_right (λ v. has v (slot_at x.map (kept d p x is root of).snap.slot)) (stored whole n r.levels r.root) ((root_holds d p x is root of).files n r there) (λ level place. refl) (λ index. refl))
+
+    -- ---- the table that is asked
+
+    -- what is told of it
+    pub asked_tells : (t : TableAsked) → IsTableOf x t → TellsAsked d p x t
+    asked_tells Active of = record { told = is.told; right = active_right x.files is.trees; numbers = is.numbers }
+    asked_tells (Kept root) of = record { told = is.told; right = kept_right root of; numbers = tt }
+
+    pub active_tells : TellsActive d p x
+    active_tells = asked_tells Active (None, refl)
+
+    pub whole_tells : TellsWhole d p x
+    whole_tells = (active_tells, (x.now, is.table))
+
+    pub more_tells : (more : Bool) → TellsMore more d p x
+    more_tells false = active_tells
+    more_tells true = whole_tells
+
+    pub read_tells : (s : Option (List ℕ)) → TellsRead d p x s
+    read_tells s = by (table_named x s) refl
+      where
+        by : (o : Option TableAsked) → table_named x s ≡ o → TellsAsked d p x (unwrap_or o Active)
+        by None named = active_tells
+        by (Some t) named = asked_tells t (s, named)
+
+  -- ---- once it is taken out
+
   like_unread : (s : Loaded) (t : Spelled) → s.tree ≡ t → AreRight right (unread t) → AreRight right s
   like_unread s t is are level place v led =
       subst (λ (u : Spelled). right v (pointer_at u level place).pvbn) (sym is) (are level place v (record {
@@ -91,23 +151,71 @@ module _ (d : Disk) (p : Pool) (x : VolumeState) where
         vvbn = ap (λ (u : Spelled). (pointer_at u level place).vvbn) (sym is) ∙ led.vvbn;
       }))
 
-  by_file : (n : ℕ) (q : Option InodeRecord) (o : Option Loaded) → ((r : InodeRecord) → q ≡ Some r → AreRight right (unread (stored whole n r.levels r.root))) → AlikeIn o (option_map (λ r. unread (stored whole n r.levels r.root)) q) → RightIn right o
-  by_file n q None are like = tt
-  by_file n None (Some s) are like = absurd like
-  by_file n (Some r) (Some s) are like = like_unread s (stored whole n r.levels r.root) like.tree (are r refl)
+  like_file : (n : ℕ) (q : Option InodeRecord) (o : Option Loaded) → RightIn right (option_map (λ r. unread (stored whole n r.levels r.root)) q) → AlikeIn o (option_map (λ r. unread (stored whole n r.levels r.root)) q) → RightIn right o
+  like_file n q None are like = tt
+  like_file n None (Some s) are like = absurd like
+  like_file n (Some r) (Some s) are like = like_unread s (stored whole n r.levels r.root) like.tree are
 
-  module _ (is : IsStanding d p x) where
-    kept_right : (root : Rooted) (of : IsTableOf x (Kept root)) (f : Files) → ((blocks : Under) → AreAlike (loaded_trees blocks f) (stored_trees blocks root.levels root.root)) → HasRightTrees (shows d p x) f
-    kept_right root of f alike None =
-        like_unread (loaded_over whole f.inode.tree) (stored whole greatest_word root.levels root.root) (alike whole None).tree
-        (holds_right (λ v. has v (slot_at x.map (kept d p x is root of).snap.slot)) (stored whole greatest_word root.levels root.root) (root_holds d p x is root of).inode (λ level place. refl) (λ index. refl))
-    kept_right root of f alike (Some n) =
-        by_file n (file_at (stored whole greatest_word root.levels root.root) n) (loaded_trees whole f (Some n))
-        (λ r there. holds_right (λ v. has v (slot_at x.map (kept d p x is root of).snap.slot)) (stored whole n r.levels r.root) ((root_holds d p x is root of).files n r there) (λ level place. refl) (λ index. refl))
-        (alike whole (Some n))
+  -- a table of which nothing is in memory
+  opened_unread : (levels : ℕ) (root : Pointer) (f : Files) → ((blocks : Under) → AreAlike (loaded_trees blocks f) (stored_trees blocks levels root)) → ((a : Option ℕ) → RightIn right (stored_trees whole levels root a))
+      → HasRightTrees (shows d p x) f
+  opened_unread levels root f alike are None = like_unread (loaded_over whole f.inode.tree) (stored whole greatest_word levels root) (alike whole None).tree (are None)
+  opened_unread levels root f alike are (Some n) = like_file n (file_at (stored whole greatest_word levels root) n) (loaded_trees whole f (Some n)) (are (Some n)) (alike whole (Some n))
 
-    -- ---- the table that is asked
+  opened_active : (o : Option Files) (f : Files) → IfSome o (λ g. f ≡ g) → ((blocks : Under) → AreAlike (loaded_trees blocks f) (trees_by blocks x.active o)) → ((a : Option ℕ) → RightIn right (trees_by whole x.active o a))
+      → HasRightTrees (shows d p x) f
+  opened_active None f held alike are = opened_unread x.active.levels x.active.root f alike are
+  opened_active (Some g) f held alike are = λ a. subst (λ (h : Files). RightIn right (loaded_trees whole h a)) (sym held) (are a)
 
-    pub asked_right : (t : TableAsked) → IsTableOf x t → (f : Files) → OpensAs x.active x.files f t → HasRightTrees (shows d p x) f
-    asked_right Active of f opens = standing_right f (opens whole (shows d p x).used is.trees)
-    asked_right (Kept root) of f opens = kept_right root of f opens
+  pub opened_right : (t : TableAsked) (f : Files) → OpensAs x.active x.files f t → TellsAsked d p x t → HasRightTrees (shows d p x) f
+  opened_right Active f opens tells = opened_active x.files f opens.0 opens.1 tells.right
+  opened_right (Kept root) f opens tells = opened_unread root.levels root.root f opens tells.right
+
+  -- so it is told as a table whose blocks are lent
+  pub opened_tells : (t : TableAsked) (f : Files) → OpensAs x.active x.files f t → TellsAsked d p x t → TellsTable d p x.map (home_in x) f
+  opened_tells t f opens tells = (tells.told, opened_right t f opens tells)
+
+-- ---- damage
+
+module _ (d : Disk) (p : Pool) (x : VolumeState) (is : IsStanding d p x) (well : IsStoredWell d p x) where
+  -- no load for the active table answers damage
+  pub no_damage : (steps faults at want found : ℕ) → TableFails (TellsActive d p x) (standing_for d p x) (lent_for p x.map d steps (home_in x) 0) faults (block.Damaged at want found) → ⊥
+  no_damage = none_damaged d p x (TellsActive d p x) (active_tells d p x is) (shows d p x).used (standing_for d p x) (active_holds d p x is well)
+
+  pub no_damage_for : (c : Command) (steps faults at want found : ℕ) → TableFails (TellsFor c d p x) (standing_for d p x) (lent_for p x.map d steps (home_in x) 0) faults (block.Damaged at want found) → ⊥
+  no_damage_for c = none_damaged d p x (TellsFor c d p x) (more_tells d p x is (takes_away c)) (shows d p x).used (standing_for d p x) (active_holds d p x is well)
+
+  -- nor one for the table that a command reads
+  pub read_undamaged : (s : Option (List ℕ)) (steps faults at want found : ℕ) → TableFails (TellsRead d p x s) (standing_read d p x s) (lent_for p x.map d steps (home_in x) 0) faults (block.Damaged at want found) → ⊥
+  read_undamaged s = let mine = read_holds d p x is well s in none_damaged d p x (TellsRead d p x s) (read_tells d p x is s) mine.uses (standing_read d p x s) mine.holds
+
+-- ---- after reads
+
+module _ (d e : Disk) (p q : Pool) (reads : Reads d p e q) (x : VolumeState) (t : TableAsked) where
+  -- the same is told
+  pub still_tells : TellsAsked d p x t → TellsAsked e q x t
+  still_tells is = record {
+    told = still_told d e p q reads x is.told;
+    right = λ a. subst (λ (c : Slots). RightIn (λ v pvbn. IsRightPlace (held_entry x.map c x.slot v) pvbn) (trees_opened (under (shows e q x)) x.active x.files t a)) (sym reads.leaves.containers)
+        (subst (λ (u : Under). RightIn (shows d p x).right (trees_opened u x.active x.files t a)) (sym (still_under d e p q reads x)) (is.right a));
+    numbers = subst (λ (s : Standing). AreNumbersIf (numbers_asked t x.numbers) (table_told s)) (sym (still_of d e p q reads x t)) is.numbers;
+  }
+
+  pub tells_before : TellsAsked e q x t → TellsAsked d p x t
+  tells_before is = record {
+    told = told_there d e p q reads x is.told;
+    right = λ a. subst (λ (c : Slots). RightIn (λ v pvbn. IsRightPlace (held_entry x.map c x.slot v) pvbn) (trees_opened (under (shows d p x)) x.active x.files t a)) reads.leaves.containers
+        (subst (λ (u : Under). RightIn (shows e q x).right (trees_opened u x.active x.files t a)) (still_under d e p q reads x) (is.right a));
+    numbers = subst (λ (s : Standing). AreNumbersIf (numbers_asked t x.numbers) (table_told s)) (still_of d e p q reads x t) is.numbers;
+  }
+
+  -- what is known of the table before is known after
+  pub known_after : (y : VolumeState) → y ≡ x → (says : Standing → Type 0) → (TellsAsked d p x t → says (standing_of d p x t)) → TellsAsked e q y t → says (standing_of e q y t)
+  known_after y same says known is = subst (λ (z : VolumeState). says (standing_of e q z t)) (sym same) (subst says (sym (still_of d e p q reads x t)) (known (tells_before (subst (λ (z : VolumeState). TellsAsked e q z t) same is))))
+
+  -- and what was said after is so before
+  pub known_before : (y : VolumeState) → y ≡ x → (says : Standing → Type 0) → (TellsAsked e q y t → says (standing_of e q y t)) → TellsAsked d p x t → says (standing_of d p x t)
+  known_before y same says made is = subst says (still_of d e p q reads x t) (subst (λ (z : VolumeState). TellsAsked e q z t → says (standing_of e q z t)) same made (still_tells is))
+
+pub still_whole : (d e : Disk) (p q : Pool) → Reads d p e q → (x : VolumeState) → TellsWhole d p x → TellsWhole e q x
+still_whole d e p q reads x is = (still_tells d e p q reads x Active is.0, (is.1.0, subst (λ (s : Standing). IsWellTable is.1.0 (table_told s)) (sym (still_table d e p q reads x)) is.1.1))

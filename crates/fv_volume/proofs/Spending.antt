@@ -1,17 +1,20 @@
 -- What the placing of one volume's files takes of its numbers and of the blocks.
 use Rattle.std.proofs.Common.{◌≡◌, ℕ, ◌+◌, ◌<◌, ◌≤◌, true, is_some, Option, Some, None, refl, sym, ap, subst, arith}
-use Rattle.std.specs.Prelude.{min}
+use Rattle.std.specs.Prelude.{min, Result, Ok, Err, IfErr}
 use Rattle.fv_disk.specs.Shown.{Shown}
 use Rattle.fv_aggmap.specs.Space.{free_blocks}
 use Rattle.fv_files.specs.declared.files.Files.{Files}
 use Rattle.fv_pool.specs.declared.pool.Pool.{Pool}
 use Rattle.fv_volume.specs.declared.state.VolumeState.{VolumeState}
 use Rattle.fv_pool.specs.BlocksOver.{free_numbers}
-use Rattle.fv_pool.specs.Lending.{lent_for}
+use Rattle.fv_pool.specs.declared.fault.VolumeFault.{VolumeFault}
+use Rattle.fv_pool.specs.declared.fault.VolumeFault.TheVariants.{Refused, DiskFault, Damaged, Memory}
+use Rattle.fv_pool.specs.Lending.{lent_for, Lent}
 use Rattle.fv_volume.specs.OneVolume.{home_in, IsStanding}
-use Rattle.fv_pool.specs.Placing.{Goes}
+use Rattle.fv_pool.specs.Placing.{FlushFails, Goes}
 use Rattle.fv_pool.specs.Tables.{pending_of}
-use Rattle.fv_volume.specs.Held.{HasNumbers, HasSpent, IsPlacedAs}
+use Rattle.fv_volume.specs.Held.{HasNumbers, HasSpent, IsPlacedAs, LacksOneIn, MayFail}
+use Rattle.fv_volume.specs.Placing.{TellsSound}
 
 -- what was placed of a volume, by the room that there was for it
 pub spends : (disk : Shown) (pool : Pool) (x : VolumeState) (room : ℕ) (left : Pool) (y : VolumeState) (rest : ℕ) → room ≡ min (min (free_blocks pool.map) (pending_of x.files + 1)) (free_numbers x.map)
@@ -50,3 +53,21 @@ spent_one disk after pool left x y placed stands numbers blocks = by x.files ref
         let room = numbers (ap is_some some) in
         let spent = placed.spent stands room blocks in
         (spent, λ more. below room spent.numbers spent.fewer)
+
+-- ---- why nothing was placed
+
+module _ (disk : Shown) (pool : Pool) (x : VolumeState) (room rest : ℕ) where
+  abbrev old : Lent
+  old = lent_for pool x.map disk 0 (home_in x) room
+
+  lacks_one : (e : VolumeFault) → FlushFails (TellsSound disk pool x) old rest e → LacksOneIn disk pool x e
+  lacks_one (Refused r) fails = tt
+  lacks_one DiskFault fails = tt
+  lacks_one (Damaged at want found) fails = λ told. (fails told).1
+  lacks_one Memory fails = tt
+
+  -- with all the room that there is
+  pub may_fail : (r : Result Unit VolumeFault) → (is_some x.files ≡ true → pending_of x.files < free_numbers x.map → pending_of x.files < free_blocks pool.map → pending_of x.files ≤ room)
+      → (TellsSound disk pool x → pending_of x.files ≤ room → IfErr r (λ e. e ≡ Memory)) → IfErr r (λ e. is_some x.files ≡ true) → IfErr r (FlushFails (TellsSound disk pool x) old rest) → IfErr r (MayFail disk pool (Some x))
+  may_fail (Ok done) exact enough filed cause = tt
+  may_fail (Err e) exact enough filed cause = (filed, (λ told numbers blocks. enough told (exact filed numbers blocks), lacks_one e cause))

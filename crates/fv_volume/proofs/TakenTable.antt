@@ -17,6 +17,8 @@ use Rattle.fv_volmap.specs.Slots.{Volume as Maps}
 use Rattle.fv_pool.specs.declared.pool.Pool.{Pool}
 use Rattle.fv_volume.specs.declared.state.VolumeState.{VolumeState}
 use Rattle.fv_pool.specs.Calls.{BlockCause, GivesUp, LeavesTable, Reads, TellsTable}
+use Rattle.fv_volume.specs.declared.tables.TableAsked.TheVariants.{Active}
+use Rattle.fv_volume.specs.Asking.{OpensAs, TellsActive}
 use Rattle.fv_volume.specs.Changing.{AltersTable}
 use Rattle.fv_pool.specs.Lending.{IsTold, lent_for, sees}
 use Rattle.fv_pool.specs.Tables.{standing_by, AreSoundBy, pending_of, AreLedBy, AreStoredBy}
@@ -24,11 +26,11 @@ use Rattle.fv_volume.specs.OneVolume.{home_in, shows, standing_for, IsStanding}
 use Rattle.fv_pool.proofs.CallCauses.{cause_for}
 use Rattle.fv_volume.proofs.Calling.{ifok_with, onok_with, same_maps}
 use Rattle.fv_volume.proofs.OneVolumes.{still_told}
-use Rattle.fv_volume.proofs.RightTables.{standing_right}
+use Rattle.fv_volume.proofs.RightTables.{opened_tells}
 use Rattle.fv_pool.proofs.TakenTrees.{taken_laid, taken_trees}
 
 module _ (d : Disk) (p : Pool) (x : VolumeState) (f : Files) (takes : (blocks : Under) → standing_in blocks (changed f) ≡ standing_by blocks x.active x.files)
-    (trees : (blocks : Under) (used : ℕ → Option Use) → AreSoundBy blocks used x.active x.files → AreSound blocks used f) where
+    (trees : (blocks : Under) (used : ℕ → Option Use) → AreSoundBy blocks used x.active x.files → AreSound blocks used f) (opens : OpensAs x.active x.files f Active) where
   table : table_in (shows d p x) f ≡ standing_for d p x
   table = takes (under (shows d p x))
 
@@ -36,25 +38,28 @@ module _ (d : Disk) (p : Pool) (x : VolumeState) (f : Files) (takes : (blocks : 
   sound is = trees (under (shows d p x)) (shows d p x).used is.trees
 
   -- what is told of it
-  pub is_told : IsStanding d p x → TellsTable d p x.map (home_in x) f
-  is_told is = (is.told, standing_right d p x f (sound is))
+  pub is_told : TellsActive d p x → TellsTable d p x.map (home_in x) f
+  is_told tells = opened_tells d p x Active f opens tells
 
   -- the cause of a call that is told no more
   pub told_cause : {T : Type 0} (faults : ℕ) (result : Result T BlockFault) → BlockCause (TellsTable d p x.map (home_in x) f) (table_in (shows d p x) f) (lent_for p x.map d 0 (home_in x) 0) faults result
-      → BlockCause (IsStanding d p x) (standing_for d p x) (lent_for p x.map d 0 (home_in x) 0) faults result
-  told_cause faults result cause = cause_for (IsStanding d p x) (TellsTable d p x.map (home_in x) f) is_told (lent_for p x.map d 0 (home_in x) 0) faults (table_in (shows d p x) f) (standing_for d p x) result table cause
+      → BlockCause (TellsActive d p x) (standing_for d p x) (lent_for p x.map d 0 (home_in x) 0) faults result
+  told_cause faults result cause = cause_for (TellsActive d p x) (TellsTable d p x.map (home_in x) f) is_told (lent_for p x.map d 0 (home_in x) 0) faults (table_in (shows d p x) f) (standing_for d p x) result table cause
 
-  -- Or of something that is known of the table, too.
-  module _ (Known : Standing → Type 0) (known : IsStanding d p x → Known (standing_for d p x)) where
+  -- Or of something that is known of the table, too, where what is told gives it.
+  module _ (Tells : Type 0) (active : Tells → TellsActive d p x) (stands : IsStanding d p x → Tells) (Known : Standing → Type 0) (known : Tells → Known (standing_for d p x)) where
     abbrev pub IsGiven : Type 0
     IsGiven = TellsTable d p x.map (home_in x) f × Known (table_in (shows d p x) f)
 
+    by_tells : Tells → IsGiven
+    by_tells tells = (is_told (active tells), subst Known (sym table) (known tells))
+
     pub is_given : IsStanding d p x → IsGiven
-    is_given is = (is_told is, subst Known (sym table) (known is))
+    is_given is = by_tells (stands is)
 
     pub given_cause : {T : Type 0} (faults : ℕ) (result : Result T BlockFault) → BlockCause IsGiven (table_in (shows d p x) f) (lent_for p x.map d 0 (home_in x) 0) faults result
-        → BlockCause (IsStanding d p x) (standing_for d p x) (lent_for p x.map d 0 (home_in x) 0) faults result
-    given_cause faults result cause = cause_for (IsStanding d p x) IsGiven is_given (lent_for p x.map d 0 (home_in x) 0) faults (table_in (shows d p x) f) (standing_for d p x) result table cause
+        → BlockCause Tells (standing_for d p x) (lent_for p x.map d 0 (home_in x) 0) faults result
+    given_cause faults result cause = cause_for Tells IsGiven by_tells (lent_for p x.map d 0 (home_in x) 0) faults (table_in (shows d p x) f) (standing_for d p x) result table cause
 
     -- what is said of the table that was taken is said of the volume's
     pub given_says : (says : Standing → Type 0) → (IsGiven → says (table_in (shows d p x) f)) → IsStanding d p x → says (standing_for d p x)

@@ -122,26 +122,23 @@ module _ (d : Disk) (p : Pool) (x : VolumeState) where
   pub active_holds : IsStanding d p x → IsStoredWell d p x → TableHolds blocks taken (standing_for d p x)
   active_holds is well = record { inode = inode_by x.files is.trees well; files = file_by x.files is.trees well; names = names_by x.files well }
 
-  module _ (is : IsStanding d p x) (uses : ℕ → Option Use) (t : Standing) (holds : TableHolds blocks uses t) where
+  -- where something is told that holds
+  module _ (told : Type 0) (tells : told) (uses : ℕ → Option Use) (t : Standing) (holds : TableHolds blocks uses t) where
     abbrev its : ℕ → Lent
     its steps = lent_for p x.map d steps (home_in x) 0
 
-    inodes_shaped : (steps faults : ℕ) (e : BlockFault) → IsBadInodes (IsStanding d p x) t.inode (its steps) faults e → ⊥
+    inodes_shaped : (steps faults : ℕ) (e : BlockFault) → IsBadInodes told t.inode (its steps) faults e → ⊥
     inodes_shaped steps faults e bad =
-        let spelled = holds.names bad.damage.cell bad.damage.block (bad.damage.lies is) in
+        let spelled = holds.names bad.damage.cell bad.damage.block (bad.damage.lies tells) in
         not_err (inodes_at bad.damage.block) _ _ spelled.spells bad.damage.fault
 
-    file_whole : (steps faults at want found : ℕ) → FileFails (IsStanding d p x) t (its steps) faults (block.Damaged at want found) → ⊥
+    file_whole : (steps faults at want found : ℕ) → FileFails told t (its steps) faults (block.Damaged at want found) → ⊥
     file_whole steps faults at want found fails =
-        let of = fails.of_file is in
-        no_read_damage blocks uses fails.tree (subst (HoldsWell blocks uses) (sym of.tree) (holds.files of.number of.file of.there)) (IsStanding d p x) (its steps) faults at want found is refl fails.fails
+        let of = fails.of_file tells in
+        no_read_damage blocks uses fails.tree (subst (HoldsWell blocks uses) (sym of.tree) (holds.files of.number of.file of.there)) told (its steps) faults at want found tells refl fails.fails
 
     -- no load for a table answers damage
-    pub none_damaged : (steps faults at want found : ℕ) → TableFails (IsStanding d p x) t (its steps) faults (block.Damaged at want found) → ⊥
-    none_damaged steps faults at want found (inl fails) = no_read_damage blocks uses t.inode holds.inode (IsStanding d p x) (its steps) faults at want found is refl fails
+    pub none_damaged : (steps faults at want found : ℕ) → TableFails told t (its steps) faults (block.Damaged at want found) → ⊥
+    none_damaged steps faults at want found (inl fails) = no_read_damage blocks uses t.inode holds.inode told (its steps) faults at want found tells refl fails
     none_damaged steps faults at want found (inr (inl bad)) = inodes_shaped steps faults (block.Damaged at want found) bad
     none_damaged steps faults at want found (inr (inr fails)) = file_whole steps faults at want found fails
-
-  -- so none for the active one
-  pub no_damage : IsStanding d p x → IsStoredWell d p x → (steps faults at want found : ℕ) → TableFails (IsStanding d p x) (standing_for d p x) (lent_for p x.map d steps (home_in x) 0) faults (block.Damaged at want found) → ⊥
-  no_damage is well = none_damaged is taken (standing_for d p x) (active_holds is well)

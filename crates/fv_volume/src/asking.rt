@@ -10,7 +10,7 @@ ghost use Rattle.fv_model.specs.declared.answers.Refusal.TheVariants.{Range};
 ghost use Rattle.fv_model.specs.declared.answers.Reply.TheVariants as reply;
 ghost use Rattle.fv_model.specs.declared.commands.Command.TheVariants.{Get, Len, Ls};
 ghost use Rattle.fv_charge.specs.Ledgers.{IsLedgerOf};
-ghost use Rattle.fv_volume.specs.Asking.{standing_read, IsRefusedUnread, RefusesLost};
+ghost use Rattle.fv_volume.specs.Asking.{standing_read, IsRefusedUnread, RefusesLost, TellsActive, TellsRead};
 ghost use Rattle.fv_pool.specs.Calls.{BlockCause, CallCause, Reads};
 ghost use Rattle.fv_volume.specs.Calls.{Asks, Has};
 ghost use Rattle.fv_pool.specs.Lending.{lent_for};
@@ -37,8 +37,11 @@ impl VolumeState {
     ///
     /// `Refused` as the machine refuses `len`: a snapshot that isn't there, for which nothing is read; no file has the name. `DiskFault`
     /// only where a read failed in this call. `Damaged` for a pointer to a VVBN that isn't held, at the place of the volume's
-    /// label with 1 and 0, and for a node or an inode block without its shape: its place, and its first field that isn't as said.
-    /// `Memory` where memory ran out. By the numbers of files in memory (`read_numbers`) it costs a block for the file's inode block and
+    /// label with 1 and 0, and for a node or an inode block without its shape: its place, and its first field that isn't as said. That is
+    /// proved of a disk that tells its content, where the volume's entries lie apart, the table's pointers tell no wrong places, and the
+    /// numbers of files in memory are the table's, whatever the volume stands for. `Memory` where memory ran out.
+    ///
+    /// By the numbers of files in memory (`read_numbers`) it costs a block for the file's inode block and
     /// for each node over it, and without them, as of a snapshot, one for each inode block before the file's, too. A snapshot is found by a
     /// step for each there is. `docs/MACHINE.md` has the command.
     pub fn length<D: Disk>(
@@ -55,7 +58,7 @@ impl VolumeState {
         ensures snapshot { RefusesLost self.old (option_copied snapshot.entry) disk.old pool.old disk.new pool.new result }
         ensures same { self.new ≡ self.old }
         ensures reads { Reads (D.shown disk.old) pool.old (D.shown disk.new) pool.new }
-        ensures cause { CallCause (IsStanding (D.shown disk.old) pool.old self.old) (standing_read (D.shown disk.old) pool.old self.old (option_copied snapshot.entry))
+        ensures cause { CallCause (TellsRead (D.shown disk.old) pool.old self.old (option_copied snapshot.entry)) (standing_read (D.shown disk.old) pool.old self.old (option_copied snapshot.entry))
             (lent_for pool.old self.old.map (D.shown disk.old) 0 (home_in self.old) 0) (D.shown disk.new).faults result }
     {
         let Some(table) = table_asked(self, snapshot) else {
@@ -87,7 +90,7 @@ impl VolumeState {
         ensures snapshot { RefusesLost self.old (option_copied snapshot.entry) disk.old pool.old disk.new pool.new result }
         ensures same { self.new ≡ self.old }
         ensures reads { Reads (D.shown disk.old) pool.old (D.shown disk.new) pool.new }
-        ensures cause { CallCause (IsStanding (D.shown disk.old) pool.old self.old) (standing_read (D.shown disk.old) pool.old self.old (option_copied snapshot.entry))
+        ensures cause { CallCause (TellsRead (D.shown disk.old) pool.old self.old (option_copied snapshot.entry)) (standing_read (D.shown disk.old) pool.old self.old (option_copied snapshot.entry))
             (lent_for pool.old self.old.map (D.shown disk.old) 0 (home_in self.old) 0) (D.shown disk.new).faults result }
     {
         let Some(table) = table_asked(self, snapshot) else {
@@ -127,7 +130,7 @@ impl VolumeState {
         ensures unmoved { IfErr result (λ e. (r : Refusal) → e ≡ Refused r → steps.new ≡ steps.old) }
         ensures same { self.new ≡ self.old }
         ensures reads { Reads (D.shown disk.old) pool.old (D.shown disk.new) pool.new }
-        ensures cause { CallCause (IsStanding (D.shown disk.old) pool.old self.old) (standing_read (D.shown disk.old) pool.old self.old (option_copied snapshot.entry))
+        ensures cause { CallCause (TellsRead (D.shown disk.old) pool.old self.old (option_copied snapshot.entry)) (standing_read (D.shown disk.old) pool.old self.old (option_copied snapshot.entry))
             (lent_for pool.old self.old.map (D.shown disk.old) 0 (home_in self.old) 0) (D.shown disk.new).faults result }
     {
         if !in_index(u64::from(index)) {
@@ -174,11 +177,11 @@ pub(crate) fn find_file<D: Disk>(
     name: &Name,
 ) -> Result<Option<Info>, BlockFault>
     requires ready { IsReady (D.shown disk.old) pool.old volume.old }
-    ensures found { IsStanding (D.shown disk.old) pool.old volume.old → IfOk result (Finds (standing_for (D.shown disk.old) pool.old volume.old).inode name.now) }
+    ensures found { TellsActive (D.shown disk.old) pool.old volume.old → IfOk result (Finds (standing_for (D.shown disk.old) pool.old volume.old).inode name.now) }
     ensures range { IfOk result IsInfoIf }
     ensures same { volume.new ≡ volume.old }
     ensures reads { Reads (D.shown disk.old) pool.old (D.shown disk.new) pool.new }
-    ensures cause { BlockCause (IsStanding (D.shown disk.old) pool.old volume.old) (standing_for (D.shown disk.old) pool.old volume.old)
+    ensures cause { BlockCause (TellsActive (D.shown disk.old) pool.old volume.old) (standing_for (D.shown disk.old) pool.old volume.old)
         (lent_for pool.old volume.old.map (D.shown disk.old) 0 (home_in volume.old) 0) (D.shown disk.new).faults result }
 {
     find_in(volume, alloc, pool, disk, &TableAsked::Active, name)

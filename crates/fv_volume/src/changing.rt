@@ -12,6 +12,7 @@ ghost use Rattle.fv_charge.specs.Ledgers.{IsLedgerOf};
 ghost use Rattle.fv_inode.specs.Files.{IsInfo, IsLeastFree};
 ghost use Rattle.fv_files.specs.Calls.{WritesCell};
 ghost use Rattle.fv_files.specs.Tables.{IsInfoOf};
+ghost use Rattle.fv_volume.specs.Asking.{TellsActive};
 ghost use Rattle.fv_volume.specs.Calls.{Changes, HasBeside, KeepsHead};
 ghost use Rattle.fv_pool.specs.Calls.{BlockCause, CallCause, Reads};
 ghost use Rattle.fv_volume.specs.Changing.{AcceptsNew, AcceptsPut, AltersTable, FitsLedger, KeepsTable, NamesNew, RefusedIn};
@@ -68,7 +69,7 @@ impl VolumeState {
         ensures numbers { self.new.numbers ≡ self.old.numbers }
         ensures head { KeepsHead self.old self.new result }
         ensures reads { Reads (D.shown disk.old) pool.old (D.shown disk.new) pool.new }
-        ensures cause { CallCause (IsStanding (D.shown disk.old) pool.old self.old) (standing_for (D.shown disk.old) pool.old self.old)
+        ensures cause { CallCause (TellsActive (D.shown disk.old) pool.old self.old) (standing_for (D.shown disk.old) pool.old self.old)
             (lent_for pool.old self.old.map (D.shown disk.old) 0 (home_in self.old) 0) (D.shown disk.new).faults result }
     {
         let admission = judge_put(self, alloc, pool, disk, others, file, index)?;
@@ -95,12 +96,13 @@ pub(crate) fn judge_put<D: Disk>(
         → IfErr result (λ e. (block : List ℕ) → RefusedIn (HasBeside volume.old.name (volume_for (D.shown disk.old) pool.old volume.old) others pool.old.found.blocks) (Put volume.old.name file.now index block) e) }
     ensures accepted { IsStanding (D.shown disk.old) pool.old volume.old
         → IfOk result (λ a. AcceptsPut (D.shown disk.old) pool.old volume.old others file.now index a.info a.delta) }
+    ensures found { TellsActive (D.shown disk.old) pool.old volume.old → IfOk result (λ a. IsInfoOf (standing_for (D.shown disk.old) pool.old volume.old).inode a.info) }
     ensures near { OnOk result (index < 2097152) }
     ensures range { IfOk result (λ a. IsInfo a.info) }
     ensures fits { IfOk result (λ a. FitsLedger volume.old a.delta) }
     ensures same { volume.new ≡ volume.old }
     ensures reads { Reads (D.shown disk.old) pool.old (D.shown disk.new) pool.new }
-    ensures cause { CallCause (IsStanding (D.shown disk.old) pool.old volume.old) (standing_for (D.shown disk.old) pool.old volume.old)
+    ensures cause { CallCause (TellsActive (D.shown disk.old) pool.old volume.old) (standing_for (D.shown disk.old) pool.old volume.old)
         (lent_for pool.old volume.old.map (D.shown disk.old) 0 (home_in volume.old) 0) (D.shown disk.new).faults result }
 {
     if !in_index(u64::from(index)) {
@@ -133,12 +135,12 @@ fn write_block<D: Disk>(
     requires more { volume.old.now < most_changes }
     requires index { index < 2097152 }
     requires range { IsInfo info.now }
-    requires there { IsStanding (D.shown disk.old) pool.old volume.old → IsInfoOf (standing_for (D.shown disk.old) pool.old volume.old).inode info.now }
+    requires there { TellsActive (D.shown disk.old) pool.old volume.old → IsInfoOf (standing_for (D.shown disk.old) pool.old volume.old).inode info.now }
     ensures written { IsStanding (D.shown disk.old) pool.old volume.old
         → OnOk result (WritesCell (standing_for (D.shown disk.old) pool.old volume.old) (standing_for (D.shown disk.old) pool.old volume.new) info.now.number index (volume.old.now + 1) block.now) }
     ensures map { volume.new.map ≡ volume.old.map }
     ensures alters { AltersTable (D.shown disk.old) pool.old (D.shown disk.new) pool.new volume.old volume.new result }
-    ensures cause { BlockCause (IsStanding (D.shown disk.old) pool.old volume.old) (standing_for (D.shown disk.old) pool.old volume.old)
+    ensures cause { BlockCause (TellsActive (D.shown disk.old) pool.old volume.old) (standing_for (D.shown disk.old) pool.old volume.old)
         (lent_for pool.old volume.old.map (D.shown disk.old) 0 (home_in volume.old) 0) (D.shown disk.new).faults result }
 {
     let stamp = volume.now + 1;
@@ -186,7 +188,7 @@ impl VolumeState {
         ensures map { self.new.map ≡ self.old.map }
         ensures head { KeepsHead self.old self.new result }
         ensures reads { Reads (D.shown disk.old) pool.old (D.shown disk.new) pool.new }
-        ensures cause { CallCause (IsStanding (D.shown disk.old) pool.old self.old) (standing_for (D.shown disk.old) pool.old self.old)
+        ensures cause { CallCause (TellsActive (D.shown disk.old) pool.old self.old) (standing_for (D.shown disk.old) pool.old self.old)
             (lent_for pool.old self.old.map (D.shown disk.old) 0 (home_in self.old) 0) (D.shown disk.new).faults result }
     {
         let making = judge_new(self, alloc, pool, disk, others, file, reserve)?;
@@ -213,12 +215,13 @@ pub(crate) fn judge_new<D: Disk>(
     ensures refused { IsStanding (D.shown disk.old) pool.old volume.old
         → IfErr result (RefusedIn (HasBeside volume.old.name (volume_for (D.shown disk.old) pool.old volume.old) others pool.old.found.blocks) (New volume.old.name file.now reserve)) }
     ensures accepted { IsStanding (D.shown disk.old) pool.old volume.old → IfOk result (λ a. AcceptsNew (D.shown disk.old) pool.old volume.old others file.now reserve a.number a.delta) }
+    ensures free { TellsActive (D.shown disk.old) pool.old volume.old → IfOk result (λ a. IsLeastFree (standing_for (D.shown disk.old) pool.old volume.old).inode a.number) }
     ensures low { IfOk result (λ a. a.number < 262144) }
     ensures none { OnOk result (reserve ≡ 0) }
     ensures fits { IfOk result (λ a. FitsLedger volume.old a.delta) }
     ensures same { volume.new ≡ volume.old }
     ensures reads { Reads (D.shown disk.old) pool.old (D.shown disk.new) pool.new }
-    ensures cause { CallCause (IsStanding (D.shown disk.old) pool.old volume.old) (standing_for (D.shown disk.old) pool.old volume.old)
+    ensures cause { CallCause (TellsActive (D.shown disk.old) pool.old volume.old) (standing_for (D.shown disk.old) pool.old volume.old)
         (lent_for pool.old volume.old.map (D.shown disk.old) 0 (home_in volume.old) 0) (D.shown disk.new).faults result }
 {
     let number = judge_name(volume, alloc, pool, disk, file, reserve)?;
@@ -244,11 +247,12 @@ fn judge_name<D: Disk>(
         → IfErr result (λ e. (others : ℕ) → RefusedIn (HasBeside volume.old.name (volume_for (D.shown disk.old) pool.old volume.old) others pool.old.found.blocks) (New volume.old.name file.now reserve) e) }
     ensures accepted { IsStanding (D.shown disk.old) pool.old volume.old → IfOk result (NamesNew (standing_for (D.shown disk.old) pool.old volume.old) file.now reserve) }
     ensures none { OnOk result (reserve ≡ 0) }
+    ensures free { TellsActive (D.shown disk.old) pool.old volume.old → IfOk result (IsLeastFree (standing_for (D.shown disk.old) pool.old volume.old).inode) }
     ensures low { IfOk result (λ number. number < 262144) }
     ensures more { OnOk result (volume.old.now < most_changes) }
     ensures same { volume.new ≡ volume.old }
     ensures reads { Reads (D.shown disk.old) pool.old (D.shown disk.new) pool.new }
-    ensures cause { CallCause (IsStanding (D.shown disk.old) pool.old volume.old) (standing_for (D.shown disk.old) pool.old volume.old)
+    ensures cause { CallCause (TellsActive (D.shown disk.old) pool.old volume.old) (standing_for (D.shown disk.old) pool.old volume.old)
         (lent_for pool.old volume.old.map (D.shown disk.old) 0 (home_in volume.old) 0) (D.shown disk.new).faults result }
 {
     if !in_reserve(u64::from(reserve)) {
@@ -285,12 +289,12 @@ fn create_file<D: Disk>(
     requires more { volume.old.now < most_changes }
     requires reserve { reserve ≤ most_cells }
     requires number { number < 262144 }
-    requires free { IsStanding (D.shown disk.old) pool.old volume.old → IsLeastFree (standing_for (D.shown disk.old) pool.old volume.old).inode number }
+    requires free { TellsActive (D.shown disk.old) pool.old volume.old → IsLeastFree (standing_for (D.shown disk.old) pool.old volume.old).inode number }
     ensures made { IsStanding (D.shown disk.old) pool.old volume.old
         → OnOk result (table_for (D.shown disk.old) pool.old volume.new ≡ new (table_for (D.shown disk.old) pool.old volume.old) file.now reserve (volume.old.now + 1)) }
     ensures map { volume.new.map ≡ volume.old.map }
     ensures alters { AltersTable (D.shown disk.old) pool.old (D.shown disk.new) pool.new volume.old volume.new result }
-    ensures cause { BlockCause (IsStanding (D.shown disk.old) pool.old volume.old) (standing_for (D.shown disk.old) pool.old volume.old)
+    ensures cause { BlockCause (TellsActive (D.shown disk.old) pool.old volume.old) (standing_for (D.shown disk.old) pool.old volume.old)
         (lent_for pool.old volume.old.map (D.shown disk.old) 0 (home_in volume.old) 0) (D.shown disk.new).faults result }
 {
     let stamp = volume.now + 1;

@@ -7,6 +7,7 @@ ghost use Rattle.fv_inode.specs.Files.{IsInfo};
 ghost use Rattle.fv_files.specs.Calls.{AddsCell, AddsFile};
 ghost use Rattle.fv_files.specs.Tables.{IsInfoOf};
 ghost use Rattle.fv_pool.specs.Calls.{BlockCause, Reads};
+ghost use Rattle.fv_volume.specs.Asking.{TellsActive};
 ghost use Rattle.fv_volume.specs.Charging.{CostsNew, CostsPut, CutMoves, RemovalMoves, StaysByNew, StaysByPut};
 ghost use Rattle.fv_pool.specs.Lending.{lent_for};
 ghost use Rattle.fv_volume.specs.OneVolume.{home_in, standing_for, IsReady, IsStanding};
@@ -33,12 +34,12 @@ pub(crate) fn count_staying<D: Disk>(
 ) -> Result<u32, BlockFault>
     requires ready { IsReady (D.shown disk.old) pool.old volume.old }
     requires range { IsInfo info.now }
-    requires there { IsStanding (D.shown disk.old) pool.old volume.old → IsInfoOf (standing_for (D.shown disk.old) pool.old volume.old).inode info.now }
+    requires there { TellsActive (D.shown disk.old) pool.old volume.old → IsInfoOf (standing_for (D.shown disk.old) pool.old volume.old).inode info.now }
     ensures staying { IsStanding (D.shown disk.old) pool.old volume.old → IfOk result (StaysByPut (D.shown disk.old) pool.old volume.old info.now.number index) }
     ensures few { IfOk result (λ count. count ≤ 8) }
     ensures same { volume.new ≡ volume.old }
     ensures reads { Reads (D.shown disk.old) pool.old (D.shown disk.new) pool.new }
-    ensures cause { BlockCause (IsStanding (D.shown disk.old) pool.old volume.old) (standing_for (D.shown disk.old) pool.old volume.old)
+    ensures cause { BlockCause (TellsActive (D.shown disk.old) pool.old volume.old) (standing_for (D.shown disk.old) pool.old volume.old)
         (lent_for pool.old volume.old.map (D.shown disk.old) 0 (home_in volume.old) 0) (D.shown disk.new).faults result }
 {
     if volume.snapshots.len() == 0 {
@@ -61,7 +62,7 @@ pub(crate) fn count_staying_new<D: Disk>(
     ensures few { IfOk result (λ count. count ≤ 4) }
     ensures same { volume.new ≡ volume.old }
     ensures reads { Reads (D.shown disk.old) pool.old (D.shown disk.new) pool.new }
-    ensures cause { BlockCause (IsStanding (D.shown disk.old) pool.old volume.old) (standing_for (D.shown disk.old) pool.old volume.old)
+    ensures cause { BlockCause (TellsActive (D.shown disk.old) pool.old volume.old) (standing_for (D.shown disk.old) pool.old volume.old)
         (lent_for pool.old volume.old.map (D.shown disk.old) 0 (home_in volume.old) 0) (D.shown disk.new).faults result }
 {
     if volume.snapshots.len() == 0 {
@@ -82,12 +83,12 @@ pub(crate) fn count_cut<D: Disk>(
 ) -> Result<Taken, BlockFault>
     requires ready { IsReady (D.shown disk.old) pool.old volume.old }
     requires range { IsInfo info.now }
-    requires there { IsStanding (D.shown disk.old) pool.old volume.old → IsInfoOf (standing_for (D.shown disk.old) pool.old volume.old).inode info.now }
+    requires there { TellsActive (D.shown disk.old) pool.old volume.old → IsInfoOf (standing_for (D.shown disk.old) pool.old volume.old).inode info.now }
     ensures taken { IsStanding (D.shown disk.old) pool.old volume.old → IfOk result (CutMoves (D.shown disk.old) pool.old volume.old info.now.number length) }
     ensures few { IfOk result (AreBelow 8388608) }
     ensures same { volume.new ≡ volume.old }
     ensures reads { Reads (D.shown disk.old) pool.old (D.shown disk.new) pool.new }
-    ensures cause { BlockCause (IsStanding (D.shown disk.old) pool.old volume.old) (standing_for (D.shown disk.old) pool.old volume.old)
+    ensures cause { BlockCause (TellsActive (D.shown disk.old) pool.old volume.old) (standing_for (D.shown disk.old) pool.old volume.old)
         (lent_for pool.old volume.old.map (D.shown disk.old) 0 (home_in volume.old) 0) (D.shown disk.new).faults result }
 {
     over_table!(volume, |alloc, pool, disk| taken_cut_told(info, length))
@@ -104,12 +105,12 @@ pub(crate) fn count_removal<D: Disk>(
 ) -> Result<Taken, BlockFault>
     requires ready { IsReady (D.shown disk.old) pool.old volume.old }
     requires range { IsInfo info.now }
-    requires there { IsStanding (D.shown disk.old) pool.old volume.old → IsInfoOf (standing_for (D.shown disk.old) pool.old volume.old).inode info.now }
+    requires there { TellsActive (D.shown disk.old) pool.old volume.old → IsInfoOf (standing_for (D.shown disk.old) pool.old volume.old).inode info.now }
     ensures taken { IsStanding (D.shown disk.old) pool.old volume.old → IfOk result (RemovalMoves (D.shown disk.old) pool.old volume.old info.now.number) }
     ensures few { IfOk result (AreBelow 8388608) }
     ensures same { volume.new ≡ volume.old }
     ensures reads { Reads (D.shown disk.old) pool.old (D.shown disk.new) pool.new }
-    ensures cause { BlockCause (IsStanding (D.shown disk.old) pool.old volume.old) (standing_for (D.shown disk.old) pool.old volume.old)
+    ensures cause { BlockCause (TellsActive (D.shown disk.old) pool.old volume.old) (standing_for (D.shown disk.old) pool.old volume.old)
         (lent_for pool.old volume.old.map (D.shown disk.old) 0 (home_in volume.old) 0) (D.shown disk.new).faults result }
 {
     over_table!(volume, |alloc, pool, disk| taken_removal_told(info))
@@ -129,12 +130,12 @@ pub(crate) fn count_put<D: Disk>(
     requires ready { IsReady (D.shown disk.old) pool.old volume.old }
     requires index { index < 2097152 }
     requires range { IsInfo info.now }
-    requires there { IsStanding (D.shown disk.old) pool.old volume.old → IsInfoOf (standing_for (D.shown disk.old) pool.old volume.old).inode info.now }
+    requires there { TellsActive (D.shown disk.old) pool.old volume.old → IsInfoOf (standing_for (D.shown disk.old) pool.old volume.old).inode info.now }
     ensures costs { IsStanding (D.shown disk.old) pool.old volume.old → IfOk result (CostsPut (D.shown disk.old) pool.old volume.old info.now.number index) }
     ensures few { IfOk result (λ count. count ≤ 14) }
     ensures same { volume.new ≡ volume.old }
     ensures reads { Reads (D.shown disk.old) pool.old (D.shown disk.new) pool.new }
-    ensures cause { BlockCause (IsStanding (D.shown disk.old) pool.old volume.old) (standing_for (D.shown disk.old) pool.old volume.old)
+    ensures cause { BlockCause (TellsActive (D.shown disk.old) pool.old volume.old) (standing_for (D.shown disk.old) pool.old volume.old)
         (lent_for pool.old volume.old.map (D.shown disk.old) 0 (home_in volume.old) 0) (D.shown disk.new).faults result }
 {
     let added = count_added(volume, alloc, pool, disk, info, index)?;
@@ -155,12 +156,12 @@ fn count_added<D: Disk>(
     requires ready { IsReady (D.shown disk.old) pool.old volume.old }
     requires index { index < 2097152 }
     requires range { IsInfo info.now }
-    requires there { IsStanding (D.shown disk.old) pool.old volume.old → IsInfoOf (standing_for (D.shown disk.old) pool.old volume.old).inode info.now }
+    requires there { TellsActive (D.shown disk.old) pool.old volume.old → IsInfoOf (standing_for (D.shown disk.old) pool.old volume.old).inode info.now }
     ensures added { IsStanding (D.shown disk.old) pool.old volume.old → IfOk result (AddsCell (standing_for (D.shown disk.old) pool.old volume.old) info.now.number index) }
     ensures few { IfOk result (λ count. count ≤ 6) }
     ensures same { volume.new ≡ volume.old }
     ensures reads { Reads (D.shown disk.old) pool.old (D.shown disk.new) pool.new }
-    ensures cause { BlockCause (IsStanding (D.shown disk.old) pool.old volume.old) (standing_for (D.shown disk.old) pool.old volume.old)
+    ensures cause { BlockCause (TellsActive (D.shown disk.old) pool.old volume.old) (standing_for (D.shown disk.old) pool.old volume.old)
         (lent_for pool.old volume.old.map (D.shown disk.old) 0 (home_in volume.old) 0) (D.shown disk.new).faults result }
 {
     over_table!(volume, |alloc, pool, disk| added_told(info, index))
@@ -182,7 +183,7 @@ pub(crate) fn count_new<D: Disk>(
     ensures few { IfOk result (λ count. count ≤ 14) }
     ensures same { volume.new ≡ volume.old }
     ensures reads { Reads (D.shown disk.old) pool.old (D.shown disk.new) pool.new }
-    ensures cause { BlockCause (IsStanding (D.shown disk.old) pool.old volume.old) (standing_for (D.shown disk.old) pool.old volume.old)
+    ensures cause { BlockCause (TellsActive (D.shown disk.old) pool.old volume.old) (standing_for (D.shown disk.old) pool.old volume.old)
         (lent_for pool.old volume.old.map (D.shown disk.old) 0 (home_in volume.old) 0) (D.shown disk.new).faults result }
 {
     let added = count_room(volume, alloc, pool, disk, number)?;
@@ -205,7 +206,7 @@ fn count_room<D: Disk>(
     ensures few { IfOk result (λ count. count ≤ 6) }
     ensures same { volume.new ≡ volume.old }
     ensures reads { Reads (D.shown disk.old) pool.old (D.shown disk.new) pool.new }
-    ensures cause { BlockCause (IsStanding (D.shown disk.old) pool.old volume.old) (standing_for (D.shown disk.old) pool.old volume.old)
+    ensures cause { BlockCause (TellsActive (D.shown disk.old) pool.old volume.old) (standing_for (D.shown disk.old) pool.old volume.old)
         (lent_for pool.old volume.old.map (D.shown disk.old) 0 (home_in volume.old) 0) (D.shown disk.new).faults result }
 {
     over_table!(volume, |alloc, pool, disk| room_told(number))

@@ -7,6 +7,7 @@ ghost use Rattle.fv_model.specs.Volumes.{Volume};
 ghost use Rattle.fv_inode.specs.Files.{IsFreeNumber, IsNumberIf};
 ghost use Rattle.fv_files.specs.Numbering.{AreNumbersOf};
 ghost use Rattle.fv_pool.specs.Calls.{BlockCause, Reads};
+ghost use Rattle.fv_volume.specs.Asking.{TellsActive};
 ghost use Rattle.fv_volume.specs.Changing.{FitsLedger};
 ghost use Rattle.fv_pool.specs.Lending.{lent_for};
 ghost use Rattle.fv_volume.specs.Numbering.{LacksFile, TellsFile};
@@ -31,8 +32,8 @@ impl VolumeState {
     /// # Errors
     ///
     /// `DiskFault` only where a read failed in this call. `Damaged` for a pointer to a VVBN that isn't held, at the place of the volume's
-    /// label with 1 and 0, and for a node or an inode block without its shape: its place, and its first field that isn't as said.
-    /// `Memory` where memory ran out. Nothing changes then.
+    /// label with 1 and 0, and for a node or an inode block without its shape: its place, and its first field that isn't as said,
+    /// where `length` says so. `Memory` where memory ran out. Nothing changes then.
     ///
     /// Costs one step where the numbers are in memory, without a call of the disk and with no change of the pool. Else it costs a block for each
     /// inode block and each node over them, and memory for each name and for each free number below the greatest that is taken.
@@ -50,7 +51,7 @@ impl VolumeState {
         ensures standing { IsStanding (D.shown disk.old) pool.old self.old → IsStanding (D.shown disk.new) pool.new self.new }
         ensures ready { IsReady (D.shown disk.new) pool.new self.new }
         ensures reads { Reads (D.shown disk.old) pool.old (D.shown disk.new) pool.new }
-        ensures cause { BlockCause (IsStanding (D.shown disk.old) pool.old self.old) (standing_for (D.shown disk.old) pool.old self.old)
+        ensures cause { BlockCause (TellsActive (D.shown disk.old) pool.old self.old) (standing_for (D.shown disk.old) pool.old self.old)
             (lent_for pool.old self.old.map (D.shown disk.old) 0 (home_in self.old) 0) (D.shown disk.new).faults result }
     {
         if self.numbers.is_some() {
@@ -74,7 +75,7 @@ fn count_files<D: Disk>(
     ensures numbers { IsStanding (D.shown disk.old) pool.old volume.old → IfOk result (λ m. AreNumbersOf m (table_for (D.shown disk.old) pool.old volume.old)) }
     ensures same { volume.new ≡ volume.old }
     ensures reads { Reads (D.shown disk.old) pool.old (D.shown disk.new) pool.new }
-    ensures cause { BlockCause (IsStanding (D.shown disk.old) pool.old volume.old) (standing_for (D.shown disk.old) pool.old volume.old)
+    ensures cause { BlockCause (TellsActive (D.shown disk.old) pool.old volume.old) (standing_for (D.shown disk.old) pool.old volume.old)
         (lent_for pool.old volume.old.map (D.shown disk.old) 0 (home_in volume.old) 0) (D.shown disk.new).faults result }
 {
     over_table!(volume, |alloc, pool, disk| numbers_told())
@@ -90,11 +91,11 @@ pub(crate) fn find_number<D: Disk>(
     disk: &mut D,
 ) -> Result<Option<u32>, BlockFault>
     requires ready { IsReady (D.shown disk.old) pool.old volume.old }
-    ensures number { IsStanding (D.shown disk.old) pool.old volume.old → IfOk result (IsFreeNumber (standing_for (D.shown disk.old) pool.old volume.old).inode) }
+    ensures number { TellsActive (D.shown disk.old) pool.old volume.old → IfOk result (IsFreeNumber (standing_for (D.shown disk.old) pool.old volume.old).inode) }
     ensures range { IfOk result IsNumberIf }
     ensures same { volume.new ≡ volume.old }
     ensures reads { Reads (D.shown disk.old) pool.old (D.shown disk.new) pool.new }
-    ensures cause { BlockCause (IsStanding (D.shown disk.old) pool.old volume.old) (standing_for (D.shown disk.old) pool.old volume.old)
+    ensures cause { BlockCause (TellsActive (D.shown disk.old) pool.old volume.old) (standing_for (D.shown disk.old) pool.old volume.old)
         (lent_for pool.old volume.old.map (D.shown disk.old) 0 (home_in volume.old) 0) (D.shown disk.new).faults result }
 {
     if let Some(numbers) = &volume.numbers {

@@ -1,13 +1,15 @@
 //! Placing what changed of the files of a volume.
 
-ghost use Rattle.std.specs.Prelude.{◌≡◌, min, true, Some, None, OnOk, IfErr};
+ghost use Rattle.std.specs.Prelude.{◌≡◌, ◌≤◌, min, true, Some, None, OnOk, IfErr};
 ghost use Rattle.fv_pool.specs.BlocksOver.{HasRoom};
 ghost use Rattle.fv_volmap.specs.Slots.{IsVolume};
 ghost use Rattle.fv_volume.specs.Held.{IsPlaceFault, IsPlacedAs, MayFail};
 ghost use Rattle.fv_pool.specs.Lending.{lent_for};
 ghost use Rattle.fv_volume.specs.OneVolume.{home_in, IsReady, IsStanding};
 ghost use Rattle.fv_pool.specs.Placing.{FlushFails, Goes, KeepsUnused};
-ghost use Rattle.fv_volume.specs.Placing.{KeepsPlaced, PlacesFiles, PlacesVolume};
+ghost use Rattle.fv_pool.specs.Tables.{pending_of};
+ghost use Rattle.fv_pool.specs.declared.fault.VolumeFault.TheVariants.{Memory};
+ghost use Rattle.fv_volume.specs.Placing.{KeepsPlaced, PlacesFiles, PlacesVolume, TellsSound};
 
 use crate::state::VolumeState;
 use fv_codec::Pointer;
@@ -24,13 +26,15 @@ impl VolumeState {
     /// entry stays. It writes nothing to the disk.
     ///
     /// `room` says how many numbers and blocks the caller made sure of. It doesn't rise, and so many are free afterwards. For a volume that
-    /// stands it falls by no more than what is pending does, and where it is enough for all that is pending, only memory can be lacking.
+    /// stands it falls by no more than what is pending does. Where it is enough for all that is pending, and the trees of the table stand on
+    /// their blocks, only memory can be lacking.
     ///
     /// # Errors
     ///
     /// `Damaged` only where the room is used up and a number or a block is lacking: at the place of the label or of the root, with 1 and
-    /// 0. `Memory` where memory ran out. It refuses nothing, and `DiskFault` never comes. A volume that doesn't stand could answer other
-    /// damage, and `Memory` where the inode block of a file in memory isn't there, too. Without a file in memory no fault comes.
+    /// 0. `Memory` where memory ran out. It refuses nothing, and `DiskFault` never comes. A volume of which a tree doesn't stand on its blocks
+    /// could answer other damage, and `Memory` where the inode block of a file in memory isn't there, too. Without a file in memory no fault
+    /// comes.
     ///
     /// Nothing is read, which its signature shows. Costs a block for each node and cell that changed, for each inode block of a file that
     /// changed and each node over those. `docs/SPACE.md` has what waits for a point.
@@ -50,7 +54,8 @@ impl VolumeState {
         ensures goes { Goes (lent_for pool.old self.old.map (D.shown disk.now) 0 (home_in self.old) room.old) pool.new self.new.map (D.shown disk.now) room.new }
         ensures unused { IsStanding (D.shown disk.now) pool.old self.old → KeepsUnused pool.old.containers pool.new.containers self.old.slot self.new.map }
         ensures free { HasRoom pool.new.map self.new.map room.new }
-        ensures cause { IfErr result (FlushFails (IsStanding (D.shown disk.now) pool.old self.old) (lent_for pool.old self.old.map (D.shown disk.now) 0 (home_in self.old) room.old) room.new) }
+        ensures enough { TellsSound (D.shown disk.now) pool.old self.old → pending_of self.old.files ≤ room.old → IfErr result (λ e. e ≡ Memory) }
+        ensures cause { IfErr result (FlushFails (TellsSound (D.shown disk.now) pool.old self.old) (lent_for pool.old self.old.map (D.shown disk.now) 0 (home_in self.old) room.old) room.new) }
     {
         let Some(mut files) = self.files.take() else {
             return Ok(());
@@ -76,8 +81,8 @@ impl VolumeState {
     ///
     /// # Errors
     ///
-    /// As `flush`. Where the volume stands and has more free numbers, and the aggregate more free blocks, than are pending, only
-    /// `Memory` comes. Without a file in memory no fault comes.
+    /// As `flush`. Where the trees of the table stand on their blocks and the volume has more free numbers, and the aggregate more free
+    /// blocks, than are pending, only `Memory` comes. Without a file in memory no fault comes.
     ///
     /// Costs what `flush` and `room` cost, and a step without a file in memory.
     pub fn place_files<D: Disk>(&mut self, pool: &mut Pool, disk: &D) -> Result<(), VolumeFault>

@@ -9,6 +9,7 @@ ghost use Rattle.fv_inode.specs.Files.{IsFirst, IsInfo};
 ghost use Rattle.fv_files.specs.Calls.{CutsFile, RemovesFile, TakesByCut, TakesByRemoval};
 ghost use Rattle.fv_files.specs.Tables.{IsInfoOf};
 ghost use Rattle.fv_pool.specs.Calls.{BlockCause, CallCause, Reads};
+ghost use Rattle.fv_volume.specs.Asking.{TellsActive, TellsWhole};
 ghost use Rattle.fv_volume.specs.Calls.{Changes, HasBeside, HasWithin, KeepsHead};
 ghost use Rattle.fv_volume.specs.Changing.{AcceptsCut, AcceptsRemoval, AltersTable, CutsWithin, FitsLedger, IsDeltaBy, KeepsTable, RefusedIn};
 ghost use Rattle.fv_pool.specs.Lending.{lent_for};
@@ -42,7 +43,8 @@ impl VolumeState {
     /// file's; the volume has counted 2^62 changes; in a volume with snapshots that it would use more than its size, and that all volumes
     /// would commit more than the aggregate's capacity, since what a snapshot has stays charged. A volume without snapshots never refuses
     /// it for space: nor does the machine where no volume uses more than its size and all of them commit no more than there is. The other
-    /// errors as `put`. After each of them the volume stands for what it stood for.
+    /// errors as `put`; what `Damaged` tells is proved where the table is well-formed, too. After each of them the volume stands for what it
+    /// stood for.
     ///
     /// Costs what `length` does, then a block for each node and cell that goes and for the file's inode block with the nodes over
     /// it, as far as they aren't in memory; in a volume with snapshots the nodes once more. `docs/MACHINE.md` has the command.
@@ -69,7 +71,7 @@ impl VolumeState {
         ensures numbers { self.new.numbers ≡ self.old.numbers }
         ensures head { KeepsHead self.old self.new result }
         ensures reads { Reads (D.shown disk.old) pool.old (D.shown disk.new) pool.new }
-        ensures cause { CallCause (IsStanding (D.shown disk.old) pool.old self.old) (standing_for (D.shown disk.old) pool.old self.old)
+        ensures cause { CallCause (TellsWhole (D.shown disk.old) pool.old self.old) (standing_for (D.shown disk.old) pool.old self.old)
             (lent_for pool.old self.old.map (D.shown disk.old) 0 (home_in self.old) 0) (D.shown disk.new).faults result }
     {
         let removing = judge_cut(self, alloc, pool, disk, others, file, length)?;
@@ -87,7 +89,7 @@ impl VolumeState {
     /// # Errors
     ///
     /// `Refused` as the machine refuses `rm`, in this order: no file has the name; the volume has counted 2^62 changes; for space as `cut`.
-    /// The other errors as `put`. After each of them the volume stands for what it stood for.
+    /// The other errors as `cut`.
     ///
     /// Costs what `length` does, then a block for each node and cell of the file and for its inode block with the nodes over it, as
     /// far as they aren't in memory; in a volume with snapshots the nodes once more. `docs/MACHINE.md` has the command.
@@ -112,7 +114,7 @@ impl VolumeState {
         ensures ready { IsReady (D.shown disk.new) pool.new self.new }
         ensures head { KeepsHead self.old self.new result }
         ensures reads { Reads (D.shown disk.old) pool.old (D.shown disk.new) pool.new }
-        ensures cause { CallCause (IsStanding (D.shown disk.old) pool.old self.old) (standing_for (D.shown disk.old) pool.old self.old)
+        ensures cause { CallCause (TellsWhole (D.shown disk.old) pool.old self.old) (standing_for (D.shown disk.old) pool.old self.old)
             (lent_for pool.old self.old.map (D.shown disk.old) 0 (home_in self.old) 0) (D.shown disk.new).faults result }
     {
         let removing = judge_removal(self, alloc, pool, disk, others, file)?;
@@ -140,12 +142,13 @@ pub(crate) fn judge_cut<D: Disk>(
         → IfErr result (RefusedIn (HasBeside volume.old.name (volume_for (D.shown disk.old) pool.old volume.old) others pool.old.found.blocks) (Cut volume.old.name file.now length)) }
     ensures accepted { IsStanding (D.shown disk.old) pool.old volume.old → IfOk result (λ r. AcceptsCut (D.shown disk.old) pool.old volume.old others file.now length r.info r.delta) }
     ensures near { OnOk result (length ≤ 2097152) }
+    ensures found { TellsActive (D.shown disk.old) pool.old volume.old → IfOk result (λ r. IsInfoOf (standing_for (D.shown disk.old) pool.old volume.old).inode r.info) }
     ensures range { IfOk result (λ r. IsInfo r.info) }
     ensures fits { IfOk result (λ r. IfSome r.delta (FitsLedger volume.old)) }
     ensures more { OnOk result (volume.old.now < most_changes) }
     ensures same { volume.new ≡ volume.old }
     ensures reads { Reads (D.shown disk.old) pool.old (D.shown disk.new) pool.new }
-    ensures cause { CallCause (IsStanding (D.shown disk.old) pool.old volume.old) (standing_for (D.shown disk.old) pool.old volume.old)
+    ensures cause { CallCause (TellsActive (D.shown disk.old) pool.old volume.old) (standing_for (D.shown disk.old) pool.old volume.old)
         (lent_for pool.old volume.old.map (D.shown disk.old) 0 (home_in volume.old) 0) (D.shown disk.new).faults result }
 {
     if !in_reserve(u64::from(length)) {
@@ -179,12 +182,13 @@ pub(crate) fn judge_removal<D: Disk>(
     ensures refused { IsStanding (D.shown disk.old) pool.old volume.old
         → IfErr result (RefusedIn (HasBeside volume.old.name (volume_for (D.shown disk.old) pool.old volume.old) others pool.old.found.blocks) (Remove volume.old.name file.now)) }
     ensures accepted { IsStanding (D.shown disk.old) pool.old volume.old → IfOk result (λ r. AcceptsRemoval (D.shown disk.old) pool.old volume.old others file.now r.info r.delta) }
+    ensures found { TellsActive (D.shown disk.old) pool.old volume.old → IfOk result (λ r. IsInfoOf (standing_for (D.shown disk.old) pool.old volume.old).inode r.info) }
     ensures range { IfOk result (λ r. IsInfo r.info) }
     ensures fits { IfOk result (λ r. IfSome r.delta (FitsLedger volume.old)) }
     ensures more { OnOk result (volume.old.now < most_changes) }
     ensures same { volume.new ≡ volume.old }
     ensures reads { Reads (D.shown disk.old) pool.old (D.shown disk.new) pool.new }
-    ensures cause { CallCause (IsStanding (D.shown disk.old) pool.old volume.old) (standing_for (D.shown disk.old) pool.old volume.old)
+    ensures cause { CallCause (TellsActive (D.shown disk.old) pool.old volume.old) (standing_for (D.shown disk.old) pool.old volume.old)
         (lent_for pool.old volume.old.map (D.shown disk.old) 0 (home_in volume.old) 0) (D.shown disk.new).faults result }
 {
     let Some(info) = find_file(volume, alloc, pool, disk, file)? else {
@@ -213,14 +217,14 @@ fn admit_cut<D: Disk>(
     requires range { IsInfo info.now }
     requires more { volume.old.now < most_changes }
     requires within { CutsWithin info.now length }
-    requires first { IsStanding (D.shown disk.old) pool.old volume.old → IsFirst (standing_for (D.shown disk.old) pool.old volume.old).inode file.now info.now }
+    requires first { TellsActive (D.shown disk.old) pool.old volume.old → IsFirst (standing_for (D.shown disk.old) pool.old volume.old).inode file.now info.now }
     ensures refused { IsStanding (D.shown disk.old) pool.old volume.old
         → IfErr result (RefusedIn (HasBeside volume.old.name (volume_for (D.shown disk.old) pool.old volume.old) others pool.old.found.blocks) (Cut volume.old.name file.now length)) }
     ensures accepted { IsStanding (D.shown disk.old) pool.old volume.old → IfOk result (AcceptsCut (D.shown disk.old) pool.old volume.old others file.now length info.now) }
     ensures fits { IfOk result (λ known. IfSome known (FitsLedger volume.old)) }
     ensures same { volume.new ≡ volume.old }
     ensures reads { Reads (D.shown disk.old) pool.old (D.shown disk.new) pool.new }
-    ensures cause { CallCause (IsStanding (D.shown disk.old) pool.old volume.old) (standing_for (D.shown disk.old) pool.old volume.old)
+    ensures cause { CallCause (TellsActive (D.shown disk.old) pool.old volume.old) (standing_for (D.shown disk.old) pool.old volume.old)
         (lent_for pool.old volume.old.map (D.shown disk.old) 0 (home_in volume.old) 0) (D.shown disk.new).faults result }
 {
     if volume.snapshots.len() == 0 {
@@ -246,14 +250,14 @@ fn admit_removal<D: Disk>(
     requires others { others ≤ 2 ^ 62 }
     requires range { IsInfo info.now }
     requires more { volume.old.now < most_changes }
-    requires first { IsStanding (D.shown disk.old) pool.old volume.old → IsFirst (standing_for (D.shown disk.old) pool.old volume.old).inode file.now info.now }
+    requires first { TellsActive (D.shown disk.old) pool.old volume.old → IsFirst (standing_for (D.shown disk.old) pool.old volume.old).inode file.now info.now }
     ensures refused { IsStanding (D.shown disk.old) pool.old volume.old
         → IfErr result (RefusedIn (HasBeside volume.old.name (volume_for (D.shown disk.old) pool.old volume.old) others pool.old.found.blocks) (Remove volume.old.name file.now)) }
     ensures accepted { IsStanding (D.shown disk.old) pool.old volume.old → IfOk result (AcceptsRemoval (D.shown disk.old) pool.old volume.old others file.now info.now) }
     ensures fits { IfOk result (λ known. IfSome known (FitsLedger volume.old)) }
     ensures same { volume.new ≡ volume.old }
     ensures reads { Reads (D.shown disk.old) pool.old (D.shown disk.new) pool.new }
-    ensures cause { CallCause (IsStanding (D.shown disk.old) pool.old volume.old) (standing_for (D.shown disk.old) pool.old volume.old)
+    ensures cause { CallCause (TellsActive (D.shown disk.old) pool.old volume.old) (standing_for (D.shown disk.old) pool.old volume.old)
         (lent_for pool.old volume.old.map (D.shown disk.old) 0 (home_in volume.old) 0) (D.shown disk.new).faults result }
 {
     if volume.snapshots.len() == 0 {
@@ -353,12 +357,12 @@ fn cut_blocks<D: Disk>(
     requires more { volume.old.now < most_changes }
     requires length { length ≤ 2097152 }
     requires range { IsInfo info.now }
-    requires there { IsStanding (D.shown disk.old) pool.old volume.old → IsInfoOf (standing_for (D.shown disk.old) pool.old volume.old).inode info.now }
+    requires there { TellsActive (D.shown disk.old) pool.old volume.old → IsInfoOf (standing_for (D.shown disk.old) pool.old volume.old).inode info.now }
     ensures cut { IsStanding (D.shown disk.old) pool.old volume.old
         → OnOk result (CutsFile (standing_for (D.shown disk.old) pool.old volume.old) (standing_for (D.shown disk.old) pool.old volume.new) info.now.number length (volume.old.now + 1)) }
     ensures counted { IsStanding (D.shown disk.old) pool.old volume.old → IfOk result (TakesByCut (standing_for (D.shown disk.old) pool.old volume.old) info.now.number length (volume.old.now + 1)) }
     ensures alters { AltersTable (D.shown disk.old) pool.old (D.shown disk.new) pool.new volume.old volume.new result }
-    ensures cause { BlockCause (IsStanding (D.shown disk.old) pool.old volume.old) (standing_for (D.shown disk.old) pool.old volume.old)
+    ensures cause { BlockCause (TellsWhole (D.shown disk.old) pool.old volume.old) (standing_for (D.shown disk.old) pool.old volume.old)
         (lent_for pool.old volume.old.map (D.shown disk.old) 0 (home_in volume.old) 0) (D.shown disk.new).faults result }
 {
     let stamp = volume.now + 1;
@@ -377,12 +381,12 @@ fn drop_file<D: Disk>(
     requires ready { IsReady (D.shown disk.old) pool.old volume.old }
     requires more { volume.old.now < most_changes }
     requires range { IsInfo info.now }
-    requires there { IsStanding (D.shown disk.old) pool.old volume.old → IsInfoOf (standing_for (D.shown disk.old) pool.old volume.old).inode info.now }
+    requires there { TellsActive (D.shown disk.old) pool.old volume.old → IsInfoOf (standing_for (D.shown disk.old) pool.old volume.old).inode info.now }
     ensures removed { IsStanding (D.shown disk.old) pool.old volume.old
         → OnOk result (RemovesFile (standing_for (D.shown disk.old) pool.old volume.old) (standing_for (D.shown disk.old) pool.old volume.new) info.now.number (volume.old.now + 1)) }
     ensures counted { IsStanding (D.shown disk.old) pool.old volume.old → IfOk result (TakesByRemoval (standing_for (D.shown disk.old) pool.old volume.old) info.now.number (volume.old.now + 1)) }
     ensures alters { AltersTable (D.shown disk.old) pool.old (D.shown disk.new) pool.new volume.old volume.new result }
-    ensures cause { BlockCause (IsStanding (D.shown disk.old) pool.old volume.old) (standing_for (D.shown disk.old) pool.old volume.old)
+    ensures cause { BlockCause (TellsWhole (D.shown disk.old) pool.old volume.old) (standing_for (D.shown disk.old) pool.old volume.old)
         (lent_for pool.old volume.old.map (D.shown disk.old) 0 (home_in volume.old) 0) (D.shown disk.new).faults result }
 {
     let stamp = volume.now + 1;

@@ -90,19 +90,20 @@ impl VolumeState {
         self.changed = true;
     }
 
-    /// Counts the ledger anew: what the slots of the maps have together, and the blocks of each snapshot's map. It is right where each
-    /// block of the volume has its number, as after a flush, and no file has a reserve. Costs a step for each word of 64 numbers of each
+    /// Counts the ledger anew: what the slots of the maps on the disk have together, and the blocks of each snapshot's map. It is right where
+    /// each block of the volume has its number, as after a flush, no file has a reserve, and the volume has no base or is being split from it.
+    /// Costs a step for each word of 64 numbers of each
     /// used slot, and takes no memory.
     pub fn recount(&mut self)
         requires map { self.old.map.span ≡ self.old.span }
         requires span { self.old.span ≤ greatest_span }
         requires few { length self.old.snapshots ≤ most_snapshots }
-        ensures counted { HasCounted self.old.map (length self.old.snapshots) self.old.span self.old.size self.old.kind self.new.ledger }
+        ensures counted { HasCounted self.old.map None (length self.old.snapshots) self.old.span self.old.size self.old.kind self.new.ledger }
         ensures valid { IsVolume self.old.map }
         ensures others { self.new ≡ record self.old { ledger = self.new.ledger } }
     {
         let count = self.snapshots.len() as u32;
-        self.ledger = count_ledger(&mut self.map, count, self.span, self.size, self.kind);
+        self.ledger = count_ledger(&mut self.map, None, count, self.span, self.size, self.kind);
     }
 }
 

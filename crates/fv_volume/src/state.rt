@@ -11,7 +11,7 @@ ghost use Rattle.fv_volume.specs.Asking.{snap_named};
 ghost use Rattle.fv_volume.specs.Labels.{label_said};
 ghost use Rattle.fv_volume.specs.Files.{has_form};
 ghost use Rattle.fv_volume.specs.Snapshots.{FindsSnap, IsLeastFree, AreSlotsFull, has_slot, added};
-ghost use Rattle.fv_volume.specs.Loading.{HasCounted, IsCounted, form_in};
+ghost use Rattle.fv_volume.specs.Loading.{HasCounted, IsRead, form_in};
 ghost use Rattle.fv_volume.specs.SnapRecords.{snaps_recorded};
 ghost use Rattle.fv_volume.specs.States.{empty_head, head_in, ledger_of_empty, snaps_in, IsAtFirst, IsLaid};
 ghost use Rattle.fv_volume.specs.Stored.{is_rewritten};
@@ -19,6 +19,7 @@ ghost use Rattle.fv_volume.specs.Writing.{asked, map_count};
 
 use crate::known::known_name;
 use crate::label::{HOLE, kind_number, kind_of, name_field, name_of, records_of, snap_of};
+use fv_bits::BitMap;
 use fv_charge::{Ledger, overhead};
 use fv_codec::{Label, SnapRecord};
 use fv_files::{FileNumbers, Files};
@@ -293,33 +294,31 @@ impl VolumeState {
         })
     }
 
-    /// The volume that a label at this PVBN says, for a slot below 64, with its snapshots, with the maps of its tables, from which
-    /// its ledger is counted. It hasn't changed, and no file is in memory. The label has no form that can't be loaded.
+    /// The volume that a label at this PVBN says, for a slot below 64, with its snapshots and the maps of its tables. It hasn't changed, and
+    /// no file is in memory. The label has no form that can't be loaded. Its ledger isn't counted yet (`recount`): it says that nothing is
+    /// charged and nothing needed.
     ///
-    /// Costs a step for each word of 64 numbers of each used slot of the maps, and takes no memory.
+    /// Costs a step for each byte of the name, and takes no memory.
     pub fn of_label(
         slot: u8,
         place: u32,
         label: &Label,
         snapshots: Snapshots,
-        mut map: VolMap,
+        map: VolMap,
     ) -> VolumeState
         requires range { IsLabel label.now }
         requires form { form_in label.now ≡ None }
         requires few { length snapshots ≤ most_snapshots }
         requires said { snaps_in snapshots ≡ snaps_from 1 label.now.snapshots }
-        requires map { map.span ≡ label.now.span }
         ensures laid { IsLaid result slot place map }
         ensures head { head_in result ≡ head_of label.entry.now }
         ensures span { result.span ≡ label.entry.now.span }
         ensures rests { IsAtFirst result }
         ensures named { is_name result.name ≡ true }
-        ensures counted { IsCounted result }
+        ensures read { IsRead result }
         ensures ledger { result.ledger.span ≡ label.entry.now.span }
     {
         let kind = kind_of(label);
-        let count = snapshots.len() as u32;
-        let ledger = count_ledger(&mut map, count, label.span, label.size, kind);
         VolumeState {
             slot,
             name: name_of(label),
@@ -336,7 +335,7 @@ impl VolumeState {
             },
             snapshots,
             map,
-            ledger,
+            ledger: new_ledger(label.size, kind, label.span),
             files: None,
             numbers: None,
             label: place,
@@ -446,22 +445,25 @@ impl VolumeState {
     }
 }
 
-/// The ledger of a volume without base and reserves, counted from what the slots of its maps have together; they stay.
+/// The ledger of a volume without reserves, counted from what the slots of its maps on the disk have together, without the set of its base;
+/// they stay. No base is given of a volume that has none or is being split from it.
 pub(crate) fn count_ledger(
     map: &mut VolMap,
+    base: Option<&BitMap>,
     snapshots: u32,
     span: u32,
     size: u32,
     kind: Kind,
 ) -> Ledger
     requires map { map.old.span ≡ span }
+    requires base { IfSome (option_copied base) (λ b. length b ≡ span) }
     requires span { span ≤ greatest_span }
     requires few { snapshots ≤ most_snapshots }
     ensures same { map.new ≡ map.old }
     ensures valid { IsVolume map.old }
-    ensures counted { HasCounted map.old snapshots span size kind result }
+    ensures counted { HasCounted map.old (option_copied base.entry) snapshots span size kind result }
 {
-    Ledger::counted(map.united(), None, snapshots, 0, span, size, kind)
+    Ledger::counted(map.united(), base, snapshots, 0, span, size, kind)
 }
 
 /// The ledger of an empty volume of this size and kind, with so many VVBNs for data: nothing is charged, and nothing needed. Costs a step.

@@ -1,5 +1,6 @@
 pub mod Labelled
 pub mod Stepping
+mod Ledgers
 pub mod Viewed
 pub mod Mapping
 pub mod Told

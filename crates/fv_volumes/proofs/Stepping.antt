@@ -11,7 +11,7 @@ use Rattle.fv_container.specs.Mapped.{Mapped}
 use Rattle.fv_root.specs.declared.find.Found.{Found}
 use Rattle.fv_volume.specs.declared.state.VolumeState.{VolumeState}
 use Rattle.fv_volume.specs.Files.{IsLabelled}
-use Rattle.fv_volume.specs.Loading.{Houses, IsCounted, IsFilled, IsLoaded, KeptTo, KeepsOthers, LoadedTo}
+use Rattle.fv_volume.specs.Loading.{Houses, IsFilled, IsLoaded, IsRead, KeepsOthers, LoadedTo, ReadTo}
 use Rattle.fv_volume.specs.States.{States, head_in, parent_in, state_at}
 
 at_front : (xs : States) (x : Option VolumeState) (s : ℕ) → s < length xs → state_at (xs ++ x ∷ []) s ≡ state_at xs s
@@ -29,7 +29,7 @@ past_end [] x (suc s) lt = refl
 past_end (y ∷ ys) x zero lt = absurd (omega (arith, lt))
 past_end (y ∷ ys) x (suc s) lt = past_end ys x s (omega (arith, lt))
 
-pub loaded_more : (i : Image) (found : Found) (count : ℕ) (states : States) (old : Slots) (x : Option VolumeState) (new : Slots) → KeptTo count states old → LoadedTo i found count states old
+pub loaded_more : (i : Image) (found : Found) (count : ℕ) (states : States) (old : Slots) (x : Option VolumeState) (new : Slots) → ReadTo count states old → LoadedTo i found count states old
     → ((s : ℕ) → s ≢ count → container_at new s ≡ container_at old s) → IsLoaded i found count x (container_at new count) → LoadedTo i found (count + 1) (states ++ x ∷ []) new
 loaded_more i found count states old x new kept was others now = record {
   each = λ s lt. ⊎_elim
@@ -54,14 +54,14 @@ each_more P count states x long each one s = ⊎_elim
     (cases_lt s (length states)))
     (cases_eq s count)
 
-pub kept_more : (count : ℕ) (states : States) (old : Slots) (x : Option VolumeState) (new : Slots) → KeptTo count states old → KeepsOthers count old new → IsFilled count new x
-    → KeptTo (count + 1) (states ++ x ∷ []) new
-kept_more count states old x new kept leaves filled = record {
+pub read_more : (count : ℕ) (states : States) (old : Slots) (x : Option VolumeState) (new : Slots) → ReadTo count states old → KeepsOthers count old new → IsFilled count new x
+    → ReadTo (count + 1) (states ++ x ∷ []) new
+read_more count states old x new kept leaves filled = record {
   long = length-append states (x ∷ []) ∙ omega (arith, kept.long);
   few = leaves.few;
   free = λ s le. leaves.others s (omega (arith, le)) ∙ kept.free s (omega (arith, le));
   each = each_more IsLabelled count states x kept.long kept.each filled.state;
-  counted = each_more (λ s. IsCounted) count states x kept.long kept.counted filled.counted;
+  read = each_more (λ s. IsRead) count states x kept.long kept.read filled.read;
   housed = λ s. ⊎_elim
       (λ (here : s ≡ count). subst (λ k. Houses (state_at (states ++ x ∷ []) k) (container_at new k)) (sym here)
       (subst (λ (y : Option VolumeState). Houses y (container_at new count)) (sym (ap (state_at (states ++ x ∷ [])) (sym kept.long) ∙ at_end states x)) filled.housed))
@@ -81,7 +81,7 @@ kept_more count states old x new kept leaves filled = record {
 }
 
 -- a slot that isn't filled yet has no parent
-pub no_parent_yet : (count : ℕ) (states : States) (slots : Slots) → KeptTo count states slots → parent_at slots count ≡ None
+pub no_parent_yet : (count : ℕ) (states : States) (slots : Slots) → ReadTo count states slots → parent_at slots count ≡ None
 no_parent_yet count states slots kept = kept.parents count ∙ ap parent_in (get_or_past states count None (omega (arith, kept.long)))
 
 pub none_in : {X : Type 0} (n s : ℕ) → ◌≡◌ {A = Option X} (slice_index_or (replicate n None) s None) None
@@ -97,13 +97,13 @@ has_container l x map c head long there =
     subst (λ (o : Option Mapped). Houses (Some x) o) (sym there) (long ∙ ap entry_count (sym span))
 
 -- no slot is loaded yet
-pub kept_none : (states : States) (containers : Slots) → states ≡ [] → containers ≡ no_containers → KeptTo 0 states containers
-kept_none states containers empty none = record {
+pub read_none : (states : States) (containers : Slots) → states ≡ [] → containers ≡ no_containers → ReadTo 0 states containers
+read_none states containers empty none = record {
   long = ap length empty;
   few = ap (λ (c : Slots). length c.containers) none ∙ length-replicate {A = Option Mapped} slot_count None;
   free = λ s le. ap (λ (c : Slots). container_at c s) none ∙ none_in slot_count s;
   each = λ s. subst (λ (xs : States). IfSome (state_at xs s) (IsLabelled s)) (sym empty) (nothing IsLabelled s);
-  counted = λ s. subst (λ (xs : States). IfSome (state_at xs s) IsCounted) (sym empty) (nothing (λ s. IsCounted) s);
+  read = λ s. subst (λ (xs : States). IfSome (state_at xs s) IsRead) (sym empty) (nothing (λ s. IsRead) s);
   housed = λ s. subst (λ (xs : States). Houses (state_at xs s) (container_at containers s)) (sym empty) (homeless s (container_at containers s));
   parents = λ s. ap (λ (c : Slots). parent_at c s) none ∙ none_in slot_count s ∙ sym (ap (λ (xs : States). parent_in (state_at xs s)) empty ∙ parentless s);
 }

@@ -41,7 +41,7 @@ use Rattle.fv_pool.specs.Keeping.{Blocks, kept_or}
 use Rattle.fv_volume.specs.Loading.{HasCounted, HaveBits, IsContainerOf, IsCounted, KeptTo, LoadedTo, label_of}
 use Rattle.fv_volume.specs.States.{States, head_in, snap_in, placed_in, state_at, view_over}
 use Rattle.fv_volume.specs.Trees.{active_in, machine_in, no_trees}
-use Rattle.fv_volume.proofs.Counted.{counted_ledger}
+use Rattle.fv_volume.proofs.Counted.{counted_ledger, none_counted}
 use Rattle.fv_volumes.proofs.Made.{from_pairs}
 use Rattle.fv_volumes.proofs.Told.{is_inside}
 use Rattle.fv_volumes.proofs.Trees.{unchanged_machine}
@@ -166,8 +166,9 @@ module _ (pool : Pool) (i : Image) (states : States) (kept : KeptTo slot_count s
 
     ledger : IsLedgerOf (volume_told w s (head_in x)) x.ledger
     ledger = counted_ledger w s (head_in x) small there_is tables maps (numbers_at (root_found pool.found) i whole s (head_in x) there_is) (form_base (head_in x) labelled.form)
-        x.map is_counted.valid labelled.map labelled.slots labelled.snapshots.slots bits x.ledger
-        (subst (λ (n : ℕ). HasCounted x.map n x.span x.size x.kind x.ledger) (sym (length-map x.snapshots snap_in)) is_counted.ledger) reserves
+        x.map labelled.map labelled.slots labelled.snapshots.slots bits x.ledger
+        (subst (λ (n : ℕ). HasCounted x.map None n x.span x.size x.kind x.ledger) (sym (length-map x.snapshots snap_in))
+        (subst (λ (b : Option (List Bool)). HasCounted x.map b (length x.snapshots) x.span x.size x.kind x.ledger) (none_counted x.base x.map (form_base (head_in x) labelled.form)) is_counted.ledger)) reserves
 
     active_is : active_in w no_trees s ≡ table_at w s (head_in x).active
     active_is = ap (λ (o : Option Head). option_map_or (λ h. table_at w s h.active) o empty_table) there_is

@@ -1,6 +1,6 @@
 //! Reading the volumes of a root: labels, containers and maps.
 
-ghost use Rattle.std.specs.Prelude.{◌≡◌, ◌<◌, ◌≤◌, ◌+◌, ◌*◌, length, replicate, None, Some, IfOk, IfErr, OnOk, OnErr, IsTrue, get_or, ◌++◌, ◌∷◌, []};
+ghost use Rattle.std.specs.Prelude.{◌≡◌, ℕ, IfSome, ◌<◌, ◌≤◌, ◌+◌, ◌*◌, length, replicate, None, Some, IfOk, IfErr, OnOk, OnErr, IsTrue, get_or, ◌++◌, ◌∷◌, []};
 ghost use Rattle.fv_bits.specs.Bits.{block_bits};
 ghost use Rattle.fv_codec.specs.Blocks.{IsLabel, label_at};
 ghost use Rattle.fv_container.specs.Chains.{container_at, no_containers, parent_at, slot_count, with_container, with_parent};
@@ -14,7 +14,7 @@ ghost use Rattle.fv_model.specs.Numbers.{greatest_span};
 ghost use Rattle.fv_model.specs.Space.{map_blocks};
 ghost use Rattle.fv_store.specs.Held.{StandsOn};
 ghost use Rattle.fv_volmap.specs.Slots.{IsVolume, Loads, slot_count as map_slot_count, stored_count};
-ghost use Rattle.fv_volume.specs.Loading.{IsBadLabel, IsBadMap, IsBadSlot, IsFilled, IsLoadFault, IsLoaded, KeptTo, KeepsOthers, LoadedTo, form_in};
+ghost use Rattle.fv_volume.specs.Loading.{AreCountedTo, Counts, IsBadLabel, IsBadMap, IsBadSlot, IsCountable, IsFilled, IsLoadFault, IsLoaded, KeptTo, KeepsOthers, LoadedTo, ReadTo, form_in};
 ghost use Rattle.fv_volume.specs.SlotReads.{AreUsedTo, HasReadSlot, HaveRead, IsReadable, IsSnapSlot, TakesSlot};
 ghost use Rattle.fv_volume.specs.States.{head_in, state_at};
 
@@ -193,7 +193,7 @@ fn read_container<D: Disk>(
 }
 
 /// Reads the volume of a slot below 64, if it has one, and puts its container into that slot, with the slot
-/// of its parent.
+/// of its parent. Its ledger isn't counted yet.
 #[tactic(auto, using(fv_disk::proofs::Resting::reads_then))]
 fn load_volume<D: Disk>(
     alloc: Global,
@@ -241,8 +241,8 @@ fn load_next<D: Disk>(
 ) -> Result<(), BlockFault>
     requires stands { StandsOn (D.shown disk.old) store.old.pairs }
     requires slot { slot < slot_count }
-    requires kept { KeptTo slot states.old.items containers.old }
-    ensures kept { OnOk result (KeptTo (slot + 1) states.new.items containers.new) }
+    requires read { ReadTo slot states.old.items containers.old }
+    ensures read { OnOk result (ReadTo (slot + 1) states.new.items containers.new) }
     ensures loaded { IsTrue (D.shown disk.old).tells → LoadedTo (D.shown disk.old).reads found.now slot states.old.items containers.old
         → OnOk result (LoadedTo (D.shown disk.old).reads found.now (slot + 1) states.new.items containers.new) }
     ensures fault { IsTrue (D.shown disk.old).tells → IfErr result (IsLoadFault (D.shown disk.old).reads found.now) }
@@ -276,8 +276,8 @@ fn load_volumes<D: Disk>(
     states: &mut Vec<Option<VolumeState>>,
 ) -> Result<(), BlockFault>
     requires stands { StandsOn (D.shown disk.old) store.old.pairs }
-    requires kept { KeptTo 0 states.old.items containers.old }
-    ensures kept { OnOk result (KeptTo slot_count states.new.items containers.new) }
+    requires read { ReadTo 0 states.old.items containers.old }
+    ensures read { OnOk result (ReadTo slot_count states.new.items containers.new) }
     ensures loaded { IsTrue (D.shown disk.old).tells → OnOk result (LoadedTo (D.shown disk.old).reads found.now slot_count states.new.items containers.new) }
     ensures fault { IsTrue (D.shown disk.old).tells → IfErr result (IsLoadFault (D.shown disk.old).reads found.now) }
     ensures only_reads { OnlyReads (D.shown disk.old) (D.shown disk.new) }
@@ -290,7 +290,29 @@ fn load_volumes<D: Disk>(
     Ok(())
 }
 
-/// Reads the volumes of all slots, and puts their containers into the slots of `containers`, which has none.
+/// Counts the ledger of the volume of a slot, if there is one.
+fn count_volume(state: &mut Option<VolumeState>)
+    requires { IfSome state.old IsCountable }
+    ensures { Counts state.old state.new }
+{
+    if let Some(state) = state {
+        state.recount();
+    }
+}
+
+/// Counts the ledgers of the volumes of all slots.
+fn count_volumes(states: &mut Vec<Option<VolumeState>>)
+    requires long { length states.old.items ≡ slot_count }
+    requires each { (s : ℕ) → IfSome (state_at states.old.items s) IsCountable }
+    ensures { AreCountedTo slot_count states.old.items states.new.items }
+{
+    for slot in 0..64 {
+        count_volume(&mut states[slot]);
+    }
+}
+
+/// Reads the volumes of all slots, and puts their containers into the slots of `containers`, which has none. The ledgers are counted once
+/// all are read: what isn't charged in a clone is said by the map of its parent's snapshot, whichever slot is the lower one.
 pub(crate) fn load_states<D: Disk>(
     alloc: Global,
     store: &mut Store,
@@ -309,5 +331,6 @@ pub(crate) fn load_states<D: Disk>(
 {
     let mut states = Vec::new(alloc);
     load_volumes(alloc, store, disk, found, containers, &mut states)?;
+    count_volumes(&mut states);
     Ok(states)
 }

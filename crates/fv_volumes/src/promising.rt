@@ -60,7 +60,7 @@ impl Volumes {
     }
 
     /// What all volumes but that of a slot commit together, in blocks. Costs a step for each slot.
-    pub fn commits_beside(&self, slot: u8) -> u64
+    fn commits_beside(&self, slot: u8) -> u64
         requires slot { slot < slot_count }
         requires each { (s : ℕ) → IfSome (state_at self.now s) (IsLabelled s) }
         ensures sum { result ≡ sum_of self.now - committed_by (state_at self.now slot) }

@@ -24,10 +24,13 @@ use Rattle.fv_aggregate.proofs.Asking.{asked_opened}
 use Rattle.fv_aggregate.proofs.opening.load.Goals as goal
 
 pub invariant_of-result : goal.invariant_of-result
-invariant_of-result g c = λ fresh.
-    let was = c.in_ok-pool.ensures in
-    let e = c.in_ok-volumes.ensures in
-    fits_opened c.in_ok-found.found c.in_ok-pool.pool c.open-2.new.pool c.in_ok-volumes.volumes c.in_ok-found.ensures.range was.size was.found was.empty e.states e.map e.kept e.found
+invariant_of-result g c = (
+  λ fresh.
+      let was = c.in_ok-pool.ensures in
+      let e = c.in_ok-volumes.ensures in
+      fits_opened c.in_ok-found.found c.in_ok-pool.pool c.open-2.new.pool c.in_ok-volumes.volumes c.in_ok-found.ensures.range was.size was.found was.empty e.states e.map e.kept e.found,
+  λ fresh. c.commits-commits.ensures.exact,
+)
 
 pub returns-clause-loaded : goal.returns-clause-loaded
 returns-clause-loaded g c = λ tells.

@@ -6,7 +6,7 @@ use Rattle.fv_store.specs.Held.{StandsOn}
 use Rattle.fv_disk.specs.DiskCalls.{OnlyReads}
 use Rattle.fv_container.specs.Mapped.{IsHeld}
 use Rattle.fv_container.specs.Spelled.{pair_of}
-use Rattle.fv_container.specs.Reading.{AreShaped, StandLeaves}
+use Rattle.fv_container.specs.Reading.{AreShaped, AreWholeLeaves, StandLeaves}
 use Rattle.fv_container.proofs.load.read_leaves.Given as goal
 
 abbrev pub invariant-loop-k : goal.invariant-loop-k
@@ -17,6 +17,7 @@ invariant-loop-k g l = record {
   held : (v : ℕ) → IfSome (get_or l.entries v None) IsHeld;
   shaped : IsTrue (g.D.Disk.shown l.fn.disk).tells → AreShaped (g.D.Disk.shown l.fn.disk).reads 0 l.places 0 l.k;
   whole : IsTrue (g.D.Disk.shown l.fn.disk).tells → l.whole ≡ true → StandLeaves (g.D.Disk.shown l.fn.disk).reads (length l.initial.entries) l.places l.k;
+  kept : IsTrue (g.D.Disk.shown l.fn.disk).tells → AreWholeLeaves (g.D.Disk.shown l.fn.disk).reads (length l.initial.entries) l.places l.k → l.whole ≡ true;
   only_reads : OnlyReads (g.D.Disk.shown l.fn.disk) (g.D.Disk.shown l.disk);
   faults : (g.D.Disk.shown l.disk).faults ≡ (g.D.Disk.shown l.fn.disk).faults;
 }

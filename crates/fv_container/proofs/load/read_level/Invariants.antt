@@ -15,6 +15,7 @@ invariant-loop-q g l = record {
   past : (m : ℕ) → l.leaves ≤ m → get_or l.places m 0 ≡ get_or l.initial.places m 0;
   shaped : IsTrue (g.D.Disk.shown l.fn.disk).tells → AreShaped (g.D.Disk.shown l.fn.disk).reads 1 l.initial.places l.leaves l.q;
   whole : IsTrue (g.D.Disk.shown l.fn.disk).tells → l.whole ≡ true → StandInner (g.D.Disk.shown l.fn.disk).reads l.initial.places l.leaves l.q;
+  kept : IsTrue (g.D.Disk.shown l.fn.disk).tells → StandInner (g.D.Disk.shown l.fn.disk).reads l.initial.places l.leaves l.q → l.whole ≡ true;
   only_reads : OnlyReads (g.D.Disk.shown l.fn.disk) (g.D.Disk.shown l.disk);
   faults : (g.D.Disk.shown l.disk).faults ≡ (g.D.Disk.shown l.fn.disk).faults;
 }

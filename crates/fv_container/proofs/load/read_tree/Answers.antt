@@ -5,10 +5,11 @@ use Rattle.std.proofs.lemmas.Result.{err_from_is_err_and}
 use Rattle.fv_image.specs.Containers.{entry_in, level_width, lying, node_below}
 use Rattle.fv_container.specs.Spelled.{pair_of}
 use Rattle.fv_codec.specs.Blocks.{leaf_at}
-use Rattle.fv_container.specs.Reading.{AreShaped, IsLevelFault, StandInner, StandLeaves, StandsInner}
+use Rattle.fv_container.specs.Reading.{AreShaped, AreWholeLeaves, IsLevelFault, StandInner, StandLeaves, StandsInner}
 use Rattle.fv_container.proofs.Positions.{read_over, stand_at}
 use Rattle.fv_container.proofs.Trees.{TreeAt, shaped_tree, spelled}
 use Rattle.fv_container.proofs.Walks.{fault_root, fault_level, tree_read, shaped_at}
+use Rattle.fv_container.proofs.Whole.{all_three, stand_back, whole_inner, whole_leaves, whole_top}
 use Rattle.fv_container.proofs.load.read_tree.Given as given
 use Rattle.fv_container.proofs.load.read_tree.Goals as goal
 
@@ -89,6 +90,22 @@ returns-clause-whole g c = λ tells is.
     let leaves : StandLeaves i n c.read_level.new.places (level_width n 0) = rw (← same_down g c) (c.in_ok-low.ensures.whole (told_down g c tells) second.1) in
     let top : c.args.height ≡ 2 → c.args.root ≢ 0 → StandsInner i c.args.root 2 0 (level_width n 1) = rw (← c.inner_count-inner.ensures) (c.in_ok-top.ensures.whole tells first.0) in
     read_over i c.args.root c.args.height c.read_leaves.new.entries c.read_level.new.places (places_at g c tells) (rw long (entries_read g c tells)) (rw long leaves) (rw long inner) (rw long top)
+
+pub returns-clause-kept : goal.returns-clause-kept
+returns-clause-kept g c = λ tells clean.
+    let i = (g.D.Disk.shown c.args.disk.now).reads in
+    let n = length c.args.entries.now in
+    let places = c.read_level.new.places in
+    let long : length c.read_leaves.new.entries ≡ n = c.read_leaves.ensures.len in
+    let at : TreeAt i c.args.root c.args.height n places = rw (← long) (places_at g c tells) in
+    let above : StandInner (g.D.Disk.shown c.read_root.new.disk).reads c.read_root.new.places (level_width n 0) (level_width n 1) =
+    stand_back i (g.D.Disk.shown c.read_root.new.disk).reads (level_width n 0) (level_width n 1) c.read_root.new.places places (same_up g c) (past g c) (whole_inner i c.args.root c.args.height n places at clean) in
+    let leaves : AreWholeLeaves (g.D.Disk.shown c.read_level.new.disk).reads n places (level_width n 0) = rw (same_down g c) (whole_leaves i c.args.root c.args.height n places at clean) in
+    let top : c.args.height ≡ 2 → c.args.root ≢ 0 → StandsInner i c.args.root 2 0 c.inner_count-inner.result = rw c.inner_count-inner.ensures (whole_top i c.args.root c.args.height n clean) in
+    all_three c.in_ok-top.top c.in_ok-level.level c.in_ok-low.low c.both-below.result c.both.result c.both-below.ensures c.both.ensures
+    (c.in_ok-top.ensures.kept tells top)
+    (c.in_ok-level.ensures.kept (told_up g c tells) (rw (c.inner_count-inner.ensures, c.leaf_count-leaves.ensures) above))
+    (c.in_ok-low.ensures.kept (told_down g c tells) leaves)
 
 pub returns-in_err-low-clause-fault : goal.returns-in_err-low-clause-fault
 returns-in_err-low-clause-fault g c = λ tells.

@@ -99,14 +99,14 @@ returns-clause-counts g c =
 pub returns-in_err-flush-clause-fails : goal.returns-in_err-flush-clause-fails
 returns-in_err-flush-clause-fails g c =
     let failed : c.from_residual.result ≡ Err c.in_err-flush.field-0.0 = search rules in
-    subst (λ (r : Result Unit VolumeFault). IfErr r (WholeFails c.args.volumes.now c.flush.new.pool c.flush.new.volumes)) (sym failed)
-    (fails_placed c.args.volumes.now c.flush.new.pool c.flush.new.volumes c.in_err-flush.field-0.0 c.in_err-flush.ensures.cause c.in_err-flush.ensures.filed)
+    subst (λ (r : Result Unit VolumeFault). IfErr r (WholeFails (g.D.Disk.shown c.args.disk.now) c.args.pool.now c.args.volumes.now c.flush.new.pool c.flush.new.volumes)) (sym failed)
+    (fails_placed (g.D.Disk.shown c.args.disk.now) c.args.pool.now c.args.volumes.now c.flush.new.pool c.flush.new.volumes c.in_err-flush.field-0.0 c.in_err-flush.ensures.cause c.in_err-flush.ensures.filed c.in_err-flush.ensures.lacks)
 
 pub returns-in_err-consistency_point-clause-fails : goal.returns-in_err-consistency_point-clause-fails
 returns-in_err-consistency_point-clause-fails g c =
     let did = c.in_ok-flush.ensures in
     let lacks = c.in_err-consistency_point.ensures in
     let failed : c.from_residual-in_err-consistency_point.result ≡ Err (of_block c.in_err-consistency_point.field-0.0) = search rules in
-    subst (λ (r : Result Unit VolumeFault). IfErr r (WholeFails c.args.volumes.now c.consistency_point.new.pool c.consistency_point.new.volumes)) (sym failed)
+    subst (λ (r : Result Unit VolumeFault). IfErr r (WholeFails (g.D.Disk.shown c.args.disk.now) c.args.pool.now c.args.volumes.now c.consistency_point.new.pool c.consistency_point.new.volumes)) (sym failed)
     (fails_left (g.D.Disk.shown c.args.disk.now) c.args.pool.now c.args.volumes.now (g.D.Disk.shown c.args.disk.now) c.flush.new.pool c.flush.new.volumes did.placed (g.D.Disk.shown c.consistency_point.new.disk) c.consistency_point.new.pool c.consistency_point.new.volumes
     c.in_err-consistency_point.field-0.0 lacks.room lacks.lacking)

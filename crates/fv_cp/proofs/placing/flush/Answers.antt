@@ -2,8 +2,8 @@ use Rattle.std.proofs.Common.{◌≡◌, Err, Result, rules, refl, sym, subst, a
 use Rattle.std.specs.Prelude.{IfErr}
 use Rattle.fv_pool.specs.declared.fault.VolumeFault.{VolumeFault}
 use Rattle.fv_pool.specs.declared.fault.VolumeFault.TheVariants.{Memory}
-use Rattle.fv_cp.specs.Placing.{HaveNoFiles}
-use Rattle.fv_cp.proofs.Flushing.{come_more, enough_more, filed_more, passed_more}
+use Rattle.fv_cp.specs.Placing.{FailsToPlace, HaveNoFiles}
+use Rattle.fv_cp.proofs.Flushing.{come_more, enough_more, filed_more, lacks_place, passed_more}
 use Rattle.fv_cp.proofs.placing.flush.Goals as goal
 
 pub returns-in_err-flush_slot-clause-placed : goal.returns-in_err-flush_slot-clause-placed
@@ -30,3 +30,11 @@ loop-slot-preserved g c =
     let did = c.in_ok-flush_slot.ensures in
     passed_more (g.D.Disk.shown c.args.disk.now) c.args.pool.now c.args.volumes.now (g.D.Disk.shown c.args.disk.now) c.loop-slot.pool c.loop-slot.volumes c.loop-slot.invariant.come c.loop-slot.slot
     (g.D.Disk.shown c.args.disk.now) c.flush_slot.new.pool c.flush_slot.new.volumes c.loop-slot.invariant.ahead c.loop-slot.invariant.done c.loop-slot.invariant.whole did.none did.whole did.placed (λ none. refl) did.idle
+
+pub returns-in_err-flush_slot-clause-lacks : goal.returns-in_err-flush_slot-clause-lacks
+returns-in_err-flush_slot-clause-lacks g c =
+    let d = g.D.Disk.shown c.args.disk.now in
+    let passed = c.loop-slot.invariant in
+    let failed : c.from_residual.result ≡ Err c.in_err-flush_slot.field-0.0 = search rules in
+    subst (λ (r : Result Unit VolumeFault). IfErr r (FailsToPlace d c.args.pool.now c.args.volumes.now)) (sym failed)
+    (lacks_place d c.args.pool.now c.args.volumes.now c.loop-slot.pool c.loop-slot.volumes passed.come.placed c.loop-slot.slot (passed.ahead c.loop-slot.slot (omega arith)) c.in_err-flush_slot.field-0.0 c.in_err-flush_slot.ensures.fails)

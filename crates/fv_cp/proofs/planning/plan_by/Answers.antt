@@ -1,4 +1,4 @@
-use Rattle.std.proofs.Common.{◌<◌, ◌∙◌, length-set, refl, rules, subst, false, arith}
+use Rattle.std.proofs.Common.{◌<◌, ◌∙◌, length-set, refl, rules, subst, arith}
 use Rattle.fv_delay.specs.declared.threshold.Table.{Table}
 use Rattle.fv_delay.specs.ByThreshold.{IsTable}
 use Rattle.fv_cp.specs.Choosing.{counts_at}

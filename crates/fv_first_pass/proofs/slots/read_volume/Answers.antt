@@ -1,5 +1,5 @@
 use Rattle.fv_image.specs.Held.{layout_at}
-use Rattle.fv_first_pass.proofs.Whole.{reads_whole}
+use Rattle.fv_disk.proofs.Reading.{reads_whole}
 use Rattle.fv_first_pass.proofs.OneSlot.{has_labels, label_in_slot, stopped_adds, stopped_row, volume_adds, volume_row}
 use Rattle.fv_first_pass.proofs.slots.read_volume.Goals as goal
 

@@ -1,7 +1,7 @@
 use Rattle.std.proofs.Common.{[], ◌∙◌, arith}
 use Rattle.fv_image.specs.Held.{view_at}
 use Rattle.fv_root.specs.Finding.{root_found}
-use Rattle.fv_third_pass.proofs.Reading.{reads_whole}
+use Rattle.fv_disk.proofs.Reading.{reads_whole}
 use Rattle.fv_third_pass.proofs.Sums.{counted}
 use Rattle.fv_third_pass.proofs.counting.count_holders.Goals as goal
 

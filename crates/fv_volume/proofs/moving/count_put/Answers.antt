@@ -6,13 +6,14 @@ use Rattle.fv_laws.specs.Paths.{put_path}
 use Rattle.fv_laws.specs.Positions.{staying}
 use Rattle.fv_tables.specs.Told.{Standing, file_in, table_told}
 use Rattle.fv_files.specs.Tables.{IsInfoOf}
+use Rattle.fv_volume.specs.declared.tables.TableAsked.TheVariants.{Active}
+use Rattle.fv_volume.proofs.RightTables.{known_after}
 use Rattle.fv_volume.proofs.CallCauses.{fails_then}
 use Rattle.fv_volume.proofs.Charged.{told_before}
-use Rattle.fv_volume.proofs.OneVolumes.{said_after}
 use Rattle.fv_volume.proofs.moving.count_put.Goals as goal
 
 pub count_staying-requires-clause-there : goal.count_staying-requires-clause-there
-count_staying-requires-clause-there g c = said_after (g.D.Disk.shown c.args.disk.now) (g.D.Disk.shown c.count_added.new.disk) c.args.pool.now c.count_added.new.pool c.count_added.ensures.reads c.args.volume.now c.count_added.new.volume c.count_added.ensures.same (λ (s : Standing). IsInfoOf s.inode c.args.info.now) c.requires.there
+count_staying-requires-clause-there g c = known_after (g.D.Disk.shown c.args.disk.now) (g.D.Disk.shown c.count_added.new.disk) c.args.pool.now c.count_added.new.pool c.count_added.ensures.reads c.args.volume.now Active c.count_added.new.volume c.count_added.ensures.same (λ (s : Standing). IsInfoOf s.inode c.args.info.now) c.requires.there
 
 pub returns-in_err-staying-clause-cause : goal.returns-in_err-staying-clause-cause
 returns-in_err-staying-clause-cause g c =

@@ -18,7 +18,7 @@ returns-in-Some-clause-number g c = λ is.
     c.free_number.ensures.number (standing_for d c.args.pool.now c.args.volume.now) (subst (λ (o : Option FileNumbers). AreNumbersIf o (table_for d c.args.pool.now c.args.volume.now)) c.in-Some.is is.numbers)
 
 pub returns-clause-cause : goal.returns-clause-cause
-returns-clause-cause g c = told_cause (g.D.Disk.shown c.args.disk.now) c.args.pool.now c.args.volume.now c.take_table-files.result c.take_table-files.ensures.table c.take_table-files.ensures.trees
+returns-clause-cause g c = told_cause (g.D.Disk.shown c.args.disk.now) c.args.pool.now c.args.volume.now c.take_table-files.result c.take_table-files.ensures.table c.take_table-files.ensures.trees (c.take_table-files.ensures.held, c.take_table-files.ensures.alike)
     (g.D.Disk.shown c.number_told-answer.new.disk).faults c.number_told-answer.result c.number_told-answer.ensures.cause
 
 pub returns-clause-number : goal.returns-clause-number
@@ -26,4 +26,4 @@ returns-clause-number g c = λ is.
     let d = g.D.Disk.shown c.args.disk.now in
     let x = c.args.volume.now in
     subst (λ (s : Standing). IfOk c.number_told-answer.result (IsFreeNumber s.inode)) (c.take_table-files.ensures.table (under (shows d c.args.pool.now x)))
-    (c.number_told-answer.ensures.number (is_told d c.args.pool.now x c.take_table-files.result c.take_table-files.ensures.table c.take_table-files.ensures.trees is))
+    (c.number_told-answer.ensures.number (is_told d c.args.pool.now x c.take_table-files.result c.take_table-files.ensures.table c.take_table-files.ensures.trees (c.take_table-files.ensures.held, c.take_table-files.ensures.alike) is))

@@ -6,6 +6,8 @@ use Rattle.fv_pool.specs.Causes.{of_block}
 use Rattle.fv_pool.specs.Lending.{lent_for}
 use Rattle.fv_volume.specs.OneVolume.{home_in, standing_for, IsStanding}
 use Rattle.fv_pool.proofs.CallCauses.{failed_cause, refused_cause}
+use Rattle.fv_volume.specs.Asking.{TellsActive}
+use Rattle.fv_volume.proofs.RightTables.{active_tells}
 use Rattle.fv_volume.proofs.Calling.{no_refusal, if_err_is}
 use Rattle.fv_volume.proofs.Charged.{no_length}
 use Rattle.fv_volume.proofs.Judged.{more_fits, said_of}
@@ -13,22 +15,22 @@ use Rattle.fv_volume.proofs.JudgedCut.{rm_accepted, rm_alone, rm_full}
 use Rattle.fv_volume.proofs.removing.admit_removal.Goals as goal
 
 pub returns-then-len-eq0-clause-accepted : goal.returns-then-len-eq0-clause-accepted
-returns-then-len-eq0-clause-accepted g c = λ is. let none = no_length c.args.volume.now.snapshots (sym c.len.ensures ∙ c.if-len-eq0.true) in rm_alone (g.D.Disk.shown c.args.disk.now) c.args.pool.now c.args.volume.now is c.args.file.now c.args.info.now (c.requires.first is) none c.requires.more c.args.others
+returns-then-len-eq0-clause-accepted g c = λ is. let none = no_length c.args.volume.now.snapshots (sym c.len.ensures ∙ c.if-len-eq0.true) in rm_alone (g.D.Disk.shown c.args.disk.now) c.args.pool.now c.args.volume.now is c.args.file.now c.args.info.now (c.requires.first (active_tells (g.D.Disk.shown c.args.disk.now) c.args.pool.now c.args.volume.now is)) none c.requires.more c.args.others
 
 pub returns-in_err-taken-clause-refused : goal.returns-in_err-taken-clause-refused
 returns-in_err-taken-clause-refused g c = λ is. if_err_is _ (of_block c.in_err-taken.field-0.0) c.from_residual.result (search rules) (λ m has. no_refusal (Unit {0}) m _ c.in_err-taken.field-0.0)
 
 pub returns-in_err-taken-clause-cause : goal.returns-in_err-taken-clause-cause
-returns-in_err-taken-clause-cause g c = failed_cause (IsStanding (g.D.Disk.shown c.args.disk.now) c.args.pool.now c.args.volume.now) (standing_for (g.D.Disk.shown c.args.disk.now) c.args.pool.now c.args.volume.now) (lent_for c.args.pool.now c.args.volume.now.map (g.D.Disk.shown c.args.disk.now) 0 (home_in c.args.volume.now) 0) (g.D.Disk.shown c.count_removal.new.disk).faults c.in_err-taken.field-0.0 c.from_residual.result (search rules) c.in_err-taken.ensures.cause
+returns-in_err-taken-clause-cause g c = failed_cause (TellsActive (g.D.Disk.shown c.args.disk.now) c.args.pool.now c.args.volume.now) (standing_for (g.D.Disk.shown c.args.disk.now) c.args.pool.now c.args.volume.now) (lent_for c.args.pool.now c.args.volume.now.map (g.D.Disk.shown c.args.disk.now) 0 (home_in c.args.volume.now) 0) (g.D.Disk.shown c.count_removal.new.disk).faults c.in_err-taken.field-0.0 c.from_residual.result (search rules) c.in_err-taken.ensures.cause
 
 pub returns-in_err-admit_change-clause-refused : goal.returns-in_err-admit_change-clause-refused
-returns-in_err-admit_change-clause-refused g c = λ is. if_err_is _ c.in_err-admit_change.field-0.0 c.from_residual-in_err-admit_change.result (search rules) (rm_full (g.D.Disk.shown c.args.disk.now) c.args.pool.now c.args.volume.now is c.args.file.now c.args.info.now (c.requires.first is) c.args.others c.requires.ready c.moved_blocks-delta.result c.in_ok-taken.taken (subst (λ (l : Ledger). c.in_ok-taken.taken.gone ≤ l.charge + c.in_ok-taken.taken.staying → (c.moved_blocks-delta.result.charge +ℤ pos c.in_ok-taken.taken.gone) ≡ pos (0 + c.in_ok-taken.taken.staying)) (ap (λ (z : VolumeState). z.ledger) c.count_removal.ensures.same) c.moved_blocks-delta.ensures.charge) c.moved_blocks-delta.ensures.need (c.moved_blocks-delta.ensures.size ∙ ap (λ (z : VolumeState). z.ledger.size) c.count_removal.ensures.same) (c.moved_blocks-delta.ensures.kind ∙ ap (λ (z : VolumeState). z.ledger.kind) c.count_removal.ensures.same) c.requires.more (c.in_ok-taken.ensures.taken is) c.in_err-admit_change.field-0.0 (said_of (g.D.Disk.shown c.args.disk.now) (g.D.Disk.shown c.count_removal.new.disk) c.args.pool.now c.count_removal.new.pool c.count_removal.ensures.reads c.args.volume.now c.count_removal.new.volume c.count_removal.ensures.same c.args.others c.moved_blocks-delta.result (Err c.in_err-admit_change.field-0.0) c.in_err-admit_change.ensures.machine))
+returns-in_err-admit_change-clause-refused g c = λ is. if_err_is _ c.in_err-admit_change.field-0.0 c.from_residual-in_err-admit_change.result (search rules) (rm_full (g.D.Disk.shown c.args.disk.now) c.args.pool.now c.args.volume.now is c.args.file.now c.args.info.now (c.requires.first (active_tells (g.D.Disk.shown c.args.disk.now) c.args.pool.now c.args.volume.now is)) c.args.others c.requires.ready c.moved_blocks-delta.result c.in_ok-taken.taken (subst (λ (l : Ledger). c.in_ok-taken.taken.gone ≤ l.charge + c.in_ok-taken.taken.staying → (c.moved_blocks-delta.result.charge +ℤ pos c.in_ok-taken.taken.gone) ≡ pos (0 + c.in_ok-taken.taken.staying)) (ap (λ (z : VolumeState). z.ledger) c.count_removal.ensures.same) c.moved_blocks-delta.ensures.charge) c.moved_blocks-delta.ensures.need (c.moved_blocks-delta.ensures.size ∙ ap (λ (z : VolumeState). z.ledger.size) c.count_removal.ensures.same) (c.moved_blocks-delta.ensures.kind ∙ ap (λ (z : VolumeState). z.ledger.kind) c.count_removal.ensures.same) c.requires.more (c.in_ok-taken.ensures.taken is) c.in_err-admit_change.field-0.0 (said_of (g.D.Disk.shown c.args.disk.now) (g.D.Disk.shown c.count_removal.new.disk) c.args.pool.now c.count_removal.new.pool c.count_removal.ensures.reads c.args.volume.now c.count_removal.new.volume c.count_removal.ensures.same c.args.others c.moved_blocks-delta.result (Err c.in_err-admit_change.field-0.0) c.in_err-admit_change.ensures.machine))
 
 pub returns-in_err-admit_change-clause-cause : goal.returns-in_err-admit_change-clause-cause
-returns-in_err-admit_change-clause-cause g c = refused_cause (IsStanding (g.D.Disk.shown c.args.disk.now) c.args.pool.now c.args.volume.now) (standing_for (g.D.Disk.shown c.args.disk.now) c.args.pool.now c.args.volume.now) (lent_for c.args.pool.now c.args.volume.now.map (g.D.Disk.shown c.args.disk.now) 0 (home_in c.args.volume.now) 0) (g.D.Disk.shown c.count_removal.new.disk).faults c.in_err-admit_change.field-0.0 c.from_residual-in_err-admit_change.result (search rules) c.in_err-admit_change.ensures.refusal c.in_ok-taken.ensures.cause
+returns-in_err-admit_change-clause-cause g c = refused_cause (TellsActive (g.D.Disk.shown c.args.disk.now) c.args.pool.now c.args.volume.now) (standing_for (g.D.Disk.shown c.args.disk.now) c.args.pool.now c.args.volume.now) (lent_for c.args.pool.now c.args.volume.now.map (g.D.Disk.shown c.args.disk.now) 0 (home_in c.args.volume.now) 0) (g.D.Disk.shown c.count_removal.new.disk).faults c.in_err-admit_change.field-0.0 c.from_residual-in_err-admit_change.result (search rules) c.in_err-admit_change.ensures.refusal c.in_ok-taken.ensures.cause
 
 pub returns-clause-accepted : goal.returns-clause-accepted
-returns-clause-accepted g c = λ is. rm_accepted (g.D.Disk.shown c.args.disk.now) c.args.pool.now c.args.volume.now is c.args.file.now c.args.info.now (c.requires.first is) c.args.others c.requires.ready c.moved_blocks-delta.result c.in_ok-taken.taken (subst (λ (l : Ledger). c.in_ok-taken.taken.gone ≤ l.charge + c.in_ok-taken.taken.staying → (c.moved_blocks-delta.result.charge +ℤ pos c.in_ok-taken.taken.gone) ≡ pos (0 + c.in_ok-taken.taken.staying)) (ap (λ (z : VolumeState). z.ledger) c.count_removal.ensures.same) c.moved_blocks-delta.ensures.charge) c.moved_blocks-delta.ensures.need (c.moved_blocks-delta.ensures.size ∙ ap (λ (z : VolumeState). z.ledger.size) c.count_removal.ensures.same) (c.moved_blocks-delta.ensures.kind ∙ ap (λ (z : VolumeState). z.ledger.kind) c.count_removal.ensures.same) c.requires.more (c.in_ok-taken.ensures.taken is) (said_of (g.D.Disk.shown c.args.disk.now) (g.D.Disk.shown c.count_removal.new.disk) c.args.pool.now c.count_removal.new.pool c.count_removal.ensures.reads c.args.volume.now c.count_removal.new.volume c.count_removal.ensures.same c.args.others c.moved_blocks-delta.result (Ok tt) c.in_ok-admit_change.ensures.machine)
+returns-clause-accepted g c = λ is. rm_accepted (g.D.Disk.shown c.args.disk.now) c.args.pool.now c.args.volume.now is c.args.file.now c.args.info.now (c.requires.first (active_tells (g.D.Disk.shown c.args.disk.now) c.args.pool.now c.args.volume.now is)) c.args.others c.requires.ready c.moved_blocks-delta.result c.in_ok-taken.taken (subst (λ (l : Ledger). c.in_ok-taken.taken.gone ≤ l.charge + c.in_ok-taken.taken.staying → (c.moved_blocks-delta.result.charge +ℤ pos c.in_ok-taken.taken.gone) ≡ pos (0 + c.in_ok-taken.taken.staying)) (ap (λ (z : VolumeState). z.ledger) c.count_removal.ensures.same) c.moved_blocks-delta.ensures.charge) c.moved_blocks-delta.ensures.need (c.moved_blocks-delta.ensures.size ∙ ap (λ (z : VolumeState). z.ledger.size) c.count_removal.ensures.same) (c.moved_blocks-delta.ensures.kind ∙ ap (λ (z : VolumeState). z.ledger.kind) c.count_removal.ensures.same) c.requires.more (c.in_ok-taken.ensures.taken is) (said_of (g.D.Disk.shown c.args.disk.now) (g.D.Disk.shown c.count_removal.new.disk) c.args.pool.now c.count_removal.new.pool c.count_removal.ensures.reads c.args.volume.now c.count_removal.new.volume c.count_removal.ensures.same c.args.others c.moved_blocks-delta.result (Ok tt) c.in_ok-admit_change.ensures.machine)
 
 pub returns-clause-fits : goal.returns-clause-fits
 returns-clause-fits g c = more_fits (g.D.Disk.shown c.args.disk.now) c.args.pool.now c.args.volume.now c.moved_blocks-delta.result 0 c.requires.ready c.requires.more (subst (λ (z : VolumeState). CanChange z.ledger c.moved_blocks-delta.result) c.count_removal.ensures.same c.moved_blocks-delta.ensures.fits) c.moved_blocks-delta.ensures.need (c.moved_blocks-delta.ensures.size ∙ ap (λ (z : VolumeState). z.ledger.size) c.count_removal.ensures.same) (c.moved_blocks-delta.ensures.kind ∙ ap (λ (z : VolumeState). z.ledger.kind) c.count_removal.ensures.same) (subst (λ (z : VolumeState). (l : Ledger) → IsChanged z.ledger c.moved_blocks-delta.result l → l.charge + l.need ≤ l.size) c.count_removal.ensures.same c.in_ok-admit_change.ensures.within)

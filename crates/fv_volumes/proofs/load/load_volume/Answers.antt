@@ -89,7 +89,7 @@ returns-clause-filled g c =
     let slots = slots_loaded l y c.in_ok-snapshots.snapshots m long c.in_ok-snapshots.ensures.said c.of_label-state.ensures.head same c.in_ok-map.ensures.used in
     record {
       state = labelled_from l c.in_ok-label.ensures.range long c.in_ok-label.ensures.form y c.args.slot c.of_label-state.ensures.laid.slot c.of_label-state.ensures.head c.of_label-state.ensures.ledger c.of_label-state.ensures.named (ap (λ (x : Volume). x.span) same ∙ c.in_ok-map.ensures.map ∙ sym c.of_label-state.ensures.span) slots c.of_label-state.ensures.rests.fresh;
-      counted = c.of_label-state.ensures.counted;
+      read = c.of_label-state.ensures.read;
       housed = has_container l y c.in_ok-container.container _ c.of_label-state.ensures.head c.in_ok-container.ensures.size c.put.ensures.there;
       parent = search rules;
     }

@@ -13,23 +13,26 @@ use Rattle.fv_aggregate.proofs.Asking.{asked_made, overheads_made, pending_made,
 use Rattle.fv_aggregate.proofs.session.Session.add.Goals as goal
 
 pub invariant_of-self-2 : goal.invariant_of-self-2
-invariant_of-self-2 c = λ fresh.
-    let was = c.self.invariant fresh in
-    let e = c.in_ok-create.ensures in
-    let slot = c.in_ok-create.field-0 in
-    let new = subst (λ (p : Pool). IsNew (state_at c.create.new.self slot) (container_at p.containers slot) c.args.name.now c.args.size c.args.kind) e.holes e.new in
-    subst (λ (p : Pool). FitTogether p c.create.new.self) (sym e.holes) (record {
-      range = was.range;
-      size = was.size;
-      housed = housed_with c.self.inside.pool c.self.inside.volumes c.create.new.self slot c.args.name.now c.args.size c.args.kind e.made new e.each was.housed;
-      kept = was.kept;
-    })
+invariant_of-self-2 c = (
+  λ fresh.
+      let was = c.self.invariant.0 fresh in
+      let e = c.in_ok-create.ensures in
+      let slot = c.in_ok-create.field-0 in
+      let new = subst (λ (p : Pool). IsNew (state_at c.create.new.self slot) (container_at p.containers slot) c.args.name.now c.args.size c.args.kind) e.holes e.new in
+      subst (λ (p : Pool). FitTogether p c.create.new.self) (sym e.holes) (record {
+        range = was.range;
+        size = was.size;
+        housed = housed_with c.self.inside.pool c.self.inside.volumes c.create.new.self slot c.args.name.now c.args.size c.args.kind e.made new e.each was.housed;
+        kept = was.kept;
+      }),
+  λ fresh. c.commits-self-inside.ensures.exact,
+)
 
 pub returns-clause-added : goal.returns-clause-added
 returns-clause-added c =
     let e = c.in_ok-create.ensures in
     let slot = c.in_ok-create.field-0 in
-    let long = (c.self.invariant (subst (λ (s : Session). IsNone s.failed) (sym c.self.view_is) c.requires.fresh)).housed.long in
+    let long = (c.self.invariant.0 (subst (λ (s : Session). IsNone s.failed) (sym c.self.view_is) c.requires.fresh)).housed.long in
     let room : c.args.room ≡ overhead (span_of c.args.size 0 0) = c.requires.room ∙ ap overhead c.requires.admitted.span_is in
     let asked : blocks_asked c.create.new.self ≤ blocks_asked c.self.inside.volumes + c.args.room =
     omega (arith, asked_made c.self.inside.volumes slot c.args.name.now c.args.size c.args.kind c.create.new.self long e.slot e.made e.each, room) in
@@ -43,7 +46,7 @@ returns-clause-added c =
       new_there = e.new;
       holes = e.holes;
       each = e.each;
-      fit = c.self.invariant (subst (λ (s : Session). IsNone s.failed) (sym c.self.view_is) c.requires.fresh);
+      fit = c.self.invariant.0 (subst (λ (s : Session). IsNone s.failed) (sym c.self.view_is) c.requires.fresh);
       long = long;
       asked = asked;
       overheads = omega (arith, overheads_made c.self.inside.volumes slot c.args.name.now c.args.size c.args.kind c.create.new.self long e.slot e.made, room);

@@ -134,29 +134,29 @@ returns-in-SnapList g c =
     let d = g.D.Disk.shown c.args.disk.now in
     let fresh : IsNone c.args.self.now.failed = subst (λ (k : Session). IsNone k.failed) c.self.view_is (subst IsNone (sym c.in_default.is) refl) in
     let reply = c.snapshots.new.into in
-    let long = subst (λ (k : Session). length k.volumes ≡ 64) c.self.view_is (c.self.invariant (subst IsNone (sym c.in_default.is) refl)).housed.long in
+    let long = subst (λ (k : Session). length k.volumes ≡ 64) c.self.view_is (c.self.invariant.0 (subst IsNone (sym c.in_default.is) refl)).housed.long in
     rests_answers c.args.command.now d c.args.disk.now c.args.self.now c.args.steps.now (g.met.D.Disk.laws c.args.disk.now) reply fresh (c.requires.stands fresh) (no_files c.args.command.now (ap volume_asked c.in-SnapList.is) (ap changed_by c.in-SnapList.is)) (snaps_no_point c.args.command.now c.in-SnapList.volume c.in-SnapList.is _) (snaps_room c.args.self.now.volumes c.args.command.now c.in-SnapList.volume c.in-SnapList.is)
     (snaps_after c.args.command.now c.in-SnapList.volume c.in-SnapList.is) (λ tells last m stands. snaps_replies c.args.command.now c.in-SnapList.volume c.in-SnapList.is d c.args.self.now long last m stands reply c.in_ok-snapshots-in-SnapList.ensures)
     (snaps_done c.args.command.now c.in-SnapList.volume c.in-SnapList.is d c.args.disk.now c.args.self.now reply c.in_ok-snapshots-in-SnapList.ensures)
 
 pub returns-in-VolDestroy : goal.returns-in-VolDestroy
 returns-in-VolDestroy g c =
-    own_applied (VolDestroy c.in-VolDestroy.volume) c.args.command.now c.in-VolDestroy.is (g.D.Disk.shown c.args.disk.now) (g.met.D.Disk.laws c.args.disk.now) c.args.disk.now _ c.args.self.now c.self.view_is c.in_default.is c.self.invariant c.requires.stands
+    own_applied (VolDestroy c.in-VolDestroy.volume) c.args.command.now c.in-VolDestroy.is (g.D.Disk.shown c.args.disk.now) (g.met.D.Disk.laws c.args.disk.now) c.args.disk.now _ c.args.self.now c.self.view_is c.in_default.is c.self.invariant.0 c.requires.stands
     c.args.steps.now c.destroy.new.self c.destroy.new.into c.destroy.ensures refl refl refl refl
 
 pub returns-in-VolResize : goal.returns-in-VolResize
 returns-in-VolResize g c =
-    own_applied (VolResize c.in-VolResize.volume c.in-VolResize.size) c.args.command.now c.in-VolResize.is (g.D.Disk.shown c.args.disk.now) (g.met.D.Disk.laws c.args.disk.now) c.args.disk.now _ c.args.self.now c.self.view_is c.in_default.is c.self.invariant c.requires.stands
+    own_applied (VolResize c.in-VolResize.volume c.in-VolResize.size) c.args.command.now c.in-VolResize.is (g.D.Disk.shown c.args.disk.now) (g.met.D.Disk.laws c.args.disk.now) c.args.disk.now _ c.args.self.now c.self.view_is c.in_default.is c.self.invariant.0 c.requires.stands
     c.args.steps.now c.resize.new.self c.resize.new.into c.resize.ensures refl refl refl refl
 
 pub returns-in-VolGuarantee : goal.returns-in-VolGuarantee
 returns-in-VolGuarantee g c =
-    own_applied (VolGuarantee c.in-VolGuarantee.volume c.in-VolGuarantee.kind) c.args.command.now c.in-VolGuarantee.is (g.D.Disk.shown c.args.disk.now) (g.met.D.Disk.laws c.args.disk.now) c.args.disk.now _ c.args.self.now c.self.view_is c.in_default.is c.self.invariant c.requires.stands
+    own_applied (VolGuarantee c.in-VolGuarantee.volume c.in-VolGuarantee.kind) c.args.command.now c.in-VolGuarantee.is (g.D.Disk.shown c.args.disk.now) (g.met.D.Disk.laws c.args.disk.now) c.args.disk.now _ c.args.self.now c.self.view_is c.in_default.is c.self.invariant.0 c.requires.stands
     c.args.steps.now c.guarantee.new.self c.guarantee.new.into c.guarantee.ensures refl refl refl refl
 
 pub returns-in-VolStat : goal.returns-in-VolStat
 returns-in-VolStat g c =
-    own_applied (VolStat c.in-VolStat.volume) c.args.command.now c.in-VolStat.is (g.D.Disk.shown c.args.disk.now) (g.met.D.Disk.laws c.args.disk.now) c.args.disk.now _ c.args.self.now c.self.view_is c.in_default.is c.self.invariant c.requires.stands
+    own_applied (VolStat c.in-VolStat.volume) c.args.command.now c.in-VolStat.is (g.D.Disk.shown c.args.disk.now) (g.met.D.Disk.laws c.args.disk.now) c.args.disk.now _ c.args.self.now c.self.view_is c.in_default.is c.self.invariant.0 c.requires.stands
     c.args.steps.now c.args.self.now c.stat.new.into c.stat.ensures refl refl refl refl
 
 pub resize-requires-clause-booked : goal.resize-requires-clause-booked

@@ -24,7 +24,7 @@ returns-in-Ok-clause-runs g c =
 
 pub returns-in-Ok-clause-reply : goal.returns-in-Ok-clause-reply
 returns-in-Ok-clause-reply g c = λ tells last m stands.
-    let long = ap (λ (s : Session). length s.volumes) (sym c.self.view_is) ∙ (c.self.invariant (subst (λ (s : Session). IsNone s.failed) (sym c.self.view_is) c.requires.fresh)).housed.long in
+    let long = ap (λ (s : Session). length s.volumes) (sym c.self.view_is) ∙ (c.self.invariant.0 (subst (λ (s : Session). IsNone s.failed) (sym c.self.view_is) c.requires.fresh)).housed.long in
     let a = c.in-Ok.admitted in
     let admits = subst (λ (s : Session). Admits s.volumes s.pool.found.blocks c.args.name.now c.args.size c.args.kind a.slot a.span) c.self.view_is c.in-Ok.ensures.admitted in
     done_allowed m c.args.name.now c.args.size c.args.kind (accepted_for (g.D.Disk.shown c.args.disk.now) c.args.self.now last m long stands c.args.name.now c.args.size c.args.kind a.slot a.span admits) (answer c.make.new.into c.make.result) c.make.ensures.reply
@@ -33,7 +33,7 @@ pub returns-in-Err-clause-runs : goal.returns-in-Err-clause-runs
 returns-in-Err-clause-runs g c =
     let d = g.D.Disk.shown c.args.disk.now in
     let s = c.args.self.now in
-    let long = ap (λ (s : Session). length s.volumes) (sym c.self.view_is) ∙ (c.self.invariant (subst (λ (s : Session). IsNone s.failed) (sym c.self.view_is) c.requires.fresh)).housed.long in
+    let long = ap (λ (s : Session). length s.volumes) (sym c.self.view_is) ∙ (c.self.invariant.0 (subst (λ (s : Session). IsNone s.failed) (sym c.self.view_is) c.requires.fresh)).housed.long in
     let r = c.in-Err.refusal in
     let why = subst (λ (s : Session). Refuses s.volumes s.pool.found.blocks c.args.name.now c.args.size c.args.kind r) c.self.view_is c.in-Err.ensures.why in
     subst (λ (z : Reply). Runs (overhead (span_of c.args.size 0 0)) (λ m. next m (VolCreate c.args.name.now c.args.size c.args.kind)) d s d s (Ok z)) (sym c.refuse.ensures) (record {
@@ -49,7 +49,7 @@ returns-in-Err-clause-holding g c = record { files = λ tells without. without; 
 
 pub returns-in-Err-clause-reply : goal.returns-in-Err-clause-reply
 returns-in-Err-clause-reply g c = λ tells last m stands.
-    let long = ap (λ (s : Session). length s.volumes) (sym c.self.view_is) ∙ (c.self.invariant (subst (λ (s : Session). IsNone s.failed) (sym c.self.view_is) c.requires.fresh)).housed.long in
+    let long = ap (λ (s : Session). length s.volumes) (sym c.self.view_is) ∙ (c.self.invariant.0 (subst (λ (s : Session). IsNone s.failed) (sym c.self.view_is) c.requires.fresh)).housed.long in
     let r = c.in-Err.refusal in
     let why = subst (λ (s : Session). Refuses s.volumes s.pool.found.blocks c.args.name.now c.args.size c.args.kind r) c.self.view_is c.in-Err.ensures.why in
     subst (Allows m (VolCreate c.args.name.now c.args.size c.args.kind)) (sym c.refuse.ensures) (refusal_allowed m c.args.name.now c.args.size c.args.kind r (refused_as (g.D.Disk.shown c.args.disk.now) c.args.self.now last m long stands c.args.name.now c.args.size c.args.kind r why))

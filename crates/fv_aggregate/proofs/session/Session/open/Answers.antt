@@ -4,7 +4,7 @@ use Rattle.fv_disk.specs.Shown.{Image}
 use Rattle.fv_image.specs.WholeMachine.{machine_of}
 use Rattle.fv_aggregate.specs.Causes.{OpenFails}
 use Rattle.fv_aggregate.proofs.Opened.{asks_result, opened_result, stands_result, without_files}
-use Rattle.fv_aggregate.proofs.Standing.{reads_whole}
+use Rattle.fv_disk.proofs.Reading.{reads_whole}
 use Rattle.fv_aggregate.proofs.Whole.{fails_result, whole_result}
 use Rattle.fv_aggregate.proofs.session.Session.open.Goals as goal
 

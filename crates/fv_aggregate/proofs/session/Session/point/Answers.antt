@@ -7,6 +7,7 @@ use Rattle.fv_cp.specs.Settling.{IsNoDamage, WholeCounts}
 use Rattle.fv_aggregate.specs.declared.fault.Fault.TheVariants as session
 use Rattle.fv_aggregate.specs.declared.session.Session.{Session}
 use Rattle.fv_aggregate.specs.Standing.{StandsFor}
+use Rattle.fv_aggregate.proofs.Commits.{commits_kept}
 use Rattle.fv_aggregate.proofs.Keeping.{keeps_core}
 use Rattle.fv_aggregate.proofs.PointEnds.{done_asks, failed_asks, fails_as, has_full_room, point_done, point_failed_for, point_is, point_lacks, point_moments, point_sides, point_wanting, pointed_left, room_pointed, stands_pointed, stayed, still_as, still_asks, still_for, still_wants}
 use Rattle.fv_aggregate.proofs.Pointed.{entries_behind}
@@ -60,29 +61,38 @@ returns-in-Err-DiskFault-clause-asks g c =
     let counts : WholeCounts old new (Err DiskFault) = rw e.field-0-is at e.ensures.counts in
     failed_asks old c.args.self.now new _ new.faults (c.failure-self-inside.ensures.failed (subst (λ (n : ℕ). Rose n new.write_faults) (sym c.write_faults-before.ensures) counts.cause.1))
 
+pub invariant_of-self : goal.invariant_of-self
+invariant_of-self g c = (λ fresh. c.in-Ok.ensures.goes_on.fit, λ fresh. c.self.invariant.1 fresh ∙ sym (commits_kept c.self.inside.volumes c.full_point.new.volumes c.in-Ok.ensures.goes_on.cores))
+
 pub invariant_of-self-in-Err-Damaged : goal.invariant_of-self-in-Err-Damaged
-invariant_of-self-in-Err-Damaged g c = λ fresh.
-    let e = c.in-Err-Damaged in
-    (still_as (g.D.Disk.shown c.args.disk.now) c.self.inside.pool c.self.inside.volumes (g.D.Disk.shown c.full_point.new.disk) c.full_point.new.pool c.full_point.new.volumes _ _ e.field-0-is e.ensures.still).placed.fit
+invariant_of-self-in-Err-Damaged g c = (
+  λ fresh.
+      let e = c.in-Err-Damaged in
+      (still_as (g.D.Disk.shown c.args.disk.now) c.self.inside.pool c.self.inside.volumes (g.D.Disk.shown c.full_point.new.disk) c.full_point.new.pool c.full_point.new.volumes _ _ e.field-0-is e.ensures.still).placed.fit,
+  λ fresh. c.self.invariant.1 fresh ∙ sym (commits_kept c.self.inside.volumes c.full_point.new.volumes (still_as (g.D.Disk.shown c.args.disk.now) c.self.inside.pool c.self.inside.volumes (g.D.Disk.shown c.full_point.new.disk) c.full_point.new.pool c.full_point.new.volumes _ _ c.in-Err-Damaged.field-0-is c.in-Err-Damaged.ensures.still).placed.cores),
+)
 
 pub invariant_of-self-in-Err-Memory : goal.invariant_of-self-in-Err-Memory
-invariant_of-self-in-Err-Memory g c = λ fresh.
-    let e = c.in-Err-Memory in
-    (still_as (g.D.Disk.shown c.args.disk.now) c.self.inside.pool c.self.inside.volumes (g.D.Disk.shown c.full_point.new.disk) c.full_point.new.pool c.full_point.new.volumes _ _ e.field-0-is e.ensures.still).placed.fit
+invariant_of-self-in-Err-Memory g c = (
+  λ fresh.
+      let e = c.in-Err-Memory in
+      (still_as (g.D.Disk.shown c.args.disk.now) c.self.inside.pool c.self.inside.volumes (g.D.Disk.shown c.full_point.new.disk) c.full_point.new.pool c.full_point.new.volumes _ _ e.field-0-is e.ensures.still).placed.fit,
+  λ fresh. c.self.invariant.1 fresh ∙ sym (commits_kept c.self.inside.volumes c.full_point.new.volumes (still_as (g.D.Disk.shown c.args.disk.now) c.self.inside.pool c.self.inside.volumes (g.D.Disk.shown c.full_point.new.disk) c.full_point.new.pool c.full_point.new.volumes _ _ c.in-Err-Memory.field-0-is c.in-Err-Memory.ensures.still).placed.cores),
+)
 
 pub returns-in-Err-Damaged-clause-goes : goal.returns-in-Err-Damaged-clause-goes
 returns-in-Err-Damaged-clause-goes g c =
     let e = c.in-Err-Damaged in
     point_lacks (g.D.Disk.shown c.args.disk.now) c.args.self.now (g.D.Disk.shown c.full_point.new.disk) _
     (stayed (g.D.Disk.shown c.args.disk.now) _ c.args.self.now c.self.view_is (g.D.Disk.shown c.full_point.new.disk) c.full_point.new.pool c.full_point.new.volumes c.full_point.new.delays e.ensures.delays _ _ e.field-0-is e.ensures.still (λ is. is))
-    e.at e.want e.found c.requires.fresh c.requires.stands (rw e.field-0-is at e.ensures.counts) (fails_as _ _ c.self.view_is c.full_point.new.pool c.full_point.new.volumes _ _ e.field-0-is e.ensures.fails)
+    e.at e.want e.found c.requires.fresh c.requires.stands (rw e.field-0-is at e.ensures.counts) (fails_as (g.D.Disk.shown c.args.disk.now) _ _ c.self.view_is c.full_point.new.pool c.full_point.new.volumes _ _ e.field-0-is e.ensures.fails)
 
 pub returns-in-Err-Damaged-clause-damage : goal.returns-in-Err-Damaged-clause-damage
 returns-in-Err-Damaged-clause-damage g c =
     let e = c.in-Err-Damaged in
     still_wants (g.D.Disk.shown c.args.disk.now) c.args.self.now (g.D.Disk.shown c.full_point.new.disk) _
     (stayed (g.D.Disk.shown c.args.disk.now) _ c.args.self.now c.self.view_is (g.D.Disk.shown c.full_point.new.disk) c.full_point.new.pool c.full_point.new.volumes c.full_point.new.delays e.ensures.delays _ _ e.field-0-is e.ensures.still (λ is. is))
-    e.at e.want e.found c.requires.fresh c.requires.stands (fails_as _ _ c.self.view_is c.full_point.new.pool c.full_point.new.volumes _ _ e.field-0-is e.ensures.fails)
+    e.at e.want e.found c.requires.fresh c.requires.stands (fails_as (g.D.Disk.shown c.args.disk.now) _ _ c.self.view_is c.full_point.new.pool c.full_point.new.volumes _ _ e.field-0-is e.ensures.fails)
 
 pub returns-in-Err-Damaged-clause-asks : goal.returns-in-Err-Damaged-clause-asks
 returns-in-Err-Damaged-clause-asks g c = let e = c.in-Err-Damaged in
@@ -115,7 +125,7 @@ returns-in-Err-Memory-clause-asks g c = let e = c.in-Err-Memory in
 pub returns-in-Err-Memory-clause-kept : goal.returns-in-Err-Memory-clause-kept
 returns-in-Err-Memory-clause-kept g c = λ tells last m stands fresh.
     let e = c.in-Err-Memory in
-    let long = ap (λ (s : Session). length s.volumes) (sym c.self.view_is) ∙ (c.self.invariant (subst (λ (s : Session). IsNone s.failed) (sym c.self.view_is) c.requires.fresh)).housed.long in
+    let long = ap (λ (s : Session). length s.volumes) (sym c.self.view_is) ∙ (c.self.invariant.0 (subst (λ (s : Session). IsNone s.failed) (sym c.self.view_is) c.requires.fresh)).housed.long in
     still_for (g.D.Disk.shown c.args.disk.now) c.args.self.now (g.D.Disk.shown c.full_point.new.disk) _
     (stayed (g.D.Disk.shown c.args.disk.now) _ c.args.self.now c.self.view_is (g.D.Disk.shown c.full_point.new.disk) c.full_point.new.pool c.full_point.new.volumes c.full_point.new.delays e.ensures.delays _ _ e.field-0-is e.ensures.still (λ is. is))
     last m long stands
@@ -165,7 +175,7 @@ returns-in-Ok-clause-points g c =
           let fresh = subst (λ (s : Session). IsNone s.failed) (sym c.self.view_is) c.requires.fresh in
           let was = ap (λ (s : Session). s.volumes) c.self.view_is in
           pointed_left (g.D.Disk.shown c.args.disk.now) c.args.self.now (g.D.Disk.shown c.full_point.new.disk) (record { volumes = c.full_point.new.volumes; pool = c.full_point.new.pool; delays = c.full_point.new.delays; pending = 0; failed = c.self.inside.failed })
-          c.self.inside.pool c.self.inside.volumes refl (ap (λ (s : Session). s.pool) c.self.view_is) was (sym (ap (λ (v : States). length v) was) ∙ (c.self.invariant fresh).housed.long) e.goes_on;
+          c.self.inside.pool c.self.inside.volumes refl (ap (λ (s : Session). s.pool) c.self.view_is) was (sym (ap (λ (v : States). length v) was) ∙ (c.self.invariant.0 fresh).housed.long) e.goes_on;
     }
 
 pub returns-in-Err-DiskFault-clause-points : goal.returns-in-Err-DiskFault-clause-points
@@ -186,7 +196,7 @@ returns-in-Err-Damaged-clause-points g c = record {
 
 pub returns-in-Err-Memory-clause-points : goal.returns-in-Err-Memory-clause-points
 returns-in-Err-Memory-clause-points g c = record {
-  memory = λ none. absurd (fails_as _ _ c.self.view_is c.full_point.new.pool c.full_point.new.volumes _ _ c.in-Err-Memory.field-0-is c.in-Err-Memory.ensures.fails none);
+  memory = λ none. absurd (fails_as (g.D.Disk.shown c.args.disk.now) _ _ c.self.view_is c.full_point.new.pool c.full_point.new.volumes _ _ c.in-Err-Memory.field-0-is c.in-Err-Memory.ensures.fails none);
   point = λ tells last m stands. tt;
   left = tt;
   sides = λ tells. point_sides (g.D.Disk.shown c.args.disk.now) (g.D.Disk.shown c.full_point.new.disk) _ _ c.self.view_is (c.in-Err-Memory.ensures.any_moment tells);

@@ -1,6 +1,9 @@
-use Rattle.std.proofs.Common.{ap, subst, ◌∙◌}
+use Rattle.std.proofs.Common.{sym, ap, subst, ◌∙◌}
+use Rattle.fv_charge.specs.Ledgers.{committed}
+use Rattle.fv_volume.specs.declared.state.VolumeState.{VolumeState}
 use Rattle.fv_aggregate.specs.declared.session.Session.{Session}
 use Rattle.fv_aggregate.specs.Known.{KnowsNumbers}
+use Rattle.fv_aggregate.proofs.Commits.{commits_same}
 use Rattle.fv_aggregate.proofs.NumbersRead.{done_lent, failed_lent, fit_numbered, knows_lent}
 use Rattle.fv_aggregate.proofs.Returned.{breaks_beside, lent_there, ready_lent, volumes_lent}
 use Rattle.fv_aggregate.proofs.session.Session.read_numbers.Goals as goal
@@ -9,28 +12,36 @@ pub read_numbers-read-requires : goal.read_numbers-read-requires
 read_numbers-read-requires g c = record { ready = ready_lent (g.D.Disk.shown c.args.disk.now) _ _ c.self.view_is c.requires.stands c.args.slot c.volume_at-state.result.now c.volume_at-state.ensures.state }
 
 pub invariant_of-self : goal.invariant_of-self
-invariant_of-self g c = λ none.
-    let said = c.read_numbers-read.ensures in
-    fit_numbered (g.D.Disk.shown c.args.disk.now) (g.D.Disk.shown c.read_numbers-read.new.disk) c.self.inside.pool c.read_numbers-read.new.pool c.self.inside.volumes c.args.slot c.volume_at-state.result.now
-    c.read_numbers-read.new.self c.volume_at-state.ensures.state said.reads said.same said.ready (c.self.invariant none)
+invariant_of-self g c = (
+  λ none.
+      let said = c.read_numbers-read.ensures in
+      fit_numbered (g.D.Disk.shown c.args.disk.now) (g.D.Disk.shown c.read_numbers-read.new.disk) c.self.inside.pool c.read_numbers-read.new.pool c.self.inside.volumes c.args.slot c.volume_at-state.result.now
+      c.read_numbers-read.new.self c.volume_at-state.ensures.state said.reads said.same said.ready (c.self.invariant.0 none),
+  λ none.
+      c.self.invariant.1 none ∙ sym (commits_same c.self.inside.volumes (c.self.invariant.0 none).housed.long c.args.slot c.volume_at-state.result.now c.read_numbers-read.new.self c.volume_at-state.ensures.state (ap (λ (z : VolumeState). committed z.ledger) c.read_numbers-read.ensures.same)),
+)
 
 pub invariant_of-self-in-Err : goal.invariant_of-self-in-Err
-invariant_of-self-in-Err g c = λ none.
-    let said = c.read_numbers-read.ensures in
-    fit_numbered (g.D.Disk.shown c.args.disk.now) (g.D.Disk.shown c.read_numbers-read.new.disk) c.self.inside.pool c.read_numbers-read.new.pool c.self.inside.volumes c.args.slot c.volume_at-state.result.now
-    c.read_numbers-read.new.self c.volume_at-state.ensures.state said.reads said.same said.ready (c.self.invariant none)
+invariant_of-self-in-Err g c = (
+  λ none.
+      let said = c.read_numbers-read.ensures in
+      fit_numbered (g.D.Disk.shown c.args.disk.now) (g.D.Disk.shown c.read_numbers-read.new.disk) c.self.inside.pool c.read_numbers-read.new.pool c.self.inside.volumes c.args.slot c.volume_at-state.result.now
+      c.read_numbers-read.new.self c.volume_at-state.ensures.state said.reads said.same said.ready (c.self.invariant.0 none),
+  λ none.
+      c.self.invariant.1 none ∙ sym (commits_same c.self.inside.volumes (c.self.invariant.0 none).housed.long c.args.slot c.volume_at-state.result.now c.read_numbers-read.new.self c.volume_at-state.ensures.state (ap (λ (z : VolumeState). committed z.ledger) c.read_numbers-read.ensures.same)),
+)
 
 pub returns-in-Ok-clause-numbered : goal.returns-in-Ok-clause-numbered
 returns-in-Ok-clause-numbered g c =
     let said = c.read_numbers-read.ensures in
-    done_lent (g.D.Disk.shown c.args.disk.now) (g.D.Disk.shown c.read_numbers-read.new.disk) (g.met.D.Disk.laws c.args.disk.now) _ _ c.self.view_is c.self.invariant c.requires.fresh c.requires.stands c.read_numbers-read.new.pool
+    done_lent (g.D.Disk.shown c.args.disk.now) (g.D.Disk.shown c.read_numbers-read.new.disk) (g.met.D.Disk.laws c.args.disk.now) _ _ c.self.view_is c.self.invariant.0 c.requires.fresh c.requires.stands c.read_numbers-read.new.pool
     c.args.slot c.volume_at-state.result.now c.read_numbers-read.new.self c.volume_at-state.ensures.state
     (record { reads = said.reads; there = c.in-Ok.ensures.there; same = said.same; idle = λ known. (said.idle known).1.1; standing = said.standing; ready = said.ready; cause = c.in-Ok.ensures.cause })
 
 pub returns-in-Err-clause-numbered : goal.returns-in-Err-clause-numbered
 returns-in-Err-clause-numbered g c =
     let said = c.read_numbers-read.ensures in
-    failed_lent (g.D.Disk.shown c.args.disk.now) (g.D.Disk.shown c.read_numbers-read.new.disk) (g.met.D.Disk.laws c.args.disk.now) _ _ c.self.view_is c.self.invariant c.requires.fresh c.requires.stands c.read_numbers-read.new.pool
+    failed_lent (g.D.Disk.shown c.args.disk.now) (g.D.Disk.shown c.read_numbers-read.new.disk) (g.met.D.Disk.laws c.args.disk.now) _ _ c.self.view_is c.self.invariant.0 c.requires.fresh c.requires.stands c.read_numbers-read.new.pool
     c.args.slot c.volume_at-state.result.now c.read_numbers-read.new.self c.volume_at-state.ensures.state c.in-Err.fault
     (record { reads = said.reads; there = tt; same = said.same; idle = λ known. (said.idle known).1.1; standing = said.standing; ready = said.ready; cause = c.in-Err.ensures.cause })
     c.from.result c.from.ensures c.fault_of.new.self c.fault_of.result c.fault_of.ensures
@@ -38,7 +49,7 @@ returns-in-Err-clause-numbered g c =
 pub returns-in-Ok-clause-there : goal.returns-in-Ok-clause-there
 returns-in-Ok-clause-there g c =
     let said = c.read_numbers-read.ensures in
-    knows_lent (g.D.Disk.shown c.args.disk.now) (g.D.Disk.shown c.read_numbers-read.new.disk) (g.met.D.Disk.laws c.args.disk.now) _ _ c.self.view_is c.self.invariant c.requires.fresh c.requires.stands c.read_numbers-read.new.pool
+    knows_lent (g.D.Disk.shown c.args.disk.now) (g.D.Disk.shown c.read_numbers-read.new.disk) (g.met.D.Disk.laws c.args.disk.now) _ _ c.self.view_is c.self.invariant.0 c.requires.fresh c.requires.stands c.read_numbers-read.new.pool
     c.args.slot c.volume_at-state.result.now c.read_numbers-read.new.self c.volume_at-state.ensures.state said.reads said.same said.ready c.in-Ok.ensures.there
 
 pub returns-in-Ok-clause-idle : goal.returns-in-Ok-clause-idle

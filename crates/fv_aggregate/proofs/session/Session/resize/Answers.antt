@@ -3,9 +3,12 @@ use Rattle.fv_aggregate.proofs.Resized.{fit_resized, promised_by}
 use Rattle.fv_aggregate.proofs.session.Session.resize.Goals as goal
 
 pub returns : goal.returns
-returns c = promised_by _ _ c.self.view_is (VolResize c.args.volume.now c.args.size) c.args.volume.now (λ x. c.args.size) (λ x. x.kind) c.resize.new.self c.resize.result c.resize.ensures _ c.tell.ensures
+returns c = promised_by _ _ c.self.view_is (VolResize c.args.volume.now c.args.size) c.args.volume.now (λ x. c.args.size) (λ x. x.kind) c.resize-made.new.self c.resize-made.result c.resize-made.ensures _ c.tell.ensures
 
 pub invariant_of-self : goal.invariant_of-self
-invariant_of-self c = λ fresh.
-    fit_resized (record { volumes = c.self.inside.volumes; pool = c.self.inside.pool; delays = c.self.inside.delays; pending = c.self.inside.pending; failed = c.self.inside.failed })
-    (VolResize c.args.volume.now c.args.size) c.args.volume.now (λ x. c.args.size) (λ x. x.kind) c.resize.new.self (c.self.invariant fresh) c.resize.result c.resize.ensures
+invariant_of-self c = (
+  λ fresh.
+      fit_resized (record { volumes = c.self.inside.volumes; pool = c.self.inside.pool; delays = c.self.inside.delays; pending = c.self.inside.pending; failed = c.self.inside.failed })
+      (VolResize c.args.volume.now c.args.size) c.args.volume.now (λ x. c.args.size) (λ x. x.kind) c.resize-made.new.self (c.self.invariant.0 fresh) c.resize-made.result c.resize-made.ensures,
+  λ fresh. c.commits-self-inside.ensures.exact,
+)

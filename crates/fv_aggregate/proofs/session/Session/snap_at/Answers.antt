@@ -1,12 +1,12 @@
-use Rattle.std.proofs.Common.{◌≡◌, ◌-◌, length, Ok, Some, Err, Option, sym, subst}
+use Rattle.std.proofs.Common.{◌≡◌, length, Ok, Some, Err, Option, sym, subst}
 use Rattle.std.specs.Prelude.{IsNone}
 use Rattle.fv_model.specs.declared.answers.Reply.{Reply}
 use Rattle.fv_volume.specs.declared.state.VolumeState.{VolumeState}
-use Rattle.fv_volume.specs.Slots.{committed_by, sum_of}
 use Rattle.fv_volume.specs.States.{state_at}
 use Rattle.fv_aggregate.specs.declared.session.Session.{Session}
 use Rattle.fv_aggregate.specs.Looking.{HasSnapped}
 use Rattle.fv_aggregate.specs.Snapping.{HasGrant, JudgesSnap}
+use Rattle.fv_aggregate.proofs.Commits.{commits_most}
 use Rattle.fv_aggregate.proofs.Returned.{same_there}
 use Rattle.fv_aggregate.specs.Commands.{room_by}
 use Rattle.fv_aggregate.specs.Reclaiming.{MakesRoom}
@@ -15,6 +15,11 @@ use Rattle.fv_aggregate.proofs.SnapLost.{judged_needs, needs_none}
 use Rattle.fv_aggregate.proofs.SnapDone.{refused_snapped}
 use Rattle.fv_aggregate.proofs.SnapRoom.{grant_given, refused_given}
 use Rattle.fv_aggregate.proofs.session.Session.snap_at.Goals as goal
+
+pub commits_beside-others-requires-clause-few : goal.commits_beside-others-requires-clause-few
+commits_beside-others-requires-clause-few g c =
+    let fresh = subst (λ (n : Session). IsNone n.failed) (sym c.self.view_is) c.requires.fresh in
+    commits_most (g.D.Disk.shown c.args.disk.now) c.args.self.now.pool c.args.self.now.volumes (subst (λ (n : Session). length n.volumes ≡ 64) c.self.view_is (c.self.invariant.0 fresh).housed.long) c.requires.stands.ready
 
 pub snap_with-requires-clause-granted : goal.snap_with-requires-clause-granted
 snap_with-requires-clause-granted g c =
@@ -36,8 +41,8 @@ returns-in-Err g c =
     let x = c.volume_in-state.result.now in
     let there : state_at s.volumes slot ≡ Some x = subst (λ (n : Session). state_at n.volumes slot ≡ Some x) c.self.view_is c.volume_in-state.ensures in
     let fresh = subst (λ (n : Session). IsNone n.failed) (sym c.self.view_is) c.requires.fresh in
-    let long = subst (λ (n : Session). length n.volumes ≡ 64) c.self.view_is (c.self.invariant fresh).housed.long in
-    let others = subst (λ (n : Session). c.commits_beside-others.result ≡ sum_of n.volumes - committed_by (state_at n.volumes slot)) c.self.view_is c.commits_beside-others.ensures.sum in
+    let long = subst (λ (n : Session). length n.volumes ≡ 64) c.self.view_is (c.self.invariant.0 fresh).housed.long in
+    let others = c.commits_beside-others.ensures.sum in
     let said = subst (λ (n : Session). JudgesSnap x n.pool.found.blocks c.commits_beside-others.result command (Err c.in-Err.refusal)) c.self.view_is c.in-Err.ensures in
     record {
       snapped = subst (λ (z : Reply). HasSnapped d c.args.disk.now s command d c.args.disk.now s (Ok z)) (sym c.refuse.ensures) (refused_snapped d c.args.disk.now (g.met.D.Disk.laws c.args.disk.now) s c.requires.fresh c.requires.stands command c.in-Err.refusal

@@ -1,4 +1,4 @@
-use Rattle.std.proofs.Common.{◌≡◌, ◌≤◌, ◌+◌, ◌-◌, ◌⊎◌, cond, Option, Some, sym, ap, subst, ◌∙◌}
+use Rattle.std.proofs.Common.{◌≡◌, ◌≤◌, ◌+◌, ◌-◌, ◌⊎◌, ℕ, cond, Option, Some, sym, ap, subst, ◌∙◌}
 use Rattle.std.specs.Prelude.{IsNone}
 use Rattle.std.specs.Result.{is_ok}
 use Rattle.fv_model.specs.declared.answers.Reply.{Reply}
@@ -12,6 +12,7 @@ use Rattle.fv_aggregate.specs.Looking.{IsSnapAimed}
 use Rattle.fv_volume.specs.declared.state.VolumeState.{VolumeState}
 use Rattle.fv_volume.specs.States.{with_state}
 use Rattle.fv_aggregate.specs.Snapping.{HasGrant}
+use Rattle.fv_aggregate.proofs.Commits.{commits_with}
 use Rattle.fv_aggregate.proofs.Returned.{ready_lent, same_there}
 use Rattle.fv_aggregate.specs.Standing.{Stands}
 use Rattle.fv_aggregate.proofs.SnapDone.{IsCarried}
@@ -35,20 +36,32 @@ change_snaps-made-requires-clause-granted g c =
     subst (λ (o : Option VolumeState). HasGrant o c.self.inside.pool.found.blocks c.args.others c.args.command.now c.args.granted) c.volume_at-state.ensures.state grant
 
 pub invariant_of-self : goal.invariant_of-self
-invariant_of-self g c = λ none.
-    let v : Session = record { volumes = c.self.inside.volumes; pool = c.self.inside.pool; delays = c.self.inside.delays; pending = c.self.inside.pending; failed = c.self.inside.failed } in
-    let x = c.volume_at-state.result.now in
-    let aimed = subst (λ (n : Session). IsSnapAimed n.volumes c.args.slot c.args.command.now) (sym c.self.view_is) c.requires.aimed in
-    let of : snapped_by c.args.command.now ≡ Some x.name = aimed.snaps ∙ ap (λ (z : VolumeState). Some z.name) (same_there _ _ _ aimed.there c.volume_at-state.ensures.state) in
-    fits_after (g.D.Disk.shown c.args.disk.now) v (c.self.invariant none) c.args.slot c.args.command.now x c.volume_at-state.ensures.state of c.args.others c.change_snaps-made.new.pool c.change_snaps-made.new.state c.change_snaps-made.ensures.ready c.change_snaps-made.result c.change_snaps-made.ensures.snaps
+invariant_of-self g c = (
+  λ none.
+      let v : Session = record { volumes = c.self.inside.volumes; pool = c.self.inside.pool; delays = c.self.inside.delays; pending = c.self.inside.pending; failed = c.self.inside.failed } in
+      let x = c.volume_at-state.result.now in
+      let aimed = subst (λ (n : Session). IsSnapAimed n.volumes c.args.slot c.args.command.now) (sym c.self.view_is) c.requires.aimed in
+      let of : snapped_by c.args.command.now ≡ Some x.name = aimed.snaps ∙ ap (λ (z : VolumeState). Some z.name) (same_there _ _ _ aimed.there c.volume_at-state.ensures.state) in
+      fits_after (g.D.Disk.shown c.args.disk.now) v (c.self.invariant.0 none) c.args.slot c.args.command.now x c.volume_at-state.ensures.state of c.args.others c.change_snaps-made.new.pool c.change_snaps-made.new.state c.change_snaps-made.ensures.ready c.change_snaps-made.result c.change_snaps-made.ensures.snaps,
+  λ none.
+      ap (λ (n : ℕ). c.args.others + n) c.commit.ensures.exact
+      ∙ commits_with c.self.inside.volumes (c.self.invariant.0 none).housed.long c.args.slot c.volume_at-state.result.now c.change_snaps-made.new.state c.volume_at-state.ensures.state c.args.others
+      (subst (λ (n : Session). c.args.others ≡ sum_of n.volumes - committed_by (state_at n.volumes c.args.slot)) (sym c.self.view_is) c.requires.others),
+)
 
 pub invariant_of-self-else-is_ok : goal.invariant_of-self-else-is_ok
-invariant_of-self-else-is_ok g c = λ none.
-    let v : Session = record { volumes = c.self.inside.volumes; pool = c.self.inside.pool; delays = c.self.inside.delays; pending = c.self.inside.pending; failed = c.self.inside.failed } in
-    let x = c.volume_at-state.result.now in
-    let aimed = subst (λ (n : Session). IsSnapAimed n.volumes c.args.slot c.args.command.now) (sym c.self.view_is) c.requires.aimed in
-    let of : snapped_by c.args.command.now ≡ Some x.name = aimed.snaps ∙ ap (λ (z : VolumeState). Some z.name) (same_there _ _ _ aimed.there c.volume_at-state.ensures.state) in
-    fits_after (g.D.Disk.shown c.args.disk.now) v (c.self.invariant none) c.args.slot c.args.command.now x c.volume_at-state.ensures.state of c.args.others c.change_snaps-made.new.pool c.change_snaps-made.new.state c.change_snaps-made.ensures.ready c.change_snaps-made.result c.change_snaps-made.ensures.snaps
+invariant_of-self-else-is_ok g c = (
+  λ none.
+      let v : Session = record { volumes = c.self.inside.volumes; pool = c.self.inside.pool; delays = c.self.inside.delays; pending = c.self.inside.pending; failed = c.self.inside.failed } in
+      let x = c.volume_at-state.result.now in
+      let aimed = subst (λ (n : Session). IsSnapAimed n.volumes c.args.slot c.args.command.now) (sym c.self.view_is) c.requires.aimed in
+      let of : snapped_by c.args.command.now ≡ Some x.name = aimed.snaps ∙ ap (λ (z : VolumeState). Some z.name) (same_there _ _ _ aimed.there c.volume_at-state.ensures.state) in
+      fits_after (g.D.Disk.shown c.args.disk.now) v (c.self.invariant.0 none) c.args.slot c.args.command.now x c.volume_at-state.ensures.state of c.args.others c.change_snaps-made.new.pool c.change_snaps-made.new.state c.change_snaps-made.ensures.ready c.change_snaps-made.result c.change_snaps-made.ensures.snaps,
+  λ none.
+      ap (λ (n : ℕ). c.args.others + n) c.commit.ensures.exact
+      ∙ commits_with c.self.inside.volumes (c.self.invariant.0 none).housed.long c.args.slot c.volume_at-state.result.now c.change_snaps-made.new.state c.volume_at-state.ensures.state c.args.others
+      (subst (λ (n : Session). c.args.others ≡ sum_of n.volumes - committed_by (state_at n.volumes c.args.slot)) (sym c.self.view_is) c.requires.others),
+)
 
 pub returns : goal.returns
 returns g c =
@@ -73,7 +86,7 @@ returns g c =
       | then-is_ok w ↦ w.self-is ∙ (λ j. record v { volumes = with_state v.volumes slot (Some y); pool = q; pending = cond (w.if-is_ok.ensures.value j) (v.pending + room) v.pending })
       | else-is_ok w ↦ w.self-is ∙ (λ j. record v { volumes = with_state v.volumes slot (Some y); pool = q; pending = cond (w.if-is_ok.ensures.value j) (v.pending + room) v.pending })
     ] in
-    let carried = carried_now d c.args.disk.now (g.met.D.Disk.laws c.args.disk.now) v fresh stands (c.self.invariant fresh) slot command aimed x c.volume_at-state.ensures.state of c.args.others others c.args.granted few grant
+    let carried = carried_now d c.args.disk.now (g.met.D.Disk.laws c.args.disk.now) v fresh stands (c.self.invariant.0 fresh) slot command aimed x c.volume_at-state.ensures.state of c.args.others others c.args.granted few grant
     q y c.change_snaps-made.ensures.ready r c.change_snaps-made.ensures.snaps c.if-is_ok.self before (answer c.done.new.into c.change_snaps-made.result) (ap (λ (z : Reply). answer z c.change_snaps-made.result) c.done.ensures) c.replied.new.self (answer c.replied.new.into c.replied.result) c.replied.ensures in
     let it = subst (λ (n : Session). IsCarried d c.args.disk.now n command room c.replied.new.self (answer c.replied.new.into c.replied.result)) c.self.view_is carried in
     let needs = needs_now v slot x c.volume_at-state.ensures.state aimed.within (subst (λ (z : VolumeState). HasName v.volumes slot z.name) (same_there _ _ _ aimed.there c.volume_at-state.ensures.state) aimed.named) command

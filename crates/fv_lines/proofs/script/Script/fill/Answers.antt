@@ -15,8 +15,8 @@ returns-then-self-clause-fills g c =
     let laws = g.met.H.Disk.laws c.args.host.now in
     let s = c.self.inside in
     subst (λ (held : Held). Fills held host held host (Ok tt)) c.self.view_is (elim c.then-self.branch [
-      | then-self-via-then-self w ↦ held_still s.from s.to s.start s.end s.room s.bytes s.closed s.ended host laws (omega (arith, w.if-self.true)) (omega (arith, c.self.invariant.3, c.self.told))
-      | then-self-via-else-self+then-self-2 w ↦ over _ host laws w.if-self-2.true
+      | then-self-via-then-self w ↦ held_still s.from s.to s.start s.end s.room s.bytes s.closed s.ended host laws (omega (arith, w.if-self.true)) (omega (arith, c.self.invariant.3, c.self.told)) c.self.invariant.6
+      | then-self-via-else-self+then-self-2 w ↦ over _ host laws w.if-self-2.true (none_between s.start s.end s.bytes (omega (arith, c.self.invariant.4 w.if-self-2.true)))
     ])
 
 pub returns-in_err-count-clause-fills : goal.returns-in_err-count-clause-fills

@@ -7,10 +7,10 @@ use Rattle.fv_pool.specs.Lending.{lent_for, no_damage, sees}
 use Rattle.fv_pool.specs.LendingLaws.{goes_itself}
 use Rattle.fv_volume.specs.OneVolume.{home_in, IsStanding}
 use Rattle.fv_pool.specs.Placing.{FlushFails}
-use Rattle.fv_volume.specs.Placing.{PlacesVolume}
+use Rattle.fv_volume.specs.Placing.{PlacesVolume, TellsSound}
 use Rattle.fv_volume.proofs.OneVolumes.{root_fits}
 use Rattle.fv_pool.proofs.PlaceCauses.{fault_cause, place_narrow}
-use Rattle.fv_volume.proofs.Placed.{done_led, done_standing, done_volume, done_well, failed_led, failed_standing, failed_volume, failed_well, few_rooted, fits_done, fits_failed, fits_rooted, pending_held, ready_placed, was_told}
+use Rattle.fv_volume.proofs.Placed.{done_led, done_standing, done_volume, done_well, failed_led, failed_standing, failed_volume, failed_well, few_rooted, fits_done, fits_failed, fits_rooted, pending_held, ready_placed, sound_told, was_told}
 use Rattle.fv_volume.proofs.PlacedShared.{was_laid}
 use Rattle.fv_volume.proofs.state.VolumeState.flush.Goals as goal
 
@@ -91,8 +91,14 @@ returns-in-Err-clause-cause g c =
     let files = c.in-Some.files in let held : x.files ≡ Some files = search rules in
     let room = c.place_table.new.room in
     let old = lent_for p x.map d 0 (home_in x) c.args.room.now in
-    subst (FlushFails (IsStanding d p x) old room) (sym c.into.ensures)
-    (fault_cause (IsStanding d p x) old room c.in-Err.fault (place_narrow (IsStanding d p x) _ (was_told d p x files held) old room c.in-Err.fault c.in-Err.ensures.cause))
+    subst (FlushFails (TellsSound d p x) old room) (sym c.into.ensures)
+    (fault_cause (TellsSound d p x) old room c.in-Err.fault (place_narrow (TellsSound d p x) _ (sound_told d p x files held) old room c.in-Err.fault c.in-Err.ensures.cause))
+
+pub returns-in-Err-clause-enough : goal.returns-in-Err-clause-enough
+returns-in-Err-clause-enough g c = λ told enough.
+    let d = g.D.Disk.shown c.args.disk.now in let p = c.args.pool.now in let x = c.args.self.now in
+    let files = c.in-Some.files in let held : x.files ≡ Some files = search rules in
+    c.into.ensures ∙ ap of_block (c.in-Err.ensures.room.enough (sound_told d p x files held told) (pending_held x.files files held c.args.room.now enough))
 
 pub returns-in_default-clause-unused : goal.returns-in_default-clause-unused
 returns-in_default-clause-unused g c = λ is v none. refl

@@ -8,17 +8,18 @@ use Rattle.fv_model.specs.declared.answers.Refusal.{Refusal}
 use Rattle.fv_model.specs.Numbers.{is_index}
 use Rattle.fv_pool.specs.declared.fault.VolumeFault.TheVariants.{Refused}
 use Rattle.fv_volume.specs.declared.state.VolumeState.{VolumeState}
-use Rattle.fv_volume.specs.Asking.{standing_of, standing_read}
+use Rattle.fv_volume.specs.Asking.{standing_of, TellsAsked}
 use Rattle.fv_pool.specs.Calls.{BlockCause}
 use Rattle.fv_pool.specs.Causes.{of_block}
 use Rattle.fv_pool.specs.Lending.{lent_for}
-use Rattle.fv_volume.specs.OneVolume.{home_in, IsStanding}
+use Rattle.fv_volume.specs.OneVolume.{home_in}
 use Rattle.fv_volume.specs.Paths.{unknown_over, StepsTo}
+use Rattle.fv_volume.proofs.RightTables.{asked_tells, known_after, still_tells}
 use Rattle.fv_volume.proofs.Asked.{first_info, get_asked_found, get_asked_lost, get_asked_missing, get_asked_past, get_too_far}
-use Rattle.fv_pool.proofs.CallCauses.{failed_cause, not_refused}
+use Rattle.fv_pool.proofs.CallCauses.{not_refused}
 use Rattle.fv_volume.proofs.CallCauses.{fails_on}
 use Rattle.fv_volume.proofs.Followed.{steps_to}
-use Rattle.fv_volume.proofs.KeptReads.{asked_cause, asked_is, asked_none, of_after, of_before, read_is, still_of}
+use Rattle.fv_volume.proofs.KeptReads.{asked_cause, asked_is, asked_none, of_before, read_is, still_of}
 use Rattle.fv_volume.proofs.state.VolumeState.get.Goals as goal
 
 pub returns-then-not-in_index-clause-asked : goal.returns-then-not-in_index-clause-asked
@@ -42,7 +43,7 @@ returns-in-None-clause-asked g c = λ is.
     let d = g.D.Disk.shown c.args.disk.now in let p = c.args.pool.now in let x = c.args.self.now in
     let s = option_copied c.args.snapshot in let t = c.in-Some.table in
     let found : c.in_ok-find_in.field-0 ≡ None = search rules in
-    get_asked_missing d p x s is (standing_of d p x t) (asked_is d p x s t (sym c.table_asked.ensures ∙ c.in-Some.is)) c.args.file.now c.args.index _ near (subst (λ o. Finds (standing_of d p x t).inode c.args.file.now o) found (c.in_ok-find_in.ensures.found is))
+    get_asked_missing d p x s is (standing_of d p x t) (asked_is d p x s t (sym c.table_asked.ensures ∙ c.in-Some.is)) c.args.file.now c.args.index _ near (subst (λ o. Finds (standing_of d p x t).inode c.args.file.now o) found (c.in_ok-find_in.ensures.found (asked_tells d p x is t (s, sym c.table_asked.ensures ∙ c.in-Some.is))))
 
 pub returns-then-info-index-clause-asked : goal.returns-then-info-index-clause-asked
 returns-then-info-index-clause-asked g c = λ is.
@@ -50,7 +51,7 @@ returns-then-info-index-clause-asked g c = λ is.
     let d = g.D.Disk.shown c.args.disk.now in let p = c.args.pool.now in let x = c.args.self.now in
     let s = option_copied c.args.snapshot in let t = c.in-Some.table in
     let found : c.in_ok-find_in.field-0 ≡ Some c.in-Some-2.info = search rules in
-    let first : IsFirst (standing_of d p x t).inode c.args.file.now c.in-Some-2.info = subst (λ o. Finds (standing_of d p x t).inode c.args.file.now o) found (c.in_ok-find_in.ensures.found is) in
+    let first : IsFirst (standing_of d p x t).inode c.args.file.now c.in-Some-2.info = subst (λ o. Finds (standing_of d p x t).inode c.args.file.now o) found (c.in_ok-find_in.ensures.found (asked_tells d p x is t (s, sym c.table_asked.ensures ∙ c.in-Some.is))) in
     let past : c.in-Some-2.info.length ≤ c.args.index = search rules in
     get_asked_past d p x s is (standing_of d p x t) (asked_is d p x s t (sym c.table_asked.ensures ∙ c.in-Some.is)) c.args.file.now c.in-Some-2.info first c.args.index _ near past
 
@@ -59,8 +60,8 @@ read_in-requires-clause-there g c =
     let d = g.D.Disk.shown c.args.disk.now in let p = c.args.pool.now in let x = c.args.self.now in
     let t = c.in-Some.table in
     let found : c.in_ok-find_in.field-0 ≡ Some c.in-Some-2.info = search rules in
-    of_after d (g.D.Disk.shown c.find_in.new.disk) p c.find_in.new.pool c.find_in.ensures.reads x t c.find_in.new.volume c.find_in.ensures.same (λ (u : Standing). IsInfoOf u.inode c.in-Some-2.info)
-    (λ is. first_info (standing_of d p x t).inode c.args.file.now c.in-Some-2.info (subst (λ o. Finds (standing_of d p x t).inode c.args.file.now o) found (c.in_ok-find_in.ensures.found is)))
+    known_after d (g.D.Disk.shown c.find_in.new.disk) p c.find_in.new.pool c.find_in.ensures.reads x t c.find_in.new.volume c.find_in.ensures.same (λ (u : Standing). IsInfoOf u.inode c.in-Some-2.info)
+    (λ told. first_info (standing_of d p x t).inode c.args.file.now c.in-Some-2.info (subst (λ o. Finds (standing_of d p x t).inode c.args.file.now o) found (c.in_ok-find_in.ensures.found told)))
 
 pub returns-in_err-read_in-in-Some-2-clause-cause : goal.returns-in_err-read_in-in-Some-2-clause-cause
 returns-in_err-read_in-in-Some-2-clause-cause g c =
@@ -73,10 +74,10 @@ returns-in_err-read_in-in-Some-2-clause-cause g c =
     let left = (g.D.Disk.shown c.read_in.new.disk).faults in
     let fault = c.in_err-read_in-in-Some-2.field-0.0 in
     let failed : c.from_residual-in_err-read_in-in-Some-2.result ≡ Err (of_block fault) = search rules in
-    let later = subst (λ (v : VolumeState). BlockCause {T = Unit {0}} (IsStanding e q v) (standing_of e q v t) (lent_for q v.map e c.args.steps.now (home_in v) 0) left (Err fault)) c.find_in.ensures.same c.in_err-read_in-in-Some-2.ensures.cause in
-    failed_cause (IsStanding d p x) (standing_read d p x s) (lent_for p x.map d 0 (home_in x) 0) left fault c.from_residual-in_err-read_in-in-Some-2.result failed
-    (fails_on d e p q c.find_in.ensures.reads x c.in_ok-find_in.ensures.cause 0 c.args.steps.now {T = Unit {0}} (standing_of e q x t) (standing_read d p x s)
-    (still_of d e p q c.find_in.ensures.reads x t ∙ read_is d p x s t (sym c.table_asked.ensures ∙ c.in-Some.is)) left (Err fault) later)
+    let later = subst (λ (v : VolumeState). BlockCause {T = Unit {0}} (TellsAsked e q v t) (standing_of e q v t) (lent_for q v.map e c.args.steps.now (home_in v) 0) left (Err fault)) c.find_in.ensures.same c.in_err-read_in-in-Some-2.ensures.cause in
+    asked_cause d p x s t (sym c.table_asked.ensures ∙ c.in-Some.is) 0 left fault c.from_residual-in_err-read_in-in-Some-2.result failed
+    (fails_on d e p q c.find_in.ensures.reads x c.in_ok-find_in.ensures.cause 0 c.args.steps.now (TellsAsked d p x t) (TellsAsked e q x t) (still_tells d e p q c.find_in.ensures.reads x t) {T = Unit {0}} (standing_of e q x t) (standing_of d p x t)
+    (still_of d e p q c.find_in.ensures.reads x t) left (Err fault) later)
 
 pub returns-in_ok-read_in-in-Some-2-clause-asked : goal.returns-in_ok-read_in-in-Some-2-clause-asked
 returns-in_ok-read_in-in-Some-2-clause-asked g c = λ is.
@@ -84,7 +85,7 @@ returns-in_ok-read_in-in-Some-2-clause-asked g c = λ is.
     let d = g.D.Disk.shown c.args.disk.now in let p = c.args.pool.now in let x = c.args.self.now in
     let s = option_copied c.args.snapshot in let t = c.in-Some.table in
     let found : c.in_ok-find_in.field-0 ≡ Some c.in-Some-2.info = search rules in
-    let first : IsFirst (standing_of d p x t).inode c.args.file.now c.in-Some-2.info = subst (λ o. Finds (standing_of d p x t).inode c.args.file.now o) found (c.in_ok-find_in.ensures.found is) in
+    let first : IsFirst (standing_of d p x t).inode c.args.file.now c.in-Some-2.info = subst (λ o. Finds (standing_of d p x t).inode c.args.file.now o) found (c.in_ok-find_in.ensures.found (asked_tells d p x is t (s, sym c.table_asked.ensures ∙ c.in-Some.is))) in
     let within : c.args.index < c.in-Some-2.info.length = search rules in
     get_asked_found d p x s is (standing_of d p x t) (asked_is d p x s t (sym c.table_asked.ensures ∙ c.in-Some.is)) c.args.file.now c.in-Some-2.info first c.args.index _ near within
     (of_before d (g.D.Disk.shown c.find_in.new.disk) p c.find_in.new.pool c.find_in.ensures.reads x t c.find_in.new.volume c.find_in.ensures.same
@@ -95,7 +96,7 @@ returns-in_ok-read_in-in-Some-2-clause-steps g c = λ is.
     let d = g.D.Disk.shown c.args.disk.now in let p = c.args.pool.now in let x = c.args.self.now in
     let s = option_copied c.args.snapshot in let t = c.in-Some.table in
     let found : c.in_ok-find_in.field-0 ≡ Some c.in-Some-2.info = search rules in
-    let first : IsFirst (standing_of d p x t).inode c.args.file.now c.in-Some-2.info = subst (λ o. Finds (standing_of d p x t).inode c.args.file.now o) found (c.in_ok-find_in.ensures.found is) in
+    let first : IsFirst (standing_of d p x t).inode c.args.file.now c.in-Some-2.info = subst (λ o. Finds (standing_of d p x t).inode c.args.file.now o) found (c.in_ok-find_in.ensures.found (asked_tells d p x is t (s, sym c.table_asked.ensures ∙ c.in-Some.is))) in
     let rose = of_before d (g.D.Disk.shown c.find_in.new.disk) p c.find_in.new.pool c.find_in.ensures.reads x t c.find_in.new.volume c.find_in.ensures.same
     (λ (u : Standing). c.read_in.new.steps ≡ c.args.steps.now + unknown_over u c.in-Some-2.info c.args.index) c.in_ok-read_in-in-Some-2.ensures.steps is in
     subst (λ (u : Standing). StepsTo u c.args.file.now c.args.index c.args.steps.now c.read_in.new.steps) (read_is d p x s t (sym c.table_asked.ensures ∙ c.in-Some.is))

@@ -5,10 +5,10 @@ use Rattle.fv_model.specs.declared.commands.Command.TheVariants.{Put}
 use Rattle.fv_volume.specs.declared.state.VolumeState.{VolumeState}
 use Rattle.fv_volume.specs.Calls.{HasBeside}
 use Rattle.fv_volume.specs.OneVolume.{standing_for, volume_for}
-use Rattle.fv_volume.proofs.Asked.{first_info}
+use Rattle.fv_volume.specs.declared.tables.TableAsked.TheVariants.{Active}
+use Rattle.fv_volume.proofs.RightTables.{known_after}
 use Rattle.fv_volume.proofs.CallCauses.{failed_change_cause}
 use Rattle.fv_volume.proofs.Calling.{counted_all, counted_table, kept_numbers, left_table, left_fits, failed_changes, failed_head, refused_changes, refused_head, done_head, done_ready, Parts, parts_of, refused_standing, refused_table, failed_stands, left_ready}
-use Rattle.fv_volume.proofs.OneVolumes.{said_after}
 use Rattle.fv_volume.proofs.MadePut.{put_is, put_stands}
 use Rattle.fv_volume.proofs.state.VolumeState.put.Given as given
 use Rattle.fv_volume.proofs.state.VolumeState.put.Goals as goal
@@ -48,7 +48,7 @@ pub returns-in_err-admission-clause-head : goal.returns-in_err-admission-clause-
 returns-in_err-admission-clause-head g c = refused_head (g.D.Disk.shown c.args.disk.now) (g.D.Disk.shown c.judge_put.new.disk) c.args.pool.now c.judge_put.new.pool c.judge_put.ensures.reads c.args.self.now c.judge_put.new.volume c.judge_put.ensures.same c.from_residual.result c.in_err-admission.field-0.0 (search rules)
 
 pub write_block-requires-clause-there : goal.write_block-requires-clause-there
-write_block-requires-clause-there g c = said_after (g.D.Disk.shown c.args.disk.now) (g.D.Disk.shown c.judge_put.new.disk) c.args.pool.now c.judge_put.new.pool c.judge_put.ensures.reads c.args.self.now c.judge_put.new.volume c.judge_put.ensures.same (λ (s : Standing). IsInfoOf s.inode c.in_ok-admission.admission.info) (λ is. first_info (standing_for (g.D.Disk.shown c.args.disk.now) c.args.pool.now c.args.self.now).inode c.args.file.now c.in_ok-admission.admission.info (c.in_ok-admission.ensures.accepted is).first)
+write_block-requires-clause-there g c = known_after (g.D.Disk.shown c.args.disk.now) (g.D.Disk.shown c.judge_put.new.disk) c.args.pool.now c.judge_put.new.pool c.judge_put.ensures.reads c.args.self.now Active c.judge_put.new.volume c.judge_put.ensures.same (λ (s : Standing). IsInfoOf s.inode c.in_ok-admission.admission.info) c.in_ok-admission.ensures.found
 
 pub returns-clause-changes : goal.returns-clause-changes
 returns-clause-changes g c = λ is. put_is (g.D.Disk.shown c.args.disk.now) (g.D.Disk.shown c.judge_put.new.disk) (g.D.Disk.shown c.write_block.new.disk) c.args.pool.now c.judge_put.new.pool c.write_block.new.pool c.args.self.now c.judge_put.new.volume c.write_block.new.volume c.count_change.new.volume c.in_ok-admission.admission.delta (parts g c) is c.requires.ready c.args.others c.args.file.now c.args.index c.args.block.now c.in_ok-admission.admission.info (c.in_ok-admission.ensures.accepted is) c.in_ok-write_block.ensures.written (ap (λ (z : VolumeState). z.numbers) c.count_change.ensures.others)

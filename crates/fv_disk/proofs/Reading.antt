@@ -1,4 +1,4 @@
--- What a disk that tells its reads gives: whole blocks.
+-- A disk that tells its reads gives whole blocks.
 use Rattle.std.proofs.Common.{◌≡◌, ℕ, length, arith}
 use Rattle.std.specs.Prelude.{IsTrue}
 use Rattle.fv_disk.specs.Shown.{Shown, IsDisk}

@@ -1,0 +1,5 @@
+mod Sums
+mod Totals
+mod Hinted
+mod Charges
+mod BaseCounts

@@ -1,0 +1,5 @@
+pub mod Spaced
+pub mod Hinted
+pub mod Hinting
+pub mod Used
+pub mod Based
