@@ -15,7 +15,6 @@ use Rattle.fv_tables.specs.Told.{records_each}
 use Rattle.fv_tables.specs.Reached.{Item}
 use Rattle.fv_image.specs.Views.{Placed, Rooted}
 use Rattle.fv_image.specs.HintRules.{is_known, is_true_hint, is_unknown}
-use Rattle.fv_faults.specs.declared.fault.Fault.{Fault}
 use Rattle.fv_faults.specs.declared.lines.Lines.{Lines}
 use Rattle.fv_faults.specs.Adding.{Adds}
 use Rattle.fv_faults.specs.Lines.{unless, line}

@@ -1,6 +1,6 @@
 -- What labels tell together is what the view does.
 use Rattle.std.proofs.Common.{◌≡◌, ℕ, ◌+◌, ◌*◌, Bool, true, false, List, [], ◌∷◌, refl, sym, ap, subst, ◌∙◌, arith, inl, inr}
-use Rattle.std.specs.Prelude.{sum_by, get_or, nat_le, nat_lt, Option, Some, None, Result, Ok, Err, ◌-◌, ◌==◌, if◌then◌else◌}
+use Rattle.std.specs.Prelude.{cond, count_by, sum_by, get_or, nat_le, nat_lt, Option, Some, None, Result, Ok, Err, ◌-◌, ◌==◌, if◌then◌else◌}
 use Rattle.std.specs.Option.{option_map, option_map_or}
 use Rattle.std.proofs.lemmas.Bool.Decides.{nat_tests}
 use Rattle.std.proofs.lemmas.List.Sums.{sum_by-cons}
@@ -32,6 +32,9 @@ same_sums f g (x ∷ xs) same =
     let first = same x (inl refl) in
     let rest = same_sums f g xs (λ y there. same y (inr there)) in
     omega (arith, first, rest, sum_by-cons f x xs, sum_by-cons g x xs)
+
+pub same_counts : {X : Type 0} → (p q : X → Bool) (xs : List X) → ((x : X) → p x ≡ q x) → count_by p xs ≡ count_by q xs
+same_counts p q xs same = same_sums (λ x. cond (p x) 1 0) (λ x. cond (q x) 1 0) xs (λ x there. ap {B = ℕ} (λ (b : Bool). cond b 1 0) (same x))
 
 -- ---- of one slot
 

@@ -3,3 +3,8 @@ pub mod Hinted
 pub mod Hinting
 pub mod Used
 pub mod Based
+pub mod Tallied
+pub mod Tallying
+pub mod Placed
+pub mod Silent
+pub mod Filled

@@ -17,18 +17,24 @@ use std::alloc::AllocError;
 const KIND: u32 = 16_777_216;
 
 /// Whether a VVBN has an entry of its own, by the words of entries.
+pub(crate) fn has_entry_at(row: &[u32], vvbn: usize) -> bool
+    ensures { result ≡ has_entry row.now vvbn }
+{
+    if vvbn >= row.len() {
+        return false;
+    }
+    row[vvbn] / KIND != 0
+}
+
+/// The same of a VVBN of a set.
 fn has_entry(row: &[u32], vvbn: u32) -> bool
     ensures { result ≡ has_entry row.now vvbn }
 {
-    let place = vvbn as usize;
-    if place >= row.len() {
-        return false;
-    }
-    row[place] / KIND != 0
+    has_entry_at(row, vvbn as usize)
 }
 
 /// Whether a VVBN of the base has an entry of its own.
-fn is_copied(base: &BitMap, row: &[u32], vvbn: u32) -> bool
+pub(crate) fn is_copied(base: &BitMap, row: &[u32], vvbn: u32) -> bool
     requires { vvbn < length base.now }
     ensures { result ≡ is_copied base.now row.now vvbn }
 {
@@ -97,7 +103,7 @@ fn resting(held: &BitMap, base: Option<&BitMap>, row: &[u32], span: u32) -> u32
 }
 
 /// Whether a volume is being split from its base.
-fn is_splitting(label: &Label) -> bool
+pub(crate) fn is_splitting(label: &Label) -> bool
     ensures { result ≡ is_splitting (footing_of label.entry.now) }
 {
     label.parent != 0 && label.splitting == 1
@@ -105,7 +111,7 @@ fn is_splitting(label: &Label) -> bool
 
 /// Notes a line of rule 13 where a number isn't 0.
 #[tactic(auto, using(fv_faults::proofs::Adding::nothing_added))]
-fn note_none(lines: &mut Lines, place: u64, found: u64) -> Result<(), AllocError>
+pub(crate) fn note_none(lines: &mut Lines, place: u64, found: u64) -> Result<(), AllocError>
     ensures { OnOk result (Adds (none_of place found) lines.old lines.new) }
 {
     if found == 0 {

@@ -23,14 +23,14 @@ pub(crate) struct HintJudge {
 }
 
 /// Whether a pointer leads to a block of which the place is known.
-fn is_known(pointer: &Pointer) -> bool
+pub(crate) fn is_known(pointer: &Pointer) -> bool
     ensures { result ≡ is_known pointer.now }
 {
     pointer.stamp != 0 && pointer.pvbn != 0
 }
 
 /// Whether a pointer leads to a block of which the place isn't known.
-fn is_unknown(pointer: &Pointer) -> bool
+pub(crate) fn is_unknown(pointer: &Pointer) -> bool
     ensures { result ≡ is_unknown pointer.now }
 {
     pointer.stamp != 0 && pointer.pvbn == 0

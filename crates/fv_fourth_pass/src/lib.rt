@@ -2,12 +2,17 @@
 #![tactic(auto)]
 
 mod bases;
+mod filled;
 mod hints;
 mod numbers;
+mod places;
 mod space;
+mod tally;
 mod uses;
 
 pub use bases::note_base;
+pub use filled::count_filled;
 pub use hints::note_hints;
+pub use places::{note_split_places, note_unknown_places};
 pub use space::{Filled, note_commits, note_room};
 pub use uses::{count_used, note_use};

@@ -22,10 +22,10 @@ mod OwnTables
 mod MapsOfRoots
 mod SameLines
 mod TwinSteps
-mod WalkedFacts
+pub mod WalkedFacts
 mod SnapTables
 mod VolumeLaw
-mod VolumeParts
+pub mod VolumeParts
 mod BaseParts
 mod ThirdSlots
 mod MapKinds

@@ -88,7 +88,7 @@ module _ (t : Taken) (i : Image) (long : (b : ℕ) → length (i b) ≡ 4096) (s
     parent_head : y.view.head p ≡ Some (head_of parent)
     parent_head = head_there t i known walked.passed p is.inside parent is.read
 
-    root_is : base_root y.view foot ≡ Some table
+    pub root_is : base_root y.view foot ≡ Some table
     root_is = ap (option_and_then (λ (g : Head). option_map (λ (q : Snap). q.table) (snap_at g l.base_slot))) parent_head ∙ table_found
 
     abbrev k : Ground
@@ -100,7 +100,7 @@ module _ (t : Taken) (i : Image) (long : (b : ℕ) → length (i b) ≡ 4096) (s
     pub parent_lies : place_or (y.label p) ≡ base_at
     parent_lies = ap place_or (label_there t i known walked.passed p is.inside parent is.read)
 
-    root_there : In (l.base_slot, table) (roots_of (head_of parent))
+    pub root_there : In (l.base_slot, table) (roots_of (head_of parent))
     root_there = base_in y foot (head_of parent) table parent_head root_is
 
     pub base_clean : IsClean (steps k base_at table)

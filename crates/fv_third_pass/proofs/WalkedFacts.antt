@@ -59,23 +59,23 @@ module _ (t : Taken) (i : Image) (long : (b : ℕ) → length (i b) ≡ 4096) (s
   abbrev pub y : Layout
   y = layout_at t i
 
-  some_blocks : 0 < (view_at t i).blocks
+  pub some_blocks : 0 < (view_at t i).blocks
   unfolding view_at
   some_blocks = omega (arith, size)
 
-  abbrev is : IsRead y
+  abbrev pub is : IsRead y
   is = is_read t i long some_blocks
 
-  one : IsFirst t i long some_blocks (root_place t.slot)
+  pub one : IsFirst t i long some_blocks (root_place t.slot)
   one = first_true t i long some_blocks (root_place t.slot) walked.passed.silent
 
-  two : AreWalked y is
+  pub two : AreWalked y is
   two = second_true y is (roots_from t i long some_blocks (root_place t.slot) one) walked.silent
 
-  clean : AllClean y is
+  pub clean : AllClean y is
   clean = clean_from y is walked.silent
 
-  bases : has_bases (seen y.view) ≡ true
+  pub bases : has_bases (seen y.view) ≡ true
   unfolding layout_at
   bases = one.bases
 

@@ -16,7 +16,7 @@ use std::alloc::{AllocError, Global};
 
 /// A root of a volume.
 #[derive(Clone, Copy, Debug, PartialEq, Eq)]
-pub(crate) struct MapRoot {
+pub struct MapRoot {
     /// The slot of its map, 0 for the active table and 1 to 24 for snapshots.
     pub slot: u8,
     /// Its table.
@@ -52,7 +52,7 @@ fn add_root(roots: &mut Vec<MapRoot>, slot: u8, snapshot: &SnapRecord) -> Result
 }
 
 /// The roots of the volume of a label, in the order of their map slots. The one error is want of memory.
-pub(crate) fn roots_of(alloc: Global, label: &Label) -> Result<Vec<MapRoot>, AllocError>
+pub fn roots_of(alloc: Global, label: &Label) -> Result<Vec<MapRoot>, AllocError>
     requires label { IsLabel label.now }
     requires long { length label.now.snapshots ≡ 24 }
     ensures roots { IfOk result (λ roots. map root_of roots.items ≡ roots_of (head_of label.entry.now)) }

@@ -7,7 +7,7 @@ ghost use Rattle.fv_image.specs.Views.{entry_count};
 use fv_model::map_blocks;
 
 /// How many entries the container of a volume of this span has.
-pub(crate) fn entry_count(span: u32) -> usize
+pub fn entry_count(span: u32) -> usize
     ensures value { result ≡ entry_count span }
     ensures most { result ≤ 2 ^ 33 }
 {

@@ -32,7 +32,7 @@ use std::alloc::Global;
 
 /// The table of the snapshot in a map slot of a parent, 1 to 24, if there is one.
 #[tactic(auto, using(crate::proofs::SnapTables::free_table, crate::proofs::SnapTables::used_table))]
-pub(crate) fn snap_table(parent: &Label, slot: u8) -> Option<Table>
+pub fn snap_table(parent: &Label, slot: u8) -> Option<Table>
     requires label { IsLabel parent.now }
     requires long { length parent.now.snapshots ≡ 24 }
     ensures table { 1 ≤ slot → slot ≤ 24 → option_map rooted result ≡ option_map (λ p. p.table) (snap_at (head_of parent.entry.now) slot) }

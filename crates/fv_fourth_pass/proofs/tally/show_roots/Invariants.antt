@@ -1,0 +1,12 @@
+use Rattle.std.proofs.Common.{◌≡◌, take}
+use Rattle.std.specs.Prelude.{map}
+use Rattle.fv_third_pass.specs.Volumes.{root_of}
+use Rattle.fv_fourth_pass.specs.Tallying.{Gains}
+use Rattle.fv_fourth_pass.proofs.tally.show_roots.Given as goal
+
+abbrev pub invariant-loop-k : goal.invariant-loop-k
+invariant-loop-k g l = record {
+  reads : g.S.Source.reads l.fn.source l.source;
+  cause : g.S.Source.faults l.source ≡ g.S.Source.faults l.fn.source;
+  saw : g.S.Source.fits l.fn.source → Gains (g.S.Source.volume l.fn.source) l.label (map root_of (take l.k l.roots)) l.fn.tally l.tally;
+}
