@@ -20,7 +20,7 @@ use Rattle.fv_aggregate.specs.Adding.{IsPointed}
 use Rattle.fv_aggregate.specs.Calls.{Goes, GoesFor, KeepsAsking, KeepsEntries, WasRead}
 use Rattle.fv_aggregate.specs.Commands.{changed_by, changes_volume, dirty_limit, file_room, is_refusal, machine_after, room_by, volume_asked, Replies}
 use Rattle.fv_aggregate.specs.Looking.{Looks, Makes}
-use Rattle.fv_aggregate.specs.Standing.{HoldsAsCommitted, IsWithoutFiles, Stands, StandsFor}
+use Rattle.fv_aggregate.specs.Standing.{HoldsAsCommitted, IsWithoutFiles, StandsFor, StandsReady}
 use Rattle.fv_aggregate.proofs.Calls.{reads_itself}
 use Rattle.fv_aggregate.proofs.Changing.{change_after, change_cases, change_of_volume, change_replies, change_room, look_after, look_replies, look_room}
 use Rattle.fv_aggregate.proofs.Numbered.{no_files_read}
@@ -34,7 +34,7 @@ pub not_dead : (X : Type 0) (s : Session) → IsNone s.failed → IsSome s.faile
 not_dead X s fresh failed = absurd (none_some s.failed fresh failed)
 
 -- the ledger of each volume has its numbers
-pub booked_each : (d : Shown) (s : Session) → Stands d s → (slot : ℕ) → IfSome (state_at s.volumes slot) IsBooked
+pub booked_each : (d : Shown) (s : Session) → StandsReady d s → (slot : ℕ) → IfSome (state_at s.volumes slot) IsBooked
 booked_each d s stands slot = by (state_at s.volumes slot) (stands.ready slot)
   where
     by : (o : Option VolumeState) → IfSome o (IsReadyIn d s.pool slot) → IfSome o IsBooked

@@ -35,7 +35,7 @@ use Rattle.fv_aggregate.specs.declared.session.Session.{Session}
 use Rattle.fv_aggregate.specs.Calls.{HasDamage, WasRead}
 use Rattle.fv_aggregate.specs.Commands.{has_range, snapshot_asked, volume_asked}
 use Rattle.fv_aggregate.specs.Looking.{AsksState, Faults, IsAsked, Looks, Replied}
-use Rattle.fv_aggregate.specs.Standing.{Stands, StandsFor}
+use Rattle.fv_aggregate.specs.Standing.{StandsFor, StandsReady}
 use Rattle.fv_aggregate.proofs.Holes.{kept_entries}
 use Rattle.fv_aggregate.proofs.HeldMachine.{is_there, not_there, one}
 use Rattle.fv_aggregate.proofs.CallEnds.{goes_broken, goes_damaged, goes_done, goes_for_broken, goes_for_done, goes_for_fault, goes_wanting}
@@ -100,8 +100,8 @@ of_ls c name v s is asks = let of : v ≡ name = some_name v name (sym (ap volum
 
 -- ---- a session, by what it read
 
-module _ (d e : Shown) (laws : IsDisk d) (s : Session) (q : Pool) (reads : Reads d s.pool e q) (fresh : IsNone s.failed) (stands : Stands d s) (c : Command) where
-  abbrev still : Stands e (left d e s q reads)
+module _ (d e : Shown) (laws : IsDisk d) (s : Session) (q : Pool) (reads : Reads d s.pool e q) (fresh : IsNone s.failed) (stands : StandsReady d s) (c : Command) where
+  abbrev still : StandsReady e (left d e s q reads)
   still = stands_read d e s q reads stands
 
   for_left : (last m : Machine) → StandsFor d s last m → StandsFor e (left d e s q reads) last m
@@ -198,7 +198,7 @@ calm_damage told x old faults at want found (inr (inr fails)) = fails.fails.0
 pub damaged_at : (d : Shown) (s : Session) (slot : ℕ) (x : VolumeState) → state_at s.volumes slot ≡ Some x → IsNone s.failed → (new : Session) (at want found : ℕ) → HasDamage d s new at want found
 damaged_at d s slot x there fresh new at want found = inr (inr (record { fresh = fresh; slot = slot; there = subst IsSome (sym there) refl }))
 
-module _ (d e : Shown) (laws : IsDisk d) (s : Session) (q : Pool) (c : Command) (slot : ℕ) (x : VolumeState) (there : state_at s.volumes slot ≡ Some x) (start steps : ℕ) (fresh : IsNone s.failed) (stands : Stands d s)
+module _ (d e : Shown) (laws : IsDisk d) (s : Session) (q : Pool) (c : Command) (slot : ℕ) (x : VolumeState) (there : state_at s.volumes slot ≡ Some x) (start steps : ℕ) (fresh : IsNone s.failed) (stands : StandsReady d s)
     (long : length s.volumes ≡ 64) (closed : (m : Machine) → is_open m c ≡ false) where
   abbrev now : Session
   now = record s { pool = q }
@@ -239,7 +239,7 @@ module _ (d e : Shown) (laws : IsDisk d) (s : Session) (q : Pool) (c : Command) 
 
 -- ---- a volume that was lent to the call
 
-module _ (d e : Shown) (laws : IsDisk d) (v s : Session) (same : v ≡ s) (fit : IsNone v.failed → FitTogether v.pool v.volumes) (fresh : IsNone s.failed) (stands : Stands d s) (c : Command) (slot : ℕ) (x : VolumeState)
+module _ (d e : Shown) (laws : IsDisk d) (v s : Session) (same : v ≡ s) (fit : IsNone v.failed → FitTogether v.pool v.volumes) (fresh : IsNone s.failed) (stands : StandsReady d s) (c : Command) (slot : ℕ) (x : VolumeState)
     (lent : state_at v.volumes slot ≡ Some x) (asked : IsAsked s.volumes slot c) (q : Pool) (y : VolumeState) (still : y ≡ x) (start steps : ℕ) (r : Result Reply VolumeFault) (asks : AsksState d v.pool x c start e q steps r)
     (new : Session) (result : Result Reply Fault) (replied : Replied e r (record v { volumes = with_state v.volumes slot (Some y); pool = q }) new result) where
   as_replied : Replied e r (record v { pool = q }) new result
@@ -249,11 +249,11 @@ module _ (d e : Shown) (laws : IsDisk d) (v s : Session) (same : v ≡ s) (fit :
   unfailed = subst (λ (n : Session). IsNone n.failed) (sym same) fresh
 
   pub looks_lent : Looks d s c e new result
-  looks_lent = subst (λ (n : Session). Looks d n c e new result) same (looks_by d e laws v q c slot x lent start steps unfailed (subst (Stands d) (sym same) stands) (long_lent v s same fit fresh) (asked_closed c asked.state.name asked.asks) r asks new result as_replied)
+  looks_lent = subst (λ (n : Session). Looks d n c e new result) same (looks_by d e laws v q c slot x lent start steps unfailed (subst (StandsReady d) (sym same) stands) (long_lent v s same fit fresh) (asked_closed c asked.state.name asked.asks) r asks new result as_replied)
 
   pub known_lent : (last m : Machine) → StandsFor d s last m → OnOk result (steps ≡ start)
   known_lent = subst (λ (n : Session). (last m : Machine) → StandsFor d n last m → OnOk result (steps ≡ start)) same
-      (known_by d e laws v q c slot x lent start steps unfailed (subst (Stands d) (sym same) stands) (long_lent v s same fit fresh) (asked_closed c asked.state.name asked.asks) r asks new result as_replied)
+      (known_by d e laws v q c slot x lent start steps unfailed (subst (StandsReady d) (sym same) stands) (long_lent v s same fit fresh) (asked_closed c asked.state.name asked.asks) r asks new result as_replied)
 
 -- it is asked for its files
 pub asks_lent : (v s : Session) → v ≡ s → (slot : ℕ) (x : VolumeState) → state_at v.volumes slot ≡ Some x → (c : Command) → IsAsked s.volumes slot c → volume_asked c ≡ Some x.name
@@ -266,9 +266,9 @@ asked_at states slot name c within named asks =
     record { within = within; state = of.0; there = of.1.0; asks = asks ∙ ap (λ (n : List ℕ). Some n) of.1.1 }
 
 -- a volume that isn't there is refused at once
-pub looks_missing : (d : Shown) → IsDisk d → (s : Session) → IsNone s.failed → Stands d s → length s.volumes ≡ 64 → (name : List ℕ) (c : Command) → volume_asked c ≡ Some name → has_range c ≡ true → NoneHasName s.volumes name
+pub looks_missing : (d : Shown) → IsDisk d → (s : Session) → IsNone s.failed → StandsReady d s → length s.volumes ≡ 64 → (name : List ℕ) (c : Command) → volume_asked c ≡ Some name → has_range c ≡ true → NoneHasName s.volumes name
     → Looks d s c d s (Ok (Refused NoVolume))
-looks_missing d laws s fresh stands long name c asks near none = looks_done d d laws s s.pool (reads_alone d d s.pool (reads_itself d) stands.cache) fresh stands c (Refused NoVolume) refl
+looks_missing d laws s fresh stands long name c asks near none = looks_done d d laws s s.pool (reads_alone d d s.pool (reads_itself d) stands.stands.cache) fresh stands c (Refused NoVolume) refl
     (λ last m held. refused_allows m c NoVolume (asked_missing c name asks near m (subst (λ (k : Machine). fin.get k.volumes name ≡ None) held.machine (not_there d s.pool s.volumes long name none))))
 
 -- a session of which blocks were read is asked as before

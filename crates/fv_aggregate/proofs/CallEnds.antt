@@ -14,12 +14,12 @@ use Rattle.fv_aggregate.specs.declared.session.Session.{Session}
 use Rattle.fv_aggregate.specs.Calls.{Goes, GoesFor, HasDamage, HasFault, IsNoDamage, SameCounts}
 use Rattle.fv_aggregate.specs.Causes.{KeepsEnds}
 use Rattle.fv_aggregate.specs.Commands.{dirty_limit}
-use Rattle.fv_aggregate.specs.Standing.{OneOf, Stands, StandsAfter, StandsFor}
+use Rattle.fv_aggregate.specs.Standing.{OneOf, StandsAfter, StandsFor, StandsReady}
 use Rattle.fv_aggregate.proofs.Standing.{earlier_moments, rests_for_last, stands_for_last, stays_for}
 
 -- ---- the disk was only read
 
-module _ (d e : Shown) (laws : IsDisk d) (s left : Session) (room : ℕ) (reads : OnlyReads d e) (fresh : IsNone s.failed) (still : IsNone left.failed) (stands : Stands e left) where
+module _ (d e : Shown) (laws : IsDisk d) (s left : Session) (room : ℕ) (reads : OnlyReads d e) (fresh : IsNone s.failed) (still : IsNone left.failed) (stands : StandsReady e left) where
   ends : KeepsEnds d e
   ends = record { tells = reads.stays.tells; given = reads.given; ends = reads.ends }
 
@@ -87,7 +87,7 @@ module _ (d e : Shown) (laws : IsDisk d) (s left : Session) (room : ℕ) (reads 
     pub goes_broken : {T : Type 0} → Rose d.faults e.faults → (Rose e.write_faults e.write_faults → o ≡ Some e.faults) → (¬ Rose e.write_faults e.write_faults → IsNone o) → left.pending ≤ s.pending + room → Goes {T = T} room d s e broken (Err DiskFault)
     goes_broken rose written unwritten few = record {
       ends = ends;
-      stands = λ none. subst (Stands e) (as_left none) stands;
+      stands = λ none. subst (StandsReady e) (as_left none) stands;
       done = tt;
       fault = record {
         reason = fresh;

@@ -28,7 +28,7 @@ use Rattle.fv_aggregate.specs.declared.session.Session.{Session}
 use Rattle.fv_aggregate.specs.Calls.{GoesFor, WasRead}
 use Rattle.fv_aggregate.specs.Commands.{changed_by, file_room, has_range}
 use Rattle.fv_aggregate.specs.Looking.{done_as, ChangesState, HasJudged, JudgesState, IsChangeAt, Makes, Replied}
-use Rattle.fv_aggregate.specs.Standing.{Stands, StandsFor}
+use Rattle.fv_aggregate.specs.Standing.{StandsFor, StandsReady}
 use Rattle.fv_aggregate.proofs.Holes.{kept_entries}
 use Rattle.fv_aggregate.proofs.Asked.{calm_damage, calm_memory, damaged_at, rose_by}
 use Rattle.fv_aggregate.proofs.CallEnds.{goes_broken, goes_damaged, goes_done, goes_for_broken, goes_for_done, goes_for_fault, goes_wanting}
@@ -42,7 +42,7 @@ use Rattle.fv_aggregate.proofs.Missing.{no_change, refused_allows, refused_next}
 
 -- ---- judged
 
-module _ (d e : Shown) (laws : IsDisk d) (s : Session) (q : Pool) (c : Command) (slot : ℕ) (x : VolumeState) (there : state_at s.volumes slot ≡ Some x) (long : length s.volumes ≡ 64) (fresh : IsNone s.failed) (stands : Stands d s) where
+module _ (d e : Shown) (laws : IsDisk d) (s : Session) (q : Pool) (c : Command) (slot : ℕ) (x : VolumeState) (there : state_at s.volumes slot ≡ Some x) (long : length s.volumes ≡ 64) (fresh : IsNone s.failed) (stands : StandsReady d s) where
   abbrev now : Session
   now = record s { pool = q }
 
@@ -100,7 +100,7 @@ module _ (d e : Shown) (laws : IsDisk d) (s : Session) (q : Pool) (c : Command) 
     few_added : s.pending + more ≤ s.pending + 16
     few_added = omega (arith, more_is)
 
-    stand : (r : Result Unit VolumeFault) → ChangesState d s.pool x (beside s.volumes slot) c e q y r → Stands e after
+    stand : (r : Result Unit VolumeFault) → ChangesState d s.pool x (beside s.volumes slot) c e q y r → StandsReady e after
     stand r did = stands_changed d e s q slot x y there (beside s.volumes slot) c r did long more more_is stands
 
     -- it stands for the machine after the command
@@ -183,14 +183,14 @@ module _ (d e : Shown) (laws : IsDisk d) (s : Session) (q : Pool) (c : Command) 
 pub change_lent : (v s : Session) → v ≡ s → (slot : ℕ) (x : VolumeState) → state_at v.volumes slot ≡ Some x → (c : Command) → IsChangeAt s.volumes slot c → IsChangeOf x.name c
 change_lent v s same slot x lent c aimed = subst (λ (z : VolumeState). IsChangeOf z.name c) (same_there _ _ _ aimed.there (lent_there v s same slot x lent)) aimed.change
 
-module _ (d e : Shown) (laws : IsDisk d) (v s : Session) (same : v ≡ s) (fit : IsNone v.failed → FitTogether v.pool v.volumes) (fresh : IsNone s.failed) (stands : Stands d s) (c : Command) (slot : ℕ) (x : VolumeState)
+module _ (d e : Shown) (laws : IsDisk d) (v s : Session) (same : v ≡ s) (fit : IsNone v.failed → FitTogether v.pool v.volumes) (fresh : IsNone s.failed) (stands : StandsReady d s) (c : Command) (slot : ℕ) (x : VolumeState)
     (lent : state_at v.volumes slot ≡ Some x) (others : ℕ) (sum : others ≡ beside v.volumes slot) (q : Pool) (y : VolumeState) (r : Result Unit VolumeFault) (told : Result Reply VolumeFault) (is : told ≡ done_as r) (new : Session)
     (result : Result Reply Fault) where
   unfailed : IsNone v.failed
   unfailed = subst (λ (n : Session). IsNone n.failed) (sym same) fresh
 
-  stand_lent : Stands d v
-  stand_lent = subst (Stands d) (sym same) stands
+  stand_lent : StandsReady d v
+  stand_lent = subst (StandsReady d) (sym same) stands
 
   pub judged_lent : y ≡ x → JudgesState d v.pool x others c e q r → Replied e told (record v { volumes = with_state v.volumes slot (Some y); pool = q }) new result → HasJudged d s c e new result
   judged_lent still did replied = subst (λ (n : Session). HasJudged d n c e new result) same
@@ -206,7 +206,7 @@ module _ (d e : Shown) (laws : IsDisk d) (v s : Session) (same : v ≡ s) (fit :
 -- ---- before a volume is asked
 
 -- what the machine refuses is refused at once
-pub refused_at_once : (d : Shown) → IsDisk d → (s : Session) → IsNone s.failed → Stands d s → (c : Command) (r : Refusal) → ((last m : Machine) → StandsFor d s last m → refusal m c ≡ Some r) → Makes file_room d s c d s (Ok (Refused r))
+pub refused_at_once : (d : Shown) → IsDisk d → (s : Session) → IsNone s.failed → StandsReady d s → (c : Command) (r : Refusal) → ((last m : Machine) → StandsFor d s last m → refusal m c ≡ Some r) → Makes file_room d s c d s (Ok (Refused r))
 refused_at_once d laws s fresh stands c r why = record {
   goes = goes_done d d laws s s 16 (reads_itself d) fresh fresh stands (Refused r) refl (omega arith);
   goes_for = λ tells last m is. subst (λ (n : Machine). GoesFor d last m n d s (Ok (Refused r))) (sym (refused_next m c r (why last m is)))

@@ -36,6 +36,7 @@ mod PointFirst
 mod Applying
 mod Having
 mod Resized
+mod Ready
 mod Removing
 mod Replaced
 pub mod MadeRoom

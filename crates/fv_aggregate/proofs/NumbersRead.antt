@@ -40,7 +40,7 @@ use Rattle.fv_aggregate.specs.Numbering.{HasNumbered, NumbersState}
 use Rattle.fv_aggregate.specs.Known.{KeepsNumbers, KnowsNumbers}
 use Rattle.fv_aggregate.proofs.Holes.{kept_entries}
 use Rattle.fv_aggregate.proofs.Keeping.{keeps_none, keeps_with}
-use Rattle.fv_aggregate.specs.Standing.{clear_blocks, overheads_in, taken_since, Stands, StandsFor}
+use Rattle.fv_aggregate.specs.Standing.{clear_blocks, overheads_in, taken_since, StandsFor, StandsReady}
 use Rattle.fv_aggregate.proofs.Asked.{calm_damage, calm_memory, damaged_at, rose_by}
 use Rattle.fv_aggregate.proofs.Becoming.{machine_stays}
 use Rattle.fv_aggregate.proofs.CallEnds.{goes_broken, goes_damaged, goes_done, goes_for_broken, goes_for_done, goes_for_fault, goes_wanting}
@@ -50,7 +50,7 @@ use Rattle.fv_aggregate.proofs.Returned.{as_told, long_lent}
 use Rattle.fv_aggregate.proofs.Looked.{clear_read, known_read, last_overheads, placed_read, settled_read, stands_read}
 
 -- a volume that is the same but for those numbers is left as a change leaves it, too
-as_left : (x y : VolumeState) → y ≡ record x { numbers = y.numbers } → y ≡ record x { now = y.now; map = y.map; files = y.files; numbers = y.numbers; ledger = y.ledger; changed = y.changed }
+pub as_left : (x y : VolumeState) → y ≡ record x { numbers = y.numbers } → y ≡ record x { now = y.now; map = y.map; files = y.files; numbers = y.numbers; ledger = y.ledger; changed = y.changed }
 as_left x y same = let is = sym same in same ∙ (λ j. record x { now = (is j).now; map = (is j).map; files = (is j).files; numbers = y.numbers; ledger = (is j).ledger; changed = (is j).changed })
 
 module _ (d e : Shown) (s : Session) (q : Pool) (slot : ℕ) (x y : VolumeState) (there : state_at s.volumes slot ≡ Some x) (long : length s.volumes ≡ 64) (reads : Reads d s.pool e q)
@@ -70,10 +70,10 @@ module _ (d e : Shown) (s : Session) (q : Pool) (slot : ℕ) (x y : VolumeState)
   here : state_at stay slot ≡ Some y
   here = get_or-set_same s.volumes slot (Some y) None inside
 
-  pub stands_numbered : Stands d s → Stands e numbered
+  pub stands_numbered : StandsReady d s → StandsReady e numbered
   stands_numbered is =
       let was = stands_read d e s q reads is in
-      record { found = was.found; map = was.map; cache = was.cache; ready = ready_changed d e s.pool q s.volumes slot x y there reads as_changed ready long is.ready }
+      record { stands = record { found = was.stands.found; map = was.stands.map; cache = was.stands.cache }; ready = ready_changed d e s.pool q s.volumes slot x y there reads as_changed ready long is.ready }
 
   but_those : SameButNumbers s.volumes stay
   but_those k = ⊎_elim
@@ -162,11 +162,11 @@ module _ (d e : Shown) (s : Session) (q : Pool) (slot : ℕ) (x y : VolumeState)
 
 -- ---- by what the volume answered
 
-module _ (d e : Shown) (laws : IsDisk d) (s : Session) (q : Pool) (slot : ℕ) (x y : VolumeState) (there : state_at s.volumes slot ≡ Some x) (long : length s.volumes ≡ 64) (fresh : IsNone s.failed) (stands : Stands d s) where
+module _ (d e : Shown) (laws : IsDisk d) (s : Session) (q : Pool) (slot : ℕ) (x y : VolumeState) (there : state_at s.volumes slot ≡ Some x) (long : length s.volumes ≡ 64) (fresh : IsNone s.failed) (stands : StandsReady d s) where
   abbrev now : Session
   now = record s { volumes = with_state s.volumes slot (Some y); pool = q }
 
-  stand : (r : Result Unit BlockFault) → NumbersState d s.pool x e q y r → Stands e now
+  stand : (r : Result Unit BlockFault) → NumbersState d s.pool x e q y r → StandsReady e now
   stand r did = stands_numbered d e s q slot x y there long did.reads did.same did.ready stands
 
   for_it : (r : Result Unit BlockFault) → NumbersState d s.pool x e q y r → (last m : Machine) → StandsFor d s last m → StandsFor e now last m
@@ -226,7 +226,7 @@ module _ (d e : Shown) (laws : IsDisk d) (s : Session) (q : Pool) (slot : ℕ) (
 pub fit_numbered : (d e : Shown) (p q : Pool) (states : States) (slot : ℕ) (x y : VolumeState) → state_at states slot ≡ Some x → Reads d p e q → y ≡ record x { numbers = y.numbers } → IsReady e q y → FitTogether p states → FitTogether q (with_state states slot (Some y))
 fit_numbered d e p q states slot x y there reads same ready fit = fit_changed d e p q states slot x y there reads (as_left x y same) ready fit.housed.long fit
 
-module _ (d e : Shown) (laws : IsDisk d) (v s : Session) (same : v ≡ s) (fit : IsNone v.failed → FitTogether v.pool v.volumes) (fresh : IsNone s.failed) (stands : Stands d s) (q : Pool) (slot : ℕ) (x y : VolumeState)
+module _ (d e : Shown) (laws : IsDisk d) (v s : Session) (same : v ≡ s) (fit : IsNone v.failed → FitTogether v.pool v.volumes) (fresh : IsNone s.failed) (stands : StandsReady d s) (q : Pool) (slot : ℕ) (x y : VolumeState)
     (lent : state_at v.volumes slot ≡ Some x) where
   abbrev after : Session
   after = record v { volumes = with_state v.volumes slot (Some y); pool = q }
@@ -234,8 +234,8 @@ module _ (d e : Shown) (laws : IsDisk d) (v s : Session) (same : v ≡ s) (fit :
   unfailed : IsNone v.failed
   unfailed = subst (λ (n : Session). IsNone n.failed) (sym same) fresh
 
-  stand_lent : Stands d v
-  stand_lent = subst (Stands d) (sym same) stands
+  stand_lent : StandsReady d v
+  stand_lent = subst (StandsReady d) (sym same) stands
 
   pub done_lent : NumbersState d v.pool x e q y (Ok tt) → HasNumbered d s e after (Ok tt)
   done_lent did = subst (λ (n : Session). HasNumbered d n e after (Ok tt)) same (numbered_done d e laws v q slot x y lent (long_lent v s same fit fresh) unfailed stand_lent tt did)

@@ -25,7 +25,7 @@ use Rattle.fv_aggregate.specs.Known.{KeepsNumbers, KeepsNumbersBut, KnowsNamed, 
 use Rattle.fv_aggregate.specs.Looking.{HasSnapped, Looks, Makes}
 use Rattle.fv_aggregate.specs.Managing.{Manages}
 use Rattle.fv_aggregate.specs.Reclaiming.{MakesRoom}
-use Rattle.fv_aggregate.specs.Standing.{Stands, StandsFor}
+use Rattle.fv_aggregate.specs.Standing.{StandsFor, StandsReady}
 use Rattle.fv_aggregate.proofs.Applied.{fault_plain, no_files, rests_for, rests_for_fault}
 use Rattle.fv_aggregate.proofs.Applying.{look_asks, look_files, look_goes, look_goes_for, look_name, look_no_point, look_refused, look_reply, look_same, make_asks, make_calm, make_entries, make_goes, make_goes_for, make_name, make_no_point, make_reply, make_still, make_unasked, make_unchanged, no_step, not_dead, rests_as, same_map}
 use Rattle.fv_aggregate.proofs.Calls.{reads_itself, rests_asks, rests_done, rests_wanting, stays_failed}
@@ -76,13 +76,13 @@ module _ {D : Type 0} (c : Command) (d : Shown) (at : D) (s : Session) (steps : 
   }
 
   -- one that is answered, which leaves the machine,
-  pub rests_answers : IsDisk d → (y : Reply) → IsNone s.failed → Stands d s → reads_files c ≡ false → c ≢ Cp → room_by s.volumes c ≡ 0 → ((m : Machine) → machine_after m c ≡ m)
+  pub rests_answers : IsDisk d → (y : Reply) → IsNone s.failed → StandsReady d s → reads_files c ≡ false → c ≢ Cp → room_by s.volumes c ≡ 0 → ((m : Machine) → machine_after m c ≡ m)
       → (IsTrue d.tells → (last m : Machine) → StandsFor d s last m → Replies m c y) → IsPlain c d at s d at s (Ok y) → HasApplied c d at s steps d at s steps (Ok y)
   rests_answers laws y fresh stands reads other none after replies plain =
       rests_applied (Ok y) fresh reads other none (rests_done y (room_by s.volumes c) d s fresh stands) (λ tells last m held. rests_for y d s last m (machine_after m c) laws (after m) held) replies plain
 
   -- and one for which memory lacks
-  pub rests_lacks : IsDisk d → IsNone s.failed → Stands d s → reads_files c ≡ false → c ≢ Cp → room_by s.volumes c ≡ 0 → IsPlain c d at s d at s (Err Memory) → (r : Result Reply Fault) → r ≡ Err Memory → HasApplied c d at s steps d at s steps r
+  pub rests_lacks : IsDisk d → IsNone s.failed → StandsReady d s → reads_files c ≡ false → c ≢ Cp → room_by s.volumes c ≡ 0 → IsPlain c d at s d at s (Err Memory) → (r : Result Reply Fault) → r ≡ Err Memory → HasApplied c d at s steps d at s steps r
   rests_lacks laws fresh stands reads other none plain r is =
       subst (HasApplied c d at s steps d at s steps) (sym is) (rests_applied (Err Memory) fresh reads other none (rests_wanting (room_by s.volumes c) d s fresh stands)
       (λ tells last m held. rests_for_fault Memory d s last m (machine_after m c) laws tt held) (λ tells last m held. tt) plain)
@@ -123,7 +123,7 @@ module _ {D : Type 0} (c : Command) (d : Shown) (at : D) (s : Session) (steps : 
 
 -- ---- a command on a whole volume, or one that isn't built
 
-pub managed_applied : {D : Type 0} (c : Command) (d : Shown) (laws : IsDisk d) (at : D) (old : Session) → FitTogether old.pool old.volumes → IsNone old.failed → Stands d old → (steps : ℕ) (new : Session) (reply : Reply)
+pub managed_applied : {D : Type 0} (c : Command) (d : Shown) (laws : IsDisk d) (at : D) (old : Session) → FitTogether old.pool old.volumes → IsNone old.failed → StandsReady d old → (steps : ℕ) (new : Session) (reply : Reply)
     → (is_some (managed_by c) ≡ true) ⊎ (is_built c ≡ false) → Manages old c new reply → reads_files c ≡ false → snapped_by c ≡ None → c ≢ VolList → c ≢ Cp → ((name : List ℕ) → c ≢ SnapList name) → HasApplied c d at old steps d at new steps (Ok reply)
 managed_applied c d laws at old fit fresh stands steps new reply either manages reads snaps no_list no_point no_names =
     let over = manages_over d old fit c either new reply manages in
@@ -151,7 +151,7 @@ managed_other : (c : Command) → is_some (managed_by c) ≡ true → (k : Comma
 managed_other c some k none is = true≢false (sym some ∙ ap (λ (z : Command). is_some (managed_by z)) is ∙ ap (λ (o : Option (List ℕ)). is_some o) none)
 
 -- so it is of each that is on the volume of a name as a whole
-pub own_applied : {D : Type 0} (own c : Command) → c ≡ own → (d : Shown) → IsDisk d → (at : D) (v s : Session) → v ≡ s → v.failed ≡ None → (IsNone v.failed → FitTogether v.pool v.volumes) → (IsNone s.failed → Stands d s) → (steps : ℕ) (new : Session) (reply : Reply)
+pub own_applied : {D : Type 0} (own c : Command) → c ≡ own → (d : Shown) → IsDisk d → (at : D) (v s : Session) → v ≡ s → v.failed ≡ None → (IsNone v.failed → FitTogether v.pool v.volumes) → (IsNone s.failed → StandsReady d s) → (steps : ℕ) (new : Session) (reply : Reply)
     → Manages s own new reply → is_some (managed_by own) ≡ true → volume_asked own ≡ None → changed_by own ≡ None → snapped_by own ≡ None → HasApplied c d at s steps d at new steps (Ok reply)
 own_applied own c is d laws at v s same none fits stands steps new reply manages some asks changes snaps =
     let inside : IsNone v.failed = subst IsNone (sym none) refl in

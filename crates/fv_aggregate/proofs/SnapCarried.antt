@@ -47,7 +47,7 @@ use Rattle.fv_aggregate.specs.Commands.{places_files, room_by, snapped_by}
 use Rattle.fv_aggregate.specs.Known.{KeepsNumbersBut, KnowsNumbers, MayLose}
 use Rattle.fv_aggregate.specs.Looking.{done_as, Replied, SnapsState}
 use Rattle.fv_aggregate.specs.Snapping.{snap_blocks, IsAccepted}
-use Rattle.fv_aggregate.specs.Standing.{IsWithoutFiles, Stands, StandsFor}
+use Rattle.fv_aggregate.specs.Standing.{IsWithoutFiles, StandsFor, StandsReady}
 use Rattle.fv_aggregate.proofs.Holes.{kept_entries}
 use Rattle.fv_aggregate.proofs.Asked.{answer_allows}
 use Rattle.fv_aggregate.proofs.Changed.{beside, has_within, mine}
@@ -95,7 +95,7 @@ carried_session s slot q y room = record s { volumes = with_state s.volumes slot
 abbrev pub left_session : Session → ℕ → Pool → VolumeState → Session
 left_session s slot q y = record s { volumes = with_state s.volumes slot (Some y); pool = q }
 
-module _ {D : Type 0} (d : Shown) (disk : D) (laws : IsDisk d) (s : Session) (fresh : IsNone s.failed) (stands : Stands d s) (fit : FitTogether s.pool s.volumes) (slot : ℕ) (x : VolumeState) (there : state_at s.volumes slot ≡ Some x) (slot_is : x.slot ≡ slot) (room : ℕ) where
+module _ {D : Type 0} (d : Shown) (disk : D) (laws : IsDisk d) (s : Session) (fresh : IsNone s.failed) (stands : StandsReady d s) (fit : FitTogether s.pool s.volumes) (slot : ℕ) (x : VolumeState) (there : state_at s.volumes slot ≡ Some x) (slot_is : x.slot ≡ slot) (room : ℕ) where
   long : length s.volumes ≡ 64
   long = fit.housed.long
 
@@ -143,7 +143,7 @@ module _ {D : Type 0} (d : Shown) (disk : D) (laws : IsDisk d) (s : Session) (fr
     numbers_left : KeepsNumbersBut (MayLose c s.volumes) s.volumes (with_state s.volumes slot (Some y))
     numbers_left = numbers_stay c y (ap (λ (z : VolumeState). z.numbers) placed.keeps)
 
-    its_stands : Stands d (left_session s slot q y)
+    its_stands : StandsReady d (left_session s slot q y)
     its_stands = placed_stands d s q slot x y there slot_is fit placed stands
 
     pub wanting : IsCarried d disk s c room (left_session s slot q y) (Err Memory)

@@ -30,7 +30,7 @@ use Rattle.fv_aggregate.specs.Causes.{KeepsEnds}
 use Rattle.fv_aggregate.specs.Commands.{changed_by, dirty_limit, finds_file, has_range, is_built, is_get, is_refusal, managed_by, places_files, removes_volume, room_by, snapped_by, snapshot_asked, snapshot_needed, volume_asked}
 use Rattle.fv_aggregate.specs.Known.{KeepsNumbers, KnowsNamed}
 use Rattle.fv_aggregate.specs.Managing.{IsManaged}
-use Rattle.fv_aggregate.specs.Standing.{taken_since, HoldsAsCommitted, IsWithoutFiles, OneOf, Stands, StandsAfter, StandsFor}
+use Rattle.fv_aggregate.specs.Standing.{taken_since, HoldsAsCommitted, IsWithoutFiles, OneOf, StandsAfter, StandsFor, StandsReady}
 use Rattle.fv_aggregate.specs.Telling.{names_from}
 
 -- ---- faults
@@ -117,7 +117,7 @@ pub record IsDone (before : Shown) (old : Session) (after : Shown) (new : Sessio
 -- What a call does that may add `room` blocks, whatever the disk tells. So many it counts at most as pending, whether it was done or not.
 pub record Goes {T : Type 0} (room : ℕ) (before : Shown) (old : Session) (after : Shown) (new : Session) (result : Result T Fault) : Type 0 where
   pub ends : KeepsEnds before after
-  pub stands : IsNone new.failed → Stands after new
+  pub stands : IsNone new.failed → StandsReady after new
   pub done : OnOk result (IsDone before old after new)
   pub fault : IfErr result (HasFault room before old after new)
   pub pending : new.pending ≤ old.pending + room

@@ -10,7 +10,7 @@ ghost use Rattle.fv_aggregate.specs.Commands.{dirty_limit, file_room, finds_file
 ghost use Rattle.fv_aggregate.specs.Known.{KeepsNumbersBut, KnowsNumbers};
 ghost use Rattle.fv_aggregate.specs.Looking.{HasJudged, IsChangeAt, Makes, refusal_in};
 ghost use Rattle.fv_aggregate.specs.Reclaiming.{MakesRoom};
-ghost use Rattle.fv_aggregate.specs.Standing.{Stands};
+ghost use Rattle.fv_aggregate.specs.Standing.{StandsReady};
 
 use crate::aiming::volume_at;
 use crate::fault::Fault;
@@ -32,7 +32,7 @@ impl Session {
         into: &mut Reply,
     ) -> Result<(), Fault>
         requires fresh { IsNone self.old.failed }
-        requires stands { Stands (D.shown disk.old) self.old }
+        requires stands { StandsReady (D.shown disk.old) self.old }
         requires aimed { IsChangeAt self.old.volumes slot command.now }
         ensures makes { Makes file_room (D.shown disk.old) self.old command.now (D.shown disk.new) self.new (answer into.new result) }
         ensures roomy { MakesRoom file_room (D.shown disk.old) self.old (D.shown disk.new) (answer into.new result) }
@@ -53,7 +53,7 @@ impl Session {
         into: &mut Reply,
     ) -> Result<(), Fault>
         requires fresh { IsNone self.old.failed }
-        requires stands { Stands (D.shown disk.old) self.old }
+        requires stands { StandsReady (D.shown disk.old) self.old }
         requires aimed { IsChangeAt self.old.volumes slot command.now }
         ensures makes { Makes file_room (D.shown disk.old) self.old command.now (D.shown disk.new) self.new (answer into.new result) }
         ensures roomy { MakesRoom file_room (D.shown disk.old) self.old (D.shown disk.new) (answer into.new result) }
@@ -81,7 +81,7 @@ impl Session {
         into: &mut Reply,
     ) -> Result<(), Fault>
         requires fresh { IsNone self.old.failed }
-        requires stands { Stands (D.shown disk.old) self.old }
+        requires stands { StandsReady (D.shown disk.old) self.old }
         requires few { self.old.pending + file_room ≤ max dirty_limit file_room }
         requires aimed { IsChangeAt self.old.volumes slot command.now }
         ensures makes { Makes file_room (D.shown disk.old) self.old command.now (D.shown disk.new) self.new (answer into.new result) }
@@ -108,7 +108,7 @@ impl Session {
         into: &mut Reply,
     ) -> Result<(), Fault>
         requires fresh { IsNone self.old.failed }
-        requires stands { Stands (D.shown disk.old) self.old }
+        requires stands { StandsReady (D.shown disk.old) self.old }
         requires aimed { IsChangeAt self.old.volumes slot command.now }
         ensures judged { HasJudged (D.shown disk.old) self.old command.now (D.shown disk.new) self.new (answer into.new result) }
         ensures volumes { self.new.volumes ≡ self.old.volumes }

@@ -5,7 +5,7 @@ ghost use Rattle.fv_container.specs.Chains.{slot_count};
 ghost use Rattle.fv_volume.specs.States.{state_at};
 ghost use Rattle.fv_aggregate.specs.Known.{KnowsNumbers};
 ghost use Rattle.fv_aggregate.specs.Numbering.{HasNumbered};
-ghost use Rattle.fv_aggregate.specs.Standing.{Stands};
+ghost use Rattle.fv_aggregate.specs.Standing.{StandsReady};
 
 use crate::aiming::volume_at;
 use crate::fault::Fault;
@@ -18,7 +18,7 @@ impl Session {
     /// for a name or a free number from then on, until memory lacks for the numbers of a file that is made or removed.
     pub(crate) fn read_numbers<D: Disk>(&mut self, disk: &mut D, slot: u8) -> Result<(), Fault>
         requires fresh { IsNone self.old.failed }
-        requires stands { Stands (D.shown disk.old) self.old }
+        requires stands { StandsReady (D.shown disk.old) self.old }
         requires slot { slot < slot_count }
         requires there { is_some (state_at self.old.volumes slot) ≡ true }
         ensures there { OnOk result (KnowsNumbers (state_at self.new.volumes slot)) }

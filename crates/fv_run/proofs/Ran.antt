@@ -16,7 +16,7 @@ use Rattle.fv_aggregate.specs.Asking.{AsksWithin}
 use Rattle.fv_aggregate.specs.Calls.{SameCounts}
 use Rattle.fv_aggregate.specs.Opening.{IsOpened}
 use Rattle.fv_aggregate.specs.Causes.{IsUnwritten}
-use Rattle.fv_aggregate.specs.Standing.{IsWithoutFiles, Stands, StandsFor}
+use Rattle.fv_aggregate.specs.Standing.{IsWithoutFiles, StandsFor, StandsReady}
 use Rattle.fv_run.specs.declared.ending.Fault.{Fault}
 use Rattle.fv_run.specs.declared.ending.Fault.TheVariants.{Usage, NotAggregate, Source, Sink, Disk, Memory, Damaged, Limit}
 use Rattle.fv_run.specs.Built.{lines_built}
@@ -48,7 +48,7 @@ pub record PointedOpen (session : Session) (mid new : Shown) : Type 0 where
   pub next : Session
   pub quiet : ((line : ℕ) → asks_behind most_rooms (lines_built mid.ends.left) line ≡ false) → before ≡ mid.reads
   pub left : IsPointed new last next
-  pub stands : Stands new next
+  pub stands : StandsReady new next
   pub machine : (m : Machine) → BeginsFor mid session m → IsLastFor m (lines_built mid.ends.left) mid.reads before last new next
 
 pub stopped_open : (limit : ℕ) (session : Session) (mid new : Shown) (fault : Fault) → Stopped limit session mid new fault → RanOpen limit session mid new (Err fault)
@@ -63,7 +63,7 @@ stopped_open limit session mid new fault stopped = record {
   quiet = stopped.quiet;
 }
 
-module _ (limit : ℕ) (session : Session) (old mid new : Shown) (laws : IsDisk old) (unwritten : IsUnwritten old mid) (stands : Stands mid session)
+module _ (limit : ℕ) (session : Session) (old mid new : Shown) (laws : IsDisk old) (unwritten : IsUnwritten old mid) (stands : StandsReady mid session)
     (stood : IsTrue old.tells → (m : Machine) → machine_of old.reads ≡ Some m → StandsFor mid session m m) (within : IsTrue old.tells → AsksWithin mid session 0) (none : IsTrue old.tells → IsWithoutFiles session) (calm : SameCounts old mid) (loaded : IsTrue old.tells → IsOpened old.reads session) (begins : session.pending ≡ 0) where
   machine : IsTrue old.tells → (m : Machine) → machine_of old.reads ≡ Some m → BeginsFor mid session m
   machine tells m is = record { stands = stood tells m is; pending = begins }

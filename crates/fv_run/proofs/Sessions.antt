@@ -21,7 +21,7 @@ use Rattle.fv_root.specs.Finding.{IsDamaged, IsFound, IsNoAggregate, root_found}
 use Rattle.fv_aggregate.specs.declared.fault.OpenFault.TheVariants.{Damaged}
 use Rattle.fv_aggregate.specs.declared.session.Session.{Session}
 use Rattle.fv_aggregate.specs.declared.fault.Fault.TheVariants as session_fault
-use Rattle.fv_aggregate.specs.Standing.{taken_since, Stands, StandsAfter, StandsFor}
+use Rattle.fv_aggregate.specs.Standing.{taken_since, StandsAfter, StandsFor, StandsReady}
 use Rattle.fv_aggregate.specs.Asking.{AsksWithin, IsShort}
 use Rattle.fv_aggregate.specs.Calls.{LacksBlocks, HasFilesToPlace}
 use Rattle.fv_aggregate.specs.Calls as calls
@@ -53,11 +53,13 @@ point_stays old new session next last m before now same stood stands =
 found_still : (old new : Shown) (found : Found) → Rests old new → IsFoundOn old found → IsFoundOn new found
 found_still old new found rests on = record { reads = rw rests.stays.reads on.reads; images = λ c now. on.images c (rests.stays.no_more c now) }
 
-pub rests_standing : (old new : Shown) (session : Session) → Rests old new → Stands old session → Stands new session
+pub rests_standing : (old new : Shown) (session : Session) → Rests old new → StandsReady old session → StandsReady new session
 rests_standing old new session rests stands = record {
-  found = λ tells. found_still old new session.pool.found rests (stands.found (rw (← rests.stays.tells) tells));
-  map = λ tells. rw rests.stays.reads (stands.map (rw (← rests.stays.tells) tells));
-  cache = record { same = λ tells pvbn block has. rw rests.stays.reads (stands.cache.same (rw (← rests.stays.tells) tells) pvbn block has) };
+  stands = record {
+    found = λ tells. found_still old new session.pool.found rests (stands.stands.found (rw (← rests.stays.tells) tells));
+    map = λ tells. rw rests.stays.reads (stands.stands.map (rw (← rests.stays.tells) tells));
+    cache = record { same = λ tells pvbn block has. rw rests.stays.reads (stands.stands.cache.same (rw (← rests.stays.tells) tells) pvbn block has) };
+  };
   ready = all_ready_still old new rests.stays session.pool session.volumes stands.ready;
 }
 
@@ -113,8 +115,8 @@ not_found i found none is = differ (sym (no_root i none) ∙ is.root)
     differ : None ≡ Some (root_found found) → ⊥
     differ e = cc
 
-pub not_opened : (disk : Shown) (session : Session) → IsTrue disk.tells → Stands disk session → IsNoAggregate disk.reads → ⊥
-not_opened disk session tells stands none = not_found disk.reads session.pool.found none (stands.found tells).reads
+pub not_opened : (disk : Shown) (session : Session) → IsTrue disk.tells → StandsReady disk session → IsNoAggregate disk.reads → ⊥
+not_opened disk session tells stands none = not_found disk.reads session.pool.found none (stands.stands.found tells).reads
 
 not_behind : (i : Image) (at want number : ℕ) → IsNoAggregate i → IsDamaged i at want number → ⊥
 not_behind i at want number none is = ⊎_elim

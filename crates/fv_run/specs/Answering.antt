@@ -14,7 +14,7 @@ use Rattle.fv_lines.specs.Reading.{KnowsEnd, unread}
 use Rattle.fv_aggregate.specs.declared.session.Session.{Session}
 use Rattle.fv_aggregate.specs.Asking.{AsksWithin, IsShort}
 use Rattle.fv_aggregate.specs.Commands.{room_by}
-use Rattle.fv_aggregate.specs.Standing.{IsWithoutFiles, OneOf, Stands, StandsAfter, StandsFor}
+use Rattle.fv_aggregate.specs.Standing.{IsWithoutFiles, OneOf, StandsAfter, StandsFor, StandsReady}
 use Rattle.fv_run.specs.declared.ending.Fault.{Fault}
 use Rattle.fv_run.specs.declared.ending.Fault.TheVariants.{Source, Sink, Disk, Memory, Damaged, Limit}
 use Rattle.fv_run.specs.Endings.{IsWholeFault, count_of, raised_by}
@@ -55,7 +55,7 @@ IsSessionFault line old session new fault = ⊥
 -- a session that hasn't failed, on its disk
 pub record IsReady (disk : Shown) (session : Session) : Type 0 where
   pub unfailed : IsNone session.failed
-  pub stands : Stands disk session
+  pub stands : StandsReady disk session
 
 -- After a line the session stands for the next machine, and its last consistency point for that of before or for an earlier one; after a
 -- `cp` the point stands for the next machine, too.

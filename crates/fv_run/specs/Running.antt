@@ -16,7 +16,7 @@ use Rattle.fv_aggregate.specs.Causes.{IsOpenFault, IsUnwritten}
 use Rattle.fv_aggregate.specs.Commands.{changes_volume, dirty_limit, most_room, reads_files, room_of}
 use Rattle.fv_aggregate.specs.Opening.{IsOpened}
 use Rattle.fv_aggregate.specs.Reclaiming.{HasPointed}
-use Rattle.fv_aggregate.specs.Standing.{Stands, StandsFor}
+use Rattle.fv_aggregate.specs.Standing.{StandsFor, StandsReady}
 use Rattle.fv_run.specs.declared.ending.Fault.{Fault}
 use Rattle.fv_run.specs.declared.ending.Fault.TheVariants.{Usage, NotAggregate, Source, Sink, Disk, Memory, Damaged, Limit}
 use Rattle.fv_run.specs.Endings.{EndsWith, IsWholeFault, raised_by}
@@ -158,7 +158,7 @@ pub record EndsInPoint (lines : List Line) (old new : Shown) : Type 0 where
   pub next : Session
   pub quiet : ((line : ℕ) → asks_behind most_rooms lines line ≡ false) → before ≡ old.reads
   pub left : IsPointed new last next
-  pub stands : Stands new next
+  pub stands : StandsReady new next
   pub machine : (m : Machine) → machine_of old.reads ≡ Some m → IsLastFor m lines old.reads before last new next
 
 -- ---- what is read

@@ -12,6 +12,7 @@ use Rattle.fv_aggregate.proofs.Carried.{change_lent, makes_lent}
 use Rattle.fv_aggregate.proofs.Changed.{counted, fit_changed}
 use Rattle.fv_aggregate.proofs.Commits.{commits_most, commits_with}
 use Rattle.fv_aggregate.proofs.Keeping.{keeps_with, replied_volumes}
+use Rattle.fv_aggregate.proofs.Ready.{set_changed}
 use Rattle.fv_aggregate.proofs.Returned.{keeps_changed, lent_there, long_lent, ready_lent}
 use Rattle.fv_aggregate.proofs.session.Session.carry_out.Goals as goal
 
@@ -36,6 +37,10 @@ invariant_of-self g c = (
   λ none.
       ap (λ (n : ℕ). c.commits_beside-others.result + n) c.commit.ensures.exact
       ∙ commits_with c.self.inside.volumes (c.self.invariant.0 none).housed.long c.args.slot c.volume_at-state.result.now c.change-made.new.self c.volume_at-state.ensures.state c.commits_beside-others.result (subst (λ (n : Session). c.commits_beside-others.result ≡ sum_of n.volumes - committed_by (state_at n.volumes c.args.slot)) (sym c.self.view_is) c.commits_beside-others.ensures.sum),
+  λ none.
+      let said = c.change-made.ensures in
+      set_changed (g.D.Disk.shown c.args.disk.now) (g.D.Disk.shown c.change-made.new.disk) _ _ c.self.view_is c.requires.stands c.change-made.new.pool said.reads
+      c.args.slot c.volume_at-state.result.now c.change-made.new.self c.volume_at-state.ensures.state said.head.same said.ready (c.self.invariant.0 none).housed.long,
 )
 
 pub returns-clause-makes : goal.returns-clause-makes

@@ -1,5 +1,6 @@
 use Rattle.fv_model.specs.declared.commands.Command.TheVariants.{VolGuarantee}
-use Rattle.fv_aggregate.proofs.Resized.{fit_resized, promised_by}
+use Rattle.fv_aggregate.specs.Parts.{silent}
+use Rattle.fv_aggregate.proofs.Resized.{fit_resized, promised_by, ready_resized}
 use Rattle.fv_aggregate.proofs.session.Session.guarantee.Goals as goal
 
 pub returns : goal.returns
@@ -11,4 +12,7 @@ invariant_of-self c = (
       fit_resized (record { volumes = c.self.inside.volumes; pool = c.self.inside.pool; delays = c.self.inside.delays; pending = c.self.inside.pending; failed = c.self.inside.failed })
       (VolGuarantee c.args.volume.now c.args.kind) c.args.volume.now (λ x. x.size) (λ x. c.args.kind) c.guarantee-made.new.self (c.self.invariant.0 fresh) c.guarantee-made.result c.guarantee-made.ensures,
   λ fresh. c.commits-self-inside.ensures.exact,
+  λ fresh.
+      ready_resized (record { volumes = c.self.inside.volumes; pool = c.self.inside.pool; delays = c.self.inside.delays; pending = c.self.inside.pending; failed = c.self.inside.failed })
+      (VolGuarantee c.args.volume.now c.args.kind) c.args.volume.now (λ x. x.size) (λ x. c.args.kind) c.guarantee-made.new.self c.guarantee-made.result c.guarantee-made.ensures silent (c.self.invariant.2 fresh),
 )

@@ -4,7 +4,8 @@ use Rattle.fv_volume.specs.declared.state.VolumeState.{VolumeState}
 use Rattle.fv_aggregate.specs.declared.session.Session.{Session}
 use Rattle.fv_aggregate.specs.Known.{KnowsNumbers}
 use Rattle.fv_aggregate.proofs.Commits.{commits_same}
-use Rattle.fv_aggregate.proofs.NumbersRead.{done_lent, failed_lent, fit_numbered, knows_lent}
+use Rattle.fv_aggregate.proofs.NumbersRead.{as_left, done_lent, failed_lent, fit_numbered, knows_lent}
+use Rattle.fv_aggregate.proofs.Ready.{set_changed}
 use Rattle.fv_aggregate.proofs.Returned.{breaks_beside, lent_there, ready_lent, volumes_lent}
 use Rattle.fv_aggregate.proofs.session.Session.read_numbers.Goals as goal
 
@@ -19,6 +20,10 @@ invariant_of-self g c = (
       c.read_numbers-read.new.self c.volume_at-state.ensures.state said.reads said.same said.ready (c.self.invariant.0 none),
   λ none.
       c.self.invariant.1 none ∙ sym (commits_same c.self.inside.volumes (c.self.invariant.0 none).housed.long c.args.slot c.volume_at-state.result.now c.read_numbers-read.new.self c.volume_at-state.ensures.state (ap (λ (z : VolumeState). committed z.ledger) c.read_numbers-read.ensures.same)),
+  λ none.
+      let said = c.read_numbers-read.ensures in
+      set_changed (g.D.Disk.shown c.args.disk.now) (g.D.Disk.shown c.read_numbers-read.new.disk) _ _ c.self.view_is c.requires.stands c.read_numbers-read.new.pool said.reads
+      c.args.slot c.volume_at-state.result.now c.read_numbers-read.new.self c.volume_at-state.ensures.state (as_left c.volume_at-state.result.now c.read_numbers-read.new.self said.same) said.ready (c.self.invariant.0 none).housed.long,
 )
 
 pub invariant_of-self-in-Err : goal.invariant_of-self-in-Err
@@ -29,6 +34,10 @@ invariant_of-self-in-Err g c = (
       c.read_numbers-read.new.self c.volume_at-state.ensures.state said.reads said.same said.ready (c.self.invariant.0 none),
   λ none.
       c.self.invariant.1 none ∙ sym (commits_same c.self.inside.volumes (c.self.invariant.0 none).housed.long c.args.slot c.volume_at-state.result.now c.read_numbers-read.new.self c.volume_at-state.ensures.state (ap (λ (z : VolumeState). committed z.ledger) c.read_numbers-read.ensures.same)),
+  λ none.
+      let said = c.read_numbers-read.ensures in
+      set_changed (g.D.Disk.shown c.args.disk.now) (g.D.Disk.shown c.read_numbers-read.new.disk) _ _ c.self.view_is c.requires.stands c.read_numbers-read.new.pool said.reads
+      c.args.slot c.volume_at-state.result.now c.read_numbers-read.new.self c.volume_at-state.ensures.state (as_left c.volume_at-state.result.now c.read_numbers-read.new.self said.same) said.ready (c.self.invariant.0 none).housed.long,
 )
 
 pub returns-in-Ok-clause-numbered : goal.returns-in-Ok-clause-numbered
