@@ -30,7 +30,7 @@ use Rattle.fv_aggregate.specs.declared.fault.Fault.TheVariants.{Memory}
 use Rattle.fv_aggregate.specs.Asking.{AsksWithin}
 use Rattle.fv_aggregate.specs.Calls.{Goes, GoesFor, KeepsAsking}
 use Rattle.fv_aggregate.specs.Commands.{is_refusal}
-use Rattle.fv_aggregate.specs.Standing.{clear_blocks, unwritten, IsWithoutFiles, Stands, StandsFor}
+use Rattle.fv_aggregate.specs.Standing.{clear_blocks, unwritten, IsWithoutFiles, StandsFor, StandsReady}
 use Rattle.fv_aggregate.proofs.Applied.{rests_for}
 use Rattle.fv_aggregate.proofs.Standing.{earlier_moments, known_still}
 use Rattle.fv_aggregate.proofs.Admitting.{accepted_held, refused_held, room_held}
@@ -55,15 +55,13 @@ module _ (session : Session) (name : List ℕ) (size : ℕ) (kind : Kind) (room 
   new_slot : IsNew (state_at new.volumes added.slot) (container_at pool.containers added.slot) name size kind
   new_slot = subst (λ (p : Pool). IsNew (state_at new.volumes added.slot) (container_at p.containers added.slot) name size kind) added.holes added.new_there
 
-  with_session : (disk : Shown) → Stands disk (record new { pool = pool }) → Stands disk new
-  with_session disk = subst (λ (p : Pool). Stands disk (record new { pool = p })) (sym added.holes)
+  with_session : (disk : Shown) → StandsReady disk (record new { pool = pool }) → StandsReady disk new
+  with_session disk = subst (λ (p : Pool). StandsReady disk (record new { pool = p })) (sym added.holes)
 
-  stands_added : (disk : Shown) → Stands disk session → Stands disk new
+  stands_added : (disk : Shown) → StandsReady disk session → StandsReady disk new
   stands_added disk stands = with_session disk (record {
-    found = stands.found;
-    map = stands.map;
-    cache = stands.cache;
-    ready = ready_beside disk session.pool session.volumes added.slot name size kind new.volumes added.fit added.free added.made new_slot added.each stands.cache stands.ready;
+    stands = record { found = stands.stands.found; map = stands.stands.map; cache = stands.stands.cache };
+    ready = ready_beside disk session.pool session.volumes added.slot name size kind new.volumes added.fit added.free added.made new_slot added.each stands.stands.cache stands.ready;
   })
 
   pub asks_added : (disk : Shown) (kept : ℕ) → new.pending ≡ session.pending + room → session.pending + room ≤ max 256 room → AsksWithin disk session (max kept room) → AsksWithin disk new (max kept room)

@@ -20,7 +20,7 @@ use Rattle.fv_aggregate.specs.Aiming.{Aims, AimsAt, IsAimed, IsAimless, IsServed
 use Rattle.fv_aggregate.specs.Applying.{HasApplied}
 use Rattle.fv_aggregate.specs.Commands.{file_room, has_range, is_built, managed_by, room_by, snapped_by}
 use Rattle.fv_aggregate.specs.Managing.{Manages}
-use Rattle.fv_aggregate.specs.Standing.{Stands}
+use Rattle.fv_aggregate.specs.Standing.{StandsReady}
 use Rattle.fv_aggregate.proofs.Applied.{managed_or_unbuilt, no_files}
 use Rattle.fv_aggregate.proofs.Asked.{looks_done, looks_missing}
 use Rattle.fv_aggregate.proofs.Calls.{reads_itself}
@@ -89,7 +89,7 @@ range_lost is = cc
 snap_near : (name : List ℕ) (c : Command) → snapped_by c ≡ Some name → has_range c ≡ true
 snap_near name c of = snap_cases (λ (k : Command). has_range k ≡ true) (λ v s. refl) (λ v s. refl) (λ v s. refl) name c of
 
-module _ {D : Type 0} (shown : D → Shown) (at : D) (laws : IsDisk (shown at)) (s : Session) (fresh : IsNone s.failed) (stands : Stands (shown at) s) (fit : FitTogether s.pool s.volumes) (c : Command) (steps : ℕ) where
+module _ {D : Type 0} (shown : D → Shown) (at : D) (laws : IsDisk (shown at)) (s : Session) (fresh : IsNone s.failed) (stands : StandsReady (shown at) s) (fit : FitTogether s.pool s.volumes) (c : Command) (steps : ℕ) where
   abbrev d : Shown
   d = shown at
 
@@ -99,7 +99,7 @@ module _ {D : Type 0} (shown : D → Shown) (at : D) (laws : IsDisk (shown at)) 
   -- out of its range
   refused_far : (t : Task) (name : List ℕ) → Suits t name c → has_range c ≡ false → Refuses Range
   refused_far task.Look name asks far = look_applied c name asks d at s steps d at s steps (Ok (Refused Range)) fresh
-      (looks_done d d laws s s.pool (reads_alone d d s.pool (reads_itself d) stands.cache) fresh stands c (Refused Range) refl (λ last m held. refused_allows m c Range (asked_far c name asks far m)))
+      (looks_done d d laws s s.pool (reads_alone d d s.pool (reads_itself d) stands.stands.cache) fresh stands c (Refused Range) refl (λ last m held. refused_allows m c Range (asked_far c name asks far m)))
       (record {
         range = λ far. (refl, (refl, refl));
         missing = λ near none. absurd (true≢false (sym near ∙ far));
@@ -111,7 +111,7 @@ module _ {D : Type 0} (shown : D → Shown) (at : D) (laws : IsDisk (shown at)) 
         finds = λ finds near. absurd (true≢false (sym near ∙ far));
       })
   refused_far task.Change name change far = make_applied c name change d at s d at s steps (Ok (Refused Range)) fresh
-      (refused_at_once d laws s fresh stands c Range (λ last m is. far_change m name c change far)) (refused_roomy file_room d s d Range)
+      (refused_at_once d laws s fresh stands c Range (λ last m is. far_change m name c change far)) (refused_roomy file_room d s d Range) (λ low. tt)
       (record {
         range = λ far. (refl, (refl, refl));
         missing = λ near none. absurd (true≢false (sym near ∙ far));
@@ -135,7 +135,7 @@ module _ {D : Type 0} (shown : D → Shown) (at : D) (laws : IsDisk (shown at)) 
         finds = λ finds near slot within named. not_none _ s.volumes slot name within named none;
       })
   refused_none task.Change name change near none = make_applied c name change d at s d at s steps (Ok (Refused NoVolume)) fresh
-      (refused_at_once d laws s fresh stands c NoVolume (refused_missing d s fit.housed.long name c none change near)) (refused_roomy file_room d s d NoVolume)
+      (refused_at_once d laws s fresh stands c NoVolume (refused_missing d s fit.housed.long name c none change near)) (refused_roomy file_room d s d NoVolume) (λ low. tt)
       (record {
         range = λ far. absurd (true≢false (sym near ∙ far));
         missing = λ near none. (refl, (refl, refl));

@@ -20,7 +20,7 @@ use Rattle.fv_aggregate.specs.Adding.{IsPointed}
 use Rattle.fv_aggregate.specs.Calls.{Goes, GoesFor, KeepsAsking, KeepsEntries, WasRead}
 use Rattle.fv_aggregate.specs.Commands.{changed_by, changes_volume, dirty_limit, file_room, is_refusal, machine_after, room_by, volume_asked, Replies}
 use Rattle.fv_aggregate.specs.Looking.{Looks, Makes}
-use Rattle.fv_aggregate.specs.Standing.{HoldsAsCommitted, IsWithoutFiles, Stands, StandsFor}
+use Rattle.fv_aggregate.specs.Standing.{HoldsAsCommitted, IsWithoutFiles, StandsFor, StandsReady}
 use Rattle.fv_aggregate.proofs.Calls.{reads_itself}
 use Rattle.fv_aggregate.proofs.Changing.{change_after, change_cases, change_of_volume, change_replies, change_room, look_after, look_replies, look_room}
 use Rattle.fv_aggregate.proofs.Numbered.{no_files_read}
@@ -34,7 +34,7 @@ pub not_dead : (X : Type 0) (s : Session) → IsNone s.failed → IsSome s.faile
 not_dead X s fresh failed = absurd (none_some s.failed fresh failed)
 
 -- the ledger of each volume has its numbers
-pub booked_each : (d : Shown) (s : Session) → Stands d s → (slot : ℕ) → IfSome (state_at s.volumes slot) IsBooked
+pub booked_each : (d : Shown) (s : Session) → StandsReady d s → (slot : ℕ) → IfSome (state_at s.volumes slot) IsBooked
 booked_each d s stands slot = by (state_at s.volumes slot) (stands.ready slot)
   where
     by : (o : Option VolumeState) → IfSome o (IsReadyIn d s.pool slot) → IfSome o IsBooked
@@ -105,6 +105,9 @@ module _ (c : Command) (name : List ℕ) (asks : volume_asked c ≡ Some name) (
   look_name other (inl change) = absurd (some_none name (sym (unasked c other change) ∙ asks))
   look_name other (inr also) = same_volume other name (sym also ∙ asks)
 
+  pub look_unchanged : (X : Type 0) (other : List ℕ) → changed_by c ≡ Some other → X
+  look_unchanged X other change = absurd (some_none name (sym (unasked c other change) ∙ asks))
+
   -- no file comes into memory
   pub look_files : IsWithoutFiles s → OnOk r (IsWithoutFiles n)
   look_files without = by r looks.read
@@ -169,6 +172,10 @@ module _ (c : Command) (name : List ℕ) (of : changed_by c ≡ Some name) (d : 
   pub make_still : (room_by s.volumes c ≡ 0) ⊎ (s.pending + room_by s.volumes c ≤ dirty_limit) → IfOk r (λ reply. IsTrue (is_refusal reply) → WasRead d s e n)
   make_still (inl nothing) = absurd (let some = change_room name c change s.volumes in omega (arith, nothing, some))
   make_still (inr few) = makes.still (inr (let some = change_room name c change s.volumes in omega (arith, few, some)))
+
+  pub make_within : (X : Type 0) → (s.pending + file_room ≤ dirty_limit → X) → (room_by s.volumes c ≡ 0) ⊎ (s.pending + room_by s.volumes c ≤ dirty_limit) → X
+  make_within X says (inl nothing) = absurd (let some = change_room name c change s.volumes in omega (arith, nothing, some))
+  make_within X says (inr few) = says (let some = change_room name c change s.volumes in omega (arith, few, some))
 
   pub make_unchanged : (X : Type 0) → changed_by c ≡ None → X
   make_unchanged X isnt = absurd (none (sym isnt ∙ of))

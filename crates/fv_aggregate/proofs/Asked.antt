@@ -1,6 +1,6 @@
 -- What a session answers to a command that asks for files, by the call of a volume.
 use Rattle.std.proofs.Common.{◌≡◌, ◌<◌, ℕ, Bool, true, false, List, Option, Some, None, Result, Ok, Err, inl, inr, refl, sym, ap, subst, ◌∙◌, length, arith}
-use Rattle.std.specs.Prelude.{IsNone, IsSome, IsTrue, OnOk}
+use Rattle.std.specs.Prelude.{IsNone, IsTrue, OnOk}
 use Rattle.std.specs.FinMap as fin
 use Rattle.fv_disk.specs.Shown.{Shown, IsDisk, Rose}
 use Rattle.fv_disk.specs.declared.fault.BlockFault.TheVariants as block
@@ -35,11 +35,12 @@ use Rattle.fv_aggregate.specs.declared.session.Session.{Session}
 use Rattle.fv_aggregate.specs.Calls.{HasDamage, WasRead}
 use Rattle.fv_aggregate.specs.Commands.{has_range, snapshot_asked, volume_asked}
 use Rattle.fv_aggregate.specs.Looking.{AsksState, Faults, IsAsked, Looks, Replied}
-use Rattle.fv_aggregate.specs.Standing.{Stands, StandsFor}
+use Rattle.fv_aggregate.specs.Standing.{StandsFor, StandsReady}
 use Rattle.fv_aggregate.proofs.Holes.{kept_entries}
 use Rattle.fv_aggregate.proofs.HeldMachine.{is_there, not_there, one}
 use Rattle.fv_aggregate.proofs.CallEnds.{goes_broken, goes_damaged, goes_done, goes_for_broken, goes_for_done, goes_for_fault, goes_wanting}
 use Rattle.fv_aggregate.proofs.Calls.{reads_itself}
+use Rattle.fv_aggregate.proofs.Damages.{bad_read, finds_asked}
 use Rattle.fv_aggregate.proofs.Looked.{asks_read, left, reads_alone, stands_for_read, stands_read, was_read}
 use Rattle.fv_aggregate.proofs.Missing.{asked_closed, asked_missing, refused_allows}
 use Rattle.fv_aggregate.proofs.Numbered.{still_there}
@@ -100,8 +101,8 @@ of_ls c name v s is asks = let of : v ≡ name = some_name v name (sym (ap volum
 
 -- ---- a session, by what it read
 
-module _ (d e : Shown) (laws : IsDisk d) (s : Session) (q : Pool) (reads : Reads d s.pool e q) (fresh : IsNone s.failed) (stands : Stands d s) (c : Command) where
-  abbrev still : Stands e (left d e s q reads)
+module _ (d e : Shown) (laws : IsDisk d) (s : Session) (q : Pool) (reads : Reads d s.pool e q) (fresh : IsNone s.failed) (stands : StandsReady d s) (c : Command) where
+  abbrev still : StandsReady e (left d e s q reads)
   still = stands_read d e s q reads stands
 
   for_left : (last m : Machine) → StandsFor d s last m → StandsFor e (left d e s q reads) last m
@@ -117,6 +118,7 @@ module _ (d e : Shown) (laws : IsDisk d) (s : Session) (q : Pool) (reads : Reads
     only_reads = reads.only_reads;
     entries = kept_entries s (left d e s q reads) reads.leaves.containers;
     read = was_read d e s q reads;
+    unanswered = tt;
   }
 
   pub looks_broken : (o : Option ℕ) → Rose d.faults e.faults → (Rose e.write_faults e.write_faults → o ≡ Some e.faults) → (¬ Rose e.write_faults e.write_faults → IsNone o) → Looks d s c e (record s { pool = q; failed = o }) (Err DiskFault)
@@ -128,6 +130,7 @@ module _ (d e : Shown) (laws : IsDisk d) (s : Session) (q : Pool) (reads : Reads
     only_reads = reads.only_reads;
     entries = kept_entries s (record s { pool = q; failed = o }) reads.leaves.containers;
     read = tt;
+    unanswered = was_read d e s q reads;
   }
 
   pub looks_wanting : e.faults ≡ d.faults → Looks d s c e (left d e s q reads) (Err Memory)
@@ -139,9 +142,10 @@ module _ (d e : Shown) (laws : IsDisk d) (s : Session) (q : Pool) (reads : Reads
     only_reads = reads.only_reads;
     entries = kept_entries s (left d e s q reads) reads.leaves.containers;
     read = tt;
+    unanswered = was_read d e s q reads;
   }
 
-  pub looks_damaged : (at want found : ℕ) → e.faults ≡ d.faults → HasDamage d s (left d e s q reads) at want found → (IsTrue d.tells → (last m : Machine) → StandsFor d s last m → ⊥)
+  pub looks_damaged : (at want found : ℕ) → e.faults ≡ d.faults → HasDamage 0 d s e (left d e s q reads) at want found → (IsTrue d.tells → (last m : Machine) → StandsFor d s last m → ⊥)
       → Looks d s c e (left d e s q reads) (Err (Damaged at want found))
   looks_damaged at want found calm damage whole = record {
     goes = goes_damaged d e laws s (left d e s q reads) 0 reads.only_reads fresh fresh still at want found calm damage (omega arith);
@@ -151,6 +155,7 @@ module _ (d e : Shown) (laws : IsDisk d) (s : Session) (q : Pool) (reads : Reads
     only_reads = reads.only_reads;
     entries = kept_entries s (left d e s q reads) reads.leaves.containers;
     read = tt;
+    unanswered = was_read d e s q reads;
   }
 
 -- ---- a volume of a slot
@@ -194,11 +199,7 @@ calm_damage told x old faults at want found (inl fails) = fails.0
 calm_damage told x old faults at want found (inr (inl bad)) = bad.calm
 calm_damage told x old faults at want found (inr (inr fails)) = fails.fails.0
 
--- the session's volume is damaged, if one is
-pub damaged_at : (d : Shown) (s : Session) (slot : ℕ) (x : VolumeState) → state_at s.volumes slot ≡ Some x → IsNone s.failed → (new : Session) (at want found : ℕ) → HasDamage d s new at want found
-damaged_at d s slot x there fresh new at want found = inr (inr (record { fresh = fresh; slot = slot; there = subst IsSome (sym there) refl }))
-
-module _ (d e : Shown) (laws : IsDisk d) (s : Session) (q : Pool) (c : Command) (slot : ℕ) (x : VolumeState) (there : state_at s.volumes slot ≡ Some x) (start steps : ℕ) (fresh : IsNone s.failed) (stands : Stands d s)
+module _ (d e : Shown) (laws : IsDisk d) (s : Session) (q : Pool) (c : Command) (slot : ℕ) (x : VolumeState) (there : state_at s.volumes slot ≡ Some x) (start steps : ℕ) (fresh : IsNone s.failed) (stands : StandsReady d s)
     (long : length s.volumes ≡ 64) (closed : (m : Machine) → is_open m c ≡ false) where
   abbrev now : Session
   now = record s { pool = q }
@@ -214,7 +215,7 @@ module _ (d e : Shown) (laws : IsDisk d) (s : Session) (q : Pool) (c : Command) 
   looks_by (Err volume.DiskFault) asks new result b = as_told (Looks d s c e) new (record now { failed = new.failed }) result (Err DiskFault) b.1.1.1.same (b.1.0 ∙ ap (λ (g : Fault). Err g) b.1.1.0)
       (looks_broken d e laws s q asks.reads fresh stands c new.failed (rose_by _ _ _ e.faults asks.cause) b.1.1.1.written b.1.1.1.unwritten)
   looks_by (Err (volume.Damaged at want found)) asks new result b = as_told (Looks d s c e) new now result (Err (Damaged at want found)) b.1.1.1 (b.1.0 ∙ ap (λ (g : Fault). Err g) b.1.1.0)
-      (looks_damaged d e laws s q asks.reads fresh stands c at want found (calm_damage _ _ _ e.faults at want found asks.cause) (damaged_at d s slot x there fresh now at want found)
+      (looks_damaged d e laws s q asks.reads fresh stands c at want found (calm_damage _ _ _ e.faults at want found asks.cause) (inl (asks.reads.only_reads, inl (inr (inr (bad_read d e s fresh slot x there q asks.reads (calm_damage _ _ _ e.faults at want found asks.cause) at want found (finds_asked d s.pool x e.faults at want found (calm_damage _ _ _ e.faults at want found asks.cause) (snapshot_asked c) asks.cause))))))
       (λ tells last m is. read_undamaged d s.pool x (mine last m is).stands (mine last m is).well (snapshot_asked c) 0 e.faults at want found asks.cause))
   looks_by (Err volume.Memory) asks new result b = as_told (Looks d s c e) new now result (Err Memory) b.1.1.1 (b.1.0 ∙ ap (λ (g : Fault). Err g) b.1.1.0)
       (looks_wanting d e laws s q asks.reads fresh stands c (calm_memory _ _ _ e.faults asks.cause))
@@ -239,7 +240,7 @@ module _ (d e : Shown) (laws : IsDisk d) (s : Session) (q : Pool) (c : Command) 
 
 -- ---- a volume that was lent to the call
 
-module _ (d e : Shown) (laws : IsDisk d) (v s : Session) (same : v ≡ s) (fit : IsNone v.failed → FitTogether v.pool v.volumes) (fresh : IsNone s.failed) (stands : Stands d s) (c : Command) (slot : ℕ) (x : VolumeState)
+module _ (d e : Shown) (laws : IsDisk d) (v s : Session) (same : v ≡ s) (fit : IsNone v.failed → FitTogether v.pool v.volumes) (fresh : IsNone s.failed) (stands : StandsReady d s) (c : Command) (slot : ℕ) (x : VolumeState)
     (lent : state_at v.volumes slot ≡ Some x) (asked : IsAsked s.volumes slot c) (q : Pool) (y : VolumeState) (still : y ≡ x) (start steps : ℕ) (r : Result Reply VolumeFault) (asks : AsksState d v.pool x c start e q steps r)
     (new : Session) (result : Result Reply Fault) (replied : Replied e r (record v { volumes = with_state v.volumes slot (Some y); pool = q }) new result) where
   as_replied : Replied e r (record v { pool = q }) new result
@@ -249,11 +250,11 @@ module _ (d e : Shown) (laws : IsDisk d) (v s : Session) (same : v ≡ s) (fit :
   unfailed = subst (λ (n : Session). IsNone n.failed) (sym same) fresh
 
   pub looks_lent : Looks d s c e new result
-  looks_lent = subst (λ (n : Session). Looks d n c e new result) same (looks_by d e laws v q c slot x lent start steps unfailed (subst (Stands d) (sym same) stands) (long_lent v s same fit fresh) (asked_closed c asked.state.name asked.asks) r asks new result as_replied)
+  looks_lent = subst (λ (n : Session). Looks d n c e new result) same (looks_by d e laws v q c slot x lent start steps unfailed (subst (StandsReady d) (sym same) stands) (long_lent v s same fit fresh) (asked_closed c asked.state.name asked.asks) r asks new result as_replied)
 
   pub known_lent : (last m : Machine) → StandsFor d s last m → OnOk result (steps ≡ start)
   known_lent = subst (λ (n : Session). (last m : Machine) → StandsFor d n last m → OnOk result (steps ≡ start)) same
-      (known_by d e laws v q c slot x lent start steps unfailed (subst (Stands d) (sym same) stands) (long_lent v s same fit fresh) (asked_closed c asked.state.name asked.asks) r asks new result as_replied)
+      (known_by d e laws v q c slot x lent start steps unfailed (subst (StandsReady d) (sym same) stands) (long_lent v s same fit fresh) (asked_closed c asked.state.name asked.asks) r asks new result as_replied)
 
 -- it is asked for its files
 pub asks_lent : (v s : Session) → v ≡ s → (slot : ℕ) (x : VolumeState) → state_at v.volumes slot ≡ Some x → (c : Command) → IsAsked s.volumes slot c → volume_asked c ≡ Some x.name
@@ -266,9 +267,9 @@ asked_at states slot name c within named asks =
     record { within = within; state = of.0; there = of.1.0; asks = asks ∙ ap (λ (n : List ℕ). Some n) of.1.1 }
 
 -- a volume that isn't there is refused at once
-pub looks_missing : (d : Shown) → IsDisk d → (s : Session) → IsNone s.failed → Stands d s → length s.volumes ≡ 64 → (name : List ℕ) (c : Command) → volume_asked c ≡ Some name → has_range c ≡ true → NoneHasName s.volumes name
+pub looks_missing : (d : Shown) → IsDisk d → (s : Session) → IsNone s.failed → StandsReady d s → length s.volumes ≡ 64 → (name : List ℕ) (c : Command) → volume_asked c ≡ Some name → has_range c ≡ true → NoneHasName s.volumes name
     → Looks d s c d s (Ok (Refused NoVolume))
-looks_missing d laws s fresh stands long name c asks near none = looks_done d d laws s s.pool (reads_alone d d s.pool (reads_itself d) stands.cache) fresh stands c (Refused NoVolume) refl
+looks_missing d laws s fresh stands long name c asks near none = looks_done d d laws s s.pool (reads_alone d d s.pool (reads_itself d) stands.stands.cache) fresh stands c (Refused NoVolume) refl
     (λ last m held. refused_allows m c NoVolume (asked_missing c name asks near m (subst (λ (k : Machine). fin.get k.volumes name ≡ None) held.machine (not_there d s.pool s.volumes long name none))))
 
 -- a session of which blocks were read is asked as before

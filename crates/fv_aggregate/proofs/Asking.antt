@@ -27,20 +27,20 @@ use Rattle.fv_cp.specs.Lent.{asked_by, blocks_asked, maps_waiting, waiting_by, H
 use Rattle.fv_cp.specs.Placing.{pending_by, pending_files}
 use Rattle.fv_aggregate.specs.declared.session.Session.{Session}
 use Rattle.fv_aggregate.specs.Asking.{AsksWithin, IsShort}
-use Rattle.fv_aggregate.specs.Standing.{overhead_by, overheads_in, taken_since, Stands}
+use Rattle.fv_aggregate.specs.Standing.{overhead_by, overheads_in, taken_since, StandsReady}
 use Rattle.fv_aggregate.proofs.Clear.{clear_is, clear_stays, free_and_placed}
 use Rattle.fv_aggregate.proofs.Sums.{asked_within, none_waiting, over_slots, overheads_are, overheads_in_with, pending_with, waiting_with}
 
 -- ---- an image that lacks blocks
 
 -- where a point lacks blocks in the session's map, the image lacks them
-pub short_is : (disk : Shown) (session : Session) (left : Pool) (room at want found : ℕ) → IsTrue disk.tells → Stands disk session → AsksWithin disk session room → left.map.committed ≡ session.pool.map.committed
+pub short_is : (disk : Shown) (session : Session) (left : Pool) (room at want found : ℕ) → IsTrue disk.tells → StandsReady disk session → AsksWithin disk session room → left.map.committed ≡ session.pool.map.committed
     → at ≡ root_place session.pool.found.slot → want ≡ blocks_asked session.volumes → found ≡ free_blocks left.map → found < want → IsShort disk.reads room (taken_since left.map) at want found
 short_is disk session left room at want found tells stands asks same place asked free short = record {
   root = root_found session.pool.found;
-  counts = (stands.found tells).reads.root;
+  counts = (stands.stands.found tells).reads.root;
   place = place;
-  free = (let all = free_and_placed left.map in let stays = clear_stays session.pool.map left.map same in let image = clear_is disk.reads session.pool.found session.pool.map (stands.map tells) in omega (arith, free, all, stays, image));
+  free = (let all = free_and_placed left.map in let stays = clear_stays session.pool.map left.map same in let image = clear_is disk.reads session.pool.found session.pool.map (stands.stands.map tells) in omega (arith, free, all, stays, image));
   within = omega (arith, asked, asks.asked, asks.pending);
   short = short;
 }

@@ -14,12 +14,13 @@ use Rattle.fv_aggregate.specs.declared.session.Session.{Session}
 use Rattle.fv_aggregate.specs.Calls.{Goes, GoesFor, HasDamage, HasFault, IsNoDamage, SameCounts}
 use Rattle.fv_aggregate.specs.Causes.{KeepsEnds}
 use Rattle.fv_aggregate.specs.Commands.{dirty_limit}
-use Rattle.fv_aggregate.specs.Standing.{OneOf, Stands, StandsAfter, StandsFor}
+use Rattle.fv_aggregate.specs.Standing.{OneOf, StandsAfter, StandsFor, StandsReady}
+use Rattle.fv_aggregate.proofs.Damages.{damage_more}
 use Rattle.fv_aggregate.proofs.Standing.{earlier_moments, rests_for_last, stands_for_last, stays_for}
 
 -- ---- the disk was only read
 
-module _ (d e : Shown) (laws : IsDisk d) (s left : Session) (room : ℕ) (reads : OnlyReads d e) (fresh : IsNone s.failed) (still : IsNone left.failed) (stands : Stands e left) where
+module _ (d e : Shown) (laws : IsDisk d) (s left : Session) (room : ℕ) (reads : OnlyReads d e) (fresh : IsNone s.failed) (still : IsNone left.failed) (stands : StandsReady e left) where
   ends : KeepsEnds d e
   ends = record { tells = reads.stays.tells; given = reads.given; ends = reads.ends }
 
@@ -41,7 +42,7 @@ module _ (d e : Shown) (laws : IsDisk d) (s left : Session) (room : ℕ) (reads 
     pending = few;
   }
 
-  pub goes_damaged : {T : Type 0} (at want found : ℕ) → e.faults ≡ d.faults → HasDamage d s left at want found → left.pending ≤ s.pending + room → Goes {T = T} room d s e left (Err (Damaged at want found))
+  pub goes_damaged : {T : Type 0} (at want found : ℕ) → e.faults ≡ d.faults → HasDamage room d s e left at want found → left.pending ≤ s.pending + room → Goes {T = T} room d s e left (Err (Damaged at want found))
   goes_damaged at want found calm damage few = record {
     ends = ends;
     stands = λ none. stands;
@@ -87,7 +88,7 @@ module _ (d e : Shown) (laws : IsDisk d) (s left : Session) (room : ℕ) (reads 
     pub goes_broken : {T : Type 0} → Rose d.faults e.faults → (Rose e.write_faults e.write_faults → o ≡ Some e.faults) → (¬ Rose e.write_faults e.write_faults → IsNone o) → left.pending ≤ s.pending + room → Goes {T = T} room d s e broken (Err DiskFault)
     goes_broken rose written unwritten few = record {
       ends = ends;
-      stands = λ none. subst (Stands e) (as_left none) stands;
+      stands = λ none. subst (StandsReady e) (as_left none) stands;
       done = tt;
       fault = record {
         reason = fresh;
@@ -115,7 +116,7 @@ module _ (d e : Shown) (laws : IsDisk d) (s left : Session) (room : ℕ) (reads 
 wider : (room : ℕ) (d : Shown) (s : Session) (e : Shown) (n : Session) (f : Fault) → HasFault 0 d s e n f → HasFault room d s e n f
 wider room d s e n DiskFault row = row
 wider room d s e n (Damaged at want found) row = record {
-  reason = row.reason;
+  reason = damage_more 0 room (omega arith) d s e n at want found row.reason;
   counts = row.counts;
   session = row.session;
   disk = ⊎_elim (λ read. inl read) (λ past. inr (omega (arith, past))) row.disk;
@@ -142,8 +143,12 @@ module _ {T : Type 0} (x : T) (first second : ℕ) (d : Shown) (s : Session) (e 
   abbrev CanWrite : Shown → Session → Shown → Type 0
   CanWrite before old after = OnlyReads before after ⊎ (dirty_limit < old.pending + second)
 
-  faults_on : (g : Shown) (new : Session) (f : Fault) → (CanWrite e n g → CanWrite d s g) → ((at want found : ℕ) → HasDamage d s new at want found) → HasFault second e n g new f → HasFault second d s g new f
-  faults_on g new DiskFault written damage row =
+  -- what is damaged in a call that comes after, where it ends so, is damaged for both
+  abbrev pub DamagesBoth : {U : Type 0} → Shown → Session → Result U Fault → Type 0
+  DamagesBoth g new r = (at want found : ℕ) → r ≡ Err (Damaged at want found) → HasDamage second e n g new at want found → HasDamage second d s g new at want found
+
+  faults_on : (U : Type 0) (g : Shown) (new : Session) (f : Fault) → (CanWrite e n g → CanWrite d s g) → DamagesBoth {U = U} g new (Err f) → HasFault second e n g new f → HasFault second d s g new f
+  faults_on U g new DiskFault written damage row =
       let same = goes.done.counts in
       record {
         reason = goes.done.was;
@@ -157,9 +162,9 @@ module _ {T : Type 0} (x : T) (first second : ℕ) (d : Shown) (s : Session) (e 
         };
         disk = tt;
       }
-  faults_on g new (Damaged at want found) written damage row = record { reason = damage at want found; counts = counts_on g row.counts; session = row.session; disk = written row.disk }
-  faults_on g new Memory written damage row = record { reason = goes.done.was; counts = counts_on g row.counts; session = row.session; disk = written row.disk }
-  faults_on g new (Failed faults) written damage row = absurd (both n.failed goes.done.goes_on row.reason)
+  faults_on U g new (Damaged at want found) written damage row = record { reason = damage at want found refl row.reason; counts = counts_on g row.counts; session = row.session; disk = written row.disk }
+  faults_on U g new Memory written damage row = record { reason = goes.done.was; counts = counts_on g row.counts; session = row.session; disk = written row.disk }
+  faults_on U g new (Failed faults) written damage row = absurd (both n.failed goes.done.goes_on row.reason)
     where
       both : (o : Option ℕ) → IsNone o → o ≡ Some faults → ⊥
       both o none some = cc
@@ -167,8 +172,8 @@ module _ {T : Type 0} (x : T) (first second : ℕ) (d : Shown) (s : Session) (e 
   ends_on : (g : Shown) → KeepsEnds e g → KeepsEnds d g
   ends_on g ends = record { tells = ends.tells ∙ goes.ends.tells; given = ends.given ∙ goes.ends.given; ends = ends.ends ∙ goes.ends.ends }
 
-  -- A call that comes after one that added nothing. What was damaged in it is damaged for both.
-  goes_both : {U : Type 0} (g : Shown) (new : Session) (r : Result U Fault) → (CanWrite e n g → CanWrite d s g) → ((at want found : ℕ) → HasDamage d s new at want found) → Goes second e n g new r → Goes second d s g new r
+  -- A call that comes after one that added nothing.
+  goes_both : {U : Type 0} (g : Shown) (new : Session) (r : Result U Fault) → (CanWrite e n g → CanWrite d s g) → DamagesBoth g new r → Goes second e n g new r → Goes second d s g new r
   goes_both g new (Ok y) written damage next = record {
     ends = ends_on g next.ends;
     stands = next.stands;
@@ -180,16 +185,16 @@ module _ {T : Type 0} (x : T) (first second : ℕ) (d : Shown) (s : Session) (e 
     ends = ends_on g next.ends;
     stands = next.stands;
     done = tt;
-    fault = faults_on g new f written damage next.fault;
+    fault = faults_on _ g new f written damage next.fault;
     pending = omega (arith, less, next.pending);
   }
 
   -- so it is with room that passes the dirty limit
-  pub goes_after : {U : Type 0} (g : Shown) (new : Session) (r : Result U Fault) → dirty_limit < s.pending + second → ((at want found : ℕ) → HasDamage d s new at want found) → Goes second e n g new r → Goes second d s g new r
+  pub goes_after : {U : Type 0} (g : Shown) (new : Session) (r : Result U Fault) → dirty_limit < s.pending + second → DamagesBoth g new r → Goes second e n g new r → Goes second d s g new r
   goes_after g new r past damage next = goes_both g new r (λ _. inr past) damage next
 
   -- and after one that only read
-  pub goes_on_read : {U : Type 0} (g : Shown) (new : Session) (r : Result U Fault) → OnlyReads d e → n.pending ≡ s.pending → ((at want found : ℕ) → HasDamage d s new at want found) → Goes second e n g new r → Goes second d s g new r
+  pub goes_on_read : {U : Type 0} (g : Shown) (new : Session) (r : Result U Fault) → OnlyReads d e → n.pending ≡ s.pending → DamagesBoth g new r → Goes second e n g new r → Goes second d s g new r
   goes_on_read g new r reads same damage next = goes_both g new r (λ w. ⊎_elim (λ (read : OnlyReads e g). inl (reads_then d e g reads read)) (λ past. inr (omega (arith, past, same))) w) damage next
 
 -- ---- for the machines that the session stands for

@@ -10,8 +10,9 @@ use Rattle.fv_aggregate.specs.declared.fault.Fault.TheVariants.{DiskFault, Damag
 use Rattle.fv_aggregate.specs.declared.session.Session.{Session}
 use Rattle.fv_aggregate.specs.Calls.{Goes, GoesFor, HasFault, KeepsAsking, SameCounts}
 use Rattle.fv_aggregate.specs.Causes.{KeepsEnds}
-use Rattle.fv_aggregate.specs.Standing.{Stands}
+use Rattle.fv_aggregate.specs.Standing.{StandsReady}
 use Rattle.fv_aggregate.proofs.Asking.{asks_more}
+use Rattle.fv_aggregate.proofs.Damages.{damage_more}
 
 -- ---- a call that leaves the disk and the session
 
@@ -24,7 +25,7 @@ same_counts disk = record { faults = refl; write_faults = refl }
 pub reads_itself : (disk : Shown) → OnlyReads disk disk
 reads_itself disk = only_itself disk
 
-pub rests_done : {T : Type 0} (x : T) (room : ℕ) (disk : Shown) (session : Session) → IsNone session.failed → Stands disk session → Goes room disk session disk session (Ok x)
+pub rests_done : {T : Type 0} (x : T) (room : ℕ) (disk : Shown) (session : Session) → IsNone session.failed → StandsReady disk session → Goes room disk session disk session (Ok x)
 rests_done x room disk session fresh stands = record {
   ends = same_ends disk;
   stands = λ none. stands;
@@ -33,7 +34,7 @@ rests_done x room disk session fresh stands = record {
   pending = omega arith;
 }
 
-pub rests_wanting : {T : Type 0} (room : ℕ) (disk : Shown) (session : Session) → IsNone session.failed → Stands disk session → Goes {T = T} room disk session disk session (Err Memory)
+pub rests_wanting : {T : Type 0} (room : ℕ) (disk : Shown) (session : Session) → IsNone session.failed → StandsReady disk session → Goes {T = T} room disk session disk session (Err Memory)
 rests_wanting room disk session fresh stands = record {
   ends = same_ends disk;
   stands = λ none. stands;
@@ -70,7 +71,7 @@ EndsAs (Err e) (Ok y) = ⊥
 more_room : (least room : ℕ) → least ≤ room → (before : Shown) (old : Session) (after : Shown) (new : Session) (e : Fault) → HasFault least before old after new e → HasFault room before old after new e
 more_room least room le before old after new DiskFault row = row
 more_room least room le before old after new (Damaged at want found) row = record {
-  reason = row.reason;
+  reason = damage_more least room le before old after new at want found row.reason;
   counts = row.counts;
   session = row.session;
   disk = ⊎_elim (λ reads. inl reads) (λ past. inr (omega (arith, past, le))) row.disk;

@@ -1,6 +1,6 @@
 -- A session that judged a command on files, or carried one out, by the call of the volume of a slot.
-use Rattle.std.proofs.Common.{◌≡◌, ◌<◌, ◌≤◌, ◌+◌, ℕ, true, List, Option, Some, None, Result, Ok, Err, length, true≢false, refl, sym, ap, subst, ◌∙◌, arith}
-use Rattle.std.specs.Prelude.{IsNone}
+use Rattle.std.proofs.Common.{◌≡◌, ◌<◌, ◌≤◌, ◌+◌, ℕ, true, List, Option, Some, None, Result, Ok, Err, inl, inr, length, true≢false, refl, sym, ap, subst, ◌∙◌, arith}
+use Rattle.std.specs.Prelude.{IfErr, IsNone}
 use Rattle.std.specs.FinMap as fin
 use Rattle.std.proofs.lemmas.List.{set-get_or}
 use Rattle.fv_disk.specs.Shown.{Shown, IsDisk}
@@ -19,30 +19,32 @@ use Rattle.fv_volume.specs.Changing.{IsChangeOf}
 use Rattle.fv_pool.specs.Tables.{pending_of}
 use Rattle.fv_volume.specs.Slots.{is_named, NoneHasName}
 use Rattle.fv_volume.specs.States.{States, state_at, with_state}
-use Rattle.fv_volume.proofs.RightTables.{no_damage, no_damage_for}
+use Rattle.fv_volume.proofs.RightTables.{no_damage}
 use Rattle.fv_cp.specs.Held.{IsHeldIn}
 use Rattle.fv_cp.specs.Lent.{FitTogether}
 use Rattle.fv_aggregate.specs.declared.fault.Fault.{Fault}
 use Rattle.fv_aggregate.specs.declared.fault.Fault.TheVariants.{DiskFault, Damaged, Memory}
 use Rattle.fv_aggregate.specs.declared.session.Session.{Session}
-use Rattle.fv_aggregate.specs.Calls.{GoesFor, WasRead}
+use Rattle.fv_aggregate.specs.Calls.{GoesFor}
 use Rattle.fv_aggregate.specs.Commands.{changed_by, file_room, has_range}
-use Rattle.fv_aggregate.specs.Looking.{done_as, ChangesState, HasJudged, JudgesState, IsChangeAt, Makes, Replied}
-use Rattle.fv_aggregate.specs.Standing.{Stands, StandsFor}
+use Rattle.fv_aggregate.specs.Looking.{done_as, ChangesState, HasJudged, JudgesState, IsChangeAt, IsTableFault, Makes, Replied}
+use Rattle.fv_aggregate.specs.Standing.{StandsFor, StandsReady}
 use Rattle.fv_aggregate.proofs.Holes.{kept_entries}
-use Rattle.fv_aggregate.proofs.Asked.{calm_damage, calm_memory, damaged_at, rose_by}
+use Rattle.fv_aggregate.specs.Damages.{HasBadTable}
+use Rattle.fv_aggregate.proofs.Damages.{bad_changed, bad_read, finds_active}
+use Rattle.fv_aggregate.proofs.Asked.{calm_damage, calm_memory, rose_by}
 use Rattle.fv_aggregate.proofs.CallEnds.{goes_broken, goes_damaged, goes_done, goes_for_broken, goes_for_done, goes_for_fault, goes_wanting}
 use Rattle.fv_aggregate.proofs.Changed.{accepted, beside, counted, has_within, held_done, held_left, machine_done, machine_left, mine, stands_changed, stands_for_changed}
 use Rattle.fv_aggregate.proofs.Calls.{reads_itself}
 use Rattle.fv_aggregate.proofs.Changing.{change_allows, change_of_volume}
 use Rattle.fv_aggregate.proofs.HeldMachine.{not_there}
-use Rattle.fv_aggregate.proofs.Looked.{stands_for_read, stands_read, was_read}
+use Rattle.fv_aggregate.proofs.Looked.{stands_for_read, stands_read, was_read, was_unread}
 use Rattle.fv_aggregate.proofs.Returned.{as_told, lent_there, long_lent, named_there, put_back, same_there}
 use Rattle.fv_aggregate.proofs.Missing.{no_change, refused_allows, refused_next}
 
 -- ---- judged
 
-module _ (d e : Shown) (laws : IsDisk d) (s : Session) (q : Pool) (c : Command) (slot : ℕ) (x : VolumeState) (there : state_at s.volumes slot ≡ Some x) (long : length s.volumes ≡ 64) (fresh : IsNone s.failed) (stands : Stands d s) where
+module _ (d e : Shown) (laws : IsDisk d) (s : Session) (q : Pool) (c : Command) (slot : ℕ) (x : VolumeState) (there : state_at s.volumes slot ≡ Some x) (long : length s.volumes ≡ 64) (fresh : IsNone s.failed) (stands : StandsReady d s) where
   abbrev now : Session
   now = record s { pool = q }
 
@@ -75,7 +77,7 @@ module _ (d e : Shown) (laws : IsDisk d) (s : Session) (q : Pool) (c : Command) 
     read = tt;
   })
   judged_by (Err (volume.Damaged at want found)) did new result b = as_told (HasJudged d s c e) new now result (Err (Damaged at want found)) b.1.1.1 (b.1.0 ∙ ap (λ (g : Fault). Err g) b.1.1.0) (record {
-    goes = goes_damaged d e laws s now 0 did.reads.only_reads fresh fresh (stands_read d e s q did.reads stands) at want found (calm_damage _ _ _ e.faults at want found did.cause) (damaged_at d s slot x there fresh now at want found) (omega arith);
+    goes = goes_damaged d e laws s now 0 did.reads.only_reads fresh fresh (stands_read d e s q did.reads stands) at want found (calm_damage _ _ _ e.faults at want found did.cause) (inl (did.reads.only_reads, inl (inr (inr (bad_read d e s fresh slot x there q did.reads (calm_damage _ _ _ e.faults at want found did.cause) at want found (finds_active d s.pool x e.faults at want found (calm_damage _ _ _ e.faults at want found did.cause) did.cause)))))) (omega arith);
     goes_for = λ tells last m is. absurd (no_damage d s.pool x (its last m is).stands (its last m is).well 0 e.faults at want found did.cause);
     judges = λ tells last m is. tt;
     only_reads = did.reads.only_reads;
@@ -100,7 +102,7 @@ module _ (d e : Shown) (laws : IsDisk d) (s : Session) (q : Pool) (c : Command) 
     few_added : s.pending + more ≤ s.pending + 16
     few_added = omega (arith, more_is)
 
-    stand : (r : Result Unit VolumeFault) → ChangesState d s.pool x (beside s.volumes slot) c e q y r → Stands e after
+    stand : (r : Result Unit VolumeFault) → ChangesState d s.pool x (beside s.volumes slot) c e q y r → StandsReady e after
     stand r did = stands_changed d e s q slot x y there (beside s.volumes slot) c r did long more more_is stands
 
     -- it stands for the machine after the command
@@ -128,6 +130,10 @@ module _ (d e : Shown) (laws : IsDisk d) (s : Session) (q : Pool) (c : Command) 
         let none : more ≡ counted (pending_of x.files) (pending_of x.files) = more_is ∙ ap (λ (z : VolumeState). counted (pending_of x.files) (pending_of z.files)) same in
         let nothing : s.pending + more ≡ s.pending = omega (arith, none) in
         λ j. record s { volumes = states j; pool = q; pending = nothing j }
+
+    -- its table isn't as it has to be
+    bad_after : (at want found : ℕ) → ChangesState d s.pool x (beside s.volumes slot) c e q y (Err (volume.Damaged at want found)) → HasBadTable e s after at want found
+    bad_after at want found did = bad_changed d e s fresh slot x there q did.reads (calm_damage _ _ _ e.faults at want found did.cause) at want found (finds_active d s.pool x e.faults at want found (calm_damage _ _ _ e.faults at want found did.cause) did.cause) long y did.head.failed did.head.maps (s.pending + more)
 
     pub makes_by : (r : Result Unit VolumeFault) → ChangesState d s.pool x (beside s.volumes slot) c e q y r → (new : Session) (result : Result Reply Fault) → Replied e (done_as r) after new result → Makes file_room d s c e new result
     makes_by (Ok u) did new result is = as_told (Makes file_room d s c e) new after result (Ok Done) is.1 is.0 (record {
@@ -159,8 +165,8 @@ module _ (d e : Shown) (laws : IsDisk d) (s : Session) (q : Pool) (c : Command) 
       entries = λ low. kept_entries s (record after { failed = new.failed }) did.reads.leaves.containers;
     })
     makes_by (Err (volume.Damaged at want found)) did new result b = as_told (Makes file_room d s c e) new after result (Err (Damaged at want found)) b.1.1.1 (b.1.0 ∙ ap (λ (g : Fault). Err g) b.1.1.0) (record {
-      goes = goes_damaged d e laws s after 16 did.reads.only_reads fresh fresh (stand (Err (volume.Damaged at want found)) did) at want found (calm_damage _ _ _ e.faults at want found did.cause) (damaged_at d s slot x there fresh after at want found) few_added;
-      goes_for = λ tells last m is. absurd (no_damage_for d s.pool x (its last m is).stands (its last m is).well c 0 e.faults at want found did.cause);
+      goes = goes_damaged d e laws s after 16 did.reads.only_reads fresh fresh (stand (Err (volume.Damaged at want found)) did) at want found (calm_damage _ _ _ e.faults at want found did.cause) (inl (did.reads.only_reads, inl (inr (inr (bad_after at want found did))))) few_added;
+      goes_for = λ tells last m is. absurd (no_damage d s.pool x (its last m is).stands (its last m is).well 0 e.faults at want found did.cause);
       reply = λ tells last m is. tt;
       refused = λ tells last m is. tt;
       still = λ low. tt;
@@ -177,20 +183,28 @@ module _ (d e : Shown) (laws : IsDisk d) (s : Session) (q : Pool) (c : Command) 
       entries = λ low. kept_entries s after did.reads.leaves.containers;
     })
 
+    -- damage is of its table
+    pub bad_by : (r : Result Unit VolumeFault) → ChangesState d s.pool x (beside s.volumes slot) c e q y r → (new : Session) (result : Result Reply Fault) → Replied e (done_as r) after new result → IfErr result (IsTableFault e s new)
+    bad_by (Ok u) did new result is = as_told (λ (n : Session) (z : Result Reply Fault). IfErr z (IsTableFault e s n)) new after result (Ok Done) is.1 is.0 tt
+    bad_by (Err (volume.Refused r)) did new result is = as_told (λ (n : Session) (z : Result Reply Fault). IfErr z (IsTableFault e s n)) new after result (Ok (Refused r)) is.1 is.0 tt
+    bad_by (Err volume.DiskFault) did new result b = as_told (λ (n : Session) (z : Result Reply Fault). IfErr z (IsTableFault e s n)) new (record after { failed = new.failed }) result (Err DiskFault) b.1.1.1.same (b.1.0 ∙ ap (λ (g : Fault). Err g) b.1.1.0) tt
+    bad_by (Err (volume.Damaged at want found)) did new result b = as_told (λ (n : Session) (z : Result Reply Fault). IfErr z (IsTableFault e s n)) new after result (Err (Damaged at want found)) b.1.1.1 (b.1.0 ∙ ap (λ (g : Fault). Err g) b.1.1.0) (bad_after at want found did)
+    bad_by (Err volume.Memory) did new result b = as_told (λ (n : Session) (z : Result Reply Fault). IfErr z (IsTableFault e s n)) new after result (Err Memory) b.1.1.1 (b.1.0 ∙ ap (λ (g : Fault). Err g) b.1.1.0) tt
+
 -- ---- a volume that was lent to the call
 
 -- the command is a change of it
 pub change_lent : (v s : Session) → v ≡ s → (slot : ℕ) (x : VolumeState) → state_at v.volumes slot ≡ Some x → (c : Command) → IsChangeAt s.volumes slot c → IsChangeOf x.name c
 change_lent v s same slot x lent c aimed = subst (λ (z : VolumeState). IsChangeOf z.name c) (same_there _ _ _ aimed.there (lent_there v s same slot x lent)) aimed.change
 
-module _ (d e : Shown) (laws : IsDisk d) (v s : Session) (same : v ≡ s) (fit : IsNone v.failed → FitTogether v.pool v.volumes) (fresh : IsNone s.failed) (stands : Stands d s) (c : Command) (slot : ℕ) (x : VolumeState)
+module _ (d e : Shown) (laws : IsDisk d) (v s : Session) (same : v ≡ s) (fit : IsNone v.failed → FitTogether v.pool v.volumes) (fresh : IsNone s.failed) (stands : StandsReady d s) (c : Command) (slot : ℕ) (x : VolumeState)
     (lent : state_at v.volumes slot ≡ Some x) (others : ℕ) (sum : others ≡ beside v.volumes slot) (q : Pool) (y : VolumeState) (r : Result Unit VolumeFault) (told : Result Reply VolumeFault) (is : told ≡ done_as r) (new : Session)
     (result : Result Reply Fault) where
   unfailed : IsNone v.failed
   unfailed = subst (λ (n : Session). IsNone n.failed) (sym same) fresh
 
-  stand_lent : Stands d v
-  stand_lent = subst (Stands d) (sym same) stands
+  stand_lent : StandsReady d v
+  stand_lent = subst (StandsReady d) (sym same) stands
 
   pub judged_lent : y ≡ x → JudgesState d v.pool x others c e q r → Replied e told (record v { volumes = with_state v.volumes slot (Some y); pool = q }) new result → HasJudged d s c e new result
   judged_lent still did replied = subst (λ (n : Session). HasJudged d n c e new result) same
@@ -203,23 +217,26 @@ module _ (d e : Shown) (laws : IsDisk d) (v s : Session) (same : v ≡ s) (fit :
       (makes_by d e laws v q c slot x lent (long_lent v s same fit fresh) unfailed stand_lent y more more_is (subst (λ (n : Session). n.pending + 16 ≤ 256) (sym same) few) change r (subst (λ (k : ℕ). ChangesState d v.pool x k c e q y r) sum did) new result
       (subst (λ (t : Result Reply VolumeFault). Replied e t (record v { volumes = with_state v.volumes slot (Some y); pool = q; pending = v.pending + more }) new result) is replied))
 
+  pub bad_lent : (more : ℕ) → more ≡ counted (pending_of x.files) (pending_of y.files) → s.pending + 16 ≤ 256 → IsChangeOf x.name c → ChangesState d v.pool x others c e q y r
+      → Replied e told (record v { volumes = with_state v.volumes slot (Some y); pool = q; pending = v.pending + more }) new result → IfErr result (IsTableFault e s new)
+  bad_lent more more_is few change did replied = subst (λ (n : Session). IfErr result (IsTableFault e n new)) same
+      (bad_by d e laws v q c slot x lent (long_lent v s same fit fresh) unfailed stand_lent y more more_is (subst (λ (n : Session). n.pending + 16 ≤ 256) (sym same) few) change r (subst (λ (k : ℕ). ChangesState d v.pool x k c e q y r) sum did) new result
+      (subst (λ (t : Result Reply VolumeFault). Replied e t (record v { volumes = with_state v.volumes slot (Some y); pool = q; pending = v.pending + more }) new result) is replied))
+
 -- ---- before a volume is asked
 
 -- what the machine refuses is refused at once
-pub refused_at_once : (d : Shown) → IsDisk d → (s : Session) → IsNone s.failed → Stands d s → (c : Command) (r : Refusal) → ((last m : Machine) → StandsFor d s last m → refusal m c ≡ Some r) → Makes file_room d s c d s (Ok (Refused r))
+pub refused_at_once : (d : Shown) → IsDisk d → (s : Session) → IsNone s.failed → StandsReady d s → (c : Command) (r : Refusal) → ((last m : Machine) → StandsFor d s last m → refusal m c ≡ Some r) → Makes file_room d s c d s (Ok (Refused r))
 refused_at_once d laws s fresh stands c r why = record {
   goes = goes_done d d laws s s 16 (reads_itself d) fresh fresh stands (Refused r) refl (omega arith);
   goes_for = λ tells last m is. subst (λ (n : Machine). GoesFor d last m n d s (Ok (Refused r))) (sym (refused_next m c r (why last m is)))
       (goes_for_done d d laws s s 16 (reads_itself d) fresh fresh stands (Refused r) last m m is is);
   reply = λ tells last m is. refused_allows m c r (why last m is);
-  refused = λ tells last m is refused. as_it_was;
-  still = λ low refused. as_it_was;
+  refused = λ tells last m is refused. was_unread d s;
+  still = λ low refused. was_unread d s;
   calm = λ low. reads_itself d;
   entries = λ low. kept_entries s s refl;
 }
-  where
-    as_it_was : WasRead d s d s
-    as_it_was = record { only_reads = reads_itself d; pool = record { map = refl; containers = refl; kept = refl; found = refl }; volumes = λ k. refl; same = refl }
 
 pub refused_missing : (d : Shown) (s : Session) → length s.volumes ≡ 64 → (name : List ℕ) (c : Command) → NoneHasName s.volumes name → changed_by c ≡ Some name → has_range c ≡ true → (last m : Machine) → StandsFor d s last m → refusal m c ≡ Some NoVolume
 refused_missing d s long name c none change near last m is = no_change m name (subst (λ (k : Machine). fin.get k.volumes name ≡ None) is.machine (not_there d s.pool s.volumes long name none)) c change near

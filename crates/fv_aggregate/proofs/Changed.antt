@@ -37,7 +37,7 @@ use Rattle.fv_cp.specs.Lent.{maps_waiting, waiting_by, FitTogether}
 use Rattle.fv_cp.specs.Placing.{pending_by, pending_files, AreReady, IsReadyIn}
 use Rattle.fv_aggregate.specs.declared.session.Session.{Session}
 use Rattle.fv_aggregate.specs.Looking.{ChangesState}
-use Rattle.fv_aggregate.specs.Standing.{clear_blocks, overhead_by, overheads_in, taken_since, Stands, StandsFor}
+use Rattle.fv_aggregate.specs.Standing.{clear_blocks, overhead_by, overheads_in, taken_since, StandsFor, StandsReady}
 use Rattle.fv_aggregate.proofs.Becoming.{machine_becomes, machine_stays}
 use Rattle.fv_aggregate.proofs.Called.{but_for_numbers, called_held, IsCalled}
 use Rattle.fv_aggregate.proofs.HeldMachine.{blocks_are, commits_are, is_admitted, is_there, one}
@@ -230,13 +230,11 @@ module _ (d e : Shown) (s : Session) (q : Pool) (slot : ℕ) (x y : VolumeState)
   abbrev pub changed_session : Session
   changed_session = record s { volumes = with_state s.volumes slot (Some y); pool = q; pending = s.pending + more }
 
-  pub stands_changed : Stands d s → Stands e changed_session
+  pub stands_changed : StandsReady d s → StandsReady e changed_session
   stands_changed is =
       let was = stands_read d e s q did.reads is in
       record {
-        found = was.found;
-        map = was.map;
-        cache = was.cache;
+        stands = record { found = was.stands.found; map = was.stands.map; cache = was.stands.cache };
         ready = ready_changed d e s.pool q s.volumes slot x y there did.reads did.head.same did.ready long is.ready;
       }
 

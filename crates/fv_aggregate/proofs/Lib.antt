@@ -4,6 +4,7 @@ mod Commits
 pub mod Clear
 pub mod Rooms
 mod Asking
+pub mod Damages
 mod Calls
 mod Standing
 mod Lent
@@ -29,6 +30,7 @@ mod Lost
 mod Becoming
 mod Changed
 mod NumbersRead
+mod Unmade
 mod Changing
 mod Carried
 mod Returned
@@ -36,6 +38,7 @@ mod PointFirst
 mod Applying
 mod Having
 mod Resized
+mod Ready
 mod Removing
 mod Replaced
 pub mod MadeRoom

@@ -29,8 +29,9 @@ use Rattle.fv_cp.specs.Lent.{FitTogether}
 use Rattle.fv_cp.specs.Placing.{AreReady, IsReadyIn}
 use Rattle.fv_aggregate.specs.declared.session.Session.{Session}
 use Rattle.fv_aggregate.specs.Calls.{KeepsAsking, WasRead}
-use Rattle.fv_aggregate.specs.Standing.{clear_blocks, taken_since, Stands, StandsFor}
+use Rattle.fv_aggregate.specs.Standing.{clear_blocks, taken_since, StandsFor, StandsReady}
 use Rattle.fv_aggregate.proofs.Called.{held_in_read, held_over}
+use Rattle.fv_aggregate.proofs.Calls.{reads_itself}
 use Rattle.fv_aggregate.proofs.Returned.{put_back}
 use Rattle.fv_aggregate.proofs.Standing.{known_still}
 
@@ -78,19 +79,21 @@ module _ (d e : Shown) (s : Session) (q : Pool) (reads : Reads d s.pool e q) whe
   abbrev pub left : Session
   left = record s { pool = q }
 
-  pub stands_read : Stands d s → Stands e left
+  pub stands_read : StandsReady d s → StandsReady e left
   stands_read is =
       let same = reads.only_reads.stays.reads in
       record {
-        found = λ tells.
-            let was = is.found (subst IsTrue reads.only_reads.stays.tells tells) in
-            subst (IsFoundOn e) (sym reads.leaves.found) (record {
-              reads = subst (λ (i : Image). IsFound i s.pool.found) (sym same) was.reads;
-              images = λ c now. was.images c (reads.only_reads.stays.no_more c now);
-            });
-        map = λ tells. subst (λ (m : Space). IsMapOf e.reads q.found m) (sym reads.leaves.map) (subst (λ (f : Found). IsMapOf e.reads f s.pool.map) (sym reads.leaves.found)
-            (subst (λ (i : Image). IsMapOf i s.pool.found s.pool.map) (sym same) (is.map (subst IsTrue reads.only_reads.stays.tells tells))));
-        cache = reads.stands;
+        stands = record {
+          found = λ tells.
+              let was = is.stands.found (subst IsTrue reads.only_reads.stays.tells tells) in
+              subst (IsFoundOn e) (sym reads.leaves.found) (record {
+                reads = subst (λ (i : Image). IsFound i s.pool.found) (sym same) was.reads;
+                images = λ c now. was.images c (reads.only_reads.stays.no_more c now);
+              });
+          map = λ tells. subst (λ (m : Space). IsMapOf e.reads q.found m) (sym reads.leaves.map) (subst (λ (f : Found). IsMapOf e.reads f s.pool.map) (sym reads.leaves.found)
+              (subst (λ (i : Image). IsMapOf i s.pool.found s.pool.map) (sym same) (is.stands.map (subst IsTrue reads.only_reads.stays.tells tells))));
+          cache = reads.stands;
+        };
         ready = ready_read d e s.pool q reads s.volumes is.ready;
       }
 
@@ -132,6 +135,10 @@ module _ (d e : Shown) (s : Session) (q : Pool) (reads : Reads d s.pool e q) whe
 
   pub was_read : WasRead d s e left
   was_read = record { only_reads = reads.only_reads; pool = reads.leaves; volumes = λ k. refl; same = refl }
+
+-- nothing was
+pub was_unread : (d : Shown) (s : Session) → WasRead d s d s
+was_unread d s = record { only_reads = reads_itself d; pool = record { map = refl; containers = refl; kept = refl; found = refl }; volumes = λ k. refl; same = refl }
 
 -- over a disk that was only read the pool is as it was read
 pub reads_alone : (d e : Shown) (pool : Pool) → OnlyReads d e → StandsOn d pool.store.pairs → Reads d pool e pool

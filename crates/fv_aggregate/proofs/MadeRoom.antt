@@ -22,7 +22,7 @@ use Rattle.fv_aggregate.specs.Commands.{dirty_limit, file_room, is_built, is_ref
 use Rattle.fv_aggregate.specs.Looking.{HasJudged}
 use Rattle.fv_aggregate.specs.Numbering.{HasNumbered}
 use Rattle.fv_aggregate.specs.Reclaiming.{HasMadeRoom, HasPointed, MakesRoom, ReclaimsEntries}
-use Rattle.fv_aggregate.specs.Standing.{Stands, StandsFor}
+use Rattle.fv_aggregate.specs.Standing.{StandsFor, StandsReady}
 use Rattle.fv_aggregate.proofs.Looked.{stands_for_read}
 
 -- ---- nothing is claimed
@@ -91,7 +91,7 @@ by_reads want first mid e k is = record {
 pub entries_still : (want : ℕ) (first mid : Session) (e k : Shown) → k.reads ≡ e.reads → ReclaimsEntries want first e mid → ReclaimsEntries want first k mid
 entries_still want first mid e k same is = subst (λ (i : Image). ReclaimsEntries want first (record k { reads = i }) mid) (sym same) (by_reads want first mid e k is)
 
-pointed_read : (want : ℕ) (first mid : Session) (e k : Shown) (m : Machine) → OnlyReads e k → Stands e mid → HasPointed want first e mid m → HasPointed want first k mid m
+pointed_read : (want : ℕ) (first mid : Session) (e k : Shown) (m : Machine) → OnlyReads e k → StandsReady e mid → HasPointed want first e mid m → HasPointed want first k mid m
 pointed_read want first mid e k m reads stands is = record {
   stands = stands_for_read e k mid mid.pool all_read m m is.stands;
   room = subst (λ (i : Image). LeavesRoom (view_at (root_found mid.pool.found) i) want) (sym reads.stays.reads) is.room;
@@ -102,7 +102,7 @@ pointed_read want first mid e k m reads stands is = record {
     all_read = record {
       only_reads = reads;
       leaves = record { map = refl; containers = refl; kept = refl; found = refl };
-      stands = record { same = λ tells pvbn block has. subst (λ (i : Image). block ≡ i pvbn) (sym reads.stays.reads) (stands.cache.same (subst IsTrue reads.stays.tells tells) pvbn block has) };
+      stands = record { same = λ tells pvbn block has. subst (λ (i : Image). block ≡ i pvbn) (sym reads.stays.reads) (stands.stands.cache.same (subst IsTrue reads.stays.tells tells) pvbn block has) };
     }
 
 -- ---- room was made
@@ -133,7 +133,7 @@ read_room room d s e n read g m made = record {
 }
 
 -- and in front of one
-pub room_read : (room : ℕ) (s : Session) (e k : Shown) (mid : Session) (m : Machine) → OnlyReads e k → Stands e mid → HasPointed room s e mid m → HasMadeRoom room s k m
+pub room_read : (room : ℕ) (s : Session) (e k : Shown) (mid : Session) (m : Machine) → OnlyReads e k → StandsReady e mid → HasPointed room s e mid m → HasMadeRoom room s k m
 room_read room s e k mid m reads stands pointed = made_room room s k mid m (pointed_read room s mid e k m reads stands pointed)
 
 -- what is said of an accepted reply
@@ -155,7 +155,7 @@ module _ (d : Shown) (s : Session) (c : Command) (e : Shown) (n : Session) where
       (roomy (subst IsTrue (sym read.goes.ends.tells) tells) first.done.point m first.done.stands some (omega (arith, past, same)))
 
   -- the command was judged, room was made, and then it was carried out
-  pub roomy_judged : (y : Reply) → HasJudged d s c e n (Ok y) → (room : ℕ) (h : Shown) (mid : Session) → Stands h mid
+  pub roomy_judged : (y : Reply) → HasJudged d s c e n (Ok y) → (room : ℕ) (h : Shown) (mid : Session) → StandsReady h mid
       → (IsTrue e.tells → (last m : Machine) → StandsFor e n last m → dirty_limit < n.pending + room → HasPointed room n h mid m)
       → (k : Shown) → OnlyReads h k → (r : Result Reply Fault) → MakesRoom room d s k r
   roomy_judged y judged room h mid stands made k reads r tells last m is some past =

@@ -30,7 +30,7 @@ use Rattle.fv_cp.specs.Lent.{blocks_asked, FitTogether}
 use Rattle.fv_aggregate.specs.declared.session.Session.{Session}
 use Rattle.fv_aggregate.specs.Commands.{changes_volume, has_range, is_built, is_refusal, machine_after, managed_by, removes_volume, Replies, RepliesBy}
 use Rattle.fv_aggregate.specs.Managing.{told_as, IsCarriedOut, IsManaged, IsTold, Manages}
-use Rattle.fv_aggregate.specs.Standing.{IsWithoutFiles, Stands, StandsFor}
+use Rattle.fv_aggregate.specs.Standing.{IsWithoutFiles, StandsFor, StandsReady}
 use Rattle.fv_aggregate.proofs.Applied.{unbuilt_after, unbuilt_replies}
 use Rattle.fv_aggregate.proofs.Asked.{answer_allows}
 use Rattle.fv_aggregate.proofs.Having.{can_have_all, contents, has_volumes}
@@ -44,8 +44,8 @@ pub record IsManagedOver (disk : Shown) (old : Session) (c : Command) (new : Ses
   pub managed : (name : List ℕ) → managed_by c ≡ Some name → IsManaged old c name new reply
   pub unbuilt : is_built c ≡ false → reply ≡ Refused Syntax
   pub refused : IsTrue (is_refusal reply) → new ≡ old
-  pub stands : Stands disk old → Stands disk new
-  pub stands_for : Stands disk old → (last m : Machine) → StandsFor disk old last m → StandsFor disk new last (machine_after m c)
+  pub stands : StandsReady disk old → StandsReady disk new
+  pub stands_for : StandsReady disk old → (last m : Machine) → StandsFor disk old last m → StandsFor disk new last (machine_after m c)
   pub replies : (last m : Machine) → StandsFor disk old last m → Replies m c reply
   -- unless a volume that stays changes, the next point asks for no more than before
   pub asked : changes_volume c ≡ false → blocks_asked new.volumes ≤ blocks_asked old.volumes
@@ -82,7 +82,7 @@ module _ (disk : Shown) (session : Session) where
 
   -- what is said of its reply is enough
   stays_over : (c : Command) (reply : Reply) → ((name : List ℕ) → managed_by c ≡ Some name → IsManaged session c name session reply) → (is_built c ≡ false → reply ≡ Refused Syntax)
-      → (Stands disk session → (last m : Machine) → StandsFor disk session last m → StandsFor disk session last (machine_after m c)) → ((last m : Machine) → StandsFor disk session last m → Replies m c reply) → IsManagedOver disk session c session reply
+      → (StandsReady disk session → (last m : Machine) → StandsFor disk session last m → StandsFor disk session last (machine_after m c)) → ((last m : Machine) → StandsFor disk session last m → Replies m c reply) → IsManagedOver disk session c session reply
   stays_over c reply managed unbuilt stands_for replies = record {
     managed = managed;
     unbuilt = unbuilt;

@@ -13,7 +13,7 @@ use Rattle.fv_root.specs.Finding.{root_found}
 use Rattle.fv_aggregate.specs.declared.session.Session.{Session}
 use Rattle.fv_aggregate.specs.Calls.{Goes, GoesFor, IsPlain, KeepsAsking}
 use Rattle.fv_aggregate.specs.Commands.{changes_volume, machine_after, snapped_by}
-use Rattle.fv_aggregate.specs.Standing.{Stands, StandsFor}
+use Rattle.fv_aggregate.specs.Standing.{StandsFor, StandsReady}
 use Rattle.fv_aggregate.proofs.Calls.{same_counts, same_ends}
 use Rattle.fv_aggregate.proofs.Managed.{IsManagedOver}
 use Rattle.fv_aggregate.proofs.Standing.{rests_for_last}
@@ -22,7 +22,7 @@ some_none : (v : List ℕ) → Some v ≡ None → ⊥
 some_none v e = cc
 
 module _ (disk : Shown) (old : Session) (c : Command) (new : Session) (reply : Reply) (over : IsManagedOver disk old c new reply) where
-  pub managed_goes : (room : ℕ) → IsNone old.failed → Stands disk old → Goes room disk old disk new (Ok reply)
+  pub managed_goes : (room : ℕ) → IsNone old.failed → StandsReady disk old → Goes room disk old disk new (Ok reply)
   managed_goes room fresh stands = record {
     ends = same_ends disk;
     stands = λ none. over.stands stands;
@@ -38,7 +38,7 @@ module _ (disk : Shown) (old : Session) (c : Command) (new : Session) (reply : R
       let held : overheads (view_at (root_found new.pool.found) disk.reads) ≡ overheads (view_at (root_found old.pool.found) disk.reads) = ap (λ (f : Found). overheads (view_at (root_found f) disk.reads)) over.found in
       record { asked = omega (arith, fewer, pending, held, asks.asked); pending = omega (arith, pending, asks.pending) }
 
-  pub managed_for : IsDisk disk → Stands disk old → (last m : Machine) → StandsFor disk old last m → GoesFor disk last m (machine_after m c) disk new (Ok reply)
+  pub managed_for : IsDisk disk → StandsReady disk old → (last m : Machine) → StandsFor disk old last m → GoesFor disk last m (machine_after m c) disk new (Ok reply)
   managed_for laws there last m stands = record {
     any_moment = rests_for_last disk old last m (machine_after m c) laws stands;
     done = record { point = last; one = inl refl; stands = over.stands_for there last m stands };

@@ -1,6 +1,6 @@
 -- A session that read the numbers of a volume's files into memory, and a command on its files that comes then.
 use Rattle.std.proofs.Common.{◌≡◌, ◌≤◌, ℕ, Option, Some, None, Result, Ok, Err, refl, sym, ap, subst, ◌∙◌, arith, ◌⊎◌, ◌+◌}
-use Rattle.std.specs.Prelude.{IfOk, IsTrue, OnOk}
+use Rattle.std.specs.Prelude.{IfOk, IsNone, IsSome, IsTrue, OnErr, OnOk}
 use Rattle.std.specs.Option.{option_map}
 use Rattle.fv_disk.specs.DiskCalls.{OnlyReads}
 use Rattle.fv_disk.specs.Shown.{Shown}
@@ -15,12 +15,13 @@ use Rattle.fv_volume.specs.States.{States, state_at}
 use Rattle.fv_cp.specs.Placing.{HasNoFiles, HaveNoFiles}
 use Rattle.fv_aggregate.specs.declared.fault.Fault.{Fault}
 use Rattle.fv_aggregate.specs.declared.session.Session.{Session}
-use Rattle.fv_aggregate.specs.Calls.{but_numbers, Goes, GoesFor, HasDamage, KeepsAsking, KeepsEntries, SameButNumbers, WasRead}
+use Rattle.fv_aggregate.specs.Calls.{but_numbers, Goes, GoesFor, KeepsAsking, KeepsEntries, SameButNumbers, WasRead}
 use Rattle.fv_aggregate.specs.Commands.{file_room, is_refusal}
 use Rattle.fv_aggregate.specs.Looking.{Looks, Makes}
 use Rattle.fv_aggregate.specs.Numbering.{HasNumbered}
 use Rattle.fv_aggregate.specs.Standing.{StandsFor}
 use Rattle.fv_aggregate.proofs.Holes.{read_entries}
+use Rattle.fv_aggregate.proofs.Damages.{damage_read, read_then}
 use Rattle.fv_aggregate.proofs.CallEnds.{fails_early, goes_for_after, goes_on_read, goes_wider}
 
 -- ---- volumes that are the same but for those numbers
@@ -47,20 +48,7 @@ still_there old new same slot x there = by (state_at new slot) refl (same slot �
     by None at is = absurd (none_some (but_numbers x) is)
     by (Some y) at is = (y, (at, sym (ap (λ (z : VolumeState). z.name) (same_some (but_numbers y) (but_numbers x) is))))
 
--- ---- blocks were read, and then again
-
-pub read_then : (d : Shown) (s : Session) (e : Shown) (n : Session) (g : Shown) (p : Session) → WasRead d s e n → WasRead e n g p → WasRead d s g p
-read_then d s e n g p first second = record {
-  only_reads = reads_then d e g first.only_reads second.only_reads;
-  pool = record {
-    map = second.pool.map ∙ first.pool.map;
-    containers = second.pool.containers ∙ first.pool.containers;
-    kept = second.pool.kept ∙ first.pool.kept;
-    found = second.pool.found ∙ first.pool.found;
-  };
-  volumes = λ k. second.volumes k ∙ first.volumes k;
-  same = second.same ∙ ap (λ (k : Session). record k { volumes = p.volumes; pool = p.pool }) first.same;
-}
+-- ---- by a fault
 
 -- a command that changes a file ends with a fault before its volume is called
 pub makes_early : {T : Type 0} (d : Shown) (s : Session) (c : Command) (e : Shown) (n : Session) (f : Fault) → Goes {T = T} 0 d s e n (Err f) → (IsTrue d.tells → (last m : Machine) → StandsFor d s last m → GoesFor {T = T} d last m m e n (Err f))
@@ -87,6 +75,7 @@ module _ (d : Shown) (s : Session) (c : Command) (e : Shown) (n : Session) (f : 
     only_reads = failed.only_reads;
     entries = failed.entries;
     read = tt;
+    unanswered = failed.unread;
   })
 
   pub make_unnumbered : (r : Result Reply Fault) → r ≡ Err f → Makes file_room d s c e n r
@@ -94,7 +83,7 @@ module _ (d : Shown) (s : Session) (c : Command) (e : Shown) (n : Session) (f : 
 
 -- ---- they were read, and then a command was carried out
 
-module _ (d : Shown) (s : Session) (c : Command) (damage : (new : Session) (at want found : ℕ) → HasDamage d s new at want found) (e : Shown) (n : Session) (u : Unit {0}) (read : HasNumbered d s e n (Ok u))
+module _ (d : Shown) (s : Session) (c : Command) (fresh : IsNone s.failed) (slot : ℕ) (there : IsSome (state_at s.volumes slot)) (e : Shown) (n : Session) (u : Unit {0}) (read : HasNumbered d s e n (Ok u))
     (g : Shown) (new : Session) (r : Result Reply Fault) where
   told : IsTrue d.tells → IsTrue e.tells
   told tells = subst IsTrue (sym read.goes.ends.tells) tells
@@ -122,24 +111,29 @@ module _ (d : Shown) (s : Session) (c : Command) (damage : (new : Session) (at w
   read_both (Ok y) second = read_then d s e n g new read.read second
   read_both (Err f) second = tt
 
+  unread_both : (r : Result Reply Fault) → OnErr r (WasRead e n g (record new { failed = n.failed })) → OnErr r (WasRead d s g (record new { failed = s.failed }))
+  unread_both (Ok y) second = tt
+  unread_both (Err f) second = read_then d s e n g (record new { failed = s.failed }) read.read (subst (λ (o : Option ℕ). WasRead e n g (record new { failed = o })) (ap (λ (k : Session). k.failed) read.read.same) second)
+
   refused_both : (r : Result Reply Fault) → IfOk r (λ reply. IsTrue (is_refusal reply) → WasRead e n g new) → IfOk r (λ reply. IsTrue (is_refusal reply) → WasRead d s g new)
   refused_both (Ok y) second = λ refused. read_then d s e n g new read.read (second refused)
   refused_both (Err f) second = tt
 
   pub look_numbered : Looks e n c g new r → Looks d s c g new r
   look_numbered looks = record {
-    goes = goes_on_read u 0 0 d s e n read.goes none_added g new r read.only_reads same_pending (damage new) looks.goes;
+    goes = goes_on_read u 0 0 d s e n read.goes none_added g new r read.only_reads same_pending (λ at want found is. damage_read d s fresh slot there e n read.read 0 g new at want found) looks.goes;
     asks = asks_then looks.asks;
     goes_for = for_then (λ m. m) looks.goes_for;
     reply = holds_then (λ m. IfOk r (Allows m c)) looks.reply;
     only_reads = reads_then d e g read.only_reads looks.only_reads;
     entries = read_entries s n new read.read.pool looks.entries;
     read = read_both r looks.read;
+    unanswered = unread_both r looks.unanswered;
   }
 
   pub make_numbered : Makes file_room e n c g new r → Makes file_room d s c g new r
   make_numbered makes = record {
-    goes = goes_on_read u 0 16 d s e n read.goes none_added g new r read.only_reads same_pending (damage new) makes.goes;
+    goes = goes_on_read u 0 16 d s e n read.goes none_added g new r read.only_reads same_pending (λ at want found is. damage_read d s fresh slot there e n read.read 16 g new at want found) makes.goes;
     goes_for = for_then (λ m. next m c) makes.goes_for;
     reply = holds_then (λ m. IfOk r (Allows m c)) makes.reply;
     refused = λ tells last m is. let first = read.goes_for tells last m is in refused_both r (makes.refused (told tells) first.done.point m first.done.stands);

@@ -1,5 +1,5 @@
 -- What a session stands for once the numbers of a volume's files were read into memory.
-use Rattle.std.proofs.Common.{◌≡◌, ◌≢◌, ◌<◌, ◌≤◌, ◌+◌, ◌-◌, ℕ, true, length, Some, None, Result, Ok, Err, refl, sym, ap, subst, ◌∙◌, ⊎_elim, arith, get_or-set_other, get_or-set_same}
+use Rattle.std.proofs.Common.{◌≡◌, ◌≢◌, ◌<◌, ◌≤◌, ◌+◌, ◌-◌, ℕ, true, length, Some, None, Result, Ok, Err, inl, inr, refl, sym, ap, subst, ◌∙◌, ⊎_elim, arith, get_or-set_other, get_or-set_same}
 use Rattle.std.specs.Prelude.{max, IsNone}
 use Rattle.std.specs.Option.{is_some, option_map}
 use Rattle.std.proofs.lemmas.Bool.{cases_eq}
@@ -15,9 +15,9 @@ use Rattle.fv_root.specs.Finding.{root_found}
 use Rattle.fv_charge.specs.Ledgers.{committed}
 use Rattle.fv_pool.specs.declared.pool.Pool.{Pool}
 use Rattle.fv_volume.specs.declared.state.VolumeState.{VolumeState}
+use Rattle.fv_pool.specs.Calls.{GivesUp, Reads}
 use Rattle.fv_volmap.specs.Slots.{slot_at}
 use Rattle.fv_pool.specs.BlocksOver.{free_numbers}
-use Rattle.fv_pool.specs.Calls.{Reads}
 use Rattle.fv_pool.specs.Causes.{of_block}
 use Rattle.fv_volume.specs.OneVolume.{volume_for, IsReady, IsStanding}
 use Rattle.fv_pool.specs.Tables.{pending_of}
@@ -40,17 +40,18 @@ use Rattle.fv_aggregate.specs.Numbering.{HasNumbered, NumbersState}
 use Rattle.fv_aggregate.specs.Known.{KeepsNumbers, KnowsNumbers}
 use Rattle.fv_aggregate.proofs.Holes.{kept_entries}
 use Rattle.fv_aggregate.proofs.Keeping.{keeps_none, keeps_with}
-use Rattle.fv_aggregate.specs.Standing.{clear_blocks, overheads_in, taken_since, Stands, StandsFor}
-use Rattle.fv_aggregate.proofs.Asked.{calm_damage, calm_memory, damaged_at, rose_by}
+use Rattle.fv_aggregate.specs.Standing.{clear_blocks, overheads_in, taken_since, StandsFor, StandsReady}
+use Rattle.fv_aggregate.proofs.Asked.{calm_damage, calm_memory, rose_by}
 use Rattle.fv_aggregate.proofs.Becoming.{machine_stays}
 use Rattle.fv_aggregate.proofs.CallEnds.{goes_broken, goes_damaged, goes_done, goes_for_broken, goes_for_done, goes_for_fault, goes_wanting}
 use Rattle.fv_aggregate.proofs.Called.{called_held, IsCalled}
+use Rattle.fv_aggregate.proofs.Damages.{bad_changed, finds_active, keeps_map}
 use Rattle.fv_aggregate.proofs.Changed.{fit_changed, mine, pending_within, ready_changed, same_overheads, same_waiting}
 use Rattle.fv_aggregate.proofs.Returned.{as_told, long_lent}
 use Rattle.fv_aggregate.proofs.Looked.{clear_read, known_read, last_overheads, placed_read, settled_read, stands_read}
 
 -- a volume that is the same but for those numbers is left as a change leaves it, too
-as_left : (x y : VolumeState) → y ≡ record x { numbers = y.numbers } → y ≡ record x { now = y.now; map = y.map; files = y.files; numbers = y.numbers; ledger = y.ledger; changed = y.changed }
+pub as_left : (x y : VolumeState) → y ≡ record x { numbers = y.numbers } → y ≡ record x { now = y.now; map = y.map; files = y.files; numbers = y.numbers; ledger = y.ledger; changed = y.changed }
 as_left x y same = let is = sym same in same ∙ (λ j. record x { now = (is j).now; map = (is j).map; files = (is j).files; numbers = y.numbers; ledger = (is j).ledger; changed = (is j).changed })
 
 module _ (d e : Shown) (s : Session) (q : Pool) (slot : ℕ) (x y : VolumeState) (there : state_at s.volumes slot ≡ Some x) (long : length s.volumes ≡ 64) (reads : Reads d s.pool e q)
@@ -70,10 +71,10 @@ module _ (d e : Shown) (s : Session) (q : Pool) (slot : ℕ) (x y : VolumeState)
   here : state_at stay slot ≡ Some y
   here = get_or-set_same s.volumes slot (Some y) None inside
 
-  pub stands_numbered : Stands d s → Stands e numbered
+  pub stands_numbered : StandsReady d s → StandsReady e numbered
   stands_numbered is =
       let was = stands_read d e s q reads is in
-      record { found = was.found; map = was.map; cache = was.cache; ready = ready_changed d e s.pool q s.volumes slot x y there reads as_changed ready long is.ready }
+      record { stands = record { found = was.stands.found; map = was.stands.map; cache = was.stands.cache }; ready = ready_changed d e s.pool q s.volumes slot x y there reads as_changed ready long is.ready }
 
   but_those : SameButNumbers s.volumes stay
   but_those k = ⊎_elim
@@ -160,13 +161,20 @@ module _ (d e : Shown) (s : Session) (q : Pool) (slot : ℕ) (x y : VolumeState)
           room = omega (arith, fits, over, clear);
         }
 
+-- a volume that is as it was keeps all
+kept_same : (x y : VolumeState) → y ≡ x → y ≡ record x { map = y.map; files = y.files; changed = y.changed }
+kept_same x y same = subst (λ (z : VolumeState). z ≡ record x { map = z.map; files = z.files; changed = z.changed }) (sym same) refl
+
+kept_maps : (x y : VolumeState) → y ≡ x → GivesUp x.map y.map
+kept_maps x y same = subst (λ (z : VolumeState). GivesUp x.map z.map) (sym same) (keeps_map x.map)
+
 -- ---- by what the volume answered
 
-module _ (d e : Shown) (laws : IsDisk d) (s : Session) (q : Pool) (slot : ℕ) (x y : VolumeState) (there : state_at s.volumes slot ≡ Some x) (long : length s.volumes ≡ 64) (fresh : IsNone s.failed) (stands : Stands d s) where
+module _ (d e : Shown) (laws : IsDisk d) (s : Session) (q : Pool) (slot : ℕ) (x y : VolumeState) (there : state_at s.volumes slot ≡ Some x) (long : length s.volumes ≡ 64) (fresh : IsNone s.failed) (stands : StandsReady d s) where
   abbrev now : Session
   now = record s { volumes = with_state s.volumes slot (Some y); pool = q }
 
-  stand : (r : Result Unit BlockFault) → NumbersState d s.pool x e q y r → Stands e now
+  stand : (r : Result Unit BlockFault) → NumbersState d s.pool x e q y r → StandsReady e now
   stand r did = stands_numbered d e s q slot x y there long did.reads did.same did.ready stands
 
   for_it : (r : Result Unit BlockFault) → NumbersState d s.pool x e q y r → (last m : Machine) → StandsFor d s last m → StandsFor e now last m
@@ -186,6 +194,7 @@ module _ (d e : Shown) (laws : IsDisk d) (s : Session) (q : Pool) (slot : ℕ) (
     only_reads = did.reads.only_reads;
     entries = kept_entries s now did.reads.leaves.containers;
     read = read_numbered d e s q slot x y there long did.reads did.same did.ready;
+    unread = tt;
     kept = kept_it (Ok u) did;
   }
 
@@ -197,10 +206,11 @@ module _ (d e : Shown) (laws : IsDisk d) (s : Session) (q : Pool) (slot : ℕ) (
     only_reads = did.reads.only_reads;
     entries = kept_entries s (record now { failed = new.failed }) did.reads.leaves.containers;
     read = tt;
+    unread = read_numbered d e s q slot x y there long did.reads did.same did.ready;
     kept = kept_it (Err block.DiskFault) did;
   })
   numbered_failed (block.Damaged at want found) did new f b = as_told (λ (n : Session) (g : Fault). HasNumbered d s e n (Err g)) new now f (Damaged at want found) b.1 b.0 (record {
-    goes = goes_damaged d e laws s now 0 did.reads.only_reads fresh fresh (stand (Err (block.Damaged at want found)) did) at want found (calm_damage _ _ _ e.faults at want found did.cause) (damaged_at d s slot x there fresh now at want found) (omega arith);
+    goes = goes_damaged d e laws s now 0 did.reads.only_reads fresh fresh (stand (Err (block.Damaged at want found)) did) at want found (calm_damage _ _ _ e.faults at want found did.cause) (inl (did.reads.only_reads, inl (inr (inr (bad_changed d e s fresh slot x there q did.reads (calm_damage _ _ _ e.faults at want found did.cause) at want found (finds_active d s.pool x e.faults at want found (calm_damage _ _ _ e.faults at want found did.cause) did.cause) long y (kept_same x y did.kept) (kept_maps x y did.kept) s.pending))))) (omega arith);
     asks = asks_it (Err (block.Damaged at want found)) did;
     goes_for = λ tells last m is.
         let its = mine d s.pool s.volumes long last is.held slot x there in
@@ -208,6 +218,7 @@ module _ (d e : Shown) (laws : IsDisk d) (s : Session) (q : Pool) (slot : ℕ) (
     only_reads = did.reads.only_reads;
     entries = kept_entries s now did.reads.leaves.containers;
     read = tt;
+    unread = read_numbered d e s q slot x y there long did.reads did.same did.ready;
     kept = kept_it (Err (block.Damaged at want found)) did;
   })
   numbered_failed block.Memory did new f b = as_told (λ (n : Session) (g : Fault). HasNumbered d s e n (Err g)) new now f Memory b.1 b.0 (record {
@@ -217,6 +228,7 @@ module _ (d e : Shown) (laws : IsDisk d) (s : Session) (q : Pool) (slot : ℕ) (
     only_reads = did.reads.only_reads;
     entries = kept_entries s now did.reads.leaves.containers;
     read = tt;
+    unread = read_numbered d e s q slot x y there long did.reads did.same did.ready;
     kept = kept_it (Err block.Memory) did;
   })
 
@@ -226,7 +238,7 @@ module _ (d e : Shown) (laws : IsDisk d) (s : Session) (q : Pool) (slot : ℕ) (
 pub fit_numbered : (d e : Shown) (p q : Pool) (states : States) (slot : ℕ) (x y : VolumeState) → state_at states slot ≡ Some x → Reads d p e q → y ≡ record x { numbers = y.numbers } → IsReady e q y → FitTogether p states → FitTogether q (with_state states slot (Some y))
 fit_numbered d e p q states slot x y there reads same ready fit = fit_changed d e p q states slot x y there reads (as_left x y same) ready fit.housed.long fit
 
-module _ (d e : Shown) (laws : IsDisk d) (v s : Session) (same : v ≡ s) (fit : IsNone v.failed → FitTogether v.pool v.volumes) (fresh : IsNone s.failed) (stands : Stands d s) (q : Pool) (slot : ℕ) (x y : VolumeState)
+module _ (d e : Shown) (laws : IsDisk d) (v s : Session) (same : v ≡ s) (fit : IsNone v.failed → FitTogether v.pool v.volumes) (fresh : IsNone s.failed) (stands : StandsReady d s) (q : Pool) (slot : ℕ) (x y : VolumeState)
     (lent : state_at v.volumes slot ≡ Some x) where
   abbrev after : Session
   after = record v { volumes = with_state v.volumes slot (Some y); pool = q }
@@ -234,8 +246,8 @@ module _ (d e : Shown) (laws : IsDisk d) (v s : Session) (same : v ≡ s) (fit :
   unfailed : IsNone v.failed
   unfailed = subst (λ (n : Session). IsNone n.failed) (sym same) fresh
 
-  stand_lent : Stands d v
-  stand_lent = subst (Stands d) (sym same) stands
+  stand_lent : StandsReady d v
+  stand_lent = subst (StandsReady d) (sym same) stands
 
   pub done_lent : NumbersState d v.pool x e q y (Ok tt) → HasNumbered d s e after (Ok tt)
   done_lent did = subst (λ (n : Session). HasNumbered d n e after (Ok tt)) same (numbered_done d e laws v q slot x y lent (long_lent v s same fit fresh) unfailed stand_lent tt did)

@@ -44,7 +44,7 @@ use Rattle.fv_aggregate.specs.declared.fault.OpenFault.{OpenFault}
 use Rattle.fv_aggregate.specs.declared.session.Session.{Session}
 use Rattle.fv_aggregate.specs.Causes.{IsOpenFault, of_block}
 use Rattle.fv_aggregate.specs.Opening.{AreOpened, IsFresh, IsOpened}
-use Rattle.fv_aggregate.specs.Standing.{IsWithoutFiles, Stands, StandsFor}
+use Rattle.fv_aggregate.specs.Standing.{IsWithoutFiles, StandsFor, StandsReady}
 use Rattle.fv_aggregate.specs.Asking.{AsksWithin}
 use Rattle.fv_volumes.specs.UnderRoot.{IsMapOf}
 use Rattle.fv_aggregate.proofs.Asking.{asks_after_reads}
@@ -155,26 +155,28 @@ opened_for disk session m settled told whole opened each fresh machine =
 
 -- A session that was opened over a disk that a barrier had settled, by a call that only read, stands on it.
 module _ (mid new : Shown) (settled : IsTrue mid.tells → IsSettled mid) (reads : OnlyReads mid new) where
-  stands_opened : (session : Session) → (IsTrue mid.tells → IsOpened mid.reads session) → StandsOn new session.pool.store.pairs → AreOpened new mid.reads session → Stands new session
+  stands_opened : (session : Session) → (IsTrue mid.tells → IsOpened mid.reads session) → StandsOn new session.pool.store.pairs → AreOpened new mid.reads session → StandsReady new session
   stands_opened session opened cache each =
       let same : new.reads ≡ mid.reads = reads.stays.reads in
       record {
-        found = λ tells.
-            let told = subst IsTrue reads.stays.tells tells in
-            let is = opened told in
-            let on = found_on mid session.pool.found (settled told) is.found in
-            record {
-              reads = subst (λ (i : Image). IsFound i session.pool.found) (sym same) on.reads;
-              images = λ c now. on.images c (reads.stays.no_more c now);
-            };
-        map = λ tells.
-            let is = opened (subst IsTrue reads.stays.tells tells) in
-            subst (λ (i : Image). IsMapOf i session.pool.found session.pool.map) (sym same) (record { len = is.map.len; bits = is.map.bits });
-        cache = cache;
+        stands = record {
+          found = λ tells.
+              let told = subst IsTrue reads.stays.tells tells in
+              let is = opened told in
+              let on = found_on mid session.pool.found (settled told) is.found in
+              record {
+                reads = subst (λ (i : Image). IsFound i session.pool.found) (sym same) on.reads;
+                images = λ c now. on.images c (reads.stays.no_more c now);
+              };
+          map = λ tells.
+              let is = opened (subst IsTrue reads.stays.tells tells) in
+              subst (λ (i : Image). IsMapOf i session.pool.found session.pool.map) (sym same) (record { len = is.map.len; bits = is.map.bits });
+          cache = cache;
+        };
         ready = each.ready;
       }
 
-  pub stands_result : (result : Result Session OpenFault) → (IsTrue mid.tells → IfOk result (IsOpened mid.reads)) → IfOk result (λ session. StandsOn new session.pool.store.pairs) → IfOk result (AreOpened new mid.reads) → IfOk result (Stands new)
+  pub stands_result : (result : Result Session OpenFault) → (IsTrue mid.tells → IfOk result (IsOpened mid.reads)) → IfOk result (λ session. StandsOn new session.pool.store.pairs) → IfOk result (AreOpened new mid.reads) → IfOk result (StandsReady new)
   stands_result (Ok session) opened cache each = stands_opened session opened cache each
   stands_result (Err fault) opened cache each = tt
 

@@ -49,8 +49,9 @@ use Rattle.fv_volumes.proofs.StillLoaded.{none_loaded}
 use Rattle.fv_aggregate.specs.declared.session.Session.{Session}
 use Rattle.fv_aggregate.specs.declared.fault.Fault.TheVariants.{DiskFault, Damaged, Memory}
 use Rattle.fv_aggregate.specs.Adding.{HasRoom, IsPointed, StillAdmits}
-use Rattle.fv_aggregate.specs.Calls.{Goes, GoesFor, IsForWant, KeepsAsking}
-use Rattle.fv_aggregate.specs.Standing.{clear_blocks, overheads_in, taken_since, unwritten, OneOf, Stands, StandsFor}
+use Rattle.fv_aggregate.specs.Calls.{Goes, GoesFor, HasFilesToPlace, IsForWant, KeepsAsking}
+use Rattle.fv_aggregate.proofs.Damages.{files_after, lacks_after}
+use Rattle.fv_aggregate.specs.Standing.{clear_blocks, overheads_in, taken_since, unwritten, OneOf, StandsFor, StandsReady}
 use Rattle.fv_aggregate.proofs.Asking.{asked_unchanged, asks_more, asks_still, short_is}
 use Rattle.fv_aggregate.proofs.Clear.{clear_is_free, clear_stays, free_and_placed, none_held, none_placed}
 use Rattle.fv_aggregate.proofs.Commits.{commits_kept}
@@ -119,9 +120,11 @@ pub point_done : (before : Shown) (old : Session) (after : Shown) (new : Session
 point_done before old after new was now none counts pool states goes = record {
   ends = record { tells = counts.tells; given = counts.given; ends = counts.ends };
   stands = λ fresh. record {
-    found = λ tells. goes.found (subst IsTrue counts.tells tells);
-    map = λ tells. let map = goes.loaded (subst IsTrue counts.tells tells) in record { len = map.len; bits = map.bits };
-    cache = goes.stands;
+    stands = record {
+      found = λ tells. goes.found (subst IsTrue counts.tells tells);
+      map = λ tells. let map = goes.loaded (subst IsTrue counts.tells tells) in record { len = map.len; bits = map.bits };
+      cache = goes.stands;
+    };
     ready = goes.ready;
   };
   done = record { was = was; goes_on = now; counts = record { faults = counts.cause.0; write_faults = counts.cause.1 } };
@@ -139,6 +142,23 @@ failed_asks before old after new faults failed = λ tells kept asks fresh. absur
 -- after a failed write the session has failed, so it needn't stand for anything
 pub point_failed_for : (before : Shown) (last m : Machine) (after : Shown) (new : Session) → Leaves before after (λ c g. OneOf last m m c × (g ≡ before.given)) → new.failed ≡ Some after.faults → GoesFor {T = Unit {0}} before last m m after new (Err DiskFault)
 point_failed_for before last m after new moments failed = record { any_moment = moments; done = tt; still = λ fresh. absurd (both new.failed after.faults fresh failed); whole = tt }
+
+-- the files of a volume couldn't be placed
+pub filed_as : (disk : Shown) (session : Session) (at want found : ℕ) → IsNone session.failed → FailsToPlace disk session.pool session.volumes (cp.Damaged at want found) → HasFilesToPlace disk session at want found
+filed_as disk session at want found fresh fails = record {
+  fresh = fresh;
+  files = files_there disk session.pool session.volumes (cp.Damaged at want found) fails;
+  slot = fails.slot;
+  state = fails.state;
+  there = fails.own;
+  mid = fails.mid;
+  root = fails.placed.found;
+  committed = fails.placed.committed;
+  placed = fails.placed.entries;
+  entries = fails.entries;
+  first = λ none. (fails.first none).0;
+  fails = fails.fails;
+}
 
 -- A point that came to no end, but by no fault of the disk: some files may have been placed.
 module _ (before : Shown) (old : Session) (after : Shown) (new : Session) (has : HasStayed before old after new) where
@@ -160,21 +180,23 @@ module _ (before : Shown) (old : Session) (after : Shown) (new : Session) (has :
   failed_same : new.failed ≡ old.failed
   failed_same = ap (λ (s : Session). s.failed) parts
 
-  still_stands : Stands before old → Stands after new
+  still_stands : StandsReady before old → StandsReady after new
   still_stands stands = record {
-    found = λ tells.
-        let was = stands.found (subst IsTrue reads.stays.tells tells) in
-        subst (IsFoundOn after) (sym still.placed.found) (record {
-          reads = subst (λ (i : Image). IsFound i old.pool.found) (sym reads.stays.reads) was.reads;
-          images = λ c now. was.images c (reads.stays.no_more c now);
-        });
-    map = λ tells.
-        let is = stands.map (subst IsTrue reads.stays.tells tells) in
-        record {
-          len = ap (λ (c : List Bool). length c) still.placed.committed ∙ is.len ∙ ap (λ (f : Found). f.blocks) (sym still.placed.found);
-          bits = λ b. ap (λ (c : List Bool). is_member c b) still.placed.committed ∙ is.bits b ∙ (λ j. map_bit (root_found (sym still.placed.found j)) (sym reads.stays.reads j) b);
-        };
-    cache = still.stands;
+    stands = record {
+      found = λ tells.
+          let was = stands.stands.found (subst IsTrue reads.stays.tells tells) in
+          subst (IsFoundOn after) (sym still.placed.found) (record {
+            reads = subst (λ (i : Image). IsFound i old.pool.found) (sym reads.stays.reads) was.reads;
+            images = λ c now. was.images c (reads.stays.no_more c now);
+          });
+      map = λ tells.
+          let is = stands.stands.map (subst IsTrue reads.stays.tells tells) in
+          record {
+            len = ap (λ (c : List Bool). length c) still.placed.committed ∙ is.len ∙ ap (λ (f : Found). f.blocks) (sym still.placed.found);
+            bits = λ b. ap (λ (c : List Bool). is_member c b) still.placed.committed ∙ is.bits b ∙ (λ j. map_bit (root_found (sym still.placed.found j)) (sym reads.stays.reads j) b);
+          };
+      cache = still.stands;
+    };
     ready = still.ready;
   }
 
@@ -182,7 +204,7 @@ module _ (before : Shown) (old : Session) (after : Shown) (new : Session) (has :
   still_asks = λ tells kept asks fresh. asks_more after new kept 0 (asks_still before after old new kept reads still.placed.found still.placed.asked pending_same asks)
 
   -- it lacks blocks, or a place for a file
-  pub still_wants : (at want found : ℕ) → IsNone old.failed → Stands before old → WholeFails before old.pool old.volumes new.pool new.volumes (cp.Damaged at want found) → IsForWant before old after new (Damaged at want found)
+  pub still_wants : (at want found : ℕ) → IsNone old.failed → StandsReady before old → WholeFails before old.pool old.volumes new.pool new.volumes (cp.Damaged at want found) → IsForWant before old after new (Damaged at want found)
   still_wants at want found was stands fails = (
     reads,
     ⊎_elim
@@ -198,18 +220,22 @@ module _ (before : Shown) (old : Session) (after : Shown) (new : Session) (has :
           image = λ tells room asks. short_is before old new.pool room at want found tells stands asks still.placed.committed place asked lacks.1.1.0 lacks.1.1.1;
           same = λ none. let idle = still.placed.idle none in parts ∙ (λ j. record old { pool = idle.0 j; volumes = idle.1 j });
         }))
-        (λ (lacks : FailsToPlace before old.pool old.volumes (cp.Damaged at want found)). inr (record { fresh = was; files = files_there before old.pool old.volumes (cp.Damaged at want found) lacks }))
+        (λ (lacks : FailsToPlace before old.pool old.volumes (cp.Damaged at want found)). inr (filed_as before old at want found was lacks))
         fails,
   )
 
-  pub point_lacks : (at want found : ℕ) → IsNone old.failed → Stands before old → WholeCounts before after (Err (cp.Damaged at want found)) → WholeFails before old.pool old.volumes new.pool new.volumes (cp.Damaged at want found)
+  pub point_lacks : (at want found : ℕ) → IsNone old.failed → StandsReady before old → WholeCounts before after (Err (cp.Damaged at want found)) → WholeFails before old.pool old.volumes new.pool new.volumes (cp.Damaged at want found)
       → Goes {T = Unit {0}} 0 before old after new (Err (Damaged at want found))
   point_lacks at want found was stands counts fails = record {
     ends = record { tells = counts.tells; given = counts.given; ends = counts.ends };
     stands = λ fresh. still_stands stands;
     done = tt;
     fault = record {
-      reason = ⊎_elim (λ lacks. inl lacks) (λ lacks. inr (inl lacks)) (still_wants at want found was stands fails).1;
+      reason = inl (
+        reads,
+        inl (⊎_elim (λ lacks. inl (lacks_after before after reads.stays.tells reads.stays.reads counts.cause.0 old at want found new lacks))
+            (λ lacks. inr (inl (files_after before after reads.stays.tells reads.stays.reads counts.cause.0 old at want found lacks))) (still_wants at want found was stands fails).1),
+      );
       counts = record { faults = counts.cause.0; write_faults = counts.cause.1 };
       session = subst IsNone (sym failed_same) was;
       disk = inl reads;
@@ -217,7 +243,7 @@ module _ (before : Shown) (old : Session) (after : Shown) (new : Session) (has :
     pending = omega (arith, pending_same);
   }
 
-  pub point_wanting : IsNone old.failed → Stands before old → WholeCounts before after (Err cp.Memory) → Goes {T = Unit {0}} 0 before old after new (Err Memory)
+  pub point_wanting : IsNone old.failed → StandsReady before old → WholeCounts before after (Err cp.Memory) → Goes {T = Unit {0}} 0 before old after new (Err Memory)
   point_wanting was stands counts = record {
     ends = record { tells = counts.tells; given = counts.given; ends = counts.ends };
     stands = λ fresh. still_stands stands;

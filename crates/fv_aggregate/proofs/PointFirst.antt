@@ -1,6 +1,6 @@
 -- A command that changes a file, with the point that its room asks for: it is judged, room is made, and it is carried out.
 use Rattle.std.proofs.Common.{◌≡◌, ◌<◌, ◌≤◌, ◌+◌, ℕ, List, [], Option, Some, None, Result, Ok, Err, true≢false, refl, sym, ap, subst, ◌∙◌, arith}
-use Rattle.std.specs.Prelude.{IfOk, IsTrue}
+use Rattle.std.specs.Prelude.{IfErr, IfOk, IsNone, IsSome, IsTrue}
 use Rattle.std.specs.Option.{option_map}
 use Rattle.fv_disk.specs.Shown.{Shown}
 use Rattle.fv_model.specs.declared.answers.Refusal.{Refusal}
@@ -15,12 +15,15 @@ use Rattle.fv_volume.specs.States.{States, state_at}
 use Rattle.fv_cp.specs.Placing.{core_of, KeepCores}
 use Rattle.fv_volume.specs.Changing.{IsChangeOf}
 use Rattle.fv_aggregate.specs.declared.fault.Fault.{Fault}
+use Rattle.fv_aggregate.specs.declared.fault.Fault.TheVariants.{Damaged}
 use Rattle.fv_aggregate.specs.declared.session.Session.{Session}
-use Rattle.fv_aggregate.specs.Calls.{Goes, GoesFor, HasDamage, WasRead}
+use Rattle.fv_aggregate.specs.Adding.{IsPointed}
+use Rattle.fv_aggregate.specs.Calls.{Goes, GoesFor, WasRead}
 use Rattle.fv_aggregate.specs.Commands.{dirty_limit, file_room, is_refusal}
-use Rattle.fv_aggregate.specs.Looking.{refusal_in, HasJudged, IsChangeAt, Makes}
+use Rattle.fv_aggregate.specs.Looking.{refusal_in, HasJudged, IsChangeAt, IsTableFault, Makes}
 use Rattle.fv_aggregate.specs.Standing.{StandsFor}
 use Rattle.fv_aggregate.proofs.Holes.{never_within}
+use Rattle.fv_aggregate.proofs.Damages.{damage_behind, damage_read}
 use Rattle.fv_aggregate.proofs.CallEnds.{fails_early, goes_after, goes_for_after, replies_wider}
 use Rattle.fv_aggregate.proofs.Changing.{change_done, judged_accepted}
 use Rattle.fv_aggregate.proofs.Missing.{refused_allows, refused_next}
@@ -43,9 +46,13 @@ module _ (d : Shown) (s : Session) (c : Command) (e : Shown) (n : Session) where
     entries = λ low. judged.entries;
   }
 
+-- what was judged leaves as much pending
+pub judged_pending : (d : Shown) (s : Session) (c : Command) (e : Shown) (n : Session) (reply : Reply) → HasJudged d s c e n (Ok reply) → n.pending ≡ s.pending
+judged_pending d s c e n reply judged = ap (λ (k : Session). k.pending) judged.read.same
+
 -- ---- room is made for what was accepted
 
-module _ (d : Shown) (s : Session) (c : Command) (past : dirty_limit < s.pending + 16) (damage : (new : Session) (at want found : ℕ) → HasDamage d s new at want found)
+module _ (d : Shown) (s : Session) (c : Command) (past : dirty_limit < s.pending + 16) (fresh : IsNone s.failed) (slot : ℕ) (there : IsSome (state_at s.volumes slot))
     (e : Shown) (n : Session) (reply : Reply) (judged : HasJudged d s c e n (Ok reply)) (g : Shown) (p : Session) where
   none_added : n.pending ≤ s.pending
   none_added = omega (arith, judged.goes.pending)
@@ -55,7 +62,7 @@ module _ (d : Shown) (s : Session) (c : Command) (past : dirty_limit < s.pending
 
   pub room_failed : (f : Fault) → Goes {T = Unit {0}} 16 e n g p (Err f) → (IsTrue e.tells → (last m : Machine) → StandsFor e n last m → GoesFor {T = Unit {0}} e last m m g p (Err f)) → Makes file_room d s c g p (Err f)
   room_failed f goes goes_for = record {
-    goes = goes_after reply 16 16 d s e n (replies_wider reply reply 16 d s e n judged.goes) none_added g p (Err f) past (damage p) (fails_as goes);
+    goes = goes_after reply 16 16 d s e n (replies_wider reply reply 16 d s e n judged.goes) none_added g p (Err f) past (λ at want found is. damage_read d s fresh slot there e n judged.read 16 g p at want found) (fails_as goes);
     goes_for = λ tells last m is.
         let first = judged.goes_for tells last m is in
         fails_early d last m (next m c) g p f (goes_for_after reply d e g n p last m m first judged.goes.ends.given (Err f) (goes_for (told tells) first.done.point m first.done.stands));
@@ -72,7 +79,10 @@ module _ (d : Shown) (s : Session) (c : Command) (past : dirty_limit < s.pending
   module _ (name : List ℕ) (change : IsChangeOf name c) (other : refusal_in reply ≡ None) (u : Unit {0}) (goes : Goes 16 e n g p (Ok u)) (less : p.pending ≤ n.pending)
       (goes_for : IsTrue e.tells → (last m : Machine) → StandsFor e n last m → GoesFor e last m m g p (Ok u)) (h : Shown) (new : Session) where
     both : Goes 16 d s g p (Ok u)
-    both = goes_after reply 16 16 d s e n (replies_wider reply reply 16 d s e n judged.goes) none_added g p (Ok u) past (damage p) goes
+    both = goes_after reply 16 16 d s e n (replies_wider reply reply 16 d s e n judged.goes) none_added g p (Ok u) past (λ at want found is. absurd (done_fails at want found is)) goes
+      where
+        done_fails : (at want found : ℕ) → ◌≡◌ {A = Result (Unit {0}) Fault} (Ok u) (Err (Damaged at want found)) → ⊥
+        done_fails at want found is = cc
 
     both_for : IsTrue d.tells → (last m : Machine) → StandsFor d s last m → GoesFor d last m m g p (Ok u)
     both_for tells last m is =
@@ -87,9 +97,10 @@ module _ (d : Shown) (s : Session) (c : Command) (past : dirty_limit < s.pending
     not_refused m accepted (Err f) allowed = tt
     not_refused m accepted (Ok y) allowed = λ refused. absurd (true≢false (sym refused ∙ ap is_refusal (change_done name c change m y accepted allowed)))
 
-    pub made_after : (result : Result Reply Fault) → Makes file_room g p c h new result → Makes file_room d s c h new result
-    made_after result makes = record {
-      goes = goes_after u 16 16 d s g p both (omega (arith, less, none_added)) h new result past (damage new) makes.goes;
+    pub made_after : IsPointed e n p → (result : Result Reply Fault) → IfErr result (IsTableFault h p new) → Makes file_room g p c h new result → Makes file_room d s c h new result
+    made_after left result bad makes = record {
+      goes = goes_after u 16 16 d s g p both (omega (arith, less, none_added)) h new result past
+          (λ at want found is damage. damage_behind d s fresh slot there e n judged.read 16 h new at want found past (makes.goes.ends.tells ∙ goes.ends.tells) p left (subst (λ (r : Result Reply Fault). IfErr r (IsTableFault h p new)) is bad)) makes.goes;
       goes_for = λ tells last m is.
           let first = both_for tells last m is in
           goes_for_after u d g h p new last m (next m c) first both.ends.given result (makes.goes_for (told_then tells) first.done.point m first.done.stands);

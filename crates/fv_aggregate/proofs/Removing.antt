@@ -38,9 +38,9 @@ use Rattle.fv_volumes.proofs.Removed.{each_left, empty_state, given_within, hous
 use Rattle.fv_volumes.proofs.Told.{named_from, same_named}
 use Rattle.fv_cp.specs.Held.{machine_held, IsHeld, IsHeldIn}
 use Rattle.fv_cp.specs.Lent.{FitTogether, asked_by, blocks_asked, waiting_by}
-use Rattle.fv_cp.specs.Placing.{pending_by}
+use Rattle.fv_cp.specs.Placing.{pending_by, AreReady}
 use Rattle.fv_aggregate.specs.declared.session.Session.{Session}
-use Rattle.fv_aggregate.specs.Standing.{overhead_by, taken_since, IsWithoutFiles, Stands, StandsFor}
+use Rattle.fv_aggregate.specs.Standing.{overhead_by, taken_since, IsWithoutFiles, StandsFor, StandsReady}
 use Rattle.fv_aggregate.proofs.Clear.{clear_stays}
 use Rattle.fv_aggregate.proofs.HeldMachine.{at_name, not_there, one}
 use Rattle.fv_aggregate.proofs.Standing.{known_still}
@@ -169,6 +169,13 @@ pub fit_destroyed : (pool : Pool) (states : States) → FitTogether pool states 
 fit_destroyed pool states fit name new left (Ok u) did = fit_left pool states fit name new left did.done
 fit_destroyed pool states fit name new left (Err r) did = subst (FitTogether left) (sym did.stays.0) (subst (λ (p : Pool). FitTogether p states) (sym did.stays.1) fit)
 
+-- calls can be made on each volume that is left
+pub ready_destroyed : (pool : Pool) (states : States) → FitTogether pool states → (name : List ℕ) (new : States) (left : Pool) (r : Result Unit Refusal) → Destroys states pool name new left r → (disk : Shown) → AreReady disk pool states → AreReady disk left new
+ready_destroyed pool states fit name new left (Ok u) did disk ready =
+    let is = did.done in
+    ready_left pool states fit.housed is.slot is.state is.map is.there new left is.gone disk ready
+ready_destroyed pool states fit name new left (Err r) did disk ready = subst (λ (p : Pool). AreReady disk p new) (sym did.stays.1) (subst (AreReady disk pool) (sym did.stays.0) ready)
+
 -- ---- a session
 
 module _ (session : Session) (fit : FitTogether session.pool session.volumes) (name : List ℕ) (new : States) (left : Pool) (is : IsGone session.volumes session.pool name new left) where
@@ -179,11 +186,13 @@ module _ (session : Session) (fit : FitTogether session.pool session.volumes) (n
   less = sum_less session.pool session.volumes fit.housed is.slot is.state is.map is.there new left is.gone
 
   -- it stands where it stood
-  pub stands_without : (disk : Shown) → Stands disk session → Stands disk after
+  pub stands_without : (disk : Shown) → StandsReady disk session → StandsReady disk after
   stands_without disk stands = record {
-    found = λ tells. subst (IsFoundOn disk) (sym is.gone.found) (stands.found tells);
-    map = λ tells. map_left session.pool session.volumes fit name new left is disk.reads (stands.map tells);
-    cache = subst (λ s. StandsOn disk s.pairs) (sym is.gone.store) stands.cache;
+    stands = record {
+      found = λ tells. subst (IsFoundOn disk) (sym is.gone.found) (stands.stands.found tells);
+      map = λ tells. map_left session.pool session.volumes fit name new left is disk.reads (stands.stands.map tells);
+      cache = subst (λ s. StandsOn disk s.pairs) (sym is.gone.store) stands.stands.cache;
+    };
     ready = ready_left session.pool session.volumes fit.housed is.slot is.state is.map is.there new left is.gone disk stands.ready;
   }
 

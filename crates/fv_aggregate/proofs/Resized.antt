@@ -20,10 +20,10 @@ use Rattle.fv_volume.specs.States.{States}
 use Rattle.fv_volumes.proofs.PromisedAll.{each_promised, held_promised, housed_promised, lent_promised, names_promised, ready_promised, spaced_promised, sum_promised}
 use Rattle.fv_cp.specs.Held.{machine_held, IsHeld}
 use Rattle.fv_cp.specs.Lent.{FitTogether, waiting_by}
-use Rattle.fv_cp.specs.Placing.{pending_by}
+use Rattle.fv_cp.specs.Placing.{pending_by, AreReady}
 use Rattle.fv_aggregate.specs.declared.session.Session.{Session}
 use Rattle.fv_aggregate.specs.Managing.{told_as, IsBy}
-use Rattle.fv_aggregate.specs.Standing.{overhead_by, IsWithoutFiles, Stands, StandsFor}
+use Rattle.fv_aggregate.specs.Standing.{overhead_by, IsWithoutFiles, StandsFor, StandsReady}
 use Rattle.fv_aggregate.proofs.Becoming.{machine_becomes}
 use Rattle.fv_aggregate.proofs.Calls.{reads_itself}
 use Rattle.fv_aggregate.proofs.HeldMachine.{is_there}
@@ -52,11 +52,9 @@ module _ (session : Session) (c : Command) (name : List ℕ) (size : VolumeState
   }
 
   -- it stands where it stood
-  pub stands_promised : (disk : Shown) → Stands disk session → Stands disk now
+  pub stands_promised : (disk : Shown) → StandsReady disk session → StandsReady disk now
   stands_promised disk stands = record {
-    found = stands.found;
-    map = stands.map;
-    cache = stands.cache;
+    stands = record { found = stands.stands.found; map = stands.stands.map; cache = stands.stands.cache };
     ready = ready_promised session.volumes pool.found.blocks c name size kind new is disk pool stands.ready;
   }
 
@@ -99,14 +97,14 @@ module _ (session : Session) (c : Command) (name : List ℕ) (size : VolumeState
     machine_promised : refusal m c ≡ None → machine_held disk pool new ≡ next m c
     machine_promised accepted = becomes ∙ sym (ap (λ (o : Option Refusal). cond (is_some o) m (effect m c)) accepted ∙ ap (changed m) (is.becomes (content_for disk pool x) m has))
 
-  pub stands_for_promised : (disk : Shown) → FitTogether pool session.volumes → Stands disk session → (last m : Machine) → StandsFor disk session last m → refusal m c ≡ None → StandsFor disk now last (next m c)
+  pub stands_for_promised : (disk : Shown) → FitTogether pool session.volumes → StandsReady disk session → (last m : Machine) → StandsFor disk session last m → refusal m c ≡ None → StandsFor disk now last (next m c)
   stands_for_promised disk fit there last m stands accepted =
       let files = sum_promised session.volumes pool.found.blocks c name size kind new is pending_by refl in
       let over = sum_promised session.volumes pool.found.blocks c name size kind new is overhead_by refl in
       let maps = sum_promised session.volumes pool.found.blocks c name size kind new is waiting_by refl in
       record {
-        held = held_now disk fit there.cache last stands.held;
-        machine = machine_promised disk fit there.cache last stands.held (subst (λ (k : Machine). refusal k c ≡ None) (sym stands.machine) accepted) ∙ ap (λ (k : Machine). next k c) stands.machine;
+        held = held_now disk fit there.stands.cache last stands.held;
+        machine = machine_promised disk fit there.stands.cache last stands.held (subst (λ (k : Machine). refusal k c ≡ None) (sym stands.machine) accepted) ∙ ap (λ (k : Machine). next k c) stands.machine;
         settled = stands.settled;
         delays = stands.delays;
         pending = omega (arith, files, maps, over, stands.pending);
@@ -120,6 +118,12 @@ pub fit_resized : (session : Session) (c : Command) (name : List ℕ) (size : Vo
     → (r : Result Unit Refusal) → PromisesOne session.volumes session.pool.found.blocks c name size kind new r → FitTogether session.pool new
 fit_resized session c name size kind new fit (Ok u) did = fit_promised session c name size kind new did.done fit
 fit_resized session c name size kind new fit (Err r) did = subst (FitTogether session.pool) (sym did.stays) fit
+
+-- and calls can be made on each volume
+pub ready_resized : (session : Session) (c : Command) (name : List ℕ) (size : VolumeState → ℕ) (kind : VolumeState → Kind) (new : States) (r : Result Unit Refusal) → PromisesOne session.volumes session.pool.found.blocks c name size kind new r
+    → (disk : Shown) → AreReady disk session.pool session.volumes → AreReady disk session.pool new
+ready_resized session c name size kind new (Ok u) did disk ready = ready_promised session.volumes session.pool.found.blocks c name size kind new did.done disk session.pool ready
+ready_resized session c name size kind new (Err r) did disk ready = subst (AreReady disk session.pool) (sym did.stays) ready
 
 -- what is answered is by the call on the volumes
 pub promised_by : (v s : Session) → v ≡ s → (c : Command) (name : List ℕ) (size : VolumeState → ℕ) (kind : VolumeState → Kind) (new : States) (r : Result Unit Refusal) → PromisesOne v.volumes v.pool.found.blocks c name size kind new r

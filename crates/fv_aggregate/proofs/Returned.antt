@@ -18,7 +18,7 @@ use Rattle.fv_cp.specs.Lent.{FitTogether}
 use Rattle.fv_aggregate.specs.declared.fault.Fault.{Fault}
 use Rattle.fv_aggregate.specs.Looking.{Breaks}
 use Rattle.fv_aggregate.specs.declared.session.Session.{Session}
-use Rattle.fv_aggregate.specs.Standing.{Stands}
+use Rattle.fv_aggregate.specs.Standing.{StandsReady}
 
 -- one that is as it was leaves all as it was
 pub put_back : (states : States) (slot : ℕ) (x y : VolumeState) → state_at states slot ≡ Some x → y ≡ x → with_state states slot (Some y) ≡ states
@@ -26,12 +26,12 @@ put_back states slot x y there same =
     ap (λ (z : VolumeState). with_state states slot (Some z)) same ∙ ap (λ (o : Option VolumeState). with_state states slot o) (sym there) ∙ set-get_or states slot None
 
 -- calls can be made on it
-ready_at : (d : Shown) (s : Session) → Stands d s → (slot : ℕ) (x : VolumeState) → state_at s.volumes slot ≡ Some x → IsReady d s.pool x
+ready_at : (d : Shown) (s : Session) → StandsReady d s → (slot : ℕ) (x : VolumeState) → state_at s.volumes slot ≡ Some x → IsReady d s.pool x
 ready_at d s stands slot x there = (subst (λ (o : Option VolumeState). IfSome o (IsReadyIn d s.pool slot)) there (stands.ready slot)).ready
 
 -- so it is of the session whose parts are these
-pub ready_lent : (d : Shown) (v s : Session) → v ≡ s → Stands d s → (slot : ℕ) (x : VolumeState) → state_at v.volumes slot ≡ Some x → IsReady d v.pool x
-ready_lent d v s same stands slot x there = ready_at d v (subst (Stands d) (sym same) stands) slot x there
+pub ready_lent : (d : Shown) (v s : Session) → v ≡ s → StandsReady d s → (slot : ℕ) (x : VolumeState) → state_at v.volumes slot ≡ Some x → IsReady d v.pool x
+ready_lent d v s same stands slot x there = ready_at d v (subst (StandsReady d) (sym same) stands) slot x there
 
 -- its volumes are as many
 pub long_lent : (v s : Session) → v ≡ s → (IsNone v.failed → FitTogether v.pool v.volumes) → IsNone s.failed → length v.volumes ≡ 64

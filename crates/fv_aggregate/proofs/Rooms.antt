@@ -26,7 +26,7 @@ use Rattle.fv_volume.specs.States.{state_at, States}
 use Rattle.fv_cp.specs.Held.{machine_held, named_held}
 use Rattle.fv_aggregate.specs.declared.session.Session.{Session}
 use Rattle.fv_aggregate.specs.Commands.{changes_volume, map_among, map_at, map_in, most_room, room_by, room_of, room_with, snap_room}
-use Rattle.fv_aggregate.specs.Standing.{Stands, StandsFor}
+use Rattle.fv_aggregate.specs.Standing.{StandsFor, StandsReady}
 
 -- ---- by the maps
 
@@ -106,7 +106,7 @@ room_stands d s last m is c = same_rooms (map_among s.volumes slots) (map_in m) 
 
 -- ---- at most
 
-module _ (d : Shown) (s : Session) (stands : Stands d s) where
+module _ (d : Shown) (s : Session) (stands : StandsReady d s) where
   few_at : (slot : ℕ) → map_at (state_at s.volumes slot) ≤ snap_room
   few_at slot = by (state_at s.volumes slot) (stands.ready slot)
     where

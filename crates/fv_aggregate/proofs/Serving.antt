@@ -1,6 +1,6 @@
 -- What `apply` does with a command, by what the call does that carries it out.
-use Rattle.std.proofs.Common.{◌≡◌, inl, ◌≢◌, ◌<◌, ◌⊎◌, ℕ, true, false, List, Option, Some, None, Result, Ok, Err, inr, true≢false, refl, sym, ap, subst, ◌∙◌}
-use Rattle.std.specs.Prelude.{IfOk, IsNone, IsSome, IsTrue, OnOk}
+use Rattle.std.proofs.Common.{◌≡◌, inl, ◌≢◌, ◌<◌, ◌≤◌, ◌+◌, ◌⊎◌, ℕ, true, false, List, Option, Some, None, Result, Ok, Err, inr, true≢false, refl, sym, ap, subst, ◌∙◌}
+use Rattle.std.specs.Prelude.{IfOk, IsNone, IsSome, IsTrue, OnErr, OnOk}
 use Rattle.std.specs.Option.{is_some}
 use Rattle.fv_disk.specs.Shown.{IsDisk, Shown}
 use Rattle.fv_model.specs.declared.answers.Refusal.TheVariants.{NoSnapshot, NoVolume, Range}
@@ -20,18 +20,20 @@ use Rattle.fv_aggregate.specs.declared.fault.Fault.TheVariants.{Failed, Memory}
 use Rattle.fv_aggregate.specs.declared.session.Session.{Session}
 use Rattle.fv_aggregate.specs.Applying.{HasApplied}
 use Rattle.fv_aggregate.specs.Calls.{Goes, GoesFor, IsPlain, IsUntouched, LacksSnapshot, NeedsSnapshot}
-use Rattle.fv_aggregate.specs.Commands.{changed_by, file_room, finds_file, has_range, is_built, is_get, machine_after, managed_by, reads_files, room_by, snapped_by, volume_asked, Replies}
+use Rattle.fv_aggregate.specs.Commands.{changed_by, dirty_limit, file_room, finds_file, has_range, is_built, is_get, machine_after, managed_by, reads_files, room_by, snapped_by, volume_asked, Replies}
+use Rattle.fv_aggregate.specs.Failing.{IsUnmadeIn}
 use Rattle.fv_aggregate.specs.Known.{KeepsNumbers, KeepsNumbersBut, KnowsNamed, KnowsNumbers, MayLose}
 use Rattle.fv_aggregate.specs.Looking.{HasSnapped, Looks, Makes}
 use Rattle.fv_aggregate.specs.Managing.{Manages}
 use Rattle.fv_aggregate.specs.Reclaiming.{MakesRoom}
-use Rattle.fv_aggregate.specs.Standing.{Stands, StandsFor}
+use Rattle.fv_aggregate.specs.Standing.{StandsFor, StandsReady}
 use Rattle.fv_aggregate.proofs.Applied.{fault_plain, no_files, rests_for, rests_for_fault}
-use Rattle.fv_aggregate.proofs.Applying.{look_asks, look_files, look_goes, look_goes_for, look_name, look_no_point, look_refused, look_reply, look_same, make_asks, make_calm, make_entries, make_goes, make_goes_for, make_name, make_no_point, make_reply, make_still, make_unasked, make_unchanged, no_step, not_dead, rests_as, same_map}
+use Rattle.fv_aggregate.proofs.Applying.{look_asks, look_files, look_goes, look_goes_for, look_name, look_no_point, look_refused, look_reply, look_same, look_unchanged, make_asks, make_calm, make_entries, make_goes, make_goes_for, make_name, make_no_point, make_reply, make_still, make_unasked, make_unchanged, make_within, no_step, not_dead, rests_as, same_map}
 use Rattle.fv_aggregate.proofs.Calls.{reads_itself, rests_asks, rests_done, rests_wanting, stays_failed}
 use Rattle.fv_aggregate.proofs.Changing.{change_of_volume, change_reads, change_room, look_reads, look_room}
 use Rattle.fv_aggregate.proofs.Holes.{kept_entries, no_holes}
 use Rattle.fv_aggregate.proofs.Keeping.{keeps_but, keeps_managed, knows_named, may_lose, named_as}
+use Rattle.fv_aggregate.proofs.Looked.{was_unread}
 use Rattle.fv_aggregate.proofs.Managed.{manages_over}
 use Rattle.fv_aggregate.proofs.MadeRoom.{managed_room, none_roomy}
 use Rattle.fv_aggregate.proofs.ManagedCalls.{managed_asks, managed_for, managed_goes, managed_plain}
@@ -76,13 +78,13 @@ module _ {D : Type 0} (c : Command) (d : Shown) (at : D) (s : Session) (steps : 
   }
 
   -- one that is answered, which leaves the machine,
-  pub rests_answers : IsDisk d → (y : Reply) → IsNone s.failed → Stands d s → reads_files c ≡ false → c ≢ Cp → room_by s.volumes c ≡ 0 → ((m : Machine) → machine_after m c ≡ m)
+  pub rests_answers : IsDisk d → (y : Reply) → IsNone s.failed → StandsReady d s → reads_files c ≡ false → c ≢ Cp → room_by s.volumes c ≡ 0 → ((m : Machine) → machine_after m c ≡ m)
       → (IsTrue d.tells → (last m : Machine) → StandsFor d s last m → Replies m c y) → IsPlain c d at s d at s (Ok y) → HasApplied c d at s steps d at s steps (Ok y)
   rests_answers laws y fresh stands reads other none after replies plain =
       rests_applied (Ok y) fresh reads other none (rests_done y (room_by s.volumes c) d s fresh stands) (λ tells last m held. rests_for y d s last m (machine_after m c) laws (after m) held) replies plain
 
   -- and one for which memory lacks
-  pub rests_lacks : IsDisk d → IsNone s.failed → Stands d s → reads_files c ≡ false → c ≢ Cp → room_by s.volumes c ≡ 0 → IsPlain c d at s d at s (Err Memory) → (r : Result Reply Fault) → r ≡ Err Memory → HasApplied c d at s steps d at s steps r
+  pub rests_lacks : IsDisk d → IsNone s.failed → StandsReady d s → reads_files c ≡ false → c ≢ Cp → room_by s.volumes c ≡ 0 → IsPlain c d at s d at s (Err Memory) → (r : Result Reply Fault) → r ≡ Err Memory → HasApplied c d at s steps d at s steps r
   rests_lacks laws fresh stands reads other none plain r is =
       subst (HasApplied c d at s steps d at s steps) (sym is) (rests_applied (Err Memory) fresh reads other none (rests_wanting (room_by s.volumes c) d s fresh stands)
       (λ tells last m held. rests_for_fault Memory d s last m (machine_after m c) laws tt held) (λ tells last m held. tt) plain)
@@ -102,8 +104,10 @@ module _ {D : Type 0} (c : Command) (d : Shown) (at : D) (s : Session) (steps : 
       lost = λ fresh near name of lacks. not_dead _ s fresh some;
       only = λ fresh name of answer. not_dead _ s fresh some;
       asked = λ of. tt;
+      unanswered = λ of. was_unread d s;
       refused = λ tells last m stands. tt;
       still = λ few. tt;
+      unmade = λ fresh few name of. not_dead _ s fresh some;
       known = λ finds near name of. tt;
     };
     point = λ tells last m stands cp. tt;
@@ -123,7 +127,7 @@ module _ {D : Type 0} (c : Command) (d : Shown) (at : D) (s : Session) (steps : 
 
 -- ---- a command on a whole volume, or one that isn't built
 
-pub managed_applied : {D : Type 0} (c : Command) (d : Shown) (laws : IsDisk d) (at : D) (old : Session) → FitTogether old.pool old.volumes → IsNone old.failed → Stands d old → (steps : ℕ) (new : Session) (reply : Reply)
+pub managed_applied : {D : Type 0} (c : Command) (d : Shown) (laws : IsDisk d) (at : D) (old : Session) → FitTogether old.pool old.volumes → IsNone old.failed → StandsReady d old → (steps : ℕ) (new : Session) (reply : Reply)
     → (is_some (managed_by c) ≡ true) ⊎ (is_built c ≡ false) → Manages old c new reply → reads_files c ≡ false → snapped_by c ≡ None → c ≢ VolList → c ≢ Cp → ((name : List ℕ) → c ≢ SnapList name) → HasApplied c d at old steps d at new steps (Ok reply)
 managed_applied c d laws at old fit fresh stands steps new reply either manages reads snaps no_list no_point no_names =
     let over = manages_over d old fit c either new reply manages in
@@ -151,7 +155,7 @@ managed_other : (c : Command) → is_some (managed_by c) ≡ true → (k : Comma
 managed_other c some k none is = true≢false (sym some ∙ ap (λ (z : Command). is_some (managed_by z)) is ∙ ap (λ (o : Option (List ℕ)). is_some o) none)
 
 -- so it is of each that is on the volume of a name as a whole
-pub own_applied : {D : Type 0} (own c : Command) → c ≡ own → (d : Shown) → IsDisk d → (at : D) (v s : Session) → v ≡ s → v.failed ≡ None → (IsNone v.failed → FitTogether v.pool v.volumes) → (IsNone s.failed → Stands d s) → (steps : ℕ) (new : Session) (reply : Reply)
+pub own_applied : {D : Type 0} (own c : Command) → c ≡ own → (d : Shown) → IsDisk d → (at : D) (v s : Session) → v ≡ s → v.failed ≡ None → (IsNone v.failed → FitTogether v.pool v.volumes) → (IsNone s.failed → StandsReady d s) → (steps : ℕ) (new : Session) (reply : Reply)
     → Manages s own new reply → is_some (managed_by own) ≡ true → volume_asked own ≡ None → changed_by own ≡ None → snapped_by own ≡ None → HasApplied c d at s steps d at new steps (Ok reply)
 own_applied own c is d laws at v s same none fits stands steps new reply manages some asks changes snaps =
     let inside : IsNone v.failed = subst IsNone (sym none) refl in
@@ -187,8 +191,10 @@ look_applied c name asks d at s start e left n steps r fresh looks beside = reco
     only = λ fresh other of answer. subst (λ (v : List ℕ). LacksSnapshot s.volumes v c) (sym (look_name c name asks d s e n r looks other (inr of))) (beside.only answer);
     lost = λ fresh near other of lacks. beside.lost near (subst (λ (v : List ℕ). LacksSnapshot s.volumes v c) (look_name c name asks d s e n r looks other (inr of)) lacks);
     asked = λ of. looks.read;
+    unanswered = λ of. looks.unanswered;
     refused = λ tells last m stands. look_refused c name asks d s e n r looks;
     still = λ few. look_refused c name asks d s e n r looks;
+    unmade = λ fresh few other change. look_unchanged c name asks d s e n r looks _ other change;
     known = λ finds near other of. named_as s.volumes n.volumes r other name (look_name c name asks d s e n r looks other of) (beside.finds finds near);
   };
   point = λ tells last m stands cp. look_no_point c name asks d s e n r looks _ cp;
@@ -212,8 +218,8 @@ pub record MakesBeside {D : Type 0} (c : Command) (name : List ℕ) (at : D) (s 
   pub finds : finds_file c ≡ true → has_range c ≡ true → OnOk r (KnowsNamed s.volumes name n.volumes)
 
 pub make_applied : {D : Type 0} (c : Command) (name : List ℕ) → changed_by c ≡ Some name → (d : Shown) (at : D) (s : Session) (e : Shown) (left : D) (n : Session) (steps : ℕ) (r : Result Reply Fault)
-    → IsNone s.failed → Makes file_room d s c e n r → MakesRoom file_room d s e r → MakesBeside c name at s left n r → HasApplied c d at s steps e left n steps r
-make_applied c name of d at s e left n steps r fresh makes roomy beside = record {
+    → IsNone s.failed → Makes file_room d s c e n r → MakesRoom file_room d s e r → (s.pending + file_room ≤ dirty_limit → OnErr r (IsUnmadeIn d s name e n)) → MakesBeside c name at s left n r → HasApplied c d at s steps e left n steps r
+make_applied c name of d at s e left n steps r fresh makes roomy unmade beside = record {
   roomy = subst (λ (k : ℕ). MakesRoom k d s e r) (sym (change_room name c (change_of_volume name c of) s.volumes)) roomy;
   goes = make_goes c name of d s e n r makes;
   asks = make_asks c name of d s e n r makes;
@@ -226,8 +232,10 @@ make_applied c name of d at s e left n steps r fresh makes roomy beside = record
     only = λ fresh other asked answer. make_unasked c name of d s e n r makes _ (subst IsSome (sym asked) refl);
     lost = λ fresh near other asked lacks. make_unasked c name of d s e n r makes _ (subst IsSome (sym asked) refl);
     asked = λ asked. make_unasked c name of d s e n r makes _ asked;
+    unanswered = λ asked. make_unasked c name of d s e n r makes _ asked;
     refused = makes.refused;
     still = make_still c name of d s e n r makes;
+    unmade = λ fresh few other change. subst (λ (v : List ℕ). OnErr r (IsUnmadeIn d s v e n)) (sym (make_name c name of d s e n r makes other (inl change))) (make_within c name of d s e n r makes _ unmade few);
     known = λ finds near other named. named_as s.volumes n.volumes r other name (make_name c name of d s e n r makes other named) (beside.finds finds near);
   };
   point = λ tells last m stands cp. make_no_point c name of d s e n r makes _ cp;

@@ -36,6 +36,7 @@ use Rattle.fv_volume.specs.Writing.{map_wait}
 use Rattle.fv_volumes.proofs.Told.{is_inside}
 use Rattle.fv_cp.specs.Held.{machine_held, IsHeldIn}
 use Rattle.fv_cp.specs.Lent.{FitTogether}
+use Rattle.fv_cp.proofs.Flushing.{lacks_place, passed_none}
 use Rattle.fv_cp.specs.Placing.{pending_by, HasNoFiles, HasNumbers, HaveNoFiles, IsPlacedAs}
 use Rattle.fv_snapshot.specs.Creating.{creation_refusal, Creates, TellsCreation}
 use Rattle.fv_snapshot.specs.Deleting.{Deletes, HasUnused}
@@ -47,13 +48,13 @@ use Rattle.fv_aggregate.specs.Commands.{places_files, room_by, snapped_by}
 use Rattle.fv_aggregate.specs.Known.{KeepsNumbersBut, KnowsNumbers, MayLose}
 use Rattle.fv_aggregate.specs.Looking.{done_as, Replied, SnapsState}
 use Rattle.fv_aggregate.specs.Snapping.{snap_blocks, IsAccepted}
-use Rattle.fv_aggregate.specs.Standing.{IsWithoutFiles, Stands, StandsFor}
+use Rattle.fv_aggregate.specs.Standing.{IsWithoutFiles, StandsFor, StandsReady}
 use Rattle.fv_aggregate.proofs.Holes.{kept_entries}
 use Rattle.fv_aggregate.proofs.Asked.{answer_allows}
 use Rattle.fv_aggregate.proofs.Changed.{beside, has_within, mine}
 use Rattle.fv_aggregate.proofs.HeldMachine.{bare, is_there}
 use Rattle.fv_aggregate.proofs.Keeping.{keeps_with}
-use Rattle.fv_aggregate.proofs.PointEnds.{has_full_room}
+use Rattle.fv_aggregate.proofs.PointEnds.{filed_as, has_full_room}
 use Rattle.fv_aggregate.proofs.SnapCommands.{snap_cases}
 use Rattle.fv_aggregate.proofs.SnapDone.{carried_damaged, carried_done, carried_refused, carried_wanting, IsCarried}
 use Rattle.fv_aggregate.proofs.SnapSessions.{none_with, placed_entries, placed_for, placed_stands, snapped_for, snapped_stands, stepped_for, stepped_stands}
@@ -95,7 +96,7 @@ carried_session s slot q y room = record s { volumes = with_state s.volumes slot
 abbrev pub left_session : Session → ℕ → Pool → VolumeState → Session
 left_session s slot q y = record s { volumes = with_state s.volumes slot (Some y); pool = q }
 
-module _ {D : Type 0} (d : Shown) (disk : D) (laws : IsDisk d) (s : Session) (fresh : IsNone s.failed) (stands : Stands d s) (fit : FitTogether s.pool s.volumes) (slot : ℕ) (x : VolumeState) (there : state_at s.volumes slot ≡ Some x) (slot_is : x.slot ≡ slot) (room : ℕ) where
+module _ {D : Type 0} (d : Shown) (disk : D) (laws : IsDisk d) (s : Session) (fresh : IsNone s.failed) (stands : StandsReady d s) (fit : FitTogether s.pool s.volumes) (slot : ℕ) (x : VolumeState) (there : state_at s.volumes slot ≡ Some x) (slot_is : x.slot ≡ slot) (room : ℕ) where
   long : length s.volumes ≡ 64
   long = fit.housed.long
 
@@ -143,7 +144,7 @@ module _ {D : Type 0} (d : Shown) (disk : D) (laws : IsDisk d) (s : Session) (fr
     numbers_left : KeepsNumbersBut (MayLose c s.volumes) s.volumes (with_state s.volumes slot (Some y))
     numbers_left = numbers_stay c y (ap (λ (z : VolumeState). z.numbers) placed.keeps)
 
-    its_stands : Stands d (left_session s slot q y)
+    its_stands : StandsReady d (left_session s slot q y)
     its_stands = placed_stands d s q slot x y there slot_is fit placed stands
 
     pub wanting : IsCarried d disk s c room (left_session s slot q y) (Err Memory)
@@ -151,7 +152,8 @@ module _ {D : Type 0} (d : Shown) (disk : D) (laws : IsDisk d) (s : Session) (fr
 
     pub damaged : (at want found : ℕ) → MayFail d s.pool (Some x) (volume.Damaged at want found) → IsCarried d disk s c room (left_session s slot q y) (Err (Damaged at want found))
     damaged at want found may = carried_damaged d disk laws s fresh c room (left_session s slot q y) fresh its_stands (omega arith) numbers_left (placed_entries d s q slot x y there slot_is fit placed) places at want found
-        (λ none. true≢false (sym may.0 ∙ ap is_some (its_files none)))
+        (filed_as d s at want found fresh (lacks_place d s.pool s.volumes s.pool s.volumes (passed_none d s.pool s.volumes fit stands.ready stands.stands.cache).come.placed slot refl refl (λ none. (refl, refl)) (volume.Damaged at want found)
+        (subst (λ (o : Option VolumeState). MayFail d s.pool o (volume.Damaged at want found)) (sym there) may)))
         (λ last m is.
         let full = has_full_room d s last m is in
         let all = full.free in

@@ -13,11 +13,11 @@ use Rattle.fv_cp.specs.Placing.{HaveNoFiles}
 use Rattle.fv_aggregate.specs.declared.fault.Fault.{Fault}
 use Rattle.fv_aggregate.specs.declared.fault.Fault.TheVariants.{Damaged, Memory}
 use Rattle.fv_aggregate.specs.declared.session.Session.{Session}
-use Rattle.fv_aggregate.specs.Calls.{GoesFor, KeepsEntries, WasRead}
+use Rattle.fv_aggregate.specs.Calls.{GoesFor, HasFilesToPlace, KeepsEntries, WasRead}
 use Rattle.fv_aggregate.specs.Commands.{is_refusal, places_files, room_by}
 use Rattle.fv_aggregate.specs.Known.{KeepsNumbersBut, MayLose}
 use Rattle.fv_aggregate.specs.Looking.{HasSnapped}
-use Rattle.fv_aggregate.specs.Standing.{IsWithoutFiles, Stands, StandsFor}
+use Rattle.fv_aggregate.specs.Standing.{IsWithoutFiles, StandsFor, StandsReady}
 use Rattle.fv_aggregate.proofs.Holes.{kept_entries}
 use Rattle.fv_aggregate.proofs.Applying.{same_map}
 use Rattle.fv_aggregate.proofs.CallEnds.{goes_damaged, goes_done, goes_for_done, goes_for_fault, goes_wanting}
@@ -35,7 +35,7 @@ itself_read : (d : Shown) (s : Session) → WasRead d s d s
 itself_read d s = record { only_reads = reads_itself d; pool = record { map = refl; containers = refl; kept = refl; found = refl }; volumes = λ k. refl; same = refl }
 
 -- what a command that was refused did: nothing
-pub refused_snapped : {D : Type 0} (d : Shown) (disk : D) (laws : IsDisk d) (s : Session) → IsNone s.failed → Stands d s → (c : Command) (r : Refusal) → ((last m : Machine) → StandsFor d s last m → refusal m c ≡ Some r)
+pub refused_snapped : {D : Type 0} (d : Shown) (disk : D) (laws : IsDisk d) (s : Session) → IsNone s.failed → StandsReady d s → (c : Command) (r : Refusal) → ((last m : Machine) → StandsFor d s last m → refusal m c ≡ Some r)
     → HasSnapped d disk s c d disk s (Ok (Refused r))
 refused_snapped d disk laws s fresh stands c r why = record {
   makes = record {
@@ -59,10 +59,10 @@ refused_snapped d disk laws s fresh stands c r why = record {
 }
 
 module _ {D : Type 0} (d : Shown) (disk : D) (laws : IsDisk d) (s : Session) (fresh : IsNone s.failed) (c : Command) (room : ℕ) where
-  pub carried_refused : Stands d s → (r : Refusal) → ((last m : Machine) → StandsFor d s last m → refusal m c ≡ Some r) → room ≡ 0 → IsCarried d disk s c room s (Ok (Refused r))
+  pub carried_refused : StandsReady d s → (r : Refusal) → ((last m : Machine) → StandsFor d s last m → refusal m c ≡ Some r) → room ≡ 0 → IsCarried d disk s c room s (Ok (Refused r))
   carried_refused stands r why none = record { snapped = refused_snapped d disk laws s fresh stands c r why; placed = λ nothing. tt; accepted = λ some. absurd (some none) }
 
-  module _ (after : Session) (still : IsNone after.failed) (stands : Stands d after) (few : after.pending ≤ s.pending + room_by s.volumes c) (numbers : KeepsNumbersBut (MayLose c s.volumes) s.volumes after.volumes) (entries : KeepsEntries s after) where
+  module _ (after : Session) (still : IsNone after.failed) (stands : StandsReady d after) (few : after.pending ≤ s.pending + room_by s.volumes c) (numbers : KeepsNumbersBut (MayLose c s.volumes) s.volumes after.volumes) (entries : KeepsEntries s after) where
     pub carried_done : ((last m : Machine) → StandsFor d s last m → StandsFor d after last (next m c)) → ((last m : Machine) → StandsFor d s last m → Allows m c Done) → (IsWithoutFiles s → IsWithoutFiles after)
         → ((places_files c ≡ false) ⊎ IsWithoutFiles s → after.pool.map ≡ s.pool.map) → IsCarried d disk s c room after (Ok Done)
     carried_done for allowed files map = record {
@@ -118,11 +118,11 @@ module _ {D : Type 0} (d : Shown) (disk : D) (laws : IsDisk d) (s : Session) (fr
         accepted = λ some. tt;
       }
 
-      pub carried_damaged : (at want found : ℕ) → (HaveNoFiles s.volumes → ⊥) → ((last m : Machine) → StandsFor d s last m → ⊥) → IsCarried d disk s c room after (Err (Damaged at want found))
+      pub carried_damaged : (at want found : ℕ) → HasFilesToPlace d s at want found → ((last m : Machine) → StandsFor d s last m → ⊥) → IsCarried d disk s c room after (Err (Damaged at want found))
       carried_damaged at want found filed whole = record {
         snapped = record {
           makes = record {
-            goes = goes_damaged d d laws s after (room_by s.volumes c) (reads_itself d) fresh still stands at want found refl (inr (inl (record { fresh = fresh; files = filed }))) few;
+            goes = goes_damaged d d laws s after (room_by s.volumes c) (reads_itself d) fresh still stands at want found refl (inl (reads_itself d, inl (inr (inl filed)))) few;
             goes_for = λ tells last m is. absurd (whole last m is);
             reply = λ tells last m is. tt;
             refused = λ tells last m is. tt;
@@ -130,7 +130,7 @@ module _ {D : Type 0} (d : Shown) (disk : D) (laws : IsDisk d) (s : Session) (fr
             calm = λ low. reads_itself d;
             entries = λ low. entries;
           };
-          damage = (reads_itself d, inr (record { fresh = fresh; files = filed }));
+          damage = (reads_itself d, inr filed);
           refused = tt;
           calm = λ low. refl;
           map = λ none. never none;
@@ -139,6 +139,6 @@ module _ {D : Type 0} (d : Shown) (disk : D) (laws : IsDisk d) (s : Session) (fr
           same = λ tells which same. tt;
           numbers = λ none. numbers;
         };
-        placed = λ nothing. absurd (filed nothing);
+        placed = λ nothing. absurd (filed.files nothing);
         accepted = λ some. tt;
       }

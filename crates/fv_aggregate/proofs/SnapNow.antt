@@ -18,13 +18,13 @@ use Rattle.fv_aggregate.specs.Looking.{done_as, IsSnapAimed, Replied, SnapsState
 use Rattle.fv_snapshot.specs.declared.creating.Granted.{Granted}
 use Rattle.fv_volume.specs.OneVolume.{IsReady}
 use Rattle.fv_aggregate.specs.Snapping.{snap_blocks, HasGrant, IsAccepted}
-use Rattle.fv_aggregate.specs.Standing.{Stands}
+use Rattle.fv_aggregate.specs.Standing.{StandsReady}
 use Rattle.fv_aggregate.proofs.Changed.{beside}
 use Rattle.fv_aggregate.proofs.SnapCarried.{carried_by, pending_after}
 use Rattle.fv_aggregate.proofs.SnapCommands.{aimed_room}
 use Rattle.fv_aggregate.proofs.SnapDone.{IsCarried}
 
-module _ {D : Type 0} (d : Shown) (disk : D) (laws : IsDisk d) (s : Session) (fresh : IsNone s.failed) (stands : Stands d s) (fit : FitTogether s.pool s.volumes) (slot : ℕ) (c : Command) (aimed : IsSnapAimed s.volumes slot c)
+module _ {D : Type 0} (d : Shown) (disk : D) (laws : IsDisk d) (s : Session) (fresh : IsNone s.failed) (stands : StandsReady d s) (fit : FitTogether s.pool s.volumes) (slot : ℕ) (c : Command) (aimed : IsSnapAimed s.volumes slot c)
     (x : VolumeState) (there : state_at s.volumes slot ≡ Some x) (of : snapped_by c ≡ Some x.name)
     (others : ℕ) (others_are : others ≡ beside s.volumes slot) (granted : Granted) (few : (granted.room ≡ 0) ⊎ (s.pending + granted.room ≤ 256)) (grant : HasGrant (state_at s.volumes slot) s.pool.found.blocks others c granted) where
   pub carried_now : (q : Pool) (y : VolumeState) → IsReady d q y → (r : Result Unit VolumeFault) → SnapsState d s.pool x others c q y r

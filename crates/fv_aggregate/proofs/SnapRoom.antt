@@ -26,10 +26,10 @@ use Rattle.fv_volume.specs.Snapshots.{IsLeastFree}
 use Rattle.fv_snapshot.specs.declared.creating.Granted.{Granted}
 use Rattle.fv_snapshot.specs.Creating.{content_by, creation_refusal, IsGranted}
 use Rattle.fv_aggregate.specs.declared.fault.Fault.{Fault}
-use Rattle.fv_aggregate.specs.declared.fault.Fault.TheVariants.{Memory}
+use Rattle.fv_aggregate.specs.declared.fault.Fault.TheVariants.{Damaged, Memory}
 use Rattle.fv_aggregate.specs.declared.session.Session.{Session}
 use Rattle.fv_aggregate.specs.Adding.{IsPointed}
-use Rattle.fv_aggregate.specs.Calls.{Goes, GoesFor, HasDamage, IsForWant, IsWithinLimit}
+use Rattle.fv_aggregate.specs.Calls.{Goes, GoesFor, IsForWant, IsWithinLimit}
 use Rattle.fv_aggregate.specs.Commands.{dirty_limit, is_refusal, loses_numbers, places_files, room_by, snapped_by}
 use Rattle.fv_aggregate.specs.Known.{KeepsNumbers}
 use Rattle.fv_aggregate.specs.Looking.{HasSnapped, IsSnapAimed}
@@ -187,7 +187,7 @@ room_places x v c of = snap_cases (λ (k : Command). snap_blocks (Some x) k ≢ 
 
 -- room was made, or not
 module _ {D : Type 0} (d : Shown) (disk : D) (s : Session) (c : Command) (room : ℕ) (past : dirty_limit < s.pending + room) (some : room ≢ 0) (exact : room ≡ room_by s.volumes c) (makes : (places_files c ≡ true) × (loses_numbers c ≡ None))
-    (damage : (new : Session) (at want found : ℕ) → HasDamage d s new at want found) (e : Shown) (mid : D) (n : Session) where
+    (e : Shown) (mid : D) (n : Session) where
   never_calm : {X : Type 0} → IsWithinLimit s c → X
   never_calm (inl none) = absurd (some (omega (arith, none, exact)))
   never_calm (inr low) = absurd (omega (arith, low, past, exact))
@@ -222,6 +222,9 @@ module _ {D : Type 0} (d : Shown) (disk : D) (s : Session) (c : Command) (room :
     told : IsTrue d.tells → IsTrue e.tells
     told tells = subst IsTrue (sym goes.ends.tells) tells
 
+    wants_none : (at want found : ℕ) → Damaged at want found ≡ Memory → ⊥
+    wants_none at want found is = cc
+
     nothing_lost : (name : List ℕ) → loses_numbers c ≡ Some name → ⊥
     nothing_lost name is = none name (sym makes.1 ∙ is)
       where
@@ -231,7 +234,7 @@ module _ {D : Type 0} (d : Shown) (disk : D) (s : Session) (c : Command) (room :
     pub snap_roomy : HasSnapped d disk s c e mid new result
     snap_roomy = record {
       makes = record {
-        goes = goes_after u room (room_by s.volumes c) d s e n goes less e new result (omega (arith, past, exact)) (damage new) (subst (λ (k : ℕ). Goes k e n e new result) still carried.snapped.makes.goes);
+        goes = goes_after u room (room_by s.volumes c) d s e n goes less e new result (omega (arith, past, exact)) (λ at want found is damage. absurd (wants_none at want found (subst (λ (r : Result Reply Fault). IfErr r (λ f. f ≡ Memory)) is (carried.placed pointed.none)))) (subst (λ (k : ℕ). Goes k e n e new result) still carried.snapped.makes.goes);
         goes_for = λ tells last m is.
             let first = goes_for tells last m is in
             goes_for_after u d e e n new last m (next m c) first goes.ends.given result (carried.snapped.makes.goes_for (told tells) first.done.point m first.done.stands);

@@ -26,7 +26,7 @@ use Rattle.fv_cp.specs.Lent.{FitTogether}
 use Rattle.fv_cp.specs.Placing.{AreReady, HaveNoFiles, HasNoFiles, IsPlacedAs, PlacesEntries}
 use Rattle.fv_cp.proofs.Flushing as flushing
 use Rattle.fv_aggregate.specs.declared.session.Session.{Session}
-use Rattle.fv_aggregate.specs.Standing.{overhead_by, unwritten, Stands, StandsFor}
+use Rattle.fv_aggregate.specs.Standing.{overhead_by, unwritten, StandsFor, StandsReady}
 use Rattle.fv_aggregate.proofs.Clear.{clear_stays, free_and_placed}
 use Rattle.fv_aggregate.proofs.PointEnds.{has_full_room}
 use Rattle.fv_aggregate.proofs.Standing.{known_still}
@@ -69,11 +69,13 @@ module _ (d : Shown) (s : Session) (q : Pool) (slot : ℕ) (x mid : VolumeState)
   placed_ready ready = placing.ready_still d d s.pool q s.volumes between x mid its row fit.housed placed ready
 
   -- it stands on the disk,
-  pub placed_stands : Stands d s → Stands d placed_session
+  pub placed_stands : StandsReady d s → StandsReady d placed_session
   placed_stands stands = record {
-    found = λ tells. subst (IsFoundOn d) (sym found_same) (stands.found tells);
-    map = λ tells. placing.map_still d d s.pool q s.volumes between x mid its row fit.housed placed (stands.map tells);
-    cache = placed.ready.lent.stands;
+    stands = record {
+      found = λ tells. subst (IsFoundOn d) (sym found_same) (stands.stands.found tells);
+      map = λ tells. placing.map_still d d s.pool q s.volumes between x mid its row fit.housed placed (stands.stands.map tells);
+      cache = placed.ready.lent.stands;
+    };
     ready = placed_ready stands.ready;
   }
 
@@ -114,11 +116,9 @@ module _ (d : Shown) (s : Session) (slot : ℕ) (x y : VolumeState) (there : sta
   stepped_session = record s { volumes = with_state s.volumes slot (Some y); pending = s.pending + room }
 
   -- it stands on the disk
-  pub stepped_stands : Stands d s → Stands d stepped_session
+  pub stepped_stands : StandsReady d s → StandsReady d stepped_session
   stepped_stands stands = record {
-    found = stands.found;
-    map = stands.map;
-    cache = stands.cache;
+    stands = record { found = stands.stands.found; map = stands.stands.map; cache = stands.stands.cache };
     ready = ready_stepped d s.pool s.volumes long slot x y there step ready slot_is (λ k differ. stands.ready k);
   }
 
@@ -174,8 +174,8 @@ module _ (d : Shown) (s : Session) (q : Pool) (slot : ℕ) (x mid y : VolumeStat
   as_snapped = λ j. record s { volumes = twice j; pool = q; pending = s.pending + room }
 
   -- it stands on the disk,
-  pub snapped_stands : Stands d s → Stands d snapped_session
-  snapped_stands stands = subst (Stands d) as_snapped (stepped_stands d first slot mid y mid_there mid_slot mid_long step ready room (placed_stands d s q slot x mid there slot_is fit placed stands))
+  pub snapped_stands : StandsReady d s → StandsReady d snapped_session
+  snapped_stands stands = subst (StandsReady d) as_snapped (stepped_stands d first slot mid y mid_there mid_slot mid_long step ready room (placed_stands d s q slot x mid there slot_is fit placed stands))
 
   -- and it stands for the machine after the command.
   pub snapped_for : (more : ℕ) → map_wait y ≤ map_wait mid + more → pending_of y.files ≤ pending_of mid.files → ((more ≡ 0) × (room ≡ 0)) ⊎ ((more ≤ room) × (s.pending + room ≤ 256)) → IsHeldIn d q slot y

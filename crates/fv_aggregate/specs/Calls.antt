@@ -1,6 +1,5 @@
 -- What every call of a session does: to the disk and to the session, and to the machines that the two stand for.
 use Rattle.std.specs.Prelude.{◌≡◌, ◌≢◌, ◌<◌, ◌≤◌, ◌+◌, ◌⊎◌, ℕ, max, IsTrue, IsNone, IsSome, IfSome, Some, None, Result, Ok, OnOk, OnErr, IfOk, IfErr, List, false, true}
-use Rattle.std.specs.Option.{option_map}
 use Rattle.fv_disk.specs.Shown.{Shown, Rose}
 use Rattle.fv_disk.specs.Crash.{Leaves}
 use Rattle.fv_disk.specs.DiskCalls.{OnlyReads}
@@ -10,27 +9,26 @@ use Rattle.fv_model.specs.declared.answers.Reply.TheVariants.{Names, Refused}
 use Rattle.fv_model.specs.declared.commands.Command.{Command}
 use Rattle.fv_model.specs.declared.commands.Command.TheVariants.{Cp, SnapList, VolList}
 use Rattle.fv_model.specs.Machines.{Machine}
-use Rattle.fv_image.specs.Layout.{root_place}
-use Rattle.fv_aggmap.specs.Space.{free_blocks}
 use Rattle.fv_container.specs.Chains.{container_at, own_entry, slot_count}
 use Rattle.fv_volume.specs.Asking.{snap_named, table_named}
-use Rattle.fv_pool.specs.BlocksOver.{LeavesPool}
 use Rattle.fv_volume.specs.declared.state.VolumeState.{VolumeState}
 use Rattle.fv_volume.specs.Slots.{HasName, NoneHasName}
 use Rattle.fv_volume.specs.Snaps.{names_kept}
 use Rattle.fv_volume.specs.States.{States, state_at}
-use Rattle.fv_cp.specs.Lent.{blocks_asked}
 use Rattle.fv_cp.specs.Placing.{HaveNoFiles, IsSpareEntry, PlacesEntries}
 use Rattle.fv_aggregate.specs.declared.fault.Fault.{Fault}
 use Rattle.fv_aggregate.specs.declared.fault.Fault.TheVariants.{DiskFault, Damaged, Memory, Failed}
 use Rattle.fv_aggregate.specs.declared.session.Session.{Session}
 use Rattle.fv_aggregate.specs.Adding.{IsPointed}
-use Rattle.fv_aggregate.specs.Asking.{AsksWithin, IsShort}
+use Rattle.fv_aggregate.specs.Asking.{AsksWithin}
 use Rattle.fv_aggregate.specs.Causes.{KeepsEnds}
 use Rattle.fv_aggregate.specs.Commands.{changed_by, dirty_limit, finds_file, has_range, is_built, is_get, is_refusal, managed_by, places_files, removes_volume, room_by, snapped_by, snapshot_asked, snapshot_needed, volume_asked}
+pub use Rattle.fv_aggregate.specs.Damages.{HasDamage, HasFilesToPlace, LacksBlocks}
+use Rattle.fv_aggregate.specs.Failing.{IsUnmadeIn}
 use Rattle.fv_aggregate.specs.Known.{KeepsNumbers, KnowsNamed}
 use Rattle.fv_aggregate.specs.Managing.{IsManaged}
-use Rattle.fv_aggregate.specs.Standing.{taken_since, HoldsAsCommitted, IsWithoutFiles, OneOf, Stands, StandsAfter, StandsFor}
+pub use Rattle.fv_aggregate.specs.Reading.{but_numbers, IsAsRead, SameButNumbers, WasRead}
+use Rattle.fv_aggregate.specs.Standing.{HoldsAsCommitted, IsWithoutFiles, OneOf, StandsAfter, StandsFor, StandsReady}
 use Rattle.fv_aggregate.specs.Telling.{names_from}
 
 -- ---- faults
@@ -51,34 +49,6 @@ pub record FailsByWrite (before after : Shown) (new : Session) : Type 0 where
   pub by_write : Rose before.write_faults after.write_faults → new.failed ≡ Some after.faults
   pub by_read : ¬ Rose before.write_faults after.write_faults → IsNone new.failed
 
--- Fewer blocks are free in the session's map than a consistency point of it asks for, with the files in their places; and so it is in the
--- image, beside the blocks that were placed. Without a file in memory the session is as it was.
-pub record LacksBlocks (before : Shown) (old new : Session) (at want found : ℕ) : Type 0 where
-  pub fresh : IsNone old.failed
-  pub place : at ≡ root_place old.pool.found.slot
-  pub asked : want ≡ blocks_asked old.volumes
-  pub free : found ≡ free_blocks new.pool.map
-  pub short : found < want
-  pub image : IsTrue before.tells → (room : ℕ) → AsksWithin before old room → IsShort before.reads room (taken_since new.pool.map) at want found
-  pub same : HaveNoFiles old.volumes → new ≡ old
-
--- There was a file to be placed. Such damage comes where no number of its volume is free for it, or no block: the calls of `fv_cp` and `fv_snapshot`
--- say which volume that was, and it isn't said here.
-pub record HasFilesToPlace (old : Session) : Type 0 where
-  pub fresh : IsNone old.failed
-  pub files : HaveNoFiles old.volumes → ⊥
-
--- There is a volume. Such damage comes of a block of its table that isn't as it has to be, or of a pointer that leads nowhere: the calls of
--- `fv_volume` say which, and it isn't said here.
-pub record HasVolume (old : Session) : Type 0 where
-  pub fresh : IsNone old.failed
-  pub slot : ℕ
-  pub there : IsSome (state_at old.volumes slot)
-
--- fewer blocks are free than a point asks for, or there was a file to be placed, or there is a volume whose table may be damaged
-abbrev pub HasDamage : Shown → Session → Session → ℕ → ℕ → ℕ → Type 0
-HasDamage before old new at want found = LacksBlocks before old new at want found ⊎ (HasFilesToPlace old ⊎ HasVolume old)
-
 -- a row of the table of faults
 pub record Row (Reason Counts Kept Written : Type 0) : Type 0 where
   -- why the fault comes
@@ -95,7 +65,7 @@ abbrev pub HasFault : ℕ → Shown → Session → Shown → Session → Fault 
 HasFault room before old after new DiskFault =
     Row (IsNone old.failed) (RoseOnDisk before after) (FailsByWrite before after new) (Unit {0})
 HasFault room before old after new (Damaged at want found) =
-    Row (HasDamage before old new at want found) (SameCounts before after) (IsNone new.failed) (OnlyReads before after ⊎ (dirty_limit < old.pending + room))
+    Row (HasDamage room before old after new at want found) (SameCounts before after) (IsNone new.failed) (OnlyReads before after ⊎ (dirty_limit < old.pending + room))
 HasFault room before old after new Memory =
     Row (IsNone old.failed) (SameCounts before after) (IsNone new.failed) (OnlyReads before after ⊎ (dirty_limit < old.pending + room))
 HasFault room before old after new (Failed faults) =
@@ -117,7 +87,7 @@ pub record IsDone (before : Shown) (old : Session) (after : Shown) (new : Sessio
 -- What a call does that may add `room` blocks, whatever the disk tells. So many it counts at most as pending, whether it was done or not.
 pub record Goes {T : Type 0} (room : ℕ) (before : Shown) (old : Session) (after : Shown) (new : Session) (result : Result T Fault) : Type 0 where
   pub ends : KeepsEnds before after
-  pub stands : IsNone new.failed → Stands after new
+  pub stands : IsNone new.failed → StandsReady after new
   pub done : OnOk result (IsDone before old after new)
   pub fault : IfErr result (HasFault room before old after new)
   pub pending : new.pending ≤ old.pending + room
@@ -135,9 +105,9 @@ pub record GoesFor {T : Type 0} (before : Shown) (last m next : Machine) (after 
   pub still : IsNone new.failed → OnErr result (StandsAfter after new last m m)
   pub whole : IfErr result IsNoDamage
 
--- damage for want of blocks, or where a file was to be placed, with nothing written
+-- damage for want of blocks, or where the files of a volume couldn't be placed, with nothing written
 abbrev pub IsForWant : Shown → Session → Shown → Session → Fault → Type 0
-IsForWant before old after new (Damaged at want found) = OnlyReads before after × (LacksBlocks before old new at want found ⊎ HasFilesToPlace old)
+IsForWant before old after new (Damaged at want found) = OnlyReads before after × (LacksBlocks before old new at want found ⊎ HasFilesToPlace before old at want found)
 IsForWant before old after new fault = Unit {0}
 
 -- What a call does that may run a consistency point, for which it may add `room` blocks, and that makes `next m` of the machine `m`. A
@@ -167,22 +137,6 @@ MakesNoHoles old new = (s : ℕ) → IsSome (state_at old.volumes s) → (v : �
     → (own_entry (container_at new.pool.containers s) v ≡ own_entry (container_at old.pool.containers s) v) ⊎ IsSpareEntry old.pool.map (own_entry (container_at new.pool.containers s) v)
 
 -- ---- commands
-
--- a volume without the numbers of its files in memory
-abbrev pub but_numbers : VolumeState → VolumeState
-but_numbers x = record x { numbers = None }
-
--- Of the volumes nothing changed but the numbers of files in memory.
-abbrev pub SameButNumbers : States → States → Type 0
-SameButNumbers old new = (s : ℕ) → option_map but_numbers (state_at new s) ≡ option_map but_numbers (state_at old s)
-
--- Blocks were read for a session. Of the disk only the time and the count of faults changed, and of the session only its cache and the numbers
--- of files in memory.
-pub record WasRead (before : Shown) (old : Session) (after : Shown) (new : Session) : Type 0 where
-  pub only_reads : OnlyReads before after
-  pub pool : LeavesPool old.pool new.pool
-  pub volumes : SameButNumbers old.volumes new.volumes
-  pub same : new ≡ record old { volumes = new.volumes; pool = new.pool }
 
 -- the disk and the session are as they were
 abbrev pub IsUntouched : {D : Type 0} → D → Session → D → Session → Type 0
@@ -255,17 +209,20 @@ pub record LacksSnapshot (states : States) (name : List ℕ) (command : Command)
 
 -- What a command on files does beside. Whatever the disk holds, it is refused out of range, without its volume, and without the snapshot that it
 -- asks, in this order, and leaves all as it was then. It is refused for want of a snapshot only where the volume lacks that snapshot. One that
--- asks leaves all but the cache and the numbers of files in memory where it is answered. So does a change that is refused, where no point comes before
--- it, or the session stands for a machine. Once a command that finds a file of the active table of a volume by its name is answered, refused or not, the numbers of
--- the volume's files are in memory.
+-- asks leaves all but the cache and the numbers of files in memory, where it is answered and where it ends with a fault, but that the session may
+-- have failed then. So does a change that is refused, where no point comes before it, or the session stands for a machine. A change that ends with a
+-- fault isn't made, where no point comes before it. Once a command that finds a file of the active table of a volume by its name is answered,
+-- refused or not, the numbers of the volume's files are in memory.
 pub record IsOnFiles {D : Type 0} (command : Command) (shown : Shown) (before : D) (old : Session) (shown_after : Shown) (after : D) (new : Session) (result : Result Reply Fault) : Type 0 where
   pub range : IsNone old.failed → has_range command ≡ false → (result ≡ Ok (Refused Range)) × IsUntouched before old after new
   pub missing : IsNone old.failed → has_range command ≡ true → (name : List ℕ) → (changed_by command ≡ Some name) ⊎ (volume_asked command ≡ Some name) → NoneHasName old.volumes name → (result ≡ Ok (Refused NoVolume)) × IsUntouched before old after new
   pub lost : IsNone old.failed → has_range command ≡ true → (name : List ℕ) → volume_asked command ≡ Some name → LacksSnapshot old.volumes name command → (result ≡ Ok (Refused NoSnapshot)) × IsUntouched before old after new
   pub only : IsNone old.failed → (name : List ℕ) → volume_asked command ≡ Some name → result ≡ Ok (Refused NoSnapshot) → LacksSnapshot old.volumes name command
   pub asked : IsSome (volume_asked command) → OnOk result (WasRead shown old shown_after new)
+  pub unanswered : IsSome (volume_asked command) → OnErr result (WasRead shown old shown_after (record new { failed = old.failed }))
   pub refused : IsTrue shown.tells → (last m : Machine) → StandsFor shown old last m → IfOk result (λ reply. IsTrue (is_refusal reply) → WasRead shown old shown_after new)
   pub still : IsWithinLimit old command → IfOk result (λ reply. IsTrue (is_refusal reply) → WasRead shown old shown_after new)
+  pub unmade : IsNone old.failed → IsWithinLimit old command → (name : List ℕ) → changed_by command ≡ Some name → OnErr result (IsUnmadeIn shown old name shown_after new)
   pub known : finds_file command ≡ true → has_range command ≡ true → (name : List ℕ) → (changed_by command ≡ Some name) ⊎ (volume_asked command ≡ Some name) → OnOk result (KnowsNamed old.volumes name new.volumes)
 
 -- No steps are counted but for a `get`, and none where the session stands for a machine, or has failed.

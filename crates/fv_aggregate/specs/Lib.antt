@@ -5,6 +5,9 @@ pub mod Commands
 pub mod Known
 pub mod Causes
 pub mod Aiming
+pub mod Reading
+pub mod Failing
+pub mod Damages
 pub mod Calls
 pub mod Looking
 pub mod Managing

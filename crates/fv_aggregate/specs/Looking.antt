@@ -1,5 +1,5 @@
 -- What commands on files do in a session: those that ask, and those that change.
-use Rattle.std.specs.Prelude.{◌≡◌, ◌<◌, ◌≤◌, ◌+◌, ◌⊎◌, ℕ, false, Option, Some, None, true, IsTrue, IsNone, Result, Ok, Err, OnOk, IfOk, IfErr}
+use Rattle.std.specs.Prelude.{◌≡◌, ◌<◌, ◌≤◌, ◌+◌, ◌⊎◌, ℕ, false, Option, Some, None, true, IsTrue, IsNone, Result, Ok, Err, OnErr, OnOk, IfOk, IfErr}
 use Rattle.fv_disk.specs.Shown.{Shown, Rose}
 use Rattle.fv_disk.specs.DiskCalls.{OnlyReads}
 use Rattle.fv_container.specs.Chains.{slot_count}
@@ -16,7 +16,7 @@ use Rattle.fv_pool.specs.declared.pool.Pool.{Pool}
 use Rattle.fv_volume.specs.Asking.{standing_read, TellsActive, TellsRead}
 use Rattle.fv_pool.specs.Calls.{CallCause, Reads}
 use Rattle.fv_volume.specs.Calls.{Agrees, Asks, Changes, Has, HasWithin, KeepsHead}
-use Rattle.fv_volume.specs.Changing.{keeps_numbers, IsChangeOf, KeepsTable, TellsFor}
+use Rattle.fv_volume.specs.Changing.{keeps_numbers, IsChangeOf, KeepsTable}
 use Rattle.fv_pool.specs.Lending.{lent_for}
 use Rattle.fv_volume.specs.OneVolume.{home_in, standing_for, volume_for, IsReady, IsStanding}
 use Rattle.fv_volume.specs.Placing.{IsStoredWell}
@@ -29,6 +29,7 @@ use Rattle.fv_aggregate.specs.declared.fault.Fault.TheVariants.{DiskFault, Damag
 use Rattle.fv_aggregate.specs.declared.session.Session.{Session}
 use Rattle.fv_aggregate.specs.Answers.{answer}
 use Rattle.fv_aggregate.specs.Calls.{Goes, GoesFor, IsForWant, IsUntouched, IsWithinLimit, KeepsAsking, KeepsEntries, WasRead}
+use Rattle.fv_aggregate.specs.Damages.{HasBadTable}
 use Rattle.fv_snapshot.specs.Creating.{Creates, TellsCreation}
 use Rattle.fv_snapshot.specs.Deleting.{Deletes}
 use Rattle.fv_snapshot.specs.Restoring.{Restores}
@@ -37,7 +38,7 @@ use Rattle.fv_aggregate.specs.Known.{KeepsNumbersBut, MayLose}
 use Rattle.fv_aggregate.specs.Standing.{HoldsAsCommitted, IsWithoutFiles, StandsFor}
 
 -- A command that asks was answered as the machine answers it, and nothing changed but the cache and the numbers of files in memory. After a fault the
--- session stands for what it stood for.
+-- session stands for what it stood for, and nothing changed, either, but for these and that it may have failed.
 pub record Looks (before : Shown) (old : Session) (command : Command) (after : Shown) (new : Session) (result : Result Reply Fault) : Type 0 where
   pub goes : Goes 0 before old after new result
   pub asks : KeepsAsking 0 before old after new
@@ -46,6 +47,7 @@ pub record Looks (before : Shown) (old : Session) (command : Command) (after : S
   pub only_reads : OnlyReads before after
   pub entries : KeepsEntries old new
   pub read : OnOk result (WasRead before old after new)
+  pub unanswered : OnErr result (WasRead before old after (record new { failed = old.failed }))
 
 -- A command that changes a volume, for which it may add `room` blocks, was carried out as the machine carries it out. One with room within the dirty
 -- limit wrote nothing, and made no entry a hole. A refused one changed nothing but the cache and the numbers of files in memory, where the session stands for a machine.
@@ -89,7 +91,7 @@ pub record ChangesState (before : Shown) (pool : Pool) (x : VolumeState) (others
   pub ready : IsReady after left y
   pub head : KeepsHead x y result
   pub numbers : keeps_numbers command ≡ true → y.numbers ≡ x.numbers
-  pub cause : CallCause (TellsFor command before pool x) (standing_for before pool x) (lent_for pool x.map before 0 (home_in x) 0) after.faults result
+  pub cause : CallCause (TellsActive before pool x) (standing_for before pool x) (lent_for pool x.map before 0 (home_in x) 0) after.faults result
 
 -- ---- a volume whose snapshots change
 
@@ -163,6 +165,11 @@ pub record HasJudged (before : Shown) (old : Session) (command : Command) (after
   pub read : OnOk result (WasRead before old after new)
 
 -- ---- faults
+
+-- damage is of a table of a volume that isn't as it has to be
+abbrev pub IsTableFault : Shown → Session → Session → Fault → Type 0
+IsTableFault after old new (Damaged at want found) = HasBadTable after old new at want found
+IsTableFault after old new fault = Unit {0}
 
 -- A read failed: the session goes on, but where the count of failed writes stands at its greatest value.
 pub record HasFailed (disk : Shown) (old new : Session) : Type 0 where

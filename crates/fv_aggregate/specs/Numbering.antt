@@ -1,5 +1,5 @@
 -- What is done before a command on a volume's files: their numbers are read into memory.
-use Rattle.std.specs.Prelude.{◌≡◌, true, IsTrue, Result, OnOk}
+use Rattle.std.specs.Prelude.{◌≡◌, true, IsTrue, Result, OnErr, OnOk}
 use Rattle.std.specs.Option.{is_some}
 use Rattle.fv_disk.specs.Shown.{Shown}
 use Rattle.fv_disk.specs.DiskCalls.{OnlyReads}
@@ -18,7 +18,7 @@ use Rattle.fv_aggregate.specs.Known.{KeepsNumbers}
 use Rattle.fv_aggregate.specs.Standing.{StandsFor}
 
 -- The numbers of the files of a volume were read into memory. Nothing changed but these and the cache, and no volume lost its numbers. After a fault
--- the session stands for what it stood for.
+-- the session stands for what it stood for, and nothing changed, either, but for these and that it may have failed.
 pub record HasNumbered (before : Shown) (old : Session) (after : Shown) (new : Session) (result : Result Unit Fault) : Type 0 where
   pub goes : Goes 0 before old after new result
   pub asks : KeepsAsking 0 before old after new
@@ -26,6 +26,7 @@ pub record HasNumbered (before : Shown) (old : Session) (after : Shown) (new : S
   pub only_reads : OnlyReads before after
   pub entries : KeepsEntries old new
   pub read : OnOk result (WasRead before old after new)
+  pub unread : OnErr result (WasRead before old after (record new { failed = old.failed }))
   pub kept : KeepsNumbers old.volumes new.volumes
 
 -- The numbers of the files of a volume are in memory. Nothing else of it changed, nor these where they were there, and calls can be made on it still.
@@ -35,6 +36,7 @@ pub record NumbersState (before : Shown) (pool : Pool) (x : VolumeState) (after 
   pub there : OnOk result (is_some y.numbers ≡ true)
   pub same : y ≡ record x { numbers = y.numbers }
   pub idle : is_some x.numbers ≡ true → y ≡ x
+  pub kept : OnErr result (y ≡ x)
   pub standing : IsStanding before pool x → IsStanding after left y
   pub ready : IsReady after left y
   pub cause : BlockCause (TellsActive before pool x) (standing_for before pool x) (lent_for pool x.map before 0 (home_in x) 0) after.faults result

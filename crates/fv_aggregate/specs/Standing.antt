@@ -24,12 +24,15 @@ use Rattle.fv_aggregate.specs.declared.session.Session.{Session}
 use Rattle.fv_aggregate.specs.Commands.{dirty_limit}
 
 -- A session stands on a disk: its root is what `find_root` would answer, over what reads give and over each image that a crash now
--- may leave, with the blocks whose bits are set in that root's map area; each block in its cache is what the disk reads there; and calls
--- can be made on each of its volumes.
+-- may leave, with the blocks whose bits are set in that root's map area; and each block in its cache is what the disk reads there.
 pub record Stands (disk : Shown) (session : Session) : Type 0 where
   pub found : IsTrue disk.tells → IsFoundOn disk session.pool.found
   pub map : IsTrue disk.tells → IsMapOf disk.reads session.pool.found session.pool.map
   pub cache : StandsOn disk session.pool.store.pairs
+
+-- It stands there, and calls can be made on each of its volumes. What they need beside the cache each session has that hasn't failed.
+pub record StandsReady (disk : Shown) (session : Session) : Type 0 where
+  pub stands : Stands disk session
   pub ready : AreReady disk session.pool session.volumes
 
 -- how many blocks the root on the disk leaves free

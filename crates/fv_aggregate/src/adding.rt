@@ -15,7 +15,7 @@ ghost use Rattle.fv_aggregate.specs.Answers.{answer};
 ghost use Rattle.fv_aggregate.specs.Calls.{KeepsHolding, MakesNoHoles, Runs};
 ghost use Rattle.fv_aggregate.specs.Commands.{dirty_limit, is_refusal, most_overhead};
 ghost use Rattle.fv_aggregate.specs.Reclaiming.{MakesRoom};
-ghost use Rattle.fv_aggregate.specs.Standing.{Stands, StandsFor};
+ghost use Rattle.fv_aggregate.specs.Standing.{StandsFor, StandsReady};
 
 use crate::fault::Fault;
 use crate::replies::{done, refuse};
@@ -37,7 +37,7 @@ impl Session {
         into: &mut Reply,
     ) -> Result<(), Fault>
         requires fresh { IsNone self.old.failed }
-        requires stands { Stands (D.shown disk.old) self.old }
+        requires stands { StandsReady (D.shown disk.old) self.old }
         ensures runs { Runs (overhead (span_of size 0 0)) (λ m. next m (VolCreate name.now size kind))
             (D.shown disk.old) self.old (D.shown disk.new) self.new (answer into.new result) }
         ensures reply { IsTrue (D.shown disk.old).tells → (last m : Machine) → StandsFor (D.shown disk.old) self.old last m
@@ -50,7 +50,8 @@ impl Session {
         ensures wanting { self.old.pending + overhead (span_of size 0 0) ≤ dirty_limit → IfErr (answer into.new result) (λ e. e ≡ Memory → self.new ≡ self.old) }
         ensures roomy { MakesRoom (overhead (span_of size 0 0)) (D.shown disk.old) self.old (D.shown disk.new) (answer into.new result) }
     {
-        match self.volumes.admit(self.pool.found.blocks, name, size, kind) {
+        let blocks = self.pool.found.blocks;
+        match self.volumes.admit(blocks, self.commits, name, size, kind) {
             Ok(admitted) => return self.make(disk, name, size, kind, admitted, into),
             Err(refusal) => {
                 refuse(into, refusal);
@@ -70,7 +71,7 @@ impl Session {
         into: &mut Reply,
     ) -> Result<(), Fault>
         requires fresh { IsNone self.old.failed }
-        requires stands { Stands (D.shown disk.old) self.old }
+        requires stands { StandsReady (D.shown disk.old) self.old }
         requires long { length self.old.volumes ≡ slot_count }
         requires admitted { Admits self.old.volumes self.old.pool.found.blocks name.now size kind admitted.slot admitted.span }
         ensures runs { Runs (overhead admitted.span) (λ m. next m (VolCreate name.now size kind))
@@ -108,9 +109,14 @@ impl Session {
         ensures pending { OnOk result (self.new.pending ≡ self.old.pending + room) }
         ensures same { OnErr result (self.new ≡ self.old) }
     {
-        self.volumes
-            .create(&mut self.pool, name, size, kind, admitted)?;
-        self.commits = self.volumes.commits();
+        self.volumes.create(
+            &mut self.pool,
+            &mut self.commits,
+            name,
+            size,
+            kind,
+            admitted,
+        )?;
         self.pending += room;
         Ok(())
     }

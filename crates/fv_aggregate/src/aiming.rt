@@ -10,7 +10,7 @@ ghost use Rattle.fv_cp.specs.Lent.{FitTogether};
 ghost use Rattle.fv_aggregate.specs.Aiming.{Aims, AimsAt, IsAimed, IsServed};
 ghost use Rattle.fv_aggregate.specs.Answers.{answer};
 ghost use Rattle.fv_aggregate.specs.Applying.{HasApplied};
-ghost use Rattle.fv_aggregate.specs.Standing.{Stands};
+ghost use Rattle.fv_aggregate.specs.Standing.{StandsReady};
 
 use crate::fault::Fault;
 use crate::replies::refuse;
@@ -52,7 +52,7 @@ impl Session {
         into: &mut Reply,
     ) -> Result<(), Fault>
         requires fresh { IsNone self.old.failed }
-        requires stands { Stands (D.shown disk.old) self.old }
+        requires stands { StandsReady (D.shown disk.old) self.old }
         requires served { IsServed command.now }
         ensures { HasApplied command.now (D.shown disk.old) disk.old self.old steps.old
             (D.shown disk.new) disk.new self.new steps.new (answer into.new result) }
@@ -114,7 +114,7 @@ impl Session {
         into: &mut Reply,
     ) -> Result<(), Fault>
         requires fresh { IsNone self.old.failed }
-        requires stands { Stands (D.shown disk.old) self.old }
+        requires stands { StandsReady (D.shown disk.old) self.old }
         requires aimed { IsAimed self.old.volumes aim.slot aim.task command.now }
         ensures { HasApplied command.now (D.shown disk.old) disk.old self.old steps.old
             (D.shown disk.new) disk.new self.new steps.new (answer into.new result) }

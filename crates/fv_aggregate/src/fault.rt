@@ -76,8 +76,8 @@ pub enum Fault {
     /// volume's files isn't as it has to be. Over an image that stands for a machine it never comes.
     #[error("Damaged")]
     Damaged {
-        /// The place of the root that counts, where blocks are lacking: contracts say that of a session without files in memory, and of
-        /// commands that read none. Else the place of the root, of the volume's label, or of the block.
+        /// The place of the root that counts, where blocks are lacking; that of the root or of the volume's label, where no number or block
+        /// is free for a file; that of the label, where a pointer leads nowhere; and else that of the block.
         at: u64,
         /// How many blocks are asked for; else 1, or what had to stand in the block's first field that isn't as said.
         want: u64,

@@ -1,16 +1,17 @@
 //! The commands that change files.
 
-ghost use Rattle.std.specs.Prelude.{◌≡◌, ◌≤◌, ◌<◌, ◌+◌, ◌-◌, max, min, false, true, Some, None, Ok, IsNone, OnOk};
+ghost use Rattle.std.specs.Prelude.{◌≡◌, ◌≤◌, ◌<◌, ◌+◌, ◌-◌, max, min, false, true, Some, None, Ok, IsNone, IfErr, OnErr, OnOk};
 ghost use Rattle.fv_disk.specs.DiskCalls.{OnlyReads};
 ghost use Rattle.fv_model.specs.declared.answers.Reply.TheVariants.{Refused};
 ghost use Rattle.fv_volume.specs.Changing.{keeps_numbers};
 ghost use Rattle.fv_volume.specs.States.{state_at};
 ghost use Rattle.fv_aggregate.specs.Answers.{answer};
 ghost use Rattle.fv_aggregate.specs.Commands.{dirty_limit, file_room, finds_file};
+ghost use Rattle.fv_aggregate.specs.Failing.{IsUnmade};
 ghost use Rattle.fv_aggregate.specs.Known.{KeepsNumbersBut, KnowsNumbers};
-ghost use Rattle.fv_aggregate.specs.Looking.{HasJudged, IsChangeAt, Makes, refusal_in};
+ghost use Rattle.fv_aggregate.specs.Looking.{HasJudged, IsChangeAt, IsTableFault, Makes, refusal_in};
 ghost use Rattle.fv_aggregate.specs.Reclaiming.{MakesRoom};
-ghost use Rattle.fv_aggregate.specs.Standing.{Stands};
+ghost use Rattle.fv_aggregate.specs.Standing.{StandsReady};
 
 use crate::aiming::volume_at;
 use crate::fault::Fault;
@@ -32,10 +33,11 @@ impl Session {
         into: &mut Reply,
     ) -> Result<(), Fault>
         requires fresh { IsNone self.old.failed }
-        requires stands { Stands (D.shown disk.old) self.old }
+        requires stands { StandsReady (D.shown disk.old) self.old }
         requires aimed { IsChangeAt self.old.volumes slot command.now }
         ensures makes { Makes file_room (D.shown disk.old) self.old command.now (D.shown disk.new) self.new (answer into.new result) }
         ensures roomy { MakesRoom file_room (D.shown disk.old) self.old (D.shown disk.new) (answer into.new result) }
+        ensures unmade { self.old.pending + file_room ≤ dirty_limit → OnErr (answer into.new result) (IsUnmade (D.shown disk.old) self.old slot (D.shown disk.new) self.new) }
         ensures kept { IsNone self.new.failed → KeepsNumbersBut (λ s. (s ≡ slot) × (keeps_numbers command.now ≡ false)) self.old.volumes self.new.volumes }
         ensures finds { finds_file command.now ≡ true → OnOk (answer into.new result) (KnowsNumbers (state_at self.new.volumes slot)) }
     {
@@ -53,10 +55,11 @@ impl Session {
         into: &mut Reply,
     ) -> Result<(), Fault>
         requires fresh { IsNone self.old.failed }
-        requires stands { Stands (D.shown disk.old) self.old }
+        requires stands { StandsReady (D.shown disk.old) self.old }
         requires aimed { IsChangeAt self.old.volumes slot command.now }
         ensures makes { Makes file_room (D.shown disk.old) self.old command.now (D.shown disk.new) self.new (answer into.new result) }
         ensures roomy { MakesRoom file_room (D.shown disk.old) self.old (D.shown disk.new) (answer into.new result) }
+        ensures unmade { self.old.pending + file_room ≤ dirty_limit → OnErr (answer into.new result) (IsUnmade (D.shown disk.old) self.old slot (D.shown disk.new) self.new) }
         ensures kept { IsNone self.new.failed → KeepsNumbersBut (λ s. (s ≡ slot) × (keeps_numbers command.now ≡ false)) self.old.volumes self.new.volumes }
     {
         if self.has_room(FILE_ROOM) {
@@ -81,11 +84,13 @@ impl Session {
         into: &mut Reply,
     ) -> Result<(), Fault>
         requires fresh { IsNone self.old.failed }
-        requires stands { Stands (D.shown disk.old) self.old }
+        requires stands { StandsReady (D.shown disk.old) self.old }
         requires few { self.old.pending + file_room ≤ max dirty_limit file_room }
         requires aimed { IsChangeAt self.old.volumes slot command.now }
         ensures makes { Makes file_room (D.shown disk.old) self.old command.now (D.shown disk.new) self.new (answer into.new result) }
         ensures reads { OnlyReads (D.shown disk.old) (D.shown disk.new) }
+        ensures damage { IfErr (answer into.new result) (IsTableFault (D.shown disk.new) self.old self.new) }
+        ensures unmade { OnErr (answer into.new result) (IsUnmade (D.shown disk.old) self.old slot (D.shown disk.new) self.new) }
         ensures kept { KeepsNumbersBut (λ s. (s ≡ slot) × (keeps_numbers command.now ≡ false)) self.old.volumes self.new.volumes }
     {
         let others = self.commits_beside(slot);
@@ -108,7 +113,7 @@ impl Session {
         into: &mut Reply,
     ) -> Result<(), Fault>
         requires fresh { IsNone self.old.failed }
-        requires stands { Stands (D.shown disk.old) self.old }
+        requires stands { StandsReady (D.shown disk.old) self.old }
         requires aimed { IsChangeAt self.old.volumes slot command.now }
         ensures judged { HasJudged (D.shown disk.old) self.old command.now (D.shown disk.new) self.new (answer into.new result) }
         ensures volumes { self.new.volumes ≡ self.old.volumes }

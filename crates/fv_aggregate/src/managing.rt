@@ -19,8 +19,9 @@ impl Session {
         requires fresh { IsNone self.old.failed }
         ensures { Manages self.old (VolDestroy volume.now) self.new into.new }
     {
-        let made = self.volumes.destroy(&mut self.pool, volume);
-        self.commits = self.volumes.commits();
+        let made = self
+            .volumes
+            .destroy(&mut self.pool, &mut self.commits, volume);
         tell(made, into);
     }
 
@@ -30,8 +31,8 @@ impl Session {
         requires booked { (s : ℕ) → IfSome (state_at self.old.volumes s) IsBooked }
         ensures { Manages self.old (VolResize volume.now size) self.new into.new }
     {
-        let made = self.volumes.resize(self.pool.found.blocks, volume, size);
-        self.commits = self.volumes.commits();
+        let blocks = self.pool.found.blocks;
+        let made = self.volumes.resize(blocks, &mut self.commits, volume, size);
         tell(made, into);
     }
 
@@ -41,8 +42,10 @@ impl Session {
         requires booked { (s : ℕ) → IfSome (state_at self.old.volumes s) IsBooked }
         ensures { Manages self.old (VolGuarantee volume.now kind) self.new into.new }
     {
-        let made = self.volumes.guarantee(self.pool.found.blocks, volume, kind);
-        self.commits = self.volumes.commits();
+        let blocks = self.pool.found.blocks;
+        let made = self
+            .volumes
+            .guarantee(blocks, &mut self.commits, volume, kind);
         tell(made, into);
     }
 
@@ -54,11 +57,7 @@ impl Session {
         ensures sum { result ≡ sum_of self.entry.now.volumes - committed_by (state_at self.entry.now.volumes slot) }
         ensures most { result ≤ 2 ^ 40 }
     {
-        let own = match self.volumes.get(slot) {
-            Some(state) => state.ledger.commit(),
-            None => 0,
-        };
-        self.commits.saturating_sub(own)
+        self.volumes.commits_beside(self.commits, slot)
     }
 
     /// Tells what a volume holds and is promised.

@@ -13,7 +13,7 @@ ghost use Rattle.fv_aggregate.specs.Calls.{Goes, GoesFor, IsForWant, KeepsAsking
 ghost use Rattle.fv_aggregate.specs.Commands.{dirty_limit};
 ghost use Rattle.fv_aggregate.specs.Known.{KeepsNumbers};
 ghost use Rattle.fv_aggregate.specs.Reclaiming.{HasPointed, Points};
-ghost use Rattle.fv_aggregate.specs.Standing.{IsWithoutFiles, Stands, StandsFor};
+ghost use Rattle.fv_aggregate.specs.Standing.{IsWithoutFiles, StandsFor, StandsReady};
 
 use crate::fault::Fault;
 use crate::replies::done;
@@ -32,7 +32,7 @@ impl Session {
     /// Runs a consistency point where what is pending and this room would pass the dirty limit together.
     pub(crate) fn make_room<D: Disk>(&mut self, disk: &mut D, room: u64) -> Result<(), Fault>
         requires fresh { IsNone self.old.failed }
-        requires stands { Stands (D.shown disk.old) self.old }
+        requires stands { StandsReady (D.shown disk.old) self.old }
         ensures runs { Runs room (λ m. m) (D.shown disk.old) self.old (D.shown disk.new) self.new result }
         ensures room { IsTrue (D.shown disk.old).tells → (last m : Machine) → StandsFor (D.shown disk.old) self.old last m
             → commits m + 2 * room ≤ capacity m.blocks → OnOk result (HasRoom (D.shown disk.new) self.new room) }
@@ -63,7 +63,7 @@ impl Session {
     /// The consistency point that a command asks for.
     pub(crate) fn reclaim<D: Disk>(&mut self, disk: &mut D, into: &mut Reply) -> Result<(), Fault>
         requires fresh { IsNone self.old.failed }
-        requires stands { Stands (D.shown disk.old) self.old }
+        requires stands { StandsReady (D.shown disk.old) self.old }
         ensures runs { Runs 0 (λ m. m) (D.shown disk.old) self.old (D.shown disk.new) self.new (answer into.new result) }
         ensures points { Points 0 (D.shown disk.old) self.old (D.shown disk.new) self.new (answer into.new result) }
         ensures reply { IfOk (answer into.new result) (λ reply. reply ≡ Done) }
@@ -77,7 +77,7 @@ impl Session {
     /// A consistency point in a session that hasn't failed; the event that asks for it has this room.
     pub(crate) fn point<D: Disk>(&mut self, disk: &mut D, want: u64) -> Result<(), Fault>
         requires fresh { IsNone self.old.failed }
-        requires stands { Stands (D.shown disk.old) self.old }
+        requires stands { StandsReady (D.shown disk.old) self.old }
         ensures goes { Goes 0 (D.shown disk.old) self.old (D.shown disk.new) self.new result }
         ensures asks { KeepsAsking 0 (D.shown disk.old) self.old (D.shown disk.new) self.new }
         ensures damage { IfErr result (IsForWant (D.shown disk.old) self.old (D.shown disk.new) self.new) }

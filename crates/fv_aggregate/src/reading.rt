@@ -13,7 +13,7 @@ ghost use Rattle.fv_aggregate.specs.Calls.{IsUntouched};
 ghost use Rattle.fv_aggregate.specs.Commands.{finds_file, has_range, is_get, is_refusal, snapshot_asked, volume_asked};
 ghost use Rattle.fv_aggregate.specs.Known.{KeepsNumbers, KnowsNumbers};
 ghost use Rattle.fv_aggregate.specs.Looking.{AsksState, Breaks, IsAsked, Looks, Replied};
-ghost use Rattle.fv_aggregate.specs.Standing.{Stands, StandsFor};
+ghost use Rattle.fv_aggregate.specs.Standing.{StandsFor, StandsReady};
 
 use crate::aiming::volume_at;
 use crate::fault::Fault;
@@ -39,7 +39,7 @@ impl Session {
         into: &mut Reply,
     ) -> Result<(), Fault>
         requires fresh { IsNone self.old.failed }
-        requires stands { Stands (D.shown disk.old) self.old }
+        requires stands { StandsReady (D.shown disk.old) self.old }
         requires asked { IsAsked self.old.volumes slot command.now }
         ensures looks { Looks (D.shown disk.old) self.old command.now (D.shown disk.new) self.new (answer into.new result) }
         ensures lost { has_range command.now ≡ true → IfSome (state_at self.old.volumes slot) (λ x. table_named x (snapshot_asked command.now) ≡ None → (answer into.new result ≡ Ok (Refused NoSnapshot)) × IsUntouched disk.old self.old disk.new self.new) }
@@ -66,7 +66,7 @@ impl Session {
         into: &mut Reply,
     ) -> Result<(), Fault>
         requires fresh { IsNone self.old.failed }
-        requires stands { Stands (D.shown disk.old) self.old }
+        requires stands { StandsReady (D.shown disk.old) self.old }
         requires asked { IsAsked self.old.volumes slot command.now }
         ensures looks { Looks (D.shown disk.old) self.old command.now (D.shown disk.new) self.new (answer into.new result) }
         ensures lost { has_range command.now ≡ true → IfSome (state_at self.old.volumes slot) (λ x. table_named x (snapshot_asked command.now) ≡ None → (answer into.new result ≡ Ok (Refused NoSnapshot)) × IsUntouched disk.old self.old disk.new self.new) }

@@ -16,7 +16,7 @@ ghost use Rattle.fv_aggregate.specs.Calls.{Runs, SameCounts};
 ghost use Rattle.fv_aggregate.specs.Causes.{HasOpenCause, IsUnwritten, OpenFails};
 ghost use Rattle.fv_aggregate.specs.Opening.{IsFresh, IsOpened};
 ghost use Rattle.fv_aggregate.specs.Reclaiming.{Points};
-ghost use Rattle.fv_aggregate.specs.Standing.{IsWithoutFiles, Stands, StandsFor, charged_in};
+ghost use Rattle.fv_aggregate.specs.Standing.{IsWithoutFiles, Stands, StandsFor, StandsReady, charged_in};
 ghost use Rattle.fv_aggregate.specs.Telling.{charged_from};
 
 use crate::fault::{Fault, OpenFault};
@@ -53,7 +53,7 @@ impl Model for Session {
     ghost use Rattle.std.specs.Prelude.{◌≡◌, IsNone};
     ghost use Rattle.fv_cp.specs.Lent.{FitTogether};
     ghost use Rattle.fv_volume.specs.Slots.{sum_of};
-    ghost use Rattle.fv_aggregate.specs.Parts.{Parts, parts_code};
+    ghost use Rattle.fv_aggregate.specs.Parts.{AreSet, Parts, parts_code};
 
     ghost Value = { Parts };
 
@@ -61,7 +61,8 @@ impl Model for Session {
 
     ghost view = { λ s. record { volumes = s.volumes; pool = s.pool; delays = s.delays; pending = s.pending; failed = s.failed } };
 
-    ghost invariant = { λ s. (IsNone s.failed → FitTogether s.pool s.volumes) × (IsNone s.failed → s.commits ≡ sum_of s.volumes) };
+    ghost invariant = { λ s. (IsNone s.failed → FitTogether s.pool s.volumes) × (IsNone s.failed → s.commits ≡ sum_of s.volumes)
+        × (IsNone s.failed → AreSet s.pool s.volumes) };
 }
 
 impl Session {
@@ -77,7 +78,7 @@ impl Session {
     /// volumes. It holds up to 1024 blocks of cache, two bits for each block of the aggregate, and for each VVBN of each volume an entry
     /// and a bit for each map slot in use. `docs/FORMAT.md` has what it reads.
     pub fn open<D: Disk>(alloc: Global, disk: &mut D) -> Result<Session, OpenFault>
-        ensures stands { IfOk result (Stands (D.shown disk.new)) }
+        ensures stands { IfOk result (StandsReady (D.shown disk.new)) }
         ensures fresh { IfOk result IsFresh }
         ensures asks { IsTrue (D.shown disk.old).tells → IfOk result (λ session. AsksWithin (D.shown disk.new) session 0) }
         ensures none { IsTrue (D.shown disk.old).tells → IfOk result IsWithoutFiles }
@@ -109,8 +110,9 @@ impl Session {
     /// has failed: it answers `Failed`, with the disk's count of faults of that moment, to every call from then on, and reaches the
     /// disk no more. `Memory` comes where memory ran out: contracts rule it out for a `cp` without files in memory alone. `Damaged` comes
     /// where fewer blocks or numbers are free than a consistency point asks for, or a block of a volume's files isn't as it has to be. Over an
-    /// image that stands for a machine it never comes; over another one contracts tell its reason for commands that read no files, and
-    /// without a file in memory. After these, and after a read that failed, the session goes on; where it stood for a machine it still stands for it.
+    /// image that stands for a machine it never comes; over another one contracts tell which of these it was, of which volume, and at which
+    /// place (`HasDamage`). After these, and after a read that failed, the session goes on; where it stood for a machine it still stands for it.
+    /// A command on files that ends with a fault before which no point came made no change: what it left is in memory alone (`IsUnmade`).
     ///
     /// Costs a step for each slot, and memory for the names in `vol list`. A command on files costs what the call of `VolumeState` does.
     /// The first one that names a file of a volume costs a block for each inode block and each node over them, and the session

@@ -17,7 +17,7 @@ ghost use Rattle.fv_aggregate.specs.Commands.{dirty_limit, is_refusal, room_by, 
 ghost use Rattle.fv_aggregate.specs.Looking.{HasSnapped, IsSnapAimed, SnapsState};
 ghost use Rattle.fv_aggregate.specs.Reclaiming.{MakesRoom};
 ghost use Rattle.fv_aggregate.specs.Snapping.{HasGrant, JudgesSnap};
-ghost use Rattle.fv_aggregate.specs.Standing.{Stands};
+ghost use Rattle.fv_aggregate.specs.Standing.{StandsReady};
 
 use crate::aiming::{volume_at, volume_in};
 use crate::fault::Fault;
@@ -43,7 +43,7 @@ impl Session {
         into: &mut Reply,
     ) -> Result<(), Fault>
         requires fresh { IsNone self.old.failed }
-        requires stands { Stands (D.shown disk.old) self.old }
+        requires stands { StandsReady (D.shown disk.old) self.old }
         requires aimed { IsSnapAimed self.old.volumes slot command.now }
         ensures snapped { HasSnapped (D.shown disk.old) disk.old self.old command.now (D.shown disk.new) disk.new self.new (answer into.new result) }
         ensures roomy { MakesRoom (room_by self.old.volumes command.now) (D.shown disk.old) self.old (D.shown disk.new) (answer into.new result) }
@@ -71,7 +71,7 @@ impl Session {
         into: &mut Reply,
     ) -> Result<(), Fault>
         requires fresh { IsNone self.old.failed }
-        requires stands { Stands (D.shown disk.old) self.old }
+        requires stands { StandsReady (D.shown disk.old) self.old }
         requires aimed { IsSnapAimed self.old.volumes slot command.now }
         requires others { others ≡ sum_of self.old.volumes - committed_by (state_at self.old.volumes slot) }
         requires most { others ≤ 2 ^ 62 }
@@ -98,7 +98,7 @@ impl Session {
         into: &mut Reply,
     ) -> Result<(), Fault>
         requires fresh { IsNone self.old.failed }
-        requires stands { Stands (D.shown disk.now) self.old }
+        requires stands { StandsReady (D.shown disk.now) self.old }
         requires aimed { IsSnapAimed self.old.volumes slot command.now }
         requires others { others ≡ sum_of self.old.volumes - committed_by (state_at self.old.volumes slot) }
         requires most { others ≤ 2 ^ 62 }

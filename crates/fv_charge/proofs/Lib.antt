@@ -1,2 +1,3 @@
 pub mod Admissions
 mod Counting
+pub mod Commits

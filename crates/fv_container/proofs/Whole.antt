@@ -11,53 +11,16 @@ use Rattle.fv_disk.specs.declared.fault.BlockFault.TheVariants.{DiskFault, Damag
 use Rattle.fv_codec.specs.declared.shape.Shape.{Shape}
 use Rattle.fv_codec.specs.declared.container.ContainerLeaf.{ContainerLeaf}
 use Rattle.fv_codec.specs.declared.container.ContainerInner.{ContainerInner}
-use Rattle.fv_codec.specs.Fields.{Verdict, in_range, reading, up_to, verdict_of, ◌then◌}
+use Rattle.fv_codec.specs.Fields.{up_to}
 use Rattle.fv_codec.specs.Blocks.{IsEntry, inner_at, last_place, leaf_at}
-use Rattle.fv_image.specs.Containers.{child_in, entry_in, has_none_past, level_width, inner_for, judged, leaf_for, node_of, node_verdict, shaped, IsNodePlace}
+use Rattle.fv_image.specs.Containers.{child_in, entry_in, has_none_past, level_width, node_of, node_verdict, shaped, IsNodePlace}
+use Rattle.fv_image.proofs.NodesOnce.{inner_says, leaf_says}
 use Rattle.fv_container.specs.Mapped.{Mapped}
 use Rattle.fv_container.specs.Clean.{IsCleanTree}
 use Rattle.fv_container.specs.Reading.{AreWholeLeaves, IsBadNode, IsInnerAs, IsLeafAs, IsLevelFault, StandInner, StandsInner}
 use Rattle.fv_container.specs.Spelled.{Spelled}
 use Rattle.fv_container.proofs.Named.{named_at}
 use Rattle.fv_container.proofs.Trees.{TreeAt, top_root}
-
--- ---- what a verdict says
-
-abbrev ranged : Bool → Bool → ℕ → ℕ → Verdict
-ranged low high m x = if low then Err (record { want = m; found = x }) else if high then Err (record { want = m; found = x }) else Ok tt
-
--- a number that has one allowed value
-in_one : (m x : ℕ) → in_range m m x ≡ Ok tt → x ≡ m
-in_one m x e = so (nat_lt x m) (nat_lt m x) refl refl e
-  where
-    so : (low high : Bool) → nat_lt x m ≡ low → nat_lt m x ≡ high → ranged low high m x ≡ Ok tt → x ≡ m
-    so true high a b e = absurd cc
-    so false true a b e = absurd cc
-    so false false a b e = grind (arith, nat_tests, a, b)
-
-both_fine : (a b : Verdict) → (a then b) ≡ Ok tt → (a ≡ Ok tt) × (b ≡ Ok tt)
-both_fine (Ok fine) b e = (refl, e)
-both_fine (Err fault) b e = absurd cc
-
-was_fine : {X : Type 0} (v : Verdict) (x : X) → verdict_of (reading v x) ≡ Ok tt → v ≡ Ok tt
-was_fine (Ok fine) x e = refl
-was_fine (Err fault) x e = absurd cc
-
-leaf_says : (index : ℕ) (block : List ℕ) (leaf : ContainerLeaf) → leaf_at block ≡ Ok leaf → node_verdict 0 index block ≡ Ok tt → leaf.index ≡ index
-unfolding leaf_for
-leaf_says index block leaf said own =
-    in_one index leaf.index (was_fine (in_range index index leaf.index) leaf (subst (λ (r : Result ContainerLeaf Shape). verdict_of (judged r (λ l. in_range index index l.index)) ≡ Ok tt) said own))
-
-inner_says : (level number : ℕ) (block : List ℕ) → node_verdict (suc level) number block ≡ Ok tt → (n : ContainerInner) × (inner_at block ≡ Ok n) × (n.level ≡ suc level) × (n.place ≡ number)
-unfolding inner_for
-inner_says level number block own = so (inner_at block) refl own
-  where
-    so : (r : Result ContainerInner Shape) → inner_at block ≡ r → verdict_of (judged r (λ n. in_range (suc level) (suc level) n.level then in_range number number n.place)) ≡ Ok tt
-        → (n : ContainerInner) × (inner_at block ≡ Ok n) × (n.level ≡ suc level) × (n.place ≡ number)
-    so (Err fault) is e = absurd cc
-    so (Ok n) is e =
-        let both = both_fine (in_range (suc level) (suc level) n.level) (in_range number number n.place) (was_fine (in_range (suc level) (suc level) n.level then in_range number number n.place) n e) in
-        (n, is, in_one (suc level) n.level both.0, in_one number n.place both.1)
 
 -- ---- one node
 
@@ -92,7 +55,7 @@ no_place pvbn kind is none =
 leaf_as : (entries index : ℕ) (block : List ℕ) (leaf : ContainerLeaf) → leaf_at block ≡ Ok leaf → ((c : ℕ) → c < 256 → IsEntry (get_or leaf.pvbns c 0, get_or leaf.kinds c 0))
     → node_verdict 0 index block ≡ Ok tt → has_none_past entries 0 index block ≡ true → IsLeafAs leaf index (entries - 256 * index)
 leaf_as entries index block leaf said range own ends = record {
-  index_said = leaf_says index block leaf said own;
+  index_said = let says = leaf_says index block own in ap (λ (l : ContainerLeaf). l.index) (one_node (leaf_at block) leaf says.0 said says.1) ∙ says.2;
   pvbns = λ c past within. no_place (get_or leaf.pvbns c 0) (get_or leaf.kinds c 0) (range c within) (kind c past within);
   kinds = kind;
 }

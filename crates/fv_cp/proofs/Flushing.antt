@@ -182,6 +182,10 @@ pub record HasPassed (disk : Shown) (pool : Pool) (states : States) (count : ℕ
   pub come : HasCome disk pool states after left stay
   -- the containers of the other slots are as they were
   pub ahead : (s : ℕ) → count ≤ s → container_at left.containers s ≡ container_at pool.containers s
+  -- and so are their volumes
+  pub waits : (s : ℕ) → count ≤ s → state_at stay s ≡ state_at states s
+  -- without files in memory nothing is placed
+  pub first : ((s : ℕ) → s < count → HasNoFiles (state_at states s)) → (left ≡ pool) × (stay ≡ states)
   pub done : (s : ℕ) → s < count → HasNoFiles (state_at stay s)
   pub whole : (s : ℕ) → s < count → HasWholeMap (state_at stay s)
 
@@ -198,6 +202,8 @@ passed_none disk pool states fit ready stands = record {
     stands = stands;
   };
   ahead = λ s past. refl;
+  waits = λ s past. refl;
+  first = λ none. (refl, refl);
   done = λ s low. absurd (omega (arith, low));
   whole = λ s low. absurd (omega (arith, low));
 }
@@ -327,13 +333,31 @@ module _ (disk : Shown) (pool : Pool) (states : States) (mid : Shown) (held : Po
           let ready : IsReadyIn mid held slot x = subst (λ (o : Option VolumeState). IfSome o (IsReadyIn mid held slot)) there (come.ready slot) in
           did.placed.goes.goes.goes.others s (λ same. differ (same ∙ ready.slot))
 
-  pub passed_more : ((s : ℕ) → slot ≤ s → container_at held.containers s ≡ container_at pool.containers s) → ((s : ℕ) → s < slot → HasNoFiles (state_at between s)) → ((s : ℕ) → s < slot → HasWholeMap (state_at between s))
+  -- a slot without files in memory leaves all
+  idle_more : HasNoFiles (state_at between slot) → PlacesSlot mid held between slot (state_at between slot) after left stay → (state_at between slot ≡ None → (left ≡ held) × (stay ≡ between)) → (left ≡ held) × (stay ≡ between)
+  idle_more none did idle = by (state_at between slot) refl did none
+    where
+      by : (o : Option VolumeState) → state_at between slot ≡ o → PlacesSlot mid held between slot o after left stay → HasNoFiles o → (left ≡ held) × (stay ≡ between)
+      by None at did none = idle at
+      by (Some x) at did none =
+          let ready : IsReadyIn mid held slot x = subst (λ (o : Option VolumeState). IfSome o (IsReadyIn mid held slot)) at (come.ready slot) in
+          let here : state_at between x.slot ≡ Some x = ap (state_at between) ready.slot ∙ at in
+          let now : stay ≡ with_state between x.slot (Some did.now) = did.row ∙ ap (λ (s : ℕ). with_state between s (Some did.now)) (sym ready.slot) in
+          one.idle_still mid after held left between stay x did.now here now come.placed.fit.housed did.placed none
+
+  pub passed_more : ((s : ℕ) → slot ≤ s → container_at held.containers s ≡ container_at pool.containers s) → ((s : ℕ) → slot ≤ s → state_at between s ≡ state_at states s)
+      → (((s : ℕ) → s < slot → HasNoFiles (state_at states s)) → (held ≡ pool) × (between ≡ states)) → ((s : ℕ) → s < slot → HasNoFiles (state_at between s)) → ((s : ℕ) → s < slot → HasWholeMap (state_at between s))
       → HasNoFiles (state_at stay slot) → HasWholeMap (state_at stay slot)
       → PlacesSlot mid held between slot (state_at between slot) after left stay → (state_at between slot ≡ None → after ≡ mid) → (state_at between slot ≡ None → (left ≡ held) × (stay ≡ between))
       → HasPassed disk pool states (slot + 1) after left stay
-  passed_more ahead done whole none long did same idle = record {
+  passed_more ahead waits first done whole none long did same idle = record {
     come = come_more (ahead slot (omega arith)) did same idle;
     ahead = λ s past. other_container s (λ e. absurd (omega (arith, past, e))) did (λ e. (idle e).0) ∙ ahead s (omega (arith, past));
+    waits = λ s past. other_slot s (λ e. absurd (omega (arith, past, e))) did (λ e. (idle e).1) ∙ waits s (omega (arith, past));
+    first = λ none.
+        let before = first (λ s low. none s (omega (arith, low))) in
+        let now = idle_more (subst HasNoFiles (sym (waits slot (omega arith))) (none slot (omega arith))) did idle in
+        (now.0 ∙ before.0, now.1 ∙ before.1);
     done = λ s low. also HasNoFiles done none s low;
     whole = λ s low. also HasWholeMap whole long s low;
   }
@@ -347,12 +371,12 @@ module _ (disk : Shown) (pool : Pool) (states : States) (mid : Shown) (held : Po
 -- ---- where a slot fails
 
 pub lacks_place : (disk : Shown) (pool : Pool) (states : States) (held : Pool) (between : States) → ArePlaced disk pool states disk held between → (slot : ℕ) → container_at held.containers slot ≡ container_at pool.containers slot
-    → (e : VolumeFault) → MayFail disk held (state_at between slot) e → FailsToPlace disk pool states e
-lacks_place disk pool states held between placed slot same e fails = by (state_at between slot) refl fails
+    → state_at between slot ≡ state_at states slot → (((s : ℕ) → s < slot → HasNoFiles (state_at states s)) → (held ≡ pool) × (between ≡ states)) → (e : VolumeFault) → MayFail disk held (state_at between slot) e → FailsToPlace disk pool states e
+lacks_place disk pool states held between placed slot same waits first e fails = by (state_at between slot) refl fails
   where
     by : (o : Option VolumeState) → state_at between slot ≡ o → MayFail disk held o e → FailsToPlace disk pool states e
     by None there fails = absurd fails
-    by (Some x) there fails = record { mid = held; between = between; placed = placed; slot = slot; entries = same; state = x; there = there; fails = fails }
+    by (Some x) there fails = record { mid = held; between = between; placed = placed; slot = slot; entries = same; state = x; there = there; own = sym waits ∙ there; first = first; fails = fails }
 
 -- it does so with files in memory alone
 pub files_there : (disk : Shown) (pool : Pool) (states : States) (e : VolumeFault) → FailsToPlace disk pool states e → HaveNoFiles states → ⊥

@@ -116,7 +116,7 @@ pub record ArePlaced (disk : Shown) (pool : Pool) (states : States) (after : Sho
 -- ---- why it isn't done
 
 -- The files of the volume of a slot weren't placed, once those of the slots before it were: `mid` is the pool then, and `between` are the volumes.
--- The volume's container is as it was.
+-- The volume and its container are as they were, and where none of those slots has files in memory all is.
 pub record FailsToPlace (disk : Shown) (pool : Pool) (states : States) (e : VolumeFault) : Type 0 where
   pub mid : Pool
   pub between : States
@@ -125,4 +125,6 @@ pub record FailsToPlace (disk : Shown) (pool : Pool) (states : States) (e : Volu
   pub entries : container_at mid.containers slot ≡ container_at pool.containers slot
   pub state : VolumeState
   pub there : state_at between slot ≡ Some state
+  pub own : state_at states slot ≡ Some state
+  pub first : ((s : ℕ) → s < slot → HasNoFiles (state_at states s)) → (mid ≡ pool) × (between ≡ states)
   pub fails : MayFail disk mid (Some state) e

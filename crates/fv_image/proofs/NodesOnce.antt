@@ -54,11 +54,12 @@ inner_mark block n e = in_one 0x465643494e4e4552 (word_at 0 block) (both_fine _ 
 
 -- ---- positions
 
-leaf_says : (number : ℕ) (block : List ℕ) → node_verdict 0 number block ≡ Ok tt → (l : ContainerLeaf) × (leaf_at block ≡ Ok l) × (l.index ≡ number)
+-- What the verdict of a position says of the block there.
+pub leaf_says : (number : ℕ) (block : List ℕ) → node_verdict 0 number block ≡ Ok tt → (l : ContainerLeaf) × (leaf_at block ≡ Ok l) × (l.index ≡ number)
 unfolding leaf_for
 leaf_says number block e = let w = well_judged (leaf_at block) (λ l. in_range number number l.index) e in (w.0, w.1, in_one number w.0.index w.2)
 
-inner_says : (level number : ℕ) (block : List ℕ) → node_verdict (suc level) number block ≡ Ok tt → (n : ContainerInner) × (inner_at block ≡ Ok n) × (n.level ≡ suc level) × (n.place ≡ number)
+pub inner_says : (level number : ℕ) (block : List ℕ) → node_verdict (suc level) number block ≡ Ok tt → (n : ContainerInner) × (inner_at block ≡ Ok n) × (n.level ≡ suc level) × (n.place ≡ number)
 unfolding inner_for
 inner_says level number block e =
     let w = well_judged (inner_at block) (λ n. in_range (suc level) (suc level) n.level then in_range number number n.place) e in

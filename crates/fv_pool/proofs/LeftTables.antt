@@ -43,31 +43,33 @@ module _ (old new : Lent) (drops : DropsOver old new) where
   left_laid : (g : Files) → AreLaid (under (shown_over new)) g → AreLaid (under (sees old.pool new.map old.disk old.home)) g
   left_laid g laid = subst (λ (u : Under). AreLaid u g) left_over laid
 
-  module _ {T : Type 0} (told well : Type 0) (f g : Files) (stamp : ℕ) (fails : BlockFault → Type 0) (holds : told → well) (led : told → files.KeepsLed (shown_over old) (shown_over new) f g) (fits : told → AreStanding (shown_over old) f → pending_in g ≤ pending_in f + 14) where
-    left_fault : (r : Result T BlockFault) → files.Changes told well (shown_over old) (shown_over new) f g fails r → AltersPlaces told well (shown_over old) (shown_over new) f g stamp r → LeavesTable told (shown_over old) (sees old.pool new.map old.disk old.home) f g stamp r
+  -- `well` is asked of the table, and gives what the files asked of it.
+  module _ {T : Type 0} (told asked well : Type 0) (f g : Files) (stamp : ℕ) (fails : BlockFault → Type 0) (holds : well → asked) (led : told → well → files.KeepsLed (shown_over old) (shown_over new) f g)
+      (fits : told → well → AreStanding (shown_over old) f → pending_in g ≤ pending_in f + 14) where
+    left_fault : (r : Result T BlockFault) → files.Changes told asked (shown_over old) (shown_over new) f g fails r → AltersPlaces told asked (shown_over old) (shown_over new) f g stamp r → LeavesTable told well (shown_over old) (sees old.pool new.map old.disk old.home) f g stamp r
     left_fault (Ok x) changes alters = record {
-      stands = λ t is. left_standing g (changes.stands t (holds t) is);
+      stands = λ t w is. left_standing g (changes.stands t (holds w) is);
       failed = λ t. tt;
-      led = λ t is reached. left_led g (led t is reached);
-      well = λ t is stored. left_stored g (changes.stored t (holds t) is stored);
-      alters = λ t is. left_altered f g stamp (alters.alters t (holds t) is);
-      laid = λ t is was. left_laid g (alters.laid t (holds t) is was);
+      led = λ t w is reached. left_led g (led t w is reached);
+      stored = λ t w is stored. left_stored g (changes.stored t (holds w) is stored);
+      alters = λ t w is. left_altered f g stamp (alters.alters t (holds w) is);
+      laid = λ t w is was. left_laid g (alters.laid t (holds w) is was);
       room = fits;
     }
     left_fault (Err e) changes alters = record {
-      stands = λ t is. left_standing g (changes.stands t (holds t) is);
+      stands = λ t w is. left_standing g (changes.stands t (holds w) is);
       failed = λ t. subst (λ (u : Under). table_told (standing_in u (changed g)) ≡ table_told (table_in (shown_over old) f)) left_over (changes.failed t);
-      led = λ t is reached. left_led g (led t is reached);
-      well = λ t is stored. left_stored g (changes.stored t (holds t) is stored);
-      alters = λ t is. left_altered f g stamp (alters.alters t (holds t) is);
-      laid = λ t is was. left_laid g (alters.laid t (holds t) is was);
+      led = λ t w is reached. left_led g (led t w is reached);
+      stored = λ t w is stored. left_stored g (changes.stored t (holds w) is stored);
+      alters = λ t w is. left_altered f g stamp (alters.alters t (holds w) is);
+      laid = λ t w is was. left_laid g (alters.laid t (holds w) is was);
       room = fits;
     }
 
-pub leaves_table : {T : Type 0} (told well : Type 0) (old new : Lent) → DropsOver old new → (f g : Files) (stamp : ℕ) (fails : BlockFault → Type 0) (r : Result T BlockFault) → files.Changes told well (shown_over old) (shown_over new) f g fails r
-    → AltersPlaces told well (shown_over old) (shown_over new) f g stamp r → (told → well) → (told → files.KeepsLed (shown_over old) (shown_over new) f g) → (told → AreStanding (shown_over old) f → pending_in g ≤ pending_in f + 14)
-    → LeavesTable told (shown_over old) (sees old.pool new.map old.disk old.home) f g stamp r
-leaves_table told well old new drops f g stamp fails r changes alters holds led fits = left_fault old new drops told well f g stamp fails holds led fits r changes alters
+pub leaves_table : {T : Type 0} (told asked well : Type 0) (old new : Lent) → DropsOver old new → (f g : Files) (stamp : ℕ) (fails : BlockFault → Type 0) (r : Result T BlockFault) → files.Changes told asked (shown_over old) (shown_over new) f g fails r
+    → AltersPlaces told asked (shown_over old) (shown_over new) f g stamp r → (well → asked) → (told → well → files.KeepsLed (shown_over old) (shown_over new) f g) → (told → well → AreStanding (shown_over old) f → pending_in g ≤ pending_in f + 14)
+    → LeavesTable told well (shown_over old) (sees old.pool new.map old.disk old.home) f g stamp r
+leaves_table told asked well old new drops f g stamp fails r changes alters holds led fits = left_fault old new drops told asked well f g stamp fails holds led fits r changes alters
 
 -- what holds of an answer by its two sides
 pub both_sides : {T E : Type 0} (P : Type 0) (r : Result T E) → OnErr r P → OnOk r P → P

@@ -12,7 +12,7 @@ use Rattle.fv_tree.specs.Sources.{Shown}
 use Rattle.fv_tree.specs.Standing.{under}
 use Rattle.fv_inode.specs.declared.info.Info.{Info}
 use Rattle.fv_inode.specs.Failing.{IsInodeDamage}
-use Rattle.fv_inode.specs.Files.{rooted, IsInfo}
+use Rattle.fv_inode.specs.Files.{rooted}
 use Rattle.fv_files.specs.declared.files.Files.{Files}
 use Rattle.fv_files.specs.Failing.{IsFileTree}
 use Rattle.fv_files.specs.Pending.{pending_in}
@@ -38,15 +38,15 @@ pub record Reads (old : Disk) (pool : Pool) (new : Disk) (left : Pool) : Type 0 
 
 -- What a change of a table with this stamp leaves over the blocks that are left: each tree stands on them, what is in use is led to and stored
 -- well if it was before, and after a fault the table is told as before. A place has the stamp and differs from its block, or is as before. A flush
--- has at most 14 blocks more to place.
-pub record LeavesTable {T : Type 0} (told : Type 0) (old new : Shown) (f g : Files) (stamp : ℕ) (result : Result T BlockFault) : Type 0 where
-  pub stands : told → AreStanding old f → AreStanding new g
+-- has at most 14 blocks more to place. `well` is what is asked of the table beside that it stands on its blocks.
+pub record LeavesTable {T : Type 0} (told well : Type 0) (old new : Shown) (f g : Files) (stamp : ℕ) (result : Result T BlockFault) : Type 0 where
+  pub stands : told → well → AreStanding old f → AreStanding new g
   pub failed : told → OnErr result (table_told (table_in new g) ≡ table_told (table_in old f))
-  pub led : told → AreStanding old f → IsLed old f → IsLed new g
-  pub well : told → AreStanding old f → IsStored old f → IsStored new g
-  pub alters : told → AreStanding old f → AltersTrees stamp (loaded_trees (under old) f) (loaded_trees (under new) g)
-  pub laid : told → AreStanding old f → AreLaid (under old) f → AreLaid (under new) g
-  pub room : told → AreStanding old f → pending_in g ≤ pending_in f + 14
+  pub led : told → well → AreStanding old f → IsLed old f → IsLed new g
+  pub stored : told → well → AreStanding old f → IsStored old f → IsStored new g
+  pub alters : told → well → AreStanding old f → AltersTrees stamp (loaded_trees (under old) f) (loaded_trees (under new) g)
+  pub laid : told → well → AreStanding old f → AreLaid (under old) f → AreLaid (under new) g
+  pub room : told → well → AreStanding old f → pending_in g ≤ pending_in f + 14
 
 -- what is told of the disk and of the entries where the blocks of a volume are lent for a table, whose pointers tell no wrong place
 abbrev pub TellsTable : Disk → Pool → Maps → Home → Files → Type 0
@@ -56,16 +56,9 @@ TellsTable disk pool map home f = IsTold disk pool map home.slot × HasRightTree
 abbrev pub TellsInfo : Disk → Pool → Maps → Home → Files → Info → Type 0
 TellsInfo disk pool map home f info = TellsTable disk pool map home f × IsInfoOf (rooted (sees pool map disk home) f.inode) info
 
--- and that the table is a machine's
-abbrev pub TellsWell : Disk → Pool → Maps → Home → Files → Info → Type 0
-TellsWell disk pool map home f info =
-    TellsTable disk pool map home f × (IsInfoOf (rooted (sees pool map disk home) f.inode) info × ((now : ℕ) × IsWellTable now (table_told (table_in (sees pool map disk home) f))))
-
--- What is known of a file is so in the table of a volume, which is a machine's.
-pub record KnowsFile (told : Type 0) (source : Shown) (f : Files) (info : Info) : Type 0 where
-  pub range : IsInfo info
-  pub there : told → IsInfoOf (rooted source f.inode) info
-  pub well : told → (now : ℕ) × IsWellTable now (table_told (table_in source f))
+-- the table is a machine's
+abbrev pub HasWellTable : Shown → Files → Type 0
+HasWellTable source f = (now : ℕ) × IsWellTable now (table_told (table_in source f))
 
 -- A file was cut, and the positions that went were counted.
 pub record CutsTold (told : Type 0) (old new : Shown) (f g : Files) (number length stamp : ℕ) (result : Result ℕ BlockFault) : Type 0 where

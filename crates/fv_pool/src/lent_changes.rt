@@ -83,7 +83,7 @@ pub fn write_told<K: Guard, D: Disk, L: Ledger>(
     requires range { IsInfo info.now }
     requires there { K.told → IsInfoOf (rooted (sees pool.old map.old (D.shown disk.old) home.now) files.old.inode) info.now }
     ensures written { K.told → OnOk result (WritesCell (table_in (sees pool.old map.old (D.shown disk.old) home.now) files.old) (table_in (sees pool.old map.new (D.shown disk.old) home.now) files.new) info.now.number index stamp block.now) }
-    ensures leaves { LeavesTable K.told (sees pool.old map.old (D.shown disk.old) home.now) (sees pool.old map.new (D.shown disk.old) home.now) files.old files.new stamp result }
+    ensures leaves { LeavesTable K.told (Unit {0}) (sees pool.old map.old (D.shown disk.old) home.now) (sees pool.old map.new (D.shown disk.old) home.now) files.old files.new stamp result }
     ensures map { map.new ≡ map.old }
     ensures reads { Reads (D.shown disk.old) pool.old (D.shown disk.new) pool.new }
     ensures cause { BlockCause K.told (table_in (sees pool.old map.old (D.shown disk.old) home.now) files.old) (lent_for pool.old map.old (D.shown disk.old) 0 home.now 0) (D.shown disk.new).faults result }
@@ -182,7 +182,7 @@ pub fn create_told<K: Guard, D: Disk, L: Ledger>(
     requires number { number < most_files }
     requires free { K.told → IsLeastFree (rooted (sees pool.old map.old (D.shown disk.old) home.now) files.old.inode) number }
     ensures made { K.told → OnOk result (AreStanding (sees pool.old map.old (D.shown disk.old) home.now) files.old → table_told (table_in (sees pool.old map.new (D.shown disk.old) home.now) files.new) ≡ new (table_told (table_in (sees pool.old map.old (D.shown disk.old) home.now) files.old)) name.now reserve stamp) }
-    ensures leaves { LeavesTable K.told (sees pool.old map.old (D.shown disk.old) home.now) (sees pool.old map.new (D.shown disk.old) home.now) files.old files.new stamp result }
+    ensures leaves { LeavesTable K.told (Unit {0}) (sees pool.old map.old (D.shown disk.old) home.now) (sees pool.old map.new (D.shown disk.old) home.now) files.old files.new stamp result }
     ensures map { map.new ≡ map.old }
     ensures reads { Reads (D.shown disk.old) pool.old (D.shown disk.new) pool.new }
     ensures cause { BlockCause K.told (table_in (sees pool.old map.old (D.shown disk.old) home.now) files.old) (lent_for pool.old map.old (D.shown disk.old) 0 home.now 0) (D.shown disk.new).faults result }

@@ -2,9 +2,10 @@
 
 ghost use Rattle.std.specs.Prelude.{◌≤◌, IfOk, OnOk};
 ghost use Rattle.fv_files.specs.Right.{HasRightTrees};
+ghost use Rattle.fv_inode.specs.Files.{rooted, IsInfo};
 ghost use Rattle.fv_files.specs.Calls.{RemovesFile, TakesByRemoval};
-ghost use Rattle.fv_files.specs.Tables.{table_in, AreStanding};
-ghost use Rattle.fv_pool.specs.Calls.{BlockCause, CutsTold, GivesUp, KnowsFile, LeavesTable, Reads};
+ghost use Rattle.fv_files.specs.Tables.{table_in, AreStanding, IsInfoOf};
+ghost use Rattle.fv_pool.specs.Calls.{BlockCause, CutsTold, GivesUp, HasWellTable, LeavesTable, Reads};
 ghost use Rattle.fv_pool.specs.Lending.{CanLend, IsLedger, IsTold, lent_for, sees};
 
 use crate::blocks::Home;
@@ -41,9 +42,10 @@ pub fn cut_told<K: Guard, D: Disk, L: Ledger>(
     requires right { K.told → HasRightTrees (sees pool.old map.old (D.shown disk.old) home.now) files.old }
     requires length { length ≤ 2097152 }
     requires stamp { 1 ≤ stamp }
-    requires known { KnowsFile K.told (sees pool.old map.old (D.shown disk.old) home.now) files.old info.now }
+    requires range { IsInfo info.now }
+    requires there { K.told → IsInfoOf (rooted (sees pool.old map.old (D.shown disk.old) home.now) files.old.inode) info.now }
     ensures cuts { CutsTold K.told (sees pool.old map.old (D.shown disk.old) home.now) (sees pool.old map.new (D.shown disk.old) home.now) files.old files.new info.now.number length stamp result }
-    ensures leaves { LeavesTable K.told (sees pool.old map.old (D.shown disk.old) home.now) (sees pool.old map.new (D.shown disk.old) home.now) files.old files.new stamp result }
+    ensures leaves { LeavesTable K.told (HasWellTable (sees pool.old map.old (D.shown disk.old) home.now) files.old) (sees pool.old map.old (D.shown disk.old) home.now) (sees pool.old map.new (D.shown disk.old) home.now) files.old files.new stamp result }
     ensures maps { GivesUp map.old map.new }
     ensures reads { Reads (D.shown disk.old) pool.old (D.shown disk.new) pool.new }
     ensures told { K.told → IsTold (D.shown disk.new) pool.new map.new home.now.slot }
@@ -82,12 +84,13 @@ pub fn remove_told<K: Guard, D: Disk, L: Ledger>(
     requires told { K.told → IsTold (D.shown disk.old) pool.old map.old home.now.slot }
     requires right { K.told → HasRightTrees (sees pool.old map.old (D.shown disk.old) home.now) files.old }
     requires stamp { 1 ≤ stamp }
-    requires known { KnowsFile K.told (sees pool.old map.old (D.shown disk.old) home.now) files.old info.now }
+    requires range { IsInfo info.now }
+    requires there { K.told → IsInfoOf (rooted (sees pool.old map.old (D.shown disk.old) home.now) files.old.inode) info.now }
     ensures removed { K.told → OnOk result (AreStanding (sees pool.old map.old (D.shown disk.old) home.now) files.old
         → RemovesFile (table_in (sees pool.old map.old (D.shown disk.old) home.now) files.old) (table_in (sees pool.old map.new (D.shown disk.old) home.now) files.new) info.now.number stamp) }
     ensures counted { K.told → IfOk result (λ count. AreStanding (sees pool.old map.old (D.shown disk.old) home.now) files.old
         → TakesByRemoval (table_in (sees pool.old map.old (D.shown disk.old) home.now) files.old) info.now.number stamp count) }
-    ensures leaves { LeavesTable K.told (sees pool.old map.old (D.shown disk.old) home.now) (sees pool.old map.new (D.shown disk.old) home.now) files.old files.new stamp result }
+    ensures leaves { LeavesTable K.told (HasWellTable (sees pool.old map.old (D.shown disk.old) home.now) files.old) (sees pool.old map.old (D.shown disk.old) home.now) (sees pool.old map.new (D.shown disk.old) home.now) files.old files.new stamp result }
     ensures maps { GivesUp map.old map.new }
     ensures reads { Reads (D.shown disk.old) pool.old (D.shown disk.new) pool.new }
     ensures told { K.told → IsTold (D.shown disk.new) pool.new map.new home.now.slot }

@@ -2,7 +2,7 @@
 use Rattle.std.proofs.Common.{◌≡◌, ◌≢◌, ◌⊎◌, ◌≤◌, ◌+◌, ℕ, max, inl, inr, ⊎_elim, Bool, true, false, cond, List, [], ◌∷◌, refl, sym, subst, ap, ◌∙◌, arith}
 use Rattle.std.proofs.lemmas.Bool.{both_ways}
 use Rattle.std.proofs.lemmas.Bool.Decides.{nat_tests}
-use Rattle.std.specs.Prelude.{◌||◌, ◌==◌, ◌&&◌, is_some, nat_lt, if◌then◌else◌, Option, Some, None, Ok, Err, IsTrue, IsNone}
+use Rattle.std.specs.Prelude.{◌||◌, ◌==◌, ◌&&◌, is_some, nat_lt, if◌then◌else◌, Option, Some, None, Ok, Err, IsTrue, IsNone, IsSome}
 use Rattle.fv_disk.specs.Shown.{Shown, IsDisk, Ends, Rose}
 use Rattle.fv_disk.specs.Crash.{Leaves}
 use Rattle.fv_disk.proofs.Moments.{started}
@@ -24,18 +24,20 @@ use Rattle.fv_aggregate.specs.declared.fault.Fault.TheVariants as session_fault
 use Rattle.fv_aggregate.specs.declared.session.Session.{Session}
 use Rattle.fv_aggregate.specs.Calls.{Goes, GoesFor, KeepsAsking}
 use Rattle.fv_aggregate.specs.Calls as calls
-use Rattle.fv_aggregate.specs.Commands.{changed_by, changes_volume, dirty_limit, is_built, machine_after, reads_files, most_room, Replies, RepliesBy, room_by, room_with, snapped_by}
+use Rattle.fv_aggregate.specs.Commands.{changed_by, changes_volume, dirty_limit, is_built, machine_after, reads_files, most_room, Replies, RepliesBy, room_by, room_with, snapped_by, volume_asked}
 use Rattle.fv_aggregate.specs.Asking.{AsksWithin}
-use Rattle.fv_aggregate.specs.Standing.{IsWithoutFiles, OneOf, StandsAfter, StandsFor}
+use Rattle.fv_aggregate.specs.Damages.{HasDamage}
+use Rattle.fv_aggregate.specs.Reading.{IsAsRead}
+use Rattle.fv_aggregate.specs.Standing.{IsWithoutFiles, OneOf, StandsAfter, StandsFor, StandsReady}
 use Rattle.fv_aggregate.proofs.Rooms.{fixed_room}
 use Rattle.fv_run.specs.declared.ending.Fault.{Fault}
 use Rattle.fv_run.specs.declared.ending.Fault.TheVariants.{Disk, Memory, Damaged}
 use Rattle.fv_run.specs.Endings.{count_of, of_session, IsWholeFault}
 use Rattle.fv_run.specs.Built.{built}
-use Rattle.fv_run.specs.Running.{asks_point, changes_volumes, left_by, room_in, IsRoomIn, reads_blocks}
-use Rattle.fv_run.specs.Answering.{Applies, IsReady, IsSessionFault}
+use Rattle.fv_run.specs.Running.{asks_point, changes_volumes, left_by, room_in, IsHurt, IsRoomIn, only_asks, reads_blocks}
+use Rattle.fv_run.specs.Answering.{Applies, IsReady, IsSessionFault, LacksSpace}
 use Rattle.fv_run.proofs.Rooms.{left_other}
-use Rattle.fv_run.proofs.Sessions.{images_stand, lacks, never_failed}
+use Rattle.fv_run.proofs.Sessions.{hurt_by, images_stand, lacks, never_failed}
 
 -- ---- a command, built or not
 
@@ -204,6 +206,26 @@ changes_none c none = so (changed_by c) (is_some (snapped_by c)) none
     so None snaps e = refl
     so (Some v) snaps e = absurd cc
 
+-- a built command that only asks for files
+asked_said : (c : Command) → only_asks (built (Says c)) ≡ true → (reads_files c ≡ true) × IsSome (volume_asked c)
+unfolding reads_files
+asked_said c asks = so (is_built c) asks
+  where
+    files : (a b : Bool) → b ≡ true → (a || b) ≡ true
+    files true b e = refl
+    files false b e = e
+
+    reads : is_some (volume_asked c) ≡ true → reads_files c ≡ true
+    reads e = files (is_some (changed_by c)) (is_some (volume_asked c)) e
+
+    there : (o : Option (List ℕ)) → is_some o ≡ true → IsSome o
+    there None e = absurd cc
+    there (Some name) e = refl
+
+    so : (is : Bool) → only_asks (cond is (Says c) NoCommand) ≡ true → (reads_files c ≡ true) × IsSome (volume_asked c)
+    so true e = (reads e, there (volume_asked c) e)
+    so false e = absurd cc
+
 -- ---- what a line says
 
 pub said : (line : Line) (c : Command) → Ok c ≡ reading line → line ≡ Says c
@@ -241,6 +263,7 @@ no_change session line reply host laws ready no_point allowed stays = record {
   no_damage = λ tells last m stands. tt;
   ready = ready;
   ends = tt;
+  read = λ asks. record { pool = record { map = refl; containers = refl; kept = refl; found = refl }; volumes = λ s. refl; same = refl };
   files = λ tells same none. none;
   asks = λ tells same room asks. (0, inl refl, record { asked = asks.asked; pending = omega (arith, asks.pending) });
   given = refl;
@@ -298,8 +321,9 @@ module _ (session new_session : Session) (line : Line) (command : Command) (old 
       → (IsTrue old.tells → (last m : Machine) → StandsFor old session last m → Replies m command reply)
       → (IsTrue old.tells → (last m : Machine) → StandsFor old session last m → command ≡ Cp → StandsFor new new_session m m)
       → (command ≡ Cp → new_session.pending ≡ 0)
+      → (reads_files command ≡ true → IsSome (volume_asked command) → IsAsRead session new_session)
       → Applies session (built line) old new_session new (Ok reply)
-  applied reply calm goes keeps files goes_for replies point pointed = record {
+  applied reply calm goes keeps files goes_for replies point pointed read = record {
     done = λ tells last m so_far. (
       subst (λ (l : Line). AllowsAt m (built l) reply) (sym says) (allowed_built m command reply (replies tells last m so_far)),
       record {
@@ -312,6 +336,7 @@ module _ (session new_session : Session) (line : Line) (command : Command) (old 
     no_damage = λ tells last m so_far. tt;
     ready = record { unfailed = goes.done.goes_on; stands = goes.stands goes.done.goes_on };
     ends = tt;
+    read = λ asks. let asked = asked_said command (subst (λ (l : Line). only_asks (built l) ≡ true) says asks) in read asked.0 asked.1;
     files = λ tells same none. files tells (changes_none command (same_by same)) none;
     asks = λ tells same room asks. (
       most_room command,
@@ -341,6 +366,7 @@ module _ (session new_session : Session) (line : Line) (command : Command) (old 
       no_damage = no_damage;
       ready = tt;
       ends = ends;
+      read = tt;
       files = λ tells same none. tt;
       asks = λ tells same room asks. tt;
       given = goes.ends.given;
@@ -355,10 +381,13 @@ module _ (session new_session : Session) (line : Line) (command : Command) (old 
     no_count same = record { tells = goes.ends.tells; source = ap (λ (e : Ends). e.source_faults) goes.ends.ends; sink = ap (λ (e : Ends). e.sink_faults) goes.ends.ends; disk = same }
 
   -- damage in a line
-  damaged : (at want found : ℕ) → (reads_files command ≡ false → calls.IsForWant old session new new_session (session_fault.Damaged at want found)) → IsSessionFault (built line) old session new Damaged
-  damaged at want found plain = so (reads_files command) refl
+  damaged : (at want found : ℕ) → StandsReady new new_session → HasDamage (room_by session.volumes command) old session new new_session at want found → (reads_files command ≡ false → calls.IsForWant old session new new_session (session_fault.Damaged at want found)) → IsSessionFault (built line) old session new Damaged
+  damaged at want found stands damage plain = ((new_session, (stands, subst (λ (n : ℕ). IsHurt n session new new_session) room (hurt_by (room_by session.volumes command) old session new new_session at want found damage))), so (reads_files command) refl)
     where
-      so : (reads : Bool) → reads_files command ≡ reads → IsSessionFault (built line) old session new Damaged
+      room : room_by session.volumes command ≡ room_in (room_by session.volumes) (built line)
+      room = sym (ap (λ (l : Line). room_in (room_by session.volumes) (built l)) says ∙ room_built session command)
+
+      so : (reads : Bool) → reads_files command ≡ reads → (reads_blocks (built line) ≡ true) ⊎ LacksSpace old session new
       so true e = inl (ap (λ (l : Line). reads_blocks (built l)) says ∙ reads_said command e)
       so false e = inr (lacks old new session new_session at want found (plain e))
 
@@ -373,5 +402,5 @@ module _ (session new_session : Session) (line : Line) (command : Command) (old 
   unapplied calm (session_fault.Damaged at want found) goes plain goes_for = stopped_by calm (session_fault.Damaged at want found) goes goes_for Damaged (no_count calm (session_fault.Damaged at want found) goes goes_for goes.fault.counts.faults)
       (λ calm. goes.fault.session)
       (λ tells last m so_far. absurd (goes_for tells last m so_far).whole)
-      (damaged at want found plain)
+      (damaged at want found (goes.stands goes.fault.session) goes.fault.reason plain)
   unapplied calm (session_fault.Failed faults) goes plain goes_for = absurd (never_failed session.failed faults ready.unfailed goes.fault.reason)

@@ -5,7 +5,7 @@ use Rattle.fv_model.specs.declared.commands.Command.{Command}
 use Rattle.fv_model.specs.Runs.{Line, whole}
 use Rattle.fv_aggregate.specs.declared.session.Session.{Session}
 use Rattle.fv_aggregate.specs.Commands.{most_room, room_by, room_of}
-use Rattle.fv_aggregate.specs.Standing.{Stands, StandsFor}
+use Rattle.fv_aggregate.specs.Standing.{StandsFor, StandsReady}
 use Rattle.fv_aggregate.proofs.Rooms.{room_most, room_stands}
 use Rattle.fv_model.specs.Machines.{Machine}
 use Rattle.fv_run.specs.Promises.{line_at}
@@ -15,7 +15,7 @@ use Rattle.fv_run.proofs.Rooms.{asks_less, behind_more, behind_none}
 
 -- ---- what bounds the rooms by a session's volumes
 
-pub bound_most : (disk : Shown) (session : Session) → Stands disk session → (c : Command) → room_by session.volumes c ≤ most_room c
+pub bound_most : (disk : Shown) (session : Session) → StandsReady disk session → (c : Command) → room_by session.volumes c ≤ most_room c
 bound_most disk session stands c = room_most disk session stands c
 
 pub bound_for : (disk : Shown) (session : Session) (last m : Machine) → StandsFor disk session last m → (c : Command) → room_by session.volumes c ≤ room_of m c

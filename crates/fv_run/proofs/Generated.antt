@@ -18,7 +18,7 @@ use Rattle.fv_aggregate.specs.declared.session.Session.{Session}
 use Rattle.fv_aggregate.specs.Calls.{SameCounts}
 use Rattle.fv_aggregate.specs.Causes.{HasOpenCause, IsOpenFault, IsUnwritten}
 use Rattle.fv_aggregate.specs.Opening.{IsOpened}
-use Rattle.fv_aggregate.specs.Standing.{Stands, StandsFor}
+use Rattle.fv_aggregate.specs.Standing.{StandsFor, StandsReady}
 use Rattle.fv_run.specs.declared.ending.Fault.{Fault}
 use Rattle.fv_run.specs.declared.ending.Fault.TheVariants.{Usage, NotAggregate, Source, Sink, Disk, Memory, Damaged, Limit}
 use Rattle.fv_run.specs.Answering.{BeginsFor}
@@ -91,7 +91,7 @@ module _ (lines : List Line) (old mid : Shown) (laws : IsDisk old) (unwritten : 
 
   -- ---- it was
 
-  module _ (session : Session) (new : Shown) (stands : Stands mid session) (stood : IsTrue old.tells → (m : Machine) → machine_of old.reads ≡ Some m → StandsFor mid session m m) (calm : SameCounts old mid)
+  module _ (session : Session) (new : Shown) (stands : StandsReady mid session) (stood : IsTrue old.tells → (m : Machine) → machine_of old.reads ≡ Some m → StandsFor mid session m m) (calm : SameCounts old mid)
       (loaded : IsTrue old.tells → IsOpened old.reads session) (begins : session.pending ≡ 0) where
     machine : IsTrue old.tells → (m : Machine) → machine_of old.reads ≡ Some m → BeginsFor mid session m
     machine tells m is = record { stands = stood tells m is; pending = begins }

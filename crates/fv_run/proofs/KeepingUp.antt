@@ -14,18 +14,7 @@ use Rattle.fv_run.specs.declared.ending.Fault.{Fault}
 use Rattle.fv_run.specs.declared.ending.Fault.TheVariants.{Usage, NotAggregate, Source, Sink, Disk, Memory, Damaged, Limit}
 use Rattle.fv_run.specs.Running.{begun, KeepsUp}
 use Rattle.fv_run.specs.Answering.{HasRead}
-
--- every line that is answered was begun
-begun_least : (result : Result Unit Fault) (output : List ℕ) → whole output ≤ begun result output
-begun_least (Ok done) output = omega arith
-begun_least (Err Usage) output = omega arith
-begun_least (Err NotAggregate) output = omega arith
-begun_least (Err Source) output = omega arith
-begun_least (Err Sink) output = omega arith
-begun_least (Err Disk) output = omega arith
-begun_least (Err Memory) output = omega arith
-begun_least (Err Damaged) output = omega arith
-begun_least (Err Limit) output = omega arith
+use Rattle.fv_run.proofs.Surviving.{begun_least}
 
 to_come_is : (ended : Bool) (left : List ℕ) → (ended ≡ true → left ≡ []) → to_come ended left ≡ left
 to_come_is true left known = sym (known refl)

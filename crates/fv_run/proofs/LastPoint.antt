@@ -1,5 +1,5 @@
 -- All lines are answered; then come the last consistency point and the line of `done`.
-use Rattle.std.proofs.Common.{◌≡◌, ◌⊎◌, inl, inr, ⊎_elim, ℕ, ◌+◌, ◌≤◌, ◌++◌, List, [], length, map, take, drop, sym, ap, subst, ◌∙◌, arith, append_assoc, append-nil}
+use Rattle.std.proofs.Common.{◌≡◌, ◌⊎◌, inl, inr, ⊎_elim, ℕ, ◌+◌, ◌<◌, ◌≤◌, ◌++◌, true, List, [], length, map, take, drop, sym, ap, subst, ◌∙◌, arith, append_assoc, append-nil}
 use Rattle.std.specs.Prelude.{flat_map, Some, None, Result, Ok, Err, IsNone, IsTrue}
 use Rattle.std.proofs.lemmas.List.{length-drop}
 use Rattle.fv_disk.specs.Shown.{Ends, Image, Shown, Rose}
@@ -24,19 +24,22 @@ use Rattle.fv_aggregate.specs.declared.session.Session.{Session}
 use Rattle.fv_aggregate.specs.Calls.{Goes, GoesFor}
 use Rattle.fv_aggregate.specs.Calls as calls
 use Rattle.fv_aggregate.specs.Causes.{KeepsEnds}
+use Rattle.fv_aggregate.specs.Commands.{room_by}
+use Rattle.fv_aggregate.specs.Reading.{IsAsRead}
 use Rattle.fv_aggregate.specs.Standing.{OneOf, StandsFor}
 use Rattle.fv_run.specs.declared.ending.Fault.{Fault}
 use Rattle.fv_run.specs.declared.ending.Fault.TheVariants.{Disk, Memory, Damaged}
 use Rattle.fv_run.specs.Built.{built, lines_built}
 use Rattle.fv_run.specs.Endings.{count_of, IsWholeFault, of_session}
-use Rattle.fv_run.specs.Running.{HasChanged, IsAtRest, IsOverLimit, KeepsUp, most_rooms, rooms_along, Survives, IsQuiet}
-use Rattle.fv_run.specs.Answering.{AsksFor, HasAnswered, IsAtEnd, IsEndOf, LacksSpace, IsLine, TellsLine, BeginsFor}
+use Rattle.fv_run.specs.Promises.{line_at}
+use Rattle.fv_run.specs.Running.{HasChanged, IsAtRest, IsOverLimit, KeepsUp, MeetsDamage, most_rooms, only_asks, room_in, rooms_along, Survives, IsQuiet}
+use Rattle.fv_run.specs.Answering.{AsksFor, HasAnswered, IsAtEnd, IsEndOf, IsHurtBy, LacksSpace, IsLine, TellsLine, BeginsFor}
 use Rattle.fv_run.proofs.Acked.{acked_all, acked_whole, up_to_take}
 use Rattle.fv_run.proofs.Following.{follows_part, follows_whole, full}
 use Rattle.fv_run.proofs.KeepingUp.{keeps_up_between, none_before}
 use Rattle.fv_run.proofs.Limits.{all_read, same_behind}
 use Rattle.fv_run.proofs.Lines.{no_end, one_end}
-use Rattle.fv_run.proofs.Sessions.{images_stand, lacks, never_failed, reads_stand, rests_standing_for}
+use Rattle.fv_run.proofs.Sessions.{hurt_by, hurt_more, images_stand, lacks, never_failed, reads_stand, rests_standing_for}
 use Rattle.fv_run.proofs.Surviving.{after_some, after_all, asked_for, part_of_one, rested}
 use Rattle.fv_run.proofs.Answered.{survives, followed}
 use Rattle.fv_run.proofs.Ran.{RanOpen}
@@ -266,16 +269,33 @@ module _ (limit : ℕ) (session : Session) (mid : Shown) (last : Session) (end :
       → (new : Shown) (result : Result Unit Fault) → TellsLine point (done_text count) new result → RanOpen limit session mid new result
   ran_whole next point goes goes_for done new result told = told_whole next point (λ tells before m stands. (goes_for tells before m stands).any_moment) goes.ends done goes.done.counts.faults new result told
 
-  -- a point that lacks blocks lacks them in the image, or for files that a line changed
-  damaged : (point : Shown) → KeepsEnds end point → LacksSpace end last point → IsEndOf limit session mid point Damaged
-  damaged point keeps wants = λ tells within none. ⊎_elim
-      (λ (asks : AsksFor (lines_built mid.ends.left) end last).
-      let short = wants (end_told tells) asks.none asks.room asks.asks in
-      inl (record { room = asks.room; asks = asks.line; at = short.0; want = short.1; found = short.2; short = short.3 }))
-      (λ (changed : HasChanged (lines_built mid.ends.left) count).
+  -- what was damaged at the end
+  meets : (point : Shown) → KeepsEnds end point → IsHurtBy 0 last point → IsTrue mid.tells → MeetsDamage (lines_built mid.ends.left) session mid point
+  meets point keeps hurt tells =
       let read = at_end.stands.reads tells in
-      inr (record { output = read.output; given = keeps.given ∙ read.given; line = inr (subst (λ (n : ℕ). HasChanged (lines_built mid.ends.left) n) (sym read.answered) changed) }))
-      (at_end.stands.asks tells within none)
+      record {
+        output = read.output;
+        given = keeps.given ∙ read.given;
+        session = last;
+        opened = subst (λ (n : ℕ). ((j : ℕ) → j < n → only_asks (line_at (lines_built mid.ends.left) j) ≡ true) → IsAsRead session last) (sym read.answered) (at_end.stands.opened tells);
+        left = hurt.0;
+        stands = hurt.1.0;
+        hurt = hurt_more 0 (room_in (room_by last.volumes) (line_at (lines_built mid.ends.left) (whole read.output))) (omega arith) last point hurt.0 hurt.1.1;
+      }
+
+  -- a point that lacks blocks lacks them in the image, or for files that a line changed
+  damaged : (point : Shown) → KeepsEnds end point → IsHurtBy 0 last point → LacksSpace end last point → IsEndOf limit session mid point Damaged
+  damaged point keeps hurt wants = λ tells. (
+    meets point keeps hurt tells,
+    λ within none. ⊎_elim
+        (λ (asks : AsksFor (lines_built mid.ends.left) end last).
+        let short = wants (end_told tells) asks.none asks.room asks.asks in
+        inl (record { room = asks.room; asks = asks.line; at = short.0; want = short.1; found = short.2; short = short.3 }))
+        (λ (changed : HasChanged (lines_built mid.ends.left) count).
+        let read = at_end.stands.reads tells in
+        inr (record { output = read.output; given = keeps.given ∙ read.given; line = inr (subst (λ (n : ℕ). HasChanged (lines_built mid.ends.left) n) (sym read.answered) changed) }))
+        (at_end.stands.asks tells within none),
+  )
 
   -- it wasn't made
   pub point_failed : (next : Session) (point : Shown) (fault : SessionFault) → Goes {T = Unit {0}} 0 end last point next (Err fault)
@@ -292,5 +312,5 @@ module _ (limit : ℕ) (session : Session) (mid : Shown) (last : Session) (end :
       (record { tells = goes.ends.tells; source = ap (λ (e : Ends). e.source_faults) goes.ends.ends; sink = ap (λ (e : Ends). e.sink_faults) goes.ends.ends; disk = goes.fault.counts.faults })
       (λ tells before m stands calm. absurd (goes_for tells before m stands).whole)
       (λ tells m stands. let a = answers tells m stands in absurd (goes_for (end_told tells) (after m (lines_built mid.ends.left) a.applied.point) (after m (lines_built mid.ends.left) count) a.applied.stands).whole)
-      (damaged point goes.ends (lacks end point last next at want found wants))
+      (damaged point goes.ends (next, (goes.stands goes.fault.session, hurt_by 0 end last point next at want found goes.fault.reason)) (lacks end point last next at want found wants))
   point_failed next point (session_fault.Failed faults) goes goes_for kept wants = absurd (never_failed last.failed faults at_end.stands.ready.unfailed goes.fault.reason)

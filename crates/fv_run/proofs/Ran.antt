@@ -16,13 +16,13 @@ use Rattle.fv_aggregate.specs.Asking.{AsksWithin}
 use Rattle.fv_aggregate.specs.Calls.{SameCounts}
 use Rattle.fv_aggregate.specs.Opening.{IsOpened}
 use Rattle.fv_aggregate.specs.Causes.{IsUnwritten}
-use Rattle.fv_aggregate.specs.Standing.{IsWithoutFiles, Stands, StandsFor}
+use Rattle.fv_aggregate.specs.Standing.{IsWithoutFiles, StandsFor, StandsReady}
 use Rattle.fv_run.specs.declared.ending.Fault.{Fault}
 use Rattle.fv_run.specs.declared.ending.Fault.TheVariants.{Usage, NotAggregate, Source, Sink, Disk, Memory, Damaged, Limit}
 use Rattle.fv_run.specs.Built.{lines_built}
 use Rattle.fv_run.specs.Endings.{IsWholeFault, raised_by}
 use Rattle.fv_run.specs.Promises.{line_at}
-use Rattle.fv_run.specs.Running.{asks_behind, EndsInPoint, HasAnsweredAll, HasChanged, HasFollowed, HasReason, Holds, IsAskedFor, IsAtRest, IsFileDamage, IsLacking, IsLastFor, IsOverLimit, IsPastLimit, KeepsUp, most_rooms, rooms_along, IsSessionDamage, Ran, reads_blocks, Survives, SurvivesFrom, AsksNone, IsQuiet}
+use Rattle.fv_run.specs.Running.{asks_behind, EndsInPoint, HasAnsweredAll, HasChanged, HasFollowed, HasReason, Holds, IsAskedFor, IsAtRest, IsFileDamage, IsLacking, IsLastFor, IsOverLimit, IsPastLimit, KeepsUp, MeetsDamage, most_rooms, rooms_along, IsSessionDamage, Ran, reads_blocks, Survives, SurvivesFrom, AsksNone, IsQuiet}
 use Rattle.fv_run.specs.Answering.{IsEndOf, Stopped, BeginsFor}
 use Rattle.fv_run.proofs.Admitted.{image_is_admitted}
 use Rattle.fv_run.proofs.KeepingUp.{keeps_up_since}
@@ -48,7 +48,7 @@ pub record PointedOpen (session : Session) (mid new : Shown) : Type 0 where
   pub next : Session
   pub quiet : ((line : ℕ) → asks_behind most_rooms (lines_built mid.ends.left) line ≡ false) → before ≡ mid.reads
   pub left : IsPointed new last next
-  pub stands : Stands new next
+  pub stands : StandsReady new next
   pub machine : (m : Machine) → BeginsFor mid session m → IsLastFor m (lines_built mid.ends.left) mid.reads before last new next
 
 pub stopped_open : (limit : ℕ) (session : Session) (mid new : Shown) (fault : Fault) → Stopped limit session mid new fault → RanOpen limit session mid new (Err fault)
@@ -63,7 +63,7 @@ stopped_open limit session mid new fault stopped = record {
   quiet = stopped.quiet;
 }
 
-module _ (limit : ℕ) (session : Session) (old mid new : Shown) (laws : IsDisk old) (unwritten : IsUnwritten old mid) (stands : Stands mid session)
+module _ (limit : ℕ) (session : Session) (old mid new : Shown) (laws : IsDisk old) (unwritten : IsUnwritten old mid) (stands : StandsReady mid session)
     (stood : IsTrue old.tells → (m : Machine) → machine_of old.reads ≡ Some m → StandsFor mid session m m) (within : IsTrue old.tells → AsksWithin mid session 0) (none : IsTrue old.tells → IsWithoutFiles session) (calm : SameCounts old mid) (loaded : IsTrue old.tells → IsOpened old.reads session) (begins : session.pending ≡ 0) where
   machine : IsTrue old.tells → (m : Machine) → machine_of old.reads ≡ Some m → BeginsFor mid session m
   machine tells m is = record { stands = stood tells m is; pending = begins }
@@ -144,6 +144,17 @@ module _ (limit : ℕ) (session : Session) (old mid new : Shown) (laws : IsDisk 
       }))
       is
 
+  meets_since : MeetsDamage (lines_built mid.ends.left) session mid new → MeetsDamage (lines_built old.ends.left) session old new
+  meets_since is = subst (λ (l : List ℕ). MeetsDamage (lines_built l) session old new) same_left (record {
+    output = is.output;
+    given = since_given is.output is.given;
+    session = is.session;
+    opened = is.opened;
+    left = is.left;
+    stands = is.stands;
+    hurt = is.hurt;
+  })
+
   reason_since : (fault : Fault) → IsEndOf limit session mid new fault → HasReason limit old new fault
   reason_since Usage is = is
   reason_since NotAggregate is = absurd is
@@ -151,7 +162,12 @@ module _ (limit : ℕ) (session : Session) (old mid new : Shown) (laws : IsDisk 
   reason_since Sink is = tt
   reason_since Disk is = tt
   reason_since Memory is = tt
-  reason_since Damaged is = λ tells. inr (damage_since (is (mid_told tells) (within tells) (none tells)))
+  reason_since Damaged is = λ tells. inr (record {
+    first = session;
+    opened = loaded tells;
+    meets = meets_since (is (mid_told tells)).0;
+    why = damage_since ((is (mid_told tells)).1 (within tells) (none tells));
+  })
   reason_since Limit is = λ tells. past_since (is (mid_told tells))
 
   reasons_since : (result : Result Unit Fault) → IfErr result (IsEndOf limit session mid new) → IfErr result (HasReason limit old new)

@@ -1,5 +1,5 @@
 -- What a session on a disk stands for, and that it goes on doing so while the disk rests.
-use Rattle.std.proofs.Common.{◌≡◌, ◌<◌, ⊎_elim, ℕ, suc, zero, true, false, refl, sym, ap, subst, ◌∙◌, arith}
+use Rattle.std.proofs.Common.{◌≡◌, ◌<◌, ◌≤◌, inl, inr, ⊎_elim, ℕ, suc, zero, true, false, refl, sym, ap, subst, ◌∙◌, arith}
 use Rattle.std.specs.Prelude.{Some, None, Option, Result, Ok, Err, IsNone, IsOk, IsErr, IsTrue}
 use Rattle.fv_disk.specs.Shown.{Image, Shown}
 use Rattle.fv_disk.specs.DiskCalls.{Stays}
@@ -21,12 +21,14 @@ use Rattle.fv_root.specs.Finding.{IsDamaged, IsFound, IsNoAggregate, root_found}
 use Rattle.fv_aggregate.specs.declared.fault.OpenFault.TheVariants.{Damaged}
 use Rattle.fv_aggregate.specs.declared.session.Session.{Session}
 use Rattle.fv_aggregate.specs.declared.fault.Fault.TheVariants as session_fault
-use Rattle.fv_aggregate.specs.Standing.{taken_since, Stands, StandsAfter, StandsFor}
+use Rattle.fv_aggregate.specs.Standing.{taken_since, StandsAfter, StandsFor, StandsReady}
 use Rattle.fv_aggregate.specs.Asking.{AsksWithin, IsShort}
 use Rattle.fv_aggregate.specs.Calls.{LacksBlocks, HasFilesToPlace}
+use Rattle.fv_aggregate.specs.Damages.{HasDamage}
 use Rattle.fv_aggregate.specs.Calls as calls
 use Rattle.fv_aggregate.specs.Causes.{IsOpenFault, IsUnder}
 use Rattle.fv_aggregate.proofs.Clear.{none_taken}
+use Rattle.fv_run.specs.Running.{IsHurt}
 use Rattle.fv_run.specs.Answering.{LacksSpace}
 
 abbrev nothing_behind : Option (Result Root Shape)
@@ -53,11 +55,13 @@ point_stays old new session next last m before now same stood stands =
 found_still : (old new : Shown) (found : Found) → Rests old new → IsFoundOn old found → IsFoundOn new found
 found_still old new found rests on = record { reads = rw rests.stays.reads on.reads; images = λ c now. on.images c (rests.stays.no_more c now) }
 
-pub rests_standing : (old new : Shown) (session : Session) → Rests old new → Stands old session → Stands new session
+pub rests_standing : (old new : Shown) (session : Session) → Rests old new → StandsReady old session → StandsReady new session
 rests_standing old new session rests stands = record {
-  found = λ tells. found_still old new session.pool.found rests (stands.found (rw (← rests.stays.tells) tells));
-  map = λ tells. rw rests.stays.reads (stands.map (rw (← rests.stays.tells) tells));
-  cache = record { same = λ tells pvbn block has. rw rests.stays.reads (stands.cache.same (rw (← rests.stays.tells) tells) pvbn block has) };
+  stands = record {
+    found = λ tells. found_still old new session.pool.found rests (stands.stands.found (rw (← rests.stays.tells) tells));
+    map = λ tells. rw rests.stays.reads (stands.stands.map (rw (← rests.stays.tells) tells));
+    cache = record { same = λ tells pvbn block has. rw rests.stays.reads (stands.stands.cache.same (rw (← rests.stays.tells) tells) pvbn block has) };
+  };
   ready = all_ready_still old new rests.stays session.pool session.volumes stands.ready;
 }
 
@@ -113,8 +117,8 @@ not_found i found none is = differ (sym (no_root i none) ∙ is.root)
     differ : None ≡ Some (root_found found) → ⊥
     differ e = cc
 
-pub not_opened : (disk : Shown) (session : Session) → IsTrue disk.tells → Stands disk session → IsNoAggregate disk.reads → ⊥
-not_opened disk session tells stands none = not_found disk.reads session.pool.found none (stands.found tells).reads
+pub not_opened : (disk : Shown) (session : Session) → IsTrue disk.tells → StandsReady disk session → IsNoAggregate disk.reads → ⊥
+not_opened disk session tells stands none = not_found disk.reads session.pool.found none (stands.stands.found tells).reads
 
 not_behind : (i : Image) (at want number : ℕ) → IsNoAggregate i → IsDamaged i at want number → ⊥
 not_behind i at want number none is = ⊎_elim
@@ -149,6 +153,22 @@ not_damaged i at want number none fault = ⊎_elim
     (λ (is : IsUnder i at want number). not_found i is.root none is.found)
     fault
 
+-- ---- calls that met damage
+
+-- what was damaged, by what the disk shows after it
+pub hurt_by : (room : ℕ) (old : Shown) (session : Session) (new : Shown) (left : Session) (at want found : ℕ) → HasDamage room old session new left at want found → IsHurt room session new left
+hurt_by room old session new left at want found (inl unwritten) = record { at = at; want = want; found = found; damage = inl unwritten.1 }
+hurt_by room old session new left at want found (inr behind) = record { at = at; want = want; found = found; damage = inr behind }
+
+-- so it is of one that may add more
+pub hurt_more : (least room : ℕ) → least ≤ room → (session : Session) (new : Shown) (left : Session) → IsHurt least session new left → IsHurt room session new left
+hurt_more least room le session new left is = record {
+  at = is.at;
+  want = is.want;
+  found = is.found;
+  damage = ⊎_elim (λ unwritten. inl unwritten) (λ behind. inr ((let past = behind.0 in omega (arith, past, le)), behind.1)) is.damage;
+}
+
 -- ---- points that lack blocks
 
 -- where nothing of files waits, a point that lacks blocks lacks them in the image
@@ -157,5 +177,5 @@ lacks old new session new_session at want found is tells none room asks = ⊎_el
     (λ (short : LacksBlocks old session new_session at want found).
     let same : taken_since new_session.pool.map ≡ 0 = ap (λ (s : Session). taken_since s.pool.map) (short.same none.none) ∙ none_taken session.pool.map none.taken in
     (at, want, found, subst (λ (i : Image). IsShort i room 0 at want found) (sym is.0.stays.reads) (subst (λ (n : ℕ). IsShort old.reads room n at want found) same (short.image tells room asks))))
-    (λ (place : HasFilesToPlace session). absurd (place.files none.none))
+    (λ (place : HasFilesToPlace old session at want found). absurd (place.files none.none))
     is.1

@@ -22,14 +22,16 @@ use Rattle.fv_lines.proofs.Ends.{whole_append}
 use Rattle.fv_aggregate.specs.declared.session.Session.{Session}
 use Rattle.fv_aggregate.specs.Asking.{AsksWithin}
 use Rattle.fv_aggregate.specs.Commands.{most_room, room_by}
+use Rattle.fv_aggregate.specs.Reading.{IsAsRead}
+use Rattle.fv_aggregate.proofs.Damages.{as_read_then}
 use Rattle.fv_aggregate.specs.Standing.{IsWithoutFiles}
 use Rattle.fv_run.specs.declared.ending.Fault.{Fault}
 use Rattle.fv_run.specs.declared.ending.Fault.TheVariants.{Usage, NotAggregate, Source, Sink, Disk, Memory, Damaged, Limit}
 use Rattle.fv_run.specs.Built.{built, lines_built}
 use Rattle.fv_run.specs.Endings.{count_of, IsWholeFault}
 use Rattle.fv_run.specs.Promises.{line_at}
-use Rattle.fv_run.specs.Running.{begun, changes_volumes, HasChanged, Holds, IsOverLimit, IsPastLimit, IsSessionDamage, KeepsUp, most_rooms, reads_blocks, rooms_along, Survives, asks_point, pending_behind, IsQuiet}
-use Rattle.fv_run.specs.Answering.{Applies, AsksFor, BeginsFor, HasAnswered, HasRead, IsAtEnd, IsCounted, IsEndOf, LacksSpace, IsReady, IsSessionFault, StandsAt, Stopped, TellsLine}
+use Rattle.fv_run.specs.Running.{begun, changes_volumes, HasChanged, Holds, IsOverLimit, IsHurt, IsPastLimit, IsSessionDamage, KeepsUp, MeetsDamage, most_rooms, only_asks, reads_blocks, room_in, rooms_along, Survives, asks_point, pending_behind, IsQuiet}
+use Rattle.fv_run.specs.Answering.{Applies, AsksFor, BeginsFor, HasAnswered, HasRead, IsAtEnd, IsCounted, IsEndOf, IsHurtBy, LacksSpace, IsReady, IsSessionFault, StandsAt, Stopped, TellsLine}
 use Rattle.fv_run.proofs.Following.{left_next, line_behind}
 use Rattle.fv_run.proofs.KeepingUp.{keeps_up_source, keeps_up_limit, keeps_up_line, next_most, next_all, end_most, knows_on}
 use Rattle.fv_run.proofs.Lines.{no_end, one_end}
@@ -49,6 +51,7 @@ starts limit first old laws ready = record {
   reads = λ tells. record { output = []; given = sym (append-nil old.given); answered = refl; read = []; front = refl; room = omega arith; ended = inl refl; most = omega arith; all = λ going. refl; piece = omega arith; knows = λ ended. absurd (true≢false (sym ended)) };
   lines = λ tells line is. is;
   behind = λ tells. refl;
+  opened = λ tells only. record { pool = record { map = refl; containers = refl; kept = refl; found = refl }; volumes = λ s. refl; same = refl };
   counted = λ tells none. counted_none most_rooms (lines_built old.ends.left) old first none;
   asks = λ tells asks none. inl (record { none = none; room = 0; line = inl refl; asks = asks });
   answers = λ tells m stands. none_answered m (lines_built old.ends.left) old first laws stands;
@@ -178,6 +181,7 @@ module _ (limit : ℕ) (first : Session) (old : Shown) (held : Held) (session : 
         reads = end_reads;
         lines = λ tells line is. let more = finds.reads (told tells) in so_far.lines tells line (subst (λ (l : List Line). Contains l line) (ap lines_built (more.found.1 ∙ sym more.found.0)) is);
         behind = λ tells. let more = finds.reads (told tells) in ap lines_built (more.found.1 ∙ sym more.found.0) ∙ so_far.behind tells;
+        opened = so_far.opened;
         counted = λ tells none. counted_still most_rooms script old session now count (so_far.counted tells none) mid finds.asks.rests.stays.reads;
         asks = λ tells within none. asks_still finds.asks.rests (so_far.asks tells within none);
         answers = λ tells m stands.
@@ -297,6 +301,20 @@ module _ (limit : ℕ) (first : Session) (old : Shown) (held : Held) (session : 
             line = subst (λ (n : ℕ). (reads_blocks (line_at script n) ≡ true) ⊎ HasChanged script n) (sym read.answered) line;
           })
 
+      meets : end.given ≡ mid.given → IsTrue old.tells → IsHurtBy (room_in (room_by session.volumes) (built (line_of bytes))) session end → MeetsDamage script first old end
+      meets same tells hurt =
+          let read = so_far.reads tells in
+          record {
+            output = read.output;
+            given = same ∙ finds.asks.given ∙ read.given;
+            session = session;
+            opened = subst (λ (n : ℕ). ((j : ℕ) → j < n → only_asks (line_at script j) ≡ true) → IsAsRead first session) (sym read.answered) (so_far.opened tells);
+            left = hurt.0;
+            stands = hurt.1.0;
+            hurt = subst (λ (n : ℕ). IsHurt (room_in (room_by session.volumes) (line_at script n)) session end hurt.0) (sym read.answered)
+                (subst (λ (l : Line). IsHurt (room_in (room_by session.volumes) l) session end hurt.0) (sym (line_is tells)) hurt.1.1);
+          }
+
       ends_so : end.given ≡ mid.given → (fault : Fault) → IsSessionFault (built (line_of bytes)) mid session end fault → IsEndOf limit first old end fault
       ends_so same Usage is = is
       ends_so same NotAggregate is = is
@@ -304,15 +322,18 @@ module _ (limit : ℕ) (first : Session) (old : Shown) (held : Held) (session : 
       ends_so same Sink is = absurd is
       ends_so same Disk is = is
       ends_so same Memory is = is
-      ends_so same Damaged is = λ tells within none. ⊎_elim
-          (λ (reads : reads_blocks (built (line_of bytes)) ≡ true). file_damage same tells (inl (ap reads_blocks (line_is tells) ∙ reads)))
-          (λ (wants : LacksSpace mid session end). ⊎_elim
-          (λ (asks : AsksFor script mid session).
-          let lacks = wants (mid_told tells) asks.none asks.room asks.asks in
-          inl (record { room = asks.room; asks = asks.line; at = lacks.0; want = lacks.1; found = lacks.2; short = lacks.3 }))
-          (λ (changed : HasChanged script count). file_damage same tells (inr changed))
-          (mid_asks tells within none))
-          is
+      ends_so same Damaged is = λ tells. (
+        meets same tells is.0,
+        λ within none. ⊎_elim
+            (λ (reads : reads_blocks (built (line_of bytes)) ≡ true). file_damage same tells (inl (ap reads_blocks (line_is tells) ∙ reads)))
+            (λ (wants : LacksSpace mid session end). ⊎_elim
+            (λ (asks : AsksFor script mid session).
+            let lacks = wants (mid_told tells) asks.none asks.room asks.asks in
+            inl (record { room = asks.room; asks = asks.line; at = lacks.0; want = lacks.1; found = lacks.2; short = lacks.3 }))
+            (λ (changed : HasChanged script count). file_damage same tells (inr changed))
+            (mid_asks tells within none))
+            is.1,
+      )
       ends_so same Limit is = absurd is
 
       -- a fault of a session's call comes in a line
@@ -458,6 +479,7 @@ module _ (limit : ℕ) (first : Session) (old : Shown) (held : Held) (session : 
           reads = reads_next tells_it;
           lines = λ tells line is. all_lines tells line (later_in (built (line_of bytes)) (lines_built (unread new_held mid)) line (subst (λ (l : List ℕ). Contains (lines_built l) line) (same_left tells_it) is));
           behind = λ tells. ap lines_built (same_left tells_it) ∙ left_next count script (lines_built (unread new_held mid)) (built (line_of bytes)) (mid_behind tells);
+          opened = λ tells only. as_read_then first session next_session (so_far.opened tells (λ j low. only j (omega (arith, low)))) (applies.read (sym (ap only_asks (line_is tells)) ∙ only count (omega arith)));
           counted = λ tells none. next_counted most_rooms (mid_counted tells none) mid_bound tells;
           asks = asks_next tells_it;
           answers = λ tells m stands.

@@ -14,12 +14,14 @@ use Rattle.fv_lines.specs.Reading.{KnowsEnd, unread}
 use Rattle.fv_aggregate.specs.declared.session.Session.{Session}
 use Rattle.fv_aggregate.specs.Asking.{AsksWithin, IsShort}
 use Rattle.fv_aggregate.specs.Commands.{room_by}
-use Rattle.fv_aggregate.specs.Standing.{IsWithoutFiles, OneOf, Stands, StandsAfter, StandsFor}
+use Rattle.fv_aggregate.specs.Reading.{IsAsRead}
+use Rattle.fv_aggregate.specs.Standing.{IsWithoutFiles, OneOf, StandsAfter, StandsFor, StandsReady}
 use Rattle.fv_run.specs.declared.ending.Fault.{Fault}
 use Rattle.fv_run.specs.declared.ending.Fault.TheVariants.{Source, Sink, Disk, Memory, Damaged, Limit}
 use Rattle.fv_run.specs.Endings.{IsWholeFault, count_of, raised_by}
 use Rattle.fv_run.specs.Built.{lines_built}
-use Rattle.fv_run.specs.Running.{asks_behind, asks_point, changes_volumes, HasChanged, Holds, IsOverLimit, IsPastLimit, IsRoomIn, IsSessionDamage, KeepsUp, most_rooms, reads_blocks, rooms_along, Survives, left_by, pending_behind, IsQuiet}
+use Rattle.fv_run.specs.Promises.{line_at}
+use Rattle.fv_run.specs.Running.{asks_behind, asks_point, changes_volumes, HasChanged, Holds, IsOverLimit, IsHurt, IsPastLimit, IsRoomIn, IsSessionDamage, KeepsUp, MeetsDamage, most_rooms, only_asks, reads_blocks, room_in, rooms_along, Survives, left_by, pending_behind, IsQuiet}
 
 -- ---- lines and their replies
 
@@ -45,17 +47,21 @@ Lacks room i = (at want found : ℕ) × IsShort i room 0 at want found
 abbrev pub LacksSpace : Shown → Session → Shown → Type 0
 LacksSpace old session new = IsTrue old.tells → IsWithoutFiles session → (room : ℕ) → AsksWithin old session room → Lacks room new.reads
 
+-- a call of a session met damage, and left it standing
+abbrev pub IsHurtBy : ℕ → Session → Shown → Type 0
+IsHurtBy room session new = (left : Session) × (StandsReady new left × IsHurt room session new left)
+
 -- a fault of a session's calls in a line, each with its reason beside the counts
 abbrev pub IsSessionFault : Line → Shown → Session → Shown → Fault → Type 0
 IsSessionFault line old session new Disk = Unit {0}
 IsSessionFault line old session new Memory = Unit {0}
-IsSessionFault line old session new Damaged = (reads_blocks line ≡ true) ⊎ LacksSpace old session new
+IsSessionFault line old session new Damaged = IsHurtBy (room_in (room_by session.volumes) line) session new × ((reads_blocks line ≡ true) ⊎ LacksSpace old session new)
 IsSessionFault line old session new fault = ⊥
 
 -- a session that hasn't failed, on its disk
 pub record IsReady (disk : Shown) (session : Session) : Type 0 where
   pub unfailed : IsNone session.failed
-  pub stands : Stands disk session
+  pub stands : StandsReady disk session
 
 -- After a line the session stands for the next machine, and its last consistency point for that of before or for an earlier one; after a
 -- `cp` the point stands for the next machine, too.
@@ -83,6 +89,7 @@ pub record Applies (session : Session) (line : Line) (old : Shown) (new_session 
   pub no_damage : IsTrue old.tells → (last m : Machine) → StandsFor old session last m → IfErr result IsWholeFault
   pub ready : OnOk result (IsReady new new_session)
   pub ends : IfErr result (IsSessionFault line old session new)
+  pub read : OnOk result (only_asks line ≡ true → IsAsRead session new_session)
   -- a line that changes no volume that stays
   pub files : IsTrue old.tells → changes_volumes line ≡ false → IsWithoutFiles session → OnOk result (IsWithoutFiles new_session)
   pub asks : IsTrue old.tells → changes_volumes line ≡ false → (room : ℕ) → AsksWithin old session room → OnOk result ((more : ℕ) × IsRoomIn (line ∷ []) more × AsksWithin new new_session (max room more))
@@ -149,6 +156,8 @@ pub record StandsAt (limit : ℕ) (first : Session) (old : Shown) (held : Held) 
   pub reads : IsTrue old.tells → HasRead limit old held now count
   pub lines : IsTrue old.tells → (line : Line) → Contains (lines_built (unread held now)) line → Contains (lines_built old.ends.left) line
   pub behind : IsTrue old.tells → lines_built (unread held now) ≡ drop count (lines_built old.ends.left)
+  -- until a line has done more than ask for files
+  pub opened : IsTrue old.tells → ((j : ℕ) → j < count → only_asks (line_at (lines_built old.ends.left) j) ≡ true) → IsAsRead first session
   -- over any disk
   pub counted : IsTrue old.tells → first.pending ≡ 0 → IsCounted most_rooms (lines_built old.ends.left) old session now count
   -- until a line has changed a volume that stays
@@ -167,7 +176,7 @@ IsEndOf limit first old new Source = Unit {0}
 IsEndOf limit first old new Sink = Unit {0}
 IsEndOf limit first old new Disk = Unit {0}
 IsEndOf limit first old new Memory = Unit {0}
-IsEndOf limit first old new Damaged = IsTrue old.tells → AsksWithin old first 0 → IsWithoutFiles first → IsSessionDamage (lines_built old.ends.left) old new
+IsEndOf limit first old new Damaged = IsTrue old.tells → MeetsDamage (lines_built old.ends.left) first old new × (AsksWithin old first 0 → IsWithoutFiles first → IsSessionDamage (lines_built old.ends.left) old new)
 IsEndOf limit first old new Limit = IsTrue old.tells → IsPastLimit limit old new
 IsEndOf limit first old new fault = ⊥
 

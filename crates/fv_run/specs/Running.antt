@@ -1,5 +1,5 @@
 -- Running a script on an aggregate: the headline, clause by clause.
-use Rattle.std.specs.Prelude.{◌≡◌, ◌⊎◌, ◌<◌, ◌≤◌, ◌+◌, ◌||◌, ◌&&◌, ℕ, zero, suc, nat_lt, if◌then◌else◌, Bool, true, false, List, [], ◌++◌, length, take, get_or, Some, Contains, IsTrue, Result, Err, IsErr, IfErr, OnOk}
+use Rattle.std.specs.Prelude.{◌≡◌, ◌⊎◌, ◌<◌, ◌≤◌, ◌+◌, ◌||◌, ◌&&◌, ℕ, zero, suc, nat_lt, if◌then◌else◌, Bool, true, false, List, [], ◌++◌, length, take, get_or, is_some, Some, Contains, IsTrue, Result, Err, IsErr, IfErr, OnOk}
 use Rattle.fv_disk.specs.Shown.{Image, Shown, IsSettled, Rose}
 use Rattle.fv_disk.specs.Crash.{Leaves}
 use Rattle.fv_lines.specs.Counts.{Counts}
@@ -13,10 +13,12 @@ use Rattle.fv_aggregate.specs.declared.session.Session.{Session}
 use Rattle.fv_aggregate.specs.Adding.{IsPointed}
 use Rattle.fv_aggregate.specs.Asking.{IsShort}
 use Rattle.fv_aggregate.specs.Causes.{IsOpenFault, IsUnwritten}
-use Rattle.fv_aggregate.specs.Commands.{changes_volume, dirty_limit, most_room, reads_files, room_of}
+use Rattle.fv_aggregate.specs.Commands.{changes_volume, dirty_limit, most_room, reads_files, room_by, room_of, volume_asked}
+use Rattle.fv_aggregate.specs.Damages.{HasDamageBehind, HasDamageIn, HasDamageLater}
 use Rattle.fv_aggregate.specs.Opening.{IsOpened}
+use Rattle.fv_aggregate.specs.Reading.{IsAsRead}
 use Rattle.fv_aggregate.specs.Reclaiming.{HasPointed}
-use Rattle.fv_aggregate.specs.Standing.{Stands, StandsFor}
+use Rattle.fv_aggregate.specs.Standing.{StandsFor, StandsReady}
 use Rattle.fv_run.specs.declared.ending.Fault.{Fault}
 use Rattle.fv_run.specs.declared.ending.Fault.TheVariants.{Usage, NotAggregate, Source, Sink, Disk, Memory, Damaged, Limit}
 use Rattle.fv_run.specs.Endings.{EndsWith, IsWholeFault, raised_by}
@@ -158,7 +160,7 @@ pub record EndsInPoint (lines : List Line) (old new : Shown) : Type 0 where
   pub next : Session
   pub quiet : ((line : ℕ) → asks_behind most_rooms lines line ≡ false) → before ≡ old.reads
   pub left : IsPointed new last next
-  pub stands : Stands new next
+  pub stands : StandsReady new next
   pub machine : (m : Machine) → machine_of old.reads ≡ Some m → IsLastFor m lines old.reads before last new next
 
 -- ---- what is read
@@ -226,8 +228,7 @@ pub record IsLacking (lines : List Line) (i : Image) : Type 0 where
   pub short : IsShort i room 0 at want found
 
 -- The script came to what volumes hold: the line behind those that are answered reads blocks of files, or a line that is answered changes the files
--- of a volume, its snapshots, its size or its kind of guarantee. Such damage comes of a block of files that isn't as it has to be, or of a point that
--- lacks blocks or numbers for what changed or beside it; that isn't said here.
+-- of a volume, its snapshots, its size or its kind of guarantee. `MeetsDamage` says what was damaged.
 pub record IsFileDamage (lines : List Line) (old end : Shown) : Type 0 where
   pub output : List ℕ
   pub given : end.given ≡ old.given ++ output
@@ -237,10 +238,43 @@ pub record IsFileDamage (lines : List Line) (old end : Shown) : Type 0 where
 abbrev pub IsSessionDamage : List Line → Shown → Shown → Type 0
 IsSessionDamage lines old end = IsLacking lines end.reads ⊎ IsFileDamage lines old end
 
+-- whether a line only asks for files, which leaves the session but for its cache and the numbers of files in memory
+abbrev pub only_asks : Line → Bool
+only_asks (Says command) = is_some (volume_asked command)
+only_asks NoCommand = false
+only_asks OutOfRange = false
+
+-- A call of a session that may add `room` blocks met damage, by what the disk shows at the end, and left the session so: blocks are lacking, the files of
+-- a volume couldn't be placed, or a table of one isn't as it has to be; with room that passes the dirty limit also behind a point.
+pub record IsHurt (room : ℕ) (session : Session) (end : Shown) (left : Session) : Type 0 where
+  pub at : ℕ
+  pub want : ℕ
+  pub found : ℕ
+  pub damage : (HasDamageIn end session left at want found ⊎ HasDamageLater end session left at want found) ⊎ ((dirty_limit < session.pending + room) × HasDamageBehind end session left at want found)
+
+-- The call of the session that was at work met damage: the one that the line behind those that are answered asked for, or the point at the end. The session
+-- that it left stands on the disk. Where each line before only asks for files, the session is the one that was opened, but for its cache and the numbers of
+-- files in memory.
+pub record MeetsDamage (lines : List Line) (first : Session) (old end : Shown) : Type 0 where
+  pub output : List ℕ
+  pub given : end.given ≡ old.given ++ output
+  pub session : Session
+  pub opened : ((j : ℕ) → j < whole output → only_asks (line_at lines j) ≡ true) → IsAsRead first session
+  pub left : Session
+  pub stands : StandsReady end left
+  pub hurt : IsHurt (room_in (room_by session.volumes) (line_at lines (whole output))) session end left
+
+-- a session was opened, and then met damage
+pub record IsDamagedOpen (old end : Shown) : Type 0 where
+  pub first : Session
+  pub opened : IsOpened old.reads first
+  pub meets : MeetsDamage (lines_built old.ends.left) first old end
+  pub why : IsSessionDamage (lines_built old.ends.left) old end
+
 -- Opening found a block without the shape of its kind, or a number past its bound, and nothing was written or given; or the session that was
 -- opened is damaged.
 abbrev pub IsDamage : Shown → Shown → Type 0
-IsDamage old end = (IsUnwritten old end × ((at want found : ℕ) × IsOpenFault old.reads (opening.Damaged at want found))) ⊎ IsSessionDamage (lines_built old.ends.left) old end
+IsDamage old end = (IsUnwritten old end × ((at want found : ℕ) × IsOpenFault old.reads (opening.Damaged at want found))) ⊎ IsDamagedOpen old end
 
 -- Why a run ended, with its status. A fault of the source, the sink or the disk has its count, and want of memory has no cause.
 abbrev pub HasReason : ℕ → Shown → Shown → Fault → Type 0

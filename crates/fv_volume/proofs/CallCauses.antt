@@ -1,5 +1,5 @@
 -- Why calls on a volume fail after others that only read.
-use Rattle.std.proofs.Common.{◌≡◌, ℕ, cond, is_some, inl, inr, refl, sym, ap, subst, ◌∙◌}
+use Rattle.std.proofs.Common.{◌≡◌, ℕ, cond, is_some, inl, inr, sym, ap, subst, ◌∙◌}
 use Rattle.std.specs.Prelude.{Result, Ok, Err}
 use Rattle.fv_disk.specs.declared.fault.BlockFault.{BlockFault}
 use Rattle.fv_disk.specs.declared.fault.BlockFault.TheVariants as block
@@ -9,19 +9,18 @@ use Rattle.fv_tables.specs.Spelled.{Rooted, pointer_at}
 use Rattle.fv_tables.specs.Told.{Standing}
 use Rattle.fv_tree.specs.Standing.{under, IsNodeDamage}
 use Rattle.fv_pool.specs.declared.fault.VolumeFault.{VolumeFault}
-use Rattle.fv_pool.specs.declared.fault.VolumeFault.TheVariants.{Refused, DiskFault, Damaged, Memory}
 use Rattle.fv_pool.specs.Causes.{of_block}
 use Rattle.fv_pool.specs.declared.pool.Pool.{Pool}
 use Rattle.fv_volume.specs.declared.state.VolumeState.{VolumeState}
-use Rattle.fv_pool.specs.Calls.{BlockCause, CallCause, CallFails, FileFails, IsBadInodes, Reads, TableFails}
+use Rattle.fv_pool.specs.Calls.{BlockCause, CallCause, FileFails, IsBadInodes, Reads, TableFails}
 use Rattle.fv_volume.specs.declared.tables.TableAsked.TheVariants.{Active}
-use Rattle.fv_volume.specs.Asking.{TellsActive, TellsWhole}
+use Rattle.fv_volume.specs.Asking.{TellsActive}
 use Rattle.fv_volume.specs.OneVolume.{home_in, standing_for}
 use Rattle.fv_pool.specs.Lending.{Lent, ReadFails, lent_for, place_or_none, shown_over}
 use Rattle.fv_pool.specs.BlocksOver.{held_entry, place_read}
 use Rattle.fv_volume.proofs.OneVolumes.{still_table, still_under}
-use Rattle.fv_volume.proofs.RightTables.{still_tells, still_whole}
-use Rattle.fv_pool.proofs.CallCauses.{cause_for, failed_cause}
+use Rattle.fv_volume.proofs.RightTables.{still_tells}
+use Rattle.fv_pool.proofs.CallCauses.{failed_cause}
 use Rattle.fv_pool.proofs.Failing.{inode_damage, node_damage}
 
 -- ---- after reads that were done
@@ -81,43 +80,14 @@ pub fails_later : (d e : Disk) (p q : Pool) (reads : Reads d p e q) (x : VolumeS
 fails_later d e p q reads x calm steps faults r cause =
     fails_on d e p q reads x calm 0 steps (TellsActive d p x) (TellsActive e q x) (still_tells d e p q reads x Active) (standing_for e q x) (standing_for d p x) (still_table d e p q reads x) faults r cause
 
--- A change fails after its judgement, which left the volume as it was, as one of before. `Tells` says what is told of the volume.
-module _ (Tells : Disk → Pool → VolumeState → Type 0) (d e : Disk) (p q : Pool) (reads : Reads d p e q) (x v : VolumeState) (still : Tells d p x → Tells e q x) (same : v ≡ x) (calm : e.faults ≡ d.faults) where
-  pub table_then : (faults : ℕ) (b : BlockFault) → TableFails (Tells e q v) (standing_for e q v) (lent_for q v.map e 0 (home_in v) 0) faults b → TableFails (Tells d p x) (standing_for d p x) (lent_for p x.map d 0 (home_in x) 0) faults b
-  table_then faults b cause =
-      fails_on d e p q reads x calm 0 0 (Tells d p x) (Tells e q x) still {T = Unit {0}} (standing_for e q x) (standing_for d p x) (still_table d e p q reads x) faults (Err b)
-      (subst (λ (z : VolumeState). TableFails (Tells e q z) (standing_for e q z) (lent_for q z.map e 0 (home_in z) 0) faults b) same cause)
-
-  pub failed_then : (faults : ℕ) (b : BlockFault) {U : Type 0} (r : Result U VolumeFault) → r ≡ Err (of_block b)
-      → TableFails (Tells e q v) (standing_for e q v) (lent_for q v.map e 0 (home_in v) 0) faults b → CallCause (Tells d p x) (standing_for d p x) (lent_for p x.map d 0 (home_in x) 0) faults r
-  failed_then faults b r failed cause = failed_cause (Tells d p x) (standing_for d p x) (lent_for p x.map d 0 (home_in x) 0) faults b r failed (table_then faults b cause)
-
+-- A change fails after its judgement, which left the volume as it was, as one of before.
 pub fails_then : (d e : Disk) (p q : Pool) (reads : Reads d p e q) (x v : VolumeState) → v ≡ x → e.faults ≡ d.faults → (faults : ℕ) (b : BlockFault)
     → TableFails (TellsActive e q v) (standing_for e q v) (lent_for q v.map e 0 (home_in v) 0) faults b → TableFails (TellsActive d p x) (standing_for d p x) (lent_for p x.map d 0 (home_in x) 0) faults b
-fails_then d e p q reads x v same calm = table_then TellsActive d e p q reads x v (still_tells d e p q reads x Active) same calm
+fails_then d e p q reads x v same calm faults b cause =
+    fails_on d e p q reads x calm 0 0 (TellsActive d p x) (TellsActive e q x) (still_tells d e p q reads x Active) {T = Unit {0}} (standing_for e q x) (standing_for d p x) (still_table d e p q reads x) faults (Err b)
+    (subst (λ (z : VolumeState). TableFails (TellsActive e q z) (standing_for e q z) (lent_for q z.map e 0 (home_in z) 0) faults b) same cause)
 
 pub failed_change_cause : (d e : Disk) (p q : Pool) (reads : Reads d p e q) (x v : VolumeState) → v ≡ x → e.faults ≡ d.faults → (faults : ℕ) (b : BlockFault) {U : Type 0} (r : Result U VolumeFault) → r ≡ Err (of_block b)
     → TableFails (TellsActive e q v) (standing_for e q v) (lent_for q v.map e 0 (home_in v) 0) faults b → CallCause (TellsActive d p x) (standing_for d p x) (lent_for p x.map d 0 (home_in x) 0) faults r
-failed_change_cause d e p q reads x v same calm = failed_then TellsActive d e p q reads x v (still_tells d e p q reads x Active) same calm
-
--- So does a removal, of which more is told.
-pub failed_removal_cause : (d e : Disk) (p q : Pool) (reads : Reads d p e q) (x v : VolumeState) → v ≡ x → e.faults ≡ d.faults → (faults : ℕ) (b : BlockFault) {U : Type 0} (r : Result U VolumeFault) → r ≡ Err (of_block b)
-    → TableFails (TellsWhole e q v) (standing_for e q v) (lent_for q v.map e 0 (home_in v) 0) faults b → CallCause (TellsWhole d p x) (standing_for d p x) (lent_for p x.map d 0 (home_in x) 0) faults r
-failed_removal_cause d e p q reads x v same calm = failed_then TellsWhole d e p q reads x v (still_whole d e p q reads x) same calm
-
--- Its judgement fails where less is told.
-module _ (d : Disk) (p : Pool) (x : VolumeState) (faults : ℕ) where
-  abbrev old : Lent
-  old = lent_for p x.map d 0 (home_in x) 0
-
-  narrow : (b : BlockFault) → TableFails (TellsActive d p x) (standing_for d p x) old faults b → TableFails (TellsWhole d p x) (standing_for d p x) old faults b
-  narrow b fails = cause_for (TellsWhole d p x) (TellsActive d p x) (λ is. is.0) old faults {T = Unit {0}} (standing_for d p x) (standing_for d p x) (Err b) refl fails
-
-  by_judgement : (f : VolumeFault) → CallFails (TellsActive d p x) (standing_for d p x) old faults f → CallFails (TellsWhole d p x) (standing_for d p x) old faults f
-  by_judgement (Refused w) calm = calm
-  by_judgement DiskFault fails = narrow block.DiskFault fails
-  by_judgement (Damaged at want found) fails = narrow (block.Damaged at want found) fails
-  by_judgement Memory fails = narrow block.Memory fails
-
-  pub judged_cause : (f : VolumeFault) {U : Type 0} (r : Result U VolumeFault) → r ≡ Err f → CallFails (TellsActive d p x) (standing_for d p x) old faults f → CallCause (TellsWhole d p x) (standing_for d p x) old faults r
-  judged_cause f r failed cause = subst (λ s. CallCause (TellsWhole d p x) (standing_for d p x) old faults s) (sym failed) (by_judgement f cause)
+failed_change_cause d e p q reads x v same calm faults b r failed cause =
+    failed_cause (TellsActive d p x) (standing_for d p x) (lent_for p x.map d 0 (home_in x) 0) faults b r failed (fails_then d e p q reads x v same calm faults b cause)

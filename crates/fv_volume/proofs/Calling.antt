@@ -34,6 +34,7 @@ use Rattle.fv_pool.proofs.CallCauses.{not_refused}
 use Rattle.fv_volume.proofs.Changed.{failed_standing, failed_volume}
 use Rattle.fv_volume.proofs.OneVolumes.{still_led, still_ready, still_standing, still_volume, still_well}
 use Rattle.fv_volume.proofs.ReadyAgain.{ready_again}
+use Rattle.fv_volume.proofs.RightTables.{active_tells}
 use Rattle.fv_volume.proofs.SharedChanges.{PlacesAltered}
 
 -- a fault of blocks is no refusal
@@ -175,7 +176,7 @@ module _ (d e f : Disk) (p q r : Pool) (first : Reads d p e q) (x v y : VolumeSt
     its_told = subst (λ (z : VolumeState). IsTold f r y.map z.slot) its_alters.same (its_alters.told now_standing)
 
     its_table : table_for e q its_left ≡ table_for e q x
-    its_table = subst (λ (z : VolumeState). table_for e q z ≡ table_for e q x) its_alters.same (its_alters.failed now_standing)
+    its_table = subst (λ (z : VolumeState). table_for e q z ≡ table_for e q x) its_alters.same (its_alters.failed (active_tells e q x now_standing))
 
     its_places : PlacesAltered e q x y.map y.files
     its_places = record {

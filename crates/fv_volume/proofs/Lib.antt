@@ -56,3 +56,4 @@ pub mod SlotMoves
 pub mod KeptSlots
 pub mod ActiveSlot
 pub mod ActiveStands
+pub mod Committed

@@ -10,8 +10,6 @@ use Rattle.fv_codec.specs.declared.inode.InodeRecord.{InodeRecord}
 use Rattle.fv_codec.specs.declared.pointer.Pointer.{Pointer}
 use Rattle.fv_codec.specs.Blocks.{greatest_word}
 use Rattle.fv_container.specs.Chains.{Slots}
-use Rattle.fv_laws.specs.WellFormed.{IsWellTable}
-use Rattle.fv_model.specs.declared.commands.Command.{Command}
 use Rattle.fv_container.specs.declared.entry.Entry.{Entry}
 use Rattle.fv_tables.specs.Spelled.{Rooted as Spelled, Under, pointer_at, stored}
 use Rattle.fv_tables.specs.Told.{Standing, file_at, table_told}
@@ -38,12 +36,11 @@ use Rattle.fv_pool.specs.Tables.{trees_by, AreSoundBy}
 use Rattle.fv_volume.specs.declared.state.VolumeState.{VolumeState}
 use Rattle.fv_volume.specs.declared.tables.TableAsked.{TableAsked}
 use Rattle.fv_volume.specs.declared.tables.TableAsked.TheVariants.{Active, Kept}
-use Rattle.fv_volume.specs.Asking.{numbers_asked, standing_of, standing_read, table_named, trees_opened, IsTableOf, OpensAs, TellsActive, TellsAsked, TellsRead, TellsWhole}
-use Rattle.fv_volume.specs.Changing.{takes_away, TellsFor, TellsMore}
+use Rattle.fv_volume.specs.Asking.{numbers_asked, standing_of, standing_read, table_named, trees_opened, IsTableOf, OpensAs, TellsActive, TellsAsked, TellsRead}
 use Rattle.fv_volume.specs.OneVolume.{home_in, shows, standing_for, IsStanding}
 use Rattle.fv_volume.specs.Placing.{IsStoredWell}
 use Rattle.fv_volume.proofs.KeptReads.{kept, read_holds, root_holds, still_of}
-use Rattle.fv_volume.proofs.OneVolumes.{still_table, still_told, still_under, told_there}
+use Rattle.fv_volume.proofs.OneVolumes.{still_told, still_under, told_there}
 use Rattle.fv_volume.proofs.Undamaged.{active_holds, none_damaged, HoldsWell}
 
 -- ---- one VVBN
@@ -127,13 +124,6 @@ module _ (d : Disk) (p : Pool) (x : VolumeState) where
     pub active_tells : TellsActive d p x
     active_tells = asked_tells Active (None, refl)
 
-    pub whole_tells : TellsWhole d p x
-    whole_tells = (active_tells, (x.now, is.table))
-
-    pub more_tells : (more : Bool) → TellsMore more d p x
-    more_tells false = active_tells
-    more_tells true = whole_tells
-
     pub read_tells : (s : Option (List ℕ)) → TellsRead d p x s
     read_tells s = by (table_named x s) refl
       where
@@ -182,9 +172,6 @@ module _ (d : Disk) (p : Pool) (x : VolumeState) (is : IsStanding d p x) (well :
   pub no_damage : (steps faults at want found : ℕ) → TableFails (TellsActive d p x) (standing_for d p x) (lent_for p x.map d steps (home_in x) 0) faults (block.Damaged at want found) → ⊥
   no_damage = none_damaged d p x (TellsActive d p x) (active_tells d p x is) (shows d p x).used (standing_for d p x) (active_holds d p x is well)
 
-  pub no_damage_for : (c : Command) (steps faults at want found : ℕ) → TableFails (TellsFor c d p x) (standing_for d p x) (lent_for p x.map d steps (home_in x) 0) faults (block.Damaged at want found) → ⊥
-  no_damage_for c = none_damaged d p x (TellsFor c d p x) (more_tells d p x is (takes_away c)) (shows d p x).used (standing_for d p x) (active_holds d p x is well)
-
   -- nor one for the table that a command reads
   pub read_undamaged : (s : Option (List ℕ)) (steps faults at want found : ℕ) → TableFails (TellsRead d p x s) (standing_read d p x s) (lent_for p x.map d steps (home_in x) 0) faults (block.Damaged at want found) → ⊥
   read_undamaged s = let mine = read_holds d p x is well s in none_damaged d p x (TellsRead d p x s) (read_tells d p x is s) mine.uses (standing_read d p x s) mine.holds
@@ -216,6 +203,3 @@ module _ (d e : Disk) (p q : Pool) (reads : Reads d p e q) (x : VolumeState) (t 
   -- and what was said after is so before
   pub known_before : (y : VolumeState) → y ≡ x → (says : Standing → Type 0) → (TellsAsked e q y t → says (standing_of e q y t)) → TellsAsked d p x t → says (standing_of d p x t)
   known_before y same says made is = subst says (still_of d e p q reads x t) (subst (λ (z : VolumeState). TellsAsked e q z t → says (standing_of e q z t)) same made (still_tells is))
-
-pub still_whole : (d e : Disk) (p q : Pool) → Reads d p e q → (x : VolumeState) → TellsWhole d p x → TellsWhole e q x
-still_whole d e p q reads x is = (still_tells d e p q reads x Active is.0, (is.1.0, subst (λ (s : Standing). IsWellTable is.1.0 (table_told s)) (sym (still_table d e p q reads x)) is.1.1))

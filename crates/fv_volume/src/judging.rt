@@ -5,7 +5,7 @@ ghost use Rattle.fv_model.specs.Machines.{Machine};
 ghost use Rattle.fv_pool.specs.Calls.{CallCause, Reads};
 ghost use Rattle.fv_volume.specs.Asking.{TellsActive};
 ghost use Rattle.fv_volume.specs.Calls.{Agrees, Changes, HasWithin, KeepsHead};
-ghost use Rattle.fv_volume.specs.Changing.{IsChangeOf, KeepsTable, TellsFor, keeps_numbers};
+ghost use Rattle.fv_volume.specs.Changing.{IsChangeOf, KeepsTable, keeps_numbers};
 ghost use Rattle.fv_pool.specs.Lending.{lent_for};
 ghost use Rattle.fv_pool.specs.Tables.{pending_of};
 ghost use Rattle.fv_volume.specs.OneVolume.{home_in, standing_for, volume_for, IsReady, IsStanding};
@@ -100,7 +100,7 @@ impl VolumeState {
         ensures numbers { keeps_numbers command.now ≡ true → self.new.numbers ≡ self.old.numbers }
         ensures head { KeepsHead self.old self.new result }
         ensures reads { Reads (D.shown disk.old) pool.old (D.shown disk.new) pool.new }
-        ensures cause { CallCause (TellsFor command.now (D.shown disk.old) pool.old self.old) (standing_for (D.shown disk.old) pool.old self.old)
+        ensures cause { CallCause (TellsActive (D.shown disk.old) pool.old self.old) (standing_for (D.shown disk.old) pool.old self.old)
             (lent_for pool.old self.old.map (D.shown disk.old) 0 (home_in self.old) 0) (D.shown disk.new).faults result }
     {
         match command {

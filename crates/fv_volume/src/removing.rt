@@ -9,7 +9,7 @@ ghost use Rattle.fv_inode.specs.Files.{IsFirst, IsInfo};
 ghost use Rattle.fv_files.specs.Calls.{CutsFile, RemovesFile, TakesByCut, TakesByRemoval};
 ghost use Rattle.fv_files.specs.Tables.{IsInfoOf};
 ghost use Rattle.fv_pool.specs.Calls.{BlockCause, CallCause, Reads};
-ghost use Rattle.fv_volume.specs.Asking.{TellsActive, TellsWhole};
+ghost use Rattle.fv_volume.specs.Asking.{TellsActive};
 ghost use Rattle.fv_volume.specs.Calls.{Changes, HasBeside, HasWithin, KeepsHead};
 ghost use Rattle.fv_volume.specs.Changing.{AcceptsCut, AcceptsRemoval, AltersTable, CutsWithin, FitsLedger, IsDeltaBy, KeepsTable, RefusedIn};
 ghost use Rattle.fv_pool.specs.Lending.{lent_for};
@@ -43,8 +43,7 @@ impl VolumeState {
     /// file's; the volume has counted 2^62 changes; in a volume with snapshots that it would use more than its size, and that all volumes
     /// would commit more than the aggregate's capacity, since what a snapshot has stays charged. A volume without snapshots never refuses
     /// it for space: nor does the machine where no volume uses more than its size and all of them commit no more than there is. The other
-    /// errors as `put`; what `Damaged` tells is proved where the table is well-formed, too. After each of them the volume stands for what it
-    /// stood for.
+    /// errors as `put`. After each of them the volume stands for what it stood for.
     ///
     /// Costs what `length` does, then a block for each node and cell that goes and for the file's inode block with the nodes over
     /// it, as far as they aren't in memory; in a volume with snapshots the nodes once more. `docs/MACHINE.md` has the command.
@@ -71,7 +70,7 @@ impl VolumeState {
         ensures numbers { self.new.numbers ≡ self.old.numbers }
         ensures head { KeepsHead self.old self.new result }
         ensures reads { Reads (D.shown disk.old) pool.old (D.shown disk.new) pool.new }
-        ensures cause { CallCause (TellsWhole (D.shown disk.old) pool.old self.old) (standing_for (D.shown disk.old) pool.old self.old)
+        ensures cause { CallCause (TellsActive (D.shown disk.old) pool.old self.old) (standing_for (D.shown disk.old) pool.old self.old)
             (lent_for pool.old self.old.map (D.shown disk.old) 0 (home_in self.old) 0) (D.shown disk.new).faults result }
     {
         let removing = judge_cut(self, alloc, pool, disk, others, file, length)?;
@@ -114,7 +113,7 @@ impl VolumeState {
         ensures ready { IsReady (D.shown disk.new) pool.new self.new }
         ensures head { KeepsHead self.old self.new result }
         ensures reads { Reads (D.shown disk.old) pool.old (D.shown disk.new) pool.new }
-        ensures cause { CallCause (TellsWhole (D.shown disk.old) pool.old self.old) (standing_for (D.shown disk.old) pool.old self.old)
+        ensures cause { CallCause (TellsActive (D.shown disk.old) pool.old self.old) (standing_for (D.shown disk.old) pool.old self.old)
             (lent_for pool.old self.old.map (D.shown disk.old) 0 (home_in self.old) 0) (D.shown disk.new).faults result }
     {
         let removing = judge_removal(self, alloc, pool, disk, others, file)?;
@@ -362,7 +361,7 @@ fn cut_blocks<D: Disk>(
         → OnOk result (CutsFile (standing_for (D.shown disk.old) pool.old volume.old) (standing_for (D.shown disk.old) pool.old volume.new) info.now.number length (volume.old.now + 1)) }
     ensures counted { IsStanding (D.shown disk.old) pool.old volume.old → IfOk result (TakesByCut (standing_for (D.shown disk.old) pool.old volume.old) info.now.number length (volume.old.now + 1)) }
     ensures alters { AltersTable (D.shown disk.old) pool.old (D.shown disk.new) pool.new volume.old volume.new result }
-    ensures cause { BlockCause (TellsWhole (D.shown disk.old) pool.old volume.old) (standing_for (D.shown disk.old) pool.old volume.old)
+    ensures cause { BlockCause (TellsActive (D.shown disk.old) pool.old volume.old) (standing_for (D.shown disk.old) pool.old volume.old)
         (lent_for pool.old volume.old.map (D.shown disk.old) 0 (home_in volume.old) 0) (D.shown disk.new).faults result }
 {
     let stamp = volume.now + 1;
@@ -386,7 +385,7 @@ fn drop_file<D: Disk>(
         → OnOk result (RemovesFile (standing_for (D.shown disk.old) pool.old volume.old) (standing_for (D.shown disk.old) pool.old volume.new) info.now.number (volume.old.now + 1)) }
     ensures counted { IsStanding (D.shown disk.old) pool.old volume.old → IfOk result (TakesByRemoval (standing_for (D.shown disk.old) pool.old volume.old) info.now.number (volume.old.now + 1)) }
     ensures alters { AltersTable (D.shown disk.old) pool.old (D.shown disk.new) pool.new volume.old volume.new result }
-    ensures cause { BlockCause (TellsWhole (D.shown disk.old) pool.old volume.old) (standing_for (D.shown disk.old) pool.old volume.old)
+    ensures cause { BlockCause (TellsActive (D.shown disk.old) pool.old volume.old) (standing_for (D.shown disk.old) pool.old volume.old)
         (lent_for pool.old volume.old.map (D.shown disk.old) 0 (home_in volume.old) 0) (D.shown disk.new).faults result }
 {
     let stamp = volume.now + 1;

@@ -118,9 +118,10 @@ fn create<D: Disk>(
     ensures held { AreHeld (D.shown disk.new) pool.new volumes.new }
     ensures fit { AreFit (D.shown disk.new) pool.new volumes.new }
 {
-    match volumes.admit(pool.found.blocks, name, size, kind) {
+    let mut commits = volumes.commits();
+    match volumes.admit(pool.found.blocks, commits, name, size, kind) {
         Err(refusal) => Err(VolumeFault::Refused(refusal)),
-        Ok(admitted) => match volumes.create(pool, name, size, kind, admitted) {
+        Ok(admitted) => match volumes.create(pool, &mut commits, name, size, kind, admitted) {
             Ok(_) => Ok(Reply::Done),
             Err(_) => Err(VolumeFault::Memory),
         },

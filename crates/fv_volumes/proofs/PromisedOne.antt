@@ -11,7 +11,7 @@ use Rattle.fv_model.specs.declared.answers.Refusal.TheVariants.{NoVolume, Range}
 use Rattle.fv_model.specs.declared.commands.Command.{Command}
 use Rattle.fv_model.specs.declared.commands.Command.TheVariants.{VolGuarantee, VolResize}
 use Rattle.fv_model.specs.declared.commands.Kind.{Kind}
-use Rattle.fv_model.specs.Numbers.{is_size}
+use Rattle.fv_model.specs.Numbers.{greatest_span, is_size}
 use Rattle.fv_model.specs.Volumes.{Volume}
 use Rattle.fv_model.specs.Machines.{Machine, capacity}
 use Rattle.fv_model.specs.Space.{commit}
@@ -80,6 +80,20 @@ module _ (old : States) (blocks : ℕ) (name : List ℕ) (size : VolumeState →
   guarantee_missing k = refused_missing (VolGuarantee name k) refl (λ m none. guarantee_none m name none k)
 
 -- ---- with it
+
+-- whatever was answered, the span stays
+span_promised : (x : VolumeState) (blocks others : ℕ) (c : Command) (size : ℕ) (kind : Kind) (y : VolumeState) (r : Result Unit Refusal) → Promises x blocks others c size kind y r → y.ledger.span ≡ x.ledger.span
+span_promised x blocks others c size kind y (Ok u) is = ap (λ (z : VolumeState). z.ledger.span) is.done
+span_promised x blocks others c size kind y (Err e) is = ap (λ (z : VolumeState). z.ledger.span) is.stays
+
+-- and it is one that a volume can have
+pub span_within : (old : States) (slot : ℕ) (x : VolumeState) → state_at old slot ≡ Some x → IfSome (state_at old slot) (IsLabelled slot) → (blocks others : ℕ) (c : Command) (size : ℕ) (kind : Kind) (y : VolumeState) (r : Result Unit Refusal)
+    → Promises x blocks others c size kind y r → y.ledger.span ≤ greatest_span
+span_within old slot x there labelled blocks others c size kind y r is =
+    let its : IsLabelled slot x = subst (λ (o : Option VolumeState). IfSome o (IsLabelled slot)) there labelled in
+    let same = span_promised x blocks others c size kind y r is in
+    let counts = its.counts in let low = its.span in
+    omega (arith, same, counts, low)
 
 -- a part of a sum is at most the sum
 pub part_of_sum : (states : States) (slot : ℕ) → slot < length states → committed_by (state_at states slot) ≤ sum_of states

@@ -6,9 +6,9 @@ ghost use Rattle.fv_model.specs.Numbers.{greatest_span, is_size};
 ghost use Rattle.fv_model.specs.Space.{span_of};
 ghost use Rattle.fv_root.specs.Formatted.{IsSize};
 ghost use Rattle.fv_volumes.specs.Creating.{Admits, Refuses};
-ghost use Rattle.fv_volume.specs.Slots.{HaveSpans};
+ghost use Rattle.fv_volume.specs.Slots.{sum_of};
 
-use crate::search::{find_name, free_slot, sum_commits};
+use crate::search::{find_name, free_slot};
 use fv_charge::span_of;
 use fv_model::{Kind, Name, Refusal, in_size};
 use fv_root::capacity;
@@ -42,17 +42,18 @@ fn new_span(size: u32) -> u32
 }
 
 /// Where a new volume goes, or why it is refused: in this order a size out of range, a name that is
-/// taken, no free slot, and commits that pass the capacity of an aggregate of so many blocks.
+/// taken, no free slot, and commits that pass the capacity of an aggregate of so many blocks. All volumes commit `commits`.
 pub(crate) fn admit(
     states: &[Option<VolumeState>],
     blocks: u32,
+    commits: u64,
     name: &Name,
     size: u32,
     kind: Kind,
 ) -> Result<Admitted, Refusal>
     requires few { length states.now ≡ slot_count }
-    requires spans { HaveSpans states.now }
     requires blocks { IsSize blocks }
+    requires sum { commits ≡ sum_of states.now }
     ensures admitted { IfOk result (λ a. Admits states.now blocks name.now size kind a.slot a.span) }
     ensures refused { IfErr result (Refuses states.now blocks name.now size kind) }
 {
@@ -67,7 +68,7 @@ pub(crate) fn admit(
     };
     let span = new_span(size);
     let commit = new_ledger(size, kind, span).commit();
-    if sum_commits(states) + commit > u64::from(capacity(blocks)) {
+    if commits.saturating_add(commit) > u64::from(capacity(blocks)) {
         return Err(Refusal::AggregateFull);
     }
     Ok(Admitted { slot, span })

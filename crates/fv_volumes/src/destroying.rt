@@ -1,6 +1,6 @@
 //! Removing a volume.
 
-ghost use Rattle.std.specs.Prelude.{◌≡◌, ◌<◌, ◌≤◌, ℕ, IfSome, length};
+ghost use Rattle.std.specs.Prelude.{◌≡◌, ◌<◌, ◌≤◌, ℕ, None, IfSome, length};
 ghost use Rattle.fv_container.specs.Chains.{container_at, slot_count};
 ghost use Rattle.fv_container.specs.Spelled.{is_at, names};
 ghost use Rattle.fv_image.specs.Views.{entry_count};
@@ -9,7 +9,8 @@ ghost use Rattle.fv_volumes.specs.Destroying.{Destroys, EmptiesAt, GivesBackAt, 
 ghost use Rattle.fv_volume.specs.Files.{IsLabelled};
 ghost use Rattle.fv_volumes.specs.Housed.{AreHoused};
 ghost use Rattle.fv_volume.specs.Loading.{Houses};
-ghost use Rattle.fv_volume.specs.States.{state_at};
+ghost use Rattle.fv_volume.specs.Slots.{sum_of};
+ghost use Rattle.fv_volume.specs.States.{state_at, with_state};
 ghost use Rattle.fv_volume.specs.Stored.{is_of, leads};
 ghost use Rattle.fv_volume.specs.Writing.{HasGiven};
 
@@ -29,14 +30,24 @@ impl Volumes {
     /// `NoVolume` exactly where no volume has the name, as the machine refuses `vol destroy`; no volume can be the parent of another yet.
     /// Nothing changes then.
     ///
+    /// `commits` is what all volumes commit together, in blocks, before the call and behind it.
+    ///
     /// Costs a comparison for each volume and a step for each entry and each node of the container, with a search among the kept blocks for
     /// each entry. It walks no file, takes no memory and makes no call of a disk. `docs/SPACE.md` says when the blocks can be used again.
-    pub fn destroy(&mut self, pool: &mut Pool, name: &Name) -> Result<(), Refusal>
+    pub fn destroy(
+        &mut self,
+        pool: &mut Pool,
+        commits: &mut u64,
+        name: &Name,
+    ) -> Result<(), Refusal>
         requires housed { AreHoused pool.old.containers self.old }
-        ensures { Destroys self.old pool.old name.now self.new pool.new result }
+        requires sum { commits.old ≡ sum_of self.old }
+        ensures destroys { Destroys self.old pool.old name.now self.new pool.new result }
+        ensures sum { commits.new ≡ sum_of self.new }
     {
         match self.find(name) {
             Some(slot) => {
+                *commits = self.commits_beside(*commits, slot);
                 self.empty_slot(pool, slot);
                 Ok(())
             }
@@ -50,7 +61,8 @@ impl Volumes {
         requires slot { slot < slot_count }
         requires housed { Houses (state_at self.old slot) (container_at pool.old.containers slot) }
         requires labelled { IfSome (state_at self.old slot) (IsLabelled slot) }
-        ensures { EmptiesAt self.old pool.old slot (state_at self.old slot) (container_at pool.old.containers slot) self.new pool.new }
+        ensures empties { EmptiesAt self.old pool.old slot (state_at self.old slot) (container_at pool.old.containers slot) self.new pool.new }
+        ensures row { self.new ≡ with_state self.old slot None }
     {
         give_back_slot(self, pool, slot);
         self.clear(slot);

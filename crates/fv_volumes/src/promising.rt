@@ -23,18 +23,28 @@ impl Volumes {
     /// The refusal comes exactly where the machine refuses `vol resize`, and is its refusal: a size that isn't 1 to 500,000, no such volume,
     /// a size past the volume's greatest, less than it uses, and commits that would pass the capacity, in this order. Nothing changes then.
     ///
-    /// Costs a comparison and a step for each volume, takes no memory and makes no call of a disk.
-    pub fn resize(&mut self, blocks: u32, name: &Name, size: u32) -> Result<(), Refusal>
+    /// `commits` is what all volumes commit together, in blocks, before the call and behind it.
+    ///
+    /// Costs a comparison for each volume and a step, takes no memory and makes no call of a disk.
+    pub fn resize(
+        &mut self,
+        blocks: u32,
+        commits: &mut u64,
+        name: &Name,
+        size: u32,
+    ) -> Result<(), Refusal>
         requires each { (s : ℕ) → IfSome (state_at self.old s) (IsLabelled s) }
         requires booked { (s : ℕ) → IfSome (state_at self.old s) IsBooked }
         requires blocks { IsSize blocks }
-        ensures { PromisesOne self.old blocks (VolResize name.now size) name.now (λ x. size) (λ x. x.kind) self.new result }
+        requires sum { commits.old ≡ sum_of self.old }
+        ensures promises { PromisesOne self.old blocks (VolResize name.now size) name.now (λ x. size) (λ x. x.kind) self.new result }
+        ensures sum { commits.new ≡ sum_of self.new }
     {
         if !in_size(u64::from(size)) {
             return Err(Refusal::Range);
         }
         match self.find(name) {
-            Some(slot) => self.resize_at(blocks, slot, size),
+            Some(slot) => self.resize_at(blocks, commits, slot, size),
             None => Err(Refusal::NoVolume),
         }
     }
@@ -46,56 +56,91 @@ impl Volumes {
     /// The refusal comes exactly where the machine refuses `vol guarantee`, and is its refusal: no such volume, a size less than it uses, and
     /// commits that would pass the capacity, in this order. Nothing changes then.
     ///
-    /// Costs a comparison and a step for each volume, takes no memory and makes no call of a disk.
-    pub fn guarantee(&mut self, blocks: u32, name: &Name, kind: Kind) -> Result<(), Refusal>
+    /// `commits` is what all volumes commit together, in blocks, before the call and behind it.
+    ///
+    /// Costs a comparison for each volume and a step, takes no memory and makes no call of a disk.
+    pub fn guarantee(
+        &mut self,
+        blocks: u32,
+        commits: &mut u64,
+        name: &Name,
+        kind: Kind,
+    ) -> Result<(), Refusal>
         requires each { (s : ℕ) → IfSome (state_at self.old s) (IsLabelled s) }
         requires booked { (s : ℕ) → IfSome (state_at self.old s) IsBooked }
         requires blocks { IsSize blocks }
-        ensures { PromisesOne self.old blocks (VolGuarantee name.now kind) name.now (λ x. x.size) (λ x. kind) self.new result }
+        requires sum { commits.old ≡ sum_of self.old }
+        ensures promises { PromisesOne self.old blocks (VolGuarantee name.now kind) name.now (λ x. x.size) (λ x. kind) self.new result }
+        ensures sum { commits.new ≡ sum_of self.new }
     {
         match self.find(name) {
-            Some(slot) => self.guarantee_at(blocks, slot, kind),
+            Some(slot) => self.guarantee_at(blocks, commits, slot, kind),
             None => Err(Refusal::NoVolume),
         }
     }
 
-    /// What all volumes but that of a slot commit together, in blocks. Costs a step for each slot.
-    fn commits_beside(&self, slot: u8) -> u64
+    /// What all volumes but that of a slot below 64 commit together, in blocks; `commits` is what all commit. Costs a step.
+    pub fn commits_beside(&self, commits: u64, slot: u8) -> u64
         requires slot { slot < slot_count }
-        requires each { (s : ℕ) → IfSome (state_at self.now s) (IsLabelled s) }
-        ensures sum { result ≡ sum_of self.now - committed_by (state_at self.now slot) }
-        ensures most { result ≤ 2 ^ 62 }
+        requires labelled { IfSome (state_at self.now slot) (IsLabelled slot) }
+        requires sum { commits ≡ sum_of self.now }
+        ensures { result ≡ sum_of self.now - committed_by (state_at self.now slot) }
     {
-        let own = commit_of(self.get(slot));
-        self.commits().saturating_sub(own)
+        commits.saturating_sub(commit_of(self.get(slot)))
     }
 
     /// Sets the size of the volume of a slot.
-    fn resize_at(&mut self, blocks: u32, slot: u8, size: u32) -> Result<(), Refusal>
+    fn resize_at(
+        &mut self,
+        blocks: u32,
+        commits: &mut u64,
+        slot: u8,
+        size: u32,
+    ) -> Result<(), Refusal>
         requires slot { slot < slot_count }
-        requires each { (s : ℕ) → IfSome (state_at self.old s) (IsLabelled s) }
+        requires labelled { IfSome (state_at self.old slot) (IsLabelled slot) }
         requires booked { IfSome (state_at self.old slot) IsBooked }
         requires blocks { IsSize blocks }
-        ensures { PromisesAt self.old blocks slot (state_at self.old slot) (λ x. VolResize x.name size) (λ x. size) (λ x. x.kind) self.new result }
+        requires sum { commits.old ≡ sum_of self.old }
+        requires few { commits.old ≤ 2 ^ 40 }
+        ensures promises { PromisesAt self.old blocks slot (state_at self.old slot) (λ x. VolResize x.name size) (λ x. size) (λ x. x.kind) self.new result }
+        ensures sum { commits.new ≡ sum_of self.new }
     {
-        let others = self.commits_beside(slot);
+        let others = self.commits_beside(*commits, slot);
         match self.get_mut(slot) {
-            Some(state) => state.resize(blocks, others, size),
+            Some(state) => {
+                let made = state.resize(blocks, others, size);
+                *commits = others + state.ledger.commit();
+                made
+            }
             None => Err(Refusal::NoVolume),
         }
     }
 
     /// Sets the kind of guarantee of the volume of a slot.
-    fn guarantee_at(&mut self, blocks: u32, slot: u8, kind: Kind) -> Result<(), Refusal>
+    fn guarantee_at(
+        &mut self,
+        blocks: u32,
+        commits: &mut u64,
+        slot: u8,
+        kind: Kind,
+    ) -> Result<(), Refusal>
         requires slot { slot < slot_count }
-        requires each { (s : ℕ) → IfSome (state_at self.old s) (IsLabelled s) }
+        requires labelled { IfSome (state_at self.old slot) (IsLabelled slot) }
         requires booked { IfSome (state_at self.old slot) IsBooked }
         requires blocks { IsSize blocks }
-        ensures { PromisesAt self.old blocks slot (state_at self.old slot) (λ x. VolGuarantee x.name kind) (λ x. x.size) (λ x. kind) self.new result }
+        requires sum { commits.old ≡ sum_of self.old }
+        requires few { commits.old ≤ 2 ^ 40 }
+        ensures promises { PromisesAt self.old blocks slot (state_at self.old slot) (λ x. VolGuarantee x.name kind) (λ x. x.size) (λ x. kind) self.new result }
+        ensures sum { commits.new ≡ sum_of self.new }
     {
-        let others = self.commits_beside(slot);
+        let others = self.commits_beside(*commits, slot);
         match self.get_mut(slot) {
-            Some(state) => state.guarantee(blocks, others, kind),
+            Some(state) => {
+                let made = state.guarantee(blocks, others, kind);
+                *commits = others + state.ledger.commit();
+                made
+            }
             None => Err(Refusal::NoVolume),
         }
     }

@@ -9,7 +9,7 @@ ghost use Rattle.fv_image.specs.Views.{entry_count};
 ghost use Rattle.fv_model.specs.declared.commands.Command.TheVariants.{VolCreate};
 ghost use Rattle.fv_model.specs.Numbers.{greatest_span};
 ghost use Rattle.fv_model.specs.Refusals.{refusal, next};
-ghost use Rattle.fv_model.specs.Space.{commits, overhead, span_of};
+ghost use Rattle.fv_model.specs.Space.{commits as commits_of, overhead, span_of};
 ghost use Rattle.fv_model.specs.Machines.{capacity};
 ghost use Rattle.fv_root.specs.Formatted.{IsSize};
 ghost use Rattle.fv_pool.specs.declared.pool.Pool.{Pool};
@@ -128,6 +128,7 @@ impl Volumes {
     /// The first slot whose volume has this name, `None` exactly for an unused name. Costs a comparison for
     /// each volume.
     pub fn find(&self, name: &Name) -> Option<u8>
+        ensures long { length self.now ≡ slot_count }
         ensures some { IfSome result (λ slot. (slot < slot_count) × HasName self.now slot name.now) }
         ensures none { IfNone result (NoneHasName self.now name.now) }
     {
@@ -139,7 +140,7 @@ impl Volumes {
         requires { (s : ℕ) → IfSome (state_at self.now s) (IsLabelled s) }
         ensures exact { result ≡ sum_of self.now }
         ensures most { result ≤ 2 ^ 40 }
-        ensures machine { (pool : Pool) (trees : Trees) → Over pool self.now trees (λ m. result ≡ commits m) }
+        ensures machine { (pool : Pool) (trees : Trees) → Over pool self.now trees (λ m. result ≡ commits_of m) }
     {
         sum_commits(&self.states)
     }
@@ -150,12 +151,13 @@ impl Volumes {
     /// `admitted` is what `admit` handed out for this name, size and kind. A consistency point may lie between
     /// the two calls, and nothing else that changes the volumes: `Admits` speaks of names, slots in use and what
     /// is committed, which a point keeps. So nothing is refused here. The one error is want of memory; nothing
-    /// changes then.
+    /// changes then. `commits` is what all volumes commit together, in blocks, before the call and behind it.
     ///
     /// Costs a step for each VVBN of the new volume, and takes memory for its container and its maps.
     pub fn create(
         &mut self,
         pool: &mut Pool,
+        commits: &mut u64,
         name: &Name,
         size: u32,
         kind: Kind,
@@ -163,6 +165,8 @@ impl Volumes {
     ) -> Result<u8, AllocError>
         requires each { (s : ℕ) → IfSome (state_at self.old s) (IsLabelled s) }
         requires admitted { Admits self.old pool.old.found.blocks name.now size kind admitted.slot admitted.span }
+        requires sum { commits.old ≡ sum_of self.old }
+        ensures sum { commits.new ≡ sum_of self.new }
         ensures slot { IfOk result (IsFirstFree self.old) }
         ensures made { IfOk result (λ slot. IsMade self.old slot name.now size kind self.new) }
         ensures new { IfOk result (λ slot. IsNew (state_at self.new slot) (container_at pool.new.containers slot) name.now size kind) }
@@ -178,6 +182,10 @@ impl Volumes {
         let Admitted { slot, span } = admitted;
         let container = Container::new(self.alloc, entry_count(span))?;
         let state = VolumeState::empty(self.alloc, slot, name, size, kind, span)?;
+        // It was admitted, so all commit no more than the aggregate has blocks.
+        *commits = commits
+            .saturating_add(state.ledger.commit())
+            .min(u64::from(pool.found.blocks));
         self.states[slot as usize] = Some(state);
         pool.containers.put(slot, container, None);
         Ok(slot)
@@ -190,25 +198,28 @@ impl Volumes {
     /// The refusal comes exactly where the machine refuses `vol create`, and is its refusal: a size that isn't 1 to
     /// 500,000, a name that is taken, 64 volumes, and commits that would pass the capacity, in this order.
     ///
-    /// Costs a comparison and a step for each volume. It takes no memory and changes nothing.
+    /// `commits` is what all volumes commit together, in blocks. Costs a comparison for each volume and a step. It takes no memory and
+    /// changes nothing.
     pub fn admit(
         &self,
         blocks: u32,
+        commits: u64,
         name: &Name,
         size: u32,
         kind: Kind,
     ) -> Result<Admitted, Refusal>
         requires each { (s : ℕ) → IfSome (state_at self.now s) (IsLabelled s) }
         requires blocks { IsSize blocks }
+        requires sum { commits ≡ sum_of self.now }
         ensures admitted { IfOk result (λ a. Admits self.now blocks name.now size kind a.slot a.span) }
         ensures accepted { IfOk result (λ a. (pool : Pool) (trees : Trees) → pool.found.blocks ≡ blocks
             → Over pool self.now trees (λ m. refusal m (VolCreate name.now size kind) ≡ None)) }
         ensures room { IfOk result (λ a. (pool : Pool) (trees : Trees) → pool.found.blocks ≡ blocks
-            → Over pool self.now trees (λ m. commits m + 2 * overhead a.span ≤ capacity blocks)) }
+            → Over pool self.now trees (λ m. commits_of m + 2 * overhead a.span ≤ capacity blocks)) }
         ensures refused { IfErr result (λ r. (pool : Pool) (trees : Trees) → pool.found.blocks ≡ blocks
             → Over pool self.now trees (λ m. refusal m (VolCreate name.now size kind) ≡ Some r)) }
         ensures why { IfErr result (Refuses self.now blocks name.now size kind) }
     {
-        admit(&self.states, blocks, name, size, kind)
+        admit(&self.states, blocks, commits, name, size, kind)
     }
 }

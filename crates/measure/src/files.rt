@@ -118,11 +118,12 @@ fn on_aggregate<D: Counted>(
         return Ok(0);
     };
     let mut volumes = Volumes::open(alloc, pool, disk)?;
-    let admitted = match volumes.admit(pool.found.blocks, &name, SIZE, Kind::Thin) {
+    let mut commits = volumes.commits();
+    let admitted = match volumes.admit(pool.found.blocks, commits, &name, SIZE, Kind::Thin) {
         Err(refusal) => return Err(VolumeFault::Refused(refusal)),
         Ok(admitted) => admitted,
     };
-    let Ok(slot) = volumes.create(pool, &name, SIZE, Kind::Thin, admitted) else {
+    let Ok(slot) = volumes.create(pool, &mut commits, &name, SIZE, Kind::Thin, admitted) else {
         return Err(VolumeFault::Memory);
     };
     on_slot(&mut volumes, slot, alloc, pool, disk, puts, reads)

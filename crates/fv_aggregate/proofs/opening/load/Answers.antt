@@ -21,6 +21,7 @@ use Rattle.fv_volume.specs.States.{view_over}
 use Rattle.fv_volume.specs.Trees.{machine_in, no_trees}
 use Rattle.fv_volume.specs.Files.{AreStates}
 use Rattle.fv_aggregate.proofs.Asking.{asked_opened}
+use Rattle.fv_aggregate.proofs.Ready.{ready_set}
 use Rattle.fv_aggregate.proofs.opening.load.Goals as goal
 
 pub invariant_of-result : goal.invariant_of-result
@@ -30,6 +31,10 @@ invariant_of-result g c = (
       let e = c.in_ok-volumes.ensures in
       fits_opened c.in_ok-found.found c.in_ok-pool.pool c.open-2.new.pool c.in_ok-volumes.volumes c.in_ok-found.ensures.range was.size was.found was.empty e.states e.map e.kept e.found,
   λ fresh. c.commits-commits.ensures.exact,
+  λ fresh.
+      let e = c.in_ok-volumes.ensures in
+      ready_set (g.D.Disk.shown c.open-2.new.disk) c.open-2.new.pool c.in_ok-volumes.volumes
+      (ready_each (g.D.Disk.shown c.open-2.new.disk) c.open-2.new.pool c.in_ok-volumes.volumes e.states.each (e.ready (subst (λ (f : Found). IsSize f.blocks) (sym c.in_ok-pool.ensures.found) c.in_ok-found.ensures.range.size))),
 )
 
 pub returns-clause-loaded : goal.returns-clause-loaded

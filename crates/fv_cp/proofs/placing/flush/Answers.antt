@@ -29,7 +29,7 @@ pub loop-slot-preserved : goal.loop-slot-preserved
 loop-slot-preserved g c =
     let did = c.in_ok-flush_slot.ensures in
     passed_more (g.D.Disk.shown c.args.disk.now) c.args.pool.now c.args.volumes.now (g.D.Disk.shown c.args.disk.now) c.loop-slot.pool c.loop-slot.volumes c.loop-slot.invariant.come c.loop-slot.slot
-    (g.D.Disk.shown c.args.disk.now) c.flush_slot.new.pool c.flush_slot.new.volumes c.loop-slot.invariant.ahead c.loop-slot.invariant.done c.loop-slot.invariant.whole did.none did.whole did.placed (λ none. refl) did.idle
+    (g.D.Disk.shown c.args.disk.now) c.flush_slot.new.pool c.flush_slot.new.volumes c.loop-slot.invariant.ahead c.loop-slot.invariant.waits c.loop-slot.invariant.first c.loop-slot.invariant.done c.loop-slot.invariant.whole did.none did.whole did.placed (λ none. refl) did.idle
 
 pub returns-in_err-flush_slot-clause-lacks : goal.returns-in_err-flush_slot-clause-lacks
 returns-in_err-flush_slot-clause-lacks g c =
@@ -37,4 +37,4 @@ returns-in_err-flush_slot-clause-lacks g c =
     let passed = c.loop-slot.invariant in
     let failed : c.from_residual.result ≡ Err c.in_err-flush_slot.field-0.0 = search rules in
     subst (λ (r : Result Unit VolumeFault). IfErr r (FailsToPlace d c.args.pool.now c.args.volumes.now)) (sym failed)
-    (lacks_place d c.args.pool.now c.args.volumes.now c.loop-slot.pool c.loop-slot.volumes passed.come.placed c.loop-slot.slot (passed.ahead c.loop-slot.slot (omega arith)) c.in_err-flush_slot.field-0.0 c.in_err-flush_slot.ensures.fails)
+    (lacks_place d c.args.pool.now c.args.volumes.now c.loop-slot.pool c.loop-slot.volumes passed.come.placed c.loop-slot.slot (passed.ahead c.loop-slot.slot (omega arith)) (passed.waits c.loop-slot.slot (omega arith)) passed.first c.in_err-flush_slot.field-0.0 c.in_err-flush_slot.ensures.fails)

@@ -18,9 +18,9 @@ returns-clause-leaves g c =
     let old = lent_for c.args.pool.now c.args.map.now disk c.open-steps.result c.args.home.now 0 in
     let new = lent_by after.pool.now after.map.now (g.D.Disk.shown after.disk.now) after.steps.now after.home after.room after.strays after.noted in
     let drops = reads_drops old new c.write.ensures.reads.4 in
-    subst (λ (m : Volume). LeavesTable told (sees c.args.pool.now c.args.map.now disk c.args.home.now) (sees c.args.pool.now m disk c.args.home.now) c.args.files.now c.write.new.self c.args.stamp c.write.result) (search rules)
-    (subst (λ (n : ℕ). LeavesTable told (shown_over (lent_for c.args.pool.now c.args.map.now disk n c.args.home.now 0)) (sees c.args.pool.now after.map.now disk c.args.home.now) c.args.files.now c.write.new.self c.args.stamp c.write.result) c.open-steps.ensures
-    (leaves_table told (Unit {0}) old new drops c.args.files.now c.write.new.self c.args.stamp _ c.write.result c.write.ensures.changes c.write.ensures.alters (λ t. tt) c.write.ensures.led (λ t is. c.write.ensures.pending)))
+    subst (λ (m : Volume). LeavesTable told (Unit {0}) (sees c.args.pool.now c.args.map.now disk c.args.home.now) (sees c.args.pool.now m disk c.args.home.now) c.args.files.now c.write.new.self c.args.stamp c.write.result) (search rules)
+    (subst (λ (n : ℕ). LeavesTable told (Unit {0}) (shown_over (lent_for c.args.pool.now c.args.map.now disk n c.args.home.now 0)) (sees c.args.pool.now after.map.now disk c.args.home.now) c.args.files.now c.write.new.self c.args.stamp c.write.result) c.open-steps.ensures
+    (leaves_table told (Unit {0}) (Unit {0}) old new drops c.args.files.now c.write.new.self c.args.stamp _ c.write.result c.write.ensures.changes c.write.ensures.alters (λ w. w) (λ t w. c.write.ensures.led t) (λ t w is. c.write.ensures.pending)))
 
 pub returns-clause-written : goal.returns-clause-written
 returns-clause-written g c = λ told.

@@ -7,7 +7,7 @@ use Rattle.fv_files.proofs.Removed.{well_holds}
 use Rattle.fv_files.specs.Tables.{changed, table_in, AreStanding}
 use Rattle.fv_files.specs.Trees.{standing_in}
 use Rattle.fv_volmap.specs.Slots.{Volume}
-use Rattle.fv_pool.specs.Calls.{LeavesTable}
+use Rattle.fv_pool.specs.Calls.{HasWellTable, LeavesTable}
 use Rattle.fv_pool.specs.Lending.{lent_by, lent_for, sees, shown_over}
 use Rattle.fv_pool.proofs.LeftTables.{left_over, leaves_table}
 use Rattle.fv_pool.proofs.lent_removals.remove_told.Goals as goal
@@ -19,9 +19,10 @@ returns-clause-leaves g c =
     let after = c.remove.new.blocks in
     let old = lent_for c.args.pool.now c.args.map.now disk c.open-steps.result c.args.home.now 0 in
     let new = lent_by after.pool.now after.map.now (g.D.Disk.shown after.disk.now) after.steps.now after.home 0 after.strays after.noted in
-    subst (λ (m : Volume). LeavesTable told (sees c.args.pool.now c.args.map.now disk c.args.home.now) (sees c.args.pool.now m disk c.args.home.now) c.args.files.now c.remove.new.self c.args.stamp c.remove.result) (search rules)
-    (subst (λ (n : ℕ). LeavesTable told (shown_over (lent_for c.args.pool.now c.args.map.now disk n c.args.home.now 0)) (sees c.args.pool.now after.map.now disk c.args.home.now) c.args.files.now c.remove.new.self c.args.stamp c.remove.result) c.open-steps.ensures
-    (leaves_table told (HoldsCells (rooted (shown_over old) c.args.files.now.inode)) old new c.remove.ensures.calls.4 c.args.files.now c.remove.new.self c.args.stamp _ c.remove.result c.remove.ensures.changes c.remove.ensures.alters (λ t. let well = c.requires.known.well t in well_holds (shown_over old) c.args.files.now well.0 well.1) (λ t. let well = c.requires.known.well t in c.remove.ensures.led t well.0 well.1) (λ t is. c.remove.ensures.pending)))
+    let well = HasWellTable (sees c.args.pool.now c.args.map.now disk c.args.home.now) c.args.files.now in
+    subst (λ (m : Volume). LeavesTable told well (sees c.args.pool.now c.args.map.now disk c.args.home.now) (sees c.args.pool.now m disk c.args.home.now) c.args.files.now c.remove.new.self c.args.stamp c.remove.result) (search rules)
+    (subst (λ (n : ℕ). LeavesTable told well (shown_over (lent_for c.args.pool.now c.args.map.now disk n c.args.home.now 0)) (sees c.args.pool.now after.map.now disk c.args.home.now) c.args.files.now c.remove.new.self c.args.stamp c.remove.result) c.open-steps.ensures
+    (leaves_table told (HoldsCells (rooted (shown_over old) c.args.files.now.inode)) well old new c.remove.ensures.calls.4 c.args.files.now c.remove.new.self c.args.stamp _ c.remove.result c.remove.ensures.changes c.remove.ensures.alters (λ w. well_holds (shown_over old) c.args.files.now w.0 w.1) (λ t w. c.remove.ensures.led t w.0 w.1) (λ t w is. c.remove.ensures.pending)))
 
 pub returns-clause-removed : goal.returns-clause-removed
 returns-clause-removed g c = λ told.

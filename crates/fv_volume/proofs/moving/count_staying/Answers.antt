@@ -2,7 +2,6 @@ use Rattle.std.proofs.Common.{◌≡◌, length, rules}
 use Rattle.std.proofs.lemmas.Result.{IfOk-weaker}
 use Rattle.fv_tables.specs.Told.{Standing}
 use Rattle.fv_files.specs.Tables.{IsInfoOf}
-use Rattle.fv_volume.specs.Asking.{TellsActive}
 use Rattle.fv_volume.proofs.RightTables.{active_tells}
 use Rattle.fv_volume.proofs.Charged.{counts_put, no_length, none_by_put}
 use Rattle.fv_volume.proofs.OneVolumes.{root_fits}
@@ -16,7 +15,7 @@ pub returns-then-len-eq0-clause-staying : goal.returns-then-len-eq0-clause-stayi
 returns-then-len-eq0-clause-staying g c = λ is. let none : length c.args.volume.now.snapshots ≡ 0 = search rules in none_by_put (g.D.Disk.shown c.args.disk.now) c.args.pool.now c.args.volume.now (no_length c.args.volume.now.snapshots none) c.args.info.now.number c.args.index
 
 pub returns-clause-staying : goal.returns-clause-staying
-returns-clause-staying g c = λ is. let taken = c.take_table-files.ensures in IfOk-weaker c.staying_told-answer.result _ _ (λ count counted. counts_put (g.D.Disk.shown c.args.disk.now) c.args.pool.now c.args.volume.now c.requires.ready is c.take_table-files.result taken.table taken.alike c.args.info.now (c.requires.there (active_tells (g.D.Disk.shown c.args.disk.now) c.args.pool.now c.args.volume.now is)) c.args.index count counted) (c.staying_told-answer.ensures.staying (is_given (g.D.Disk.shown c.args.disk.now) c.args.pool.now c.args.volume.now c.take_table-files.result c.take_table-files.ensures.table c.take_table-files.ensures.trees (c.take_table-files.ensures.held, c.take_table-files.ensures.alike) (TellsActive (g.D.Disk.shown c.args.disk.now) c.args.pool.now c.args.volume.now) (λ told. told) (active_tells (g.D.Disk.shown c.args.disk.now) c.args.pool.now c.args.volume.now) (λ (s : Standing). IsInfoOf s.inode c.args.info.now) c.requires.there is))
+returns-clause-staying g c = λ is. let taken = c.take_table-files.ensures in IfOk-weaker c.staying_told-answer.result _ _ (λ count counted. counts_put (g.D.Disk.shown c.args.disk.now) c.args.pool.now c.args.volume.now c.requires.ready is c.take_table-files.result taken.table taken.alike c.args.info.now (c.requires.there (active_tells (g.D.Disk.shown c.args.disk.now) c.args.pool.now c.args.volume.now is)) c.args.index count counted) (c.staying_told-answer.ensures.staying (is_given (g.D.Disk.shown c.args.disk.now) c.args.pool.now c.args.volume.now c.take_table-files.result c.take_table-files.ensures.table c.take_table-files.ensures.trees (c.take_table-files.ensures.held, c.take_table-files.ensures.alike) (λ (s : Standing). IsInfoOf s.inode c.args.info.now) c.requires.there is))
 
 pub returns-clause-cause : goal.returns-clause-cause
-returns-clause-cause g c = given_cause (g.D.Disk.shown c.args.disk.now) c.args.pool.now c.args.volume.now c.take_table-files.result c.take_table-files.ensures.table c.take_table-files.ensures.trees (c.take_table-files.ensures.held, c.take_table-files.ensures.alike) (TellsActive (g.D.Disk.shown c.args.disk.now) c.args.pool.now c.args.volume.now) (λ told. told) (active_tells (g.D.Disk.shown c.args.disk.now) c.args.pool.now c.args.volume.now) (λ (s : Standing). IsInfoOf s.inode c.args.info.now) c.requires.there (g.D.Disk.shown c.staying_told-answer.new.disk).faults c.staying_told-answer.result c.staying_told-answer.ensures.cause
+returns-clause-cause g c = given_cause (g.D.Disk.shown c.args.disk.now) c.args.pool.now c.args.volume.now c.take_table-files.result c.take_table-files.ensures.table c.take_table-files.ensures.trees (c.take_table-files.ensures.held, c.take_table-files.ensures.alike) (λ (s : Standing). IsInfoOf s.inode c.args.info.now) c.requires.there (g.D.Disk.shown c.staying_told-answer.new.disk).faults c.staying_told-answer.result c.staying_told-answer.ensures.cause

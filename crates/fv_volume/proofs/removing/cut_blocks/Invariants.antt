@@ -1,8 +1,8 @@
-use Rattle.fv_pool.specs.Calls.{TellsWell}
+use Rattle.fv_pool.specs.Calls.{TellsInfo}
 use Rattle.fv_volume.proofs.removing.cut_blocks.Given as goal
 
 abbrev pub ghosts-cut_told-K-Guard : goal.ghosts-cut_told-K-Guard
-ghosts-cut_told-K-Guard g a = record { told = TellsWell (g.D.Disk.shown a.disk.now) a.pool.now a.map.now a.home.now a.files.now a.info.now }
+ghosts-cut_told-K-Guard g a = record { told = TellsInfo (g.D.Disk.shown a.disk.now) a.pool.now a.map.now a.home.now a.files.now a.info.now }
 
 abbrev pub ghosts-cut_told-L-Ledger : goal.ghosts-cut_told-L-Ledger
 ghosts-cut_told-L-Ledger g a = record { name = a.blank.name; parts = a.blank.parts }

@@ -8,8 +8,11 @@ use Rattle.fv_volume.specs.States.{state_at}
 use Rattle.fv_cp.specs.Lent.{FitTogether, blocks_asked}
 use Rattle.fv_volumes.proofs.Housing.{housed_with}
 use Rattle.fv_aggregate.specs.declared.session.Session.{Session}
+use Rattle.fv_aggregate.specs.Parts.{silent, AreSet}
 use Rattle.fv_aggregate.proofs.Added.{added_as}
 use Rattle.fv_aggregate.proofs.Asking.{asked_made, overheads_made, pending_made, waiting_made}
+use Rattle.fv_aggregate.proofs.Beside.{ready_beside}
+use Rattle.fv_aggregate.proofs.Ready.{stands_silent}
 use Rattle.fv_aggregate.proofs.session.Session.add.Goals as goal
 
 pub invariant_of-self-2 : goal.invariant_of-self-2
@@ -25,7 +28,13 @@ invariant_of-self-2 c = (
         housed = housed_with c.self.inside.pool c.self.inside.volumes c.create.new.self slot c.args.name.now c.args.size c.args.kind e.made new e.each was.housed;
         kept = was.kept;
       }),
-  λ fresh. c.commits-self-inside.ensures.exact,
+  λ fresh. c.in_ok-create.ensures.sum,
+  λ fresh.
+      let e = c.in_ok-create.ensures in
+      let slot = c.in_ok-create.field-0 in
+      let new = subst (λ (p : Pool). IsNew (state_at c.create.new.self slot) (container_at p.containers slot) c.args.name.now c.args.size c.args.kind) e.holes e.new in
+      subst (λ (p : Pool). AreSet p c.create.new.self) (sym e.holes)
+      (ready_beside silent c.self.inside.pool c.self.inside.volumes slot c.args.name.now c.args.size c.args.kind c.create.new.self (c.self.invariant.0 fresh) e.slot e.made new e.each (stands_silent c.self.inside.pool.store.pairs) (c.self.invariant.2 fresh)),
 )
 
 pub returns-clause-added : goal.returns-clause-added

@@ -9,6 +9,7 @@ use Rattle.fv_aggregate.proofs.Commits.{commits_same}
 use Rattle.fv_aggregate.proofs.Looked.{fit_lent}
 use Rattle.fv_aggregate.proofs.Lost.{lost_lent, replied_only}
 use Rattle.fv_aggregate.proofs.Keeping.{replied_volumes}
+use Rattle.fv_aggregate.proofs.Ready.{set_lent}
 use Rattle.fv_aggregate.proofs.Returned.{lent_has, ready_lent, volumes_lent}
 use Rattle.fv_aggregate.proofs.session.Session.ask.Goals as goal
 
@@ -24,6 +25,9 @@ invariant_of-self g c = (
       c.self.inside.volumes c.args.slot c.volume_at-state.result.now c.ask_state-asked.new.state c.volume_at-state.ensures.state c.ask_state-asked.ensures.same (c.self.invariant.0 none),
   λ none.
       c.self.invariant.1 none ∙ sym (commits_same c.self.inside.volumes (c.self.invariant.0 none).housed.long c.args.slot c.volume_at-state.result.now c.ask_state-asked.new.state c.volume_at-state.ensures.state (ap (λ (z : VolumeState). committed z.ledger) c.ask_state-asked.ensures.same)),
+  λ none.
+      set_lent (g.D.Disk.shown c.args.disk.now) (g.D.Disk.shown c.ask_state-asked.new.disk) _ _ c.self.view_is c.requires.stands c.ask_state-asked.new.pool c.ask_state-asked.ensures.asks.reads
+      c.args.slot c.volume_at-state.result.now c.ask_state-asked.new.state c.volume_at-state.ensures.state c.ask_state-asked.ensures.same,
 )
 
 pub returns-clause-looks : goal.returns-clause-looks

@@ -8,6 +8,7 @@ use Rattle.fv_aggregate.proofs.Changing.{change_of_volume}
 use Rattle.fv_aggregate.proofs.Lost.{lacking, of_lacking}
 use Rattle.fv_aggregate.proofs.Serving.{knows_on, look_applied, loses_named, make_applied, not_none, snap_applied}
 use Rattle.fv_aggregate.proofs.SnapApplied.{snap_aimed_at}
+use Rattle.fv_aggregate.proofs.Unmade.{unmade_named}
 use Rattle.fv_aggregate.proofs.session.Session.carry.Goals as goal
 
 pub look_at-requires-clause-asked : goal.look_at-requires-clause-asked
@@ -41,7 +42,9 @@ returns-in-Change g c =
     let did = c.change_at.ensures in
     let change : changed_by command ≡ Some aimed.name = suits_as _ _ _ _ _ c.in-Change.is aimed in
     make_applied command aimed.name change (g.D.Disk.shown c.args.disk.now) c.args.disk.now s (g.D.Disk.shown c.change_at.new.disk) c.change_at.new.disk c.change_at.new.self c.args.steps.now (answer c.change_at.new.into c.change_at.result)
-    c.requires.fresh did.makes did.roomy (record {
+    c.requires.fresh did.makes did.roomy
+    (λ low. unmade_named (g.D.Disk.shown c.args.disk.now) s slot aimed.name (g.D.Disk.shown c.change_at.new.disk) c.change_at.new.self aimed.within aimed.named (answer c.change_at.new.into c.change_at.result) (did.unmade low))
+    (record {
       range = λ far. absurd (true≢false (sym aimed.near ∙ far));
       missing = λ near none. not_none _ s.volumes slot aimed.name aimed.within aimed.named none;
       kept = λ alive. loses_named command aimed.name (change_of_volume aimed.name command change) s.volumes slot aimed.named.named c.change_at.new.self.volumes (did.kept alive);

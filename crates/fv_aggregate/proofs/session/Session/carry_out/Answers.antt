@@ -8,11 +8,13 @@ use Rattle.fv_volume.specs.States.{state_at, with_state}
 use Rattle.fv_aggregate.specs.Answers.{answer}
 use Rattle.fv_aggregate.specs.declared.session.Session.{Session}
 use Rattle.fv_aggregate.specs.Known.{KeepsNumbersBut, KnowsNumbers}
-use Rattle.fv_aggregate.proofs.Carried.{change_lent, makes_lent}
+use Rattle.fv_aggregate.proofs.Carried.{bad_lent, change_lent, makes_lent}
 use Rattle.fv_aggregate.proofs.Changed.{counted, fit_changed}
 use Rattle.fv_aggregate.proofs.Commits.{commits_most, commits_with}
 use Rattle.fv_aggregate.proofs.Keeping.{keeps_with, replied_volumes}
+use Rattle.fv_aggregate.proofs.Ready.{set_changed}
 use Rattle.fv_aggregate.proofs.Returned.{keeps_changed, lent_there, long_lent, ready_lent}
+use Rattle.fv_aggregate.proofs.Unmade.{unmade_lent}
 use Rattle.fv_aggregate.proofs.session.Session.carry_out.Goals as goal
 
 pub commits_beside-others-requires-clause-few : goal.commits_beside-others-requires-clause-few
@@ -36,6 +38,10 @@ invariant_of-self g c = (
   λ none.
       ap (λ (n : ℕ). c.commits_beside-others.result + n) c.commit.ensures.exact
       ∙ commits_with c.self.inside.volumes (c.self.invariant.0 none).housed.long c.args.slot c.volume_at-state.result.now c.change-made.new.self c.volume_at-state.ensures.state c.commits_beside-others.result (subst (λ (n : Session). c.commits_beside-others.result ≡ sum_of n.volumes - committed_by (state_at n.volumes c.args.slot)) (sym c.self.view_is) c.commits_beside-others.ensures.sum),
+  λ none.
+      let said = c.change-made.ensures in
+      set_changed (g.D.Disk.shown c.args.disk.now) (g.D.Disk.shown c.change-made.new.disk) _ _ c.self.view_is c.requires.stands c.change-made.new.pool said.reads
+      c.args.slot c.volume_at-state.result.now c.change-made.new.self c.volume_at-state.ensures.state said.head.same said.ready (c.self.invariant.0 none).housed.long,
 )
 
 pub returns-clause-makes : goal.returns-clause-makes
@@ -45,6 +51,17 @@ returns-clause-makes g c =
     let y = c.change-made.new.self in
     let more : c.added-more.result ≡ counted (pending_of x.files) (pending_of y.files) = c.added-more.ensures ∙ (λ j. min (c.pending.ensures j - c.pending-before.ensures j) 16) in
     makes_lent (g.D.Disk.shown c.args.disk.now) (g.D.Disk.shown c.change-made.new.disk) (g.met.D.Disk.laws c.args.disk.now) _ _ c.self.view_is c.self.invariant.0 c.requires.fresh c.requires.stands c.args.command.now c.args.slot
+    x c.volume_at-state.ensures.state c.commits_beside-others.result (subst (λ (n : Session). c.commits_beside-others.result ≡ sum_of n.volumes - committed_by (state_at n.volumes c.args.slot)) (sym c.self.view_is) c.commits_beside-others.ensures.sum) c.change-made.new.pool y c.change-made.result (answer c.done.new.into c.change-made.result) (ap (λ (z : Reply). answer z c.change-made.result) c.done.ensures) c.replied.new.self (answer c.replied.new.into c.replied.result)
+    c.added-more.result more (let few = c.requires.few in omega (arith, few)) (change_lent _ _ c.self.view_is c.args.slot x c.volume_at-state.ensures.state c.args.command.now c.requires.aimed)
+    (record { reads = said.reads; changes = said.changes; standing = said.standing; table = said.table; ready = said.ready; head = said.head; numbers = said.numbers; cause = said.cause }) c.replied.ensures
+
+pub returns-clause-damage : goal.returns-clause-damage
+returns-clause-damage g c =
+    let said = c.change-made.ensures in
+    let x = c.volume_at-state.result.now in
+    let y = c.change-made.new.self in
+    let more : c.added-more.result ≡ counted (pending_of x.files) (pending_of y.files) = c.added-more.ensures ∙ (λ j. min (c.pending.ensures j - c.pending-before.ensures j) 16) in
+    bad_lent (g.D.Disk.shown c.args.disk.now) (g.D.Disk.shown c.change-made.new.disk) (g.met.D.Disk.laws c.args.disk.now) _ _ c.self.view_is c.self.invariant.0 c.requires.fresh c.requires.stands c.args.command.now c.args.slot
     x c.volume_at-state.ensures.state c.commits_beside-others.result (subst (λ (n : Session). c.commits_beside-others.result ≡ sum_of n.volumes - committed_by (state_at n.volumes c.args.slot)) (sym c.self.view_is) c.commits_beside-others.ensures.sum) c.change-made.new.pool y c.change-made.result (answer c.done.new.into c.change-made.result) (ap (λ (z : Reply). answer z c.change-made.result) c.done.ensures) c.replied.new.self (answer c.replied.new.into c.replied.result)
     c.added-more.result more (let few = c.requires.few in omega (arith, few)) (change_lent _ _ c.self.view_is c.args.slot x c.volume_at-state.ensures.state c.args.command.now c.requires.aimed)
     (record { reads = said.reads; changes = said.changes; standing = said.standing; table = said.table; ready = said.ready; head = said.head; numbers = said.numbers; cause = said.cause }) c.replied.ensures
@@ -65,3 +82,13 @@ returns-clause-kept g c =
     replied_volumes (g.D.Disk.shown c.change-made.new.disk) (answer c.done.new.into c.change-made.result) _ c.replied.new.self (answer c.replied.new.into c.replied.result) c.replied.ensures ∙ ap (λ (n : Session). with_state n.volumes slot (Some y)) c.self.view_is in
     subst (KeepsNumbersBut (λ k. (k ≡ slot) × (keeps_numbers command ≡ false)) s.volumes) (sym volumes)
     (keeps_with _ s.volumes slot (Some y) (let low = c.requires.aimed.within in omega (arith, low, long)) (λ known stays. keeps_changed command x y slot c.change-made.ensures.numbers (subst KnowsNumbers there known) stays))
+
+pub returns-clause-unmade : goal.returns-clause-unmade
+returns-clause-unmade g c =
+    let said = c.change-made.ensures in
+    let x = c.volume_at-state.result.now in
+    let y = c.change-made.new.self in
+    unmade_lent (g.D.Disk.shown c.args.disk.now) (g.D.Disk.shown c.change-made.new.disk) _ _ c.self.view_is c.self.invariant.0 c.requires.fresh c.change-made.new.pool c.args.slot x y c.volume_at-state.ensures.state
+    c.commits_beside-others.result c.args.command.now c.replied.new.self (answer c.replied.new.into c.replied.result) c.added-more.result
+    c.change-made.result (answer c.done.new.into c.change-made.result) (ap (λ (z : Reply). answer z c.change-made.result) c.done.ensures)
+    (record { reads = said.reads; changes = said.changes; standing = said.standing; table = said.table; ready = said.ready; head = said.head; numbers = said.numbers; cause = said.cause }) c.replied.ensures

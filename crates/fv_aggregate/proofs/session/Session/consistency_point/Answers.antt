@@ -1,9 +1,11 @@
-use Rattle.std.proofs.Common.{◌≡◌, ◌≢◌, ℕ, Some, subst}
+use Rattle.std.proofs.Common.{◌≡◌, ◌≢◌, ℕ, Some, refl, sym, subst}
+use Rattle.std.specs.Prelude.{IsNone}
 use Rattle.fv_aggregate.specs.declared.fault.Fault.TheVariants.{Failed, Memory}
 use Rattle.fv_aggregate.specs.declared.session.Session.{Session}
 use Rattle.fv_cp.proofs.Whole.{resting}
 use Rattle.fv_aggregate.proofs.Applied.{rests_for_fault}
 use Rattle.fv_aggregate.proofs.Calls.{rests_asks, stays_failed}
+use Rattle.fv_aggregate.proofs.Ready.{stands_ready}
 use Rattle.fv_aggregate.proofs.session.Session.consistency_point.Goals as goal
 
 not_memory : (n : ℕ) → Failed n ≢ Memory
@@ -28,6 +30,11 @@ returns-in-Some-clause-points g c = record {
   sides = λ tells last m stands. resting (g.D.Disk.shown c.args.disk.now) c.args.self.now.pool c.args.self.now.volumes last (g.met.D.Disk.laws c.args.disk.now) stands.held;
   left = tt;
 }
+
+pub point-requires-clause-stands : goal.point-requires-clause-stands
+point-requires-clause-stands g c =
+    let fresh : IsNone c.args.self.now.failed = subst (λ (s : Session). IsNone s.failed) c.self.view_is (subst IsNone (sym c.in-None.is) refl) in
+    stands_ready (g.D.Disk.shown c.args.disk.now) _ _ c.self.view_is c.self.invariant.2 c.requires.stands fresh
 
 pub returns-in-None-clause-runs : goal.returns-in-None-clause-runs
 returns-in-None-clause-runs g c =

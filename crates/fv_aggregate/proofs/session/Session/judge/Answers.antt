@@ -11,6 +11,7 @@ use Rattle.fv_aggregate.proofs.Carried.{change_lent, judged_lent}
 use Rattle.fv_aggregate.proofs.Commits.{commits_most, commits_same}
 use Rattle.fv_aggregate.proofs.Looked.{fit_lent}
 use Rattle.fv_aggregate.proofs.Keeping.{replied_volumes}
+use Rattle.fv_aggregate.proofs.Ready.{set_lent}
 use Rattle.fv_aggregate.proofs.Returned.{ready_lent, volumes_lent}
 use Rattle.fv_aggregate.proofs.session.Session.judge.Goals as goal
 
@@ -31,6 +32,9 @@ invariant_of-self g c = (
       c.self.inside.volumes c.args.slot c.volume_at-state.result.now c.judge-judged.new.self c.volume_at-state.ensures.state c.judge-judged.ensures.same (c.self.invariant.0 none),
   λ none.
       c.self.invariant.1 none ∙ sym (commits_same c.self.inside.volumes (c.self.invariant.0 none).housed.long c.args.slot c.volume_at-state.result.now c.judge-judged.new.self c.volume_at-state.ensures.state (ap (λ (z : VolumeState). committed z.ledger) c.judge-judged.ensures.same)),
+  λ none.
+      set_lent (g.D.Disk.shown c.args.disk.now) (g.D.Disk.shown c.judge-judged.new.disk) _ _ c.self.view_is c.requires.stands c.judge-judged.new.pool c.judge-judged.ensures.reads
+      c.args.slot c.volume_at-state.result.now c.judge-judged.new.self c.volume_at-state.ensures.state c.judge-judged.ensures.same,
 )
 
 pub returns-clause-judged : goal.returns-clause-judged

@@ -1,12 +1,12 @@
-use Rattle.std.proofs.Common.{◌≡◌, true, rules, Err, Option, None, sym, ap, subst, ◌∙◌}
-use Rattle.std.specs.Prelude.{IfSome}
+use Rattle.std.proofs.Common.{◌≡◌, true, rules, Err, Option, None, refl, sym, ap, subst, ◌∙◌}
+use Rattle.std.specs.Prelude.{IfSome, IsSome}
 use Rattle.fv_volume.specs.declared.state.VolumeState.{VolumeState}
 use Rattle.fv_volume.specs.Asking.{table_named}
 use Rattle.fv_volume.specs.States.{state_at}
 use Rattle.fv_aggregate.specs.Answers.{answer}
 use Rattle.fv_aggregate.specs.Commands.{finds_file, snapshot_asked}
 use Rattle.fv_aggregate.proofs.Answered.{fails}
-use Rattle.fv_aggregate.proofs.Asked.{asked_read, damaged_at}
+use Rattle.fv_aggregate.proofs.Asked.{asked_read}
 use Rattle.fv_aggregate.proofs.Lost.{active_there, finds_active, no_refusal, none_lost}
 use Rattle.fv_aggregate.proofs.Numbered.{known_numbered, look_numbered, look_unnumbered}
 use Rattle.fv_aggregate.proofs.session.Session.look_at.Goals as goal
@@ -23,13 +23,13 @@ ask-requires-2-clause-asked g c =
 pub returns-clause-looks : goal.returns-clause-looks
 returns-clause-looks g c =
     let d = g.D.Disk.shown c.args.disk.now in let e = g.D.Disk.shown c.read_numbers.new.disk in let of = c.requires.asked in
-    look_numbered d c.args.self.now c.args.command.now (damaged_at d c.args.self.now c.args.slot of.state of.there c.requires.fresh) e c.read_numbers.new.self tt c.in_ok-read_numbers.ensures.numbered
+    look_numbered d c.args.self.now c.args.command.now c.requires.fresh c.args.slot (subst IsSome (sym of.there) refl) e c.read_numbers.new.self tt c.in_ok-read_numbers.ensures.numbered
     (g.D.Disk.shown c.ask-2.new.disk) c.ask-2.new.self (answer c.ask-2.new.into c.ask-2.result) c.ask-2.ensures.looks
 
 pub returns-clause-known : goal.returns-clause-known
 returns-clause-known g c =
     let d = g.D.Disk.shown c.args.disk.now in let e = g.D.Disk.shown c.read_numbers.new.disk in let of = c.requires.asked in
-    known_numbered d c.args.self.now c.args.command.now (damaged_at d c.args.self.now c.args.slot of.state of.there c.requires.fresh) e c.read_numbers.new.self tt c.in_ok-read_numbers.ensures.numbered
+    known_numbered d c.args.self.now c.args.command.now c.requires.fresh c.args.slot (subst IsSome (sym of.there) refl) e c.read_numbers.new.self tt c.in_ok-read_numbers.ensures.numbered
     (g.D.Disk.shown c.ask-2.new.disk) c.ask-2.new.self (answer c.ask-2.new.into c.ask-2.result) c.args.steps.now c.ask-2.new.steps c.ask-2.ensures.known
 
 -- a table whose files are found by their numbers is there

@@ -79,7 +79,7 @@ returns-clause-runs g c =
       damage = tt;
       goes_for = λ tells last m stands.
           let fits : commits m + 2 * c.from-room.result ≤ capacity m.blocks = omega (arith, room, room_for old s last m c.requires.long stands c.args.name.now c.args.size c.args.kind c.args.admitted.slot c.args.admitted.span c.requires.admitted) in
-          added_for old s mid n c.args.name.now c.args.size c.args.kind c.from-room.result (subst IsTrue (sym runs.goes.ends.tells) tells) (runs.goes.stands runs.goes.done.goes_on).cache
+          added_for old s mid n c.args.name.now c.args.size c.args.kind c.from-room.result (subst IsTrue (sym runs.goes.ends.tells) tells) (runs.goes.stands runs.goes.done.goes_on).stands.cache
           last m (runs.goes_for tells last m stands) (room ∙ ap overhead c.requires.admitted.span_is)
           (made.room tells last m stands fits) c.add.new.self added c.in_ok-add.ensures.pending;
       numbers = λ alive k known. keeps_added n c.args.name.now c.args.size c.args.kind c.from-room.result c.add.new.self added k (runs.numbers (subst IsNone added.failed alive) k known);

@@ -11,6 +11,7 @@ use Rattle.fv_aggregate.proofs.Commits.{commits_kept}
 use Rattle.fv_aggregate.proofs.Keeping.{keeps_core}
 use Rattle.fv_aggregate.proofs.PointEnds.{done_asks, failed_asks, fails_as, has_full_room, point_done, point_failed_for, point_is, point_lacks, point_moments, point_sides, point_wanting, pointed_left, room_pointed, stands_pointed, stayed, still_as, still_asks, still_for, still_wants}
 use Rattle.fv_aggregate.proofs.Pointed.{entries_behind}
+use Rattle.fv_aggregate.proofs.Ready.{ready_set}
 use Rattle.fv_aggregate.proofs.session.Session.point.Goals as goal
 
 pub returns-in-Ok-clause-goes : goal.returns-in-Ok-clause-goes
@@ -62,7 +63,11 @@ returns-in-Err-DiskFault-clause-asks g c =
     failed_asks old c.args.self.now new _ new.faults (c.failure-self-inside.ensures.failed (subst (λ (n : ℕ). Rose n new.write_faults) (sym c.write_faults-before.ensures) counts.cause.1))
 
 pub invariant_of-self : goal.invariant_of-self
-invariant_of-self g c = (λ fresh. c.in-Ok.ensures.goes_on.fit, λ fresh. c.self.invariant.1 fresh ∙ sym (commits_kept c.self.inside.volumes c.full_point.new.volumes c.in-Ok.ensures.goes_on.cores))
+invariant_of-self g c = (
+  λ fresh. c.in-Ok.ensures.goes_on.fit,
+  λ fresh. c.self.invariant.1 fresh ∙ sym (commits_kept c.self.inside.volumes c.full_point.new.volumes c.in-Ok.ensures.goes_on.cores),
+  λ fresh. ready_set (g.D.Disk.shown c.full_point.new.disk) c.full_point.new.pool c.full_point.new.volumes c.in-Ok.ensures.goes_on.ready,
+)
 
 pub invariant_of-self-in-Err-Damaged : goal.invariant_of-self-in-Err-Damaged
 invariant_of-self-in-Err-Damaged g c = (
@@ -70,6 +75,10 @@ invariant_of-self-in-Err-Damaged g c = (
       let e = c.in-Err-Damaged in
       (still_as (g.D.Disk.shown c.args.disk.now) c.self.inside.pool c.self.inside.volumes (g.D.Disk.shown c.full_point.new.disk) c.full_point.new.pool c.full_point.new.volumes _ _ e.field-0-is e.ensures.still).placed.fit,
   λ fresh. c.self.invariant.1 fresh ∙ sym (commits_kept c.self.inside.volumes c.full_point.new.volumes (still_as (g.D.Disk.shown c.args.disk.now) c.self.inside.pool c.self.inside.volumes (g.D.Disk.shown c.full_point.new.disk) c.full_point.new.pool c.full_point.new.volumes _ _ c.in-Err-Damaged.field-0-is c.in-Err-Damaged.ensures.still).placed.cores),
+  λ fresh.
+      let e = c.in-Err-Damaged in
+      ready_set (g.D.Disk.shown c.full_point.new.disk) c.full_point.new.pool c.full_point.new.volumes
+      (still_as (g.D.Disk.shown c.args.disk.now) c.self.inside.pool c.self.inside.volumes (g.D.Disk.shown c.full_point.new.disk) c.full_point.new.pool c.full_point.new.volumes _ _ e.field-0-is e.ensures.still).ready,
 )
 
 pub invariant_of-self-in-Err-Memory : goal.invariant_of-self-in-Err-Memory
@@ -78,6 +87,10 @@ invariant_of-self-in-Err-Memory g c = (
       let e = c.in-Err-Memory in
       (still_as (g.D.Disk.shown c.args.disk.now) c.self.inside.pool c.self.inside.volumes (g.D.Disk.shown c.full_point.new.disk) c.full_point.new.pool c.full_point.new.volumes _ _ e.field-0-is e.ensures.still).placed.fit,
   λ fresh. c.self.invariant.1 fresh ∙ sym (commits_kept c.self.inside.volumes c.full_point.new.volumes (still_as (g.D.Disk.shown c.args.disk.now) c.self.inside.pool c.self.inside.volumes (g.D.Disk.shown c.full_point.new.disk) c.full_point.new.pool c.full_point.new.volumes _ _ c.in-Err-Memory.field-0-is c.in-Err-Memory.ensures.still).placed.cores),
+  λ fresh.
+      let e = c.in-Err-Memory in
+      ready_set (g.D.Disk.shown c.full_point.new.disk) c.full_point.new.pool c.full_point.new.volumes
+      (still_as (g.D.Disk.shown c.args.disk.now) c.self.inside.pool c.self.inside.volumes (g.D.Disk.shown c.full_point.new.disk) c.full_point.new.pool c.full_point.new.volumes _ _ e.field-0-is e.ensures.still).ready,
 )
 
 pub returns-in-Err-Damaged-clause-goes : goal.returns-in-Err-Damaged-clause-goes

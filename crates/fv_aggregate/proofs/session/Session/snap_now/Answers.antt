@@ -14,9 +14,9 @@ use Rattle.fv_volume.specs.States.{with_state}
 use Rattle.fv_aggregate.specs.Snapping.{HasGrant}
 use Rattle.fv_aggregate.proofs.Commits.{commits_with}
 use Rattle.fv_aggregate.proofs.Returned.{ready_lent, same_there}
-use Rattle.fv_aggregate.specs.Standing.{Stands}
+use Rattle.fv_aggregate.specs.Standing.{StandsReady}
 use Rattle.fv_aggregate.proofs.SnapDone.{IsCarried}
-use Rattle.fv_aggregate.proofs.SnapFits.{fits_after}
+use Rattle.fv_aggregate.proofs.SnapFits.{fits_after, set_after}
 use Rattle.fv_aggregate.proofs.SnapNow.{carried_now}
 use Rattle.fv_aggregate.proofs.SnapLost.{needs_now}
 use Rattle.fv_aggregate.proofs.session.Session.snap_now.Goals as goal
@@ -47,6 +47,13 @@ invariant_of-self g c = (
       ap (λ (n : ℕ). c.args.others + n) c.commit.ensures.exact
       ∙ commits_with c.self.inside.volumes (c.self.invariant.0 none).housed.long c.args.slot c.volume_at-state.result.now c.change_snaps-made.new.state c.volume_at-state.ensures.state c.args.others
       (subst (λ (n : Session). c.args.others ≡ sum_of n.volumes - committed_by (state_at n.volumes c.args.slot)) (sym c.self.view_is) c.requires.others),
+  λ none.
+      let v : Session = record { volumes = c.self.inside.volumes; pool = c.self.inside.pool; delays = c.self.inside.delays; pending = c.self.inside.pending; failed = c.self.inside.failed } in
+      let x = c.volume_at-state.result.now in
+      let aimed = subst (λ (n : Session). IsSnapAimed n.volumes c.args.slot c.args.command.now) (sym c.self.view_is) c.requires.aimed in
+      let of : snapped_by c.args.command.now ≡ Some x.name = aimed.snaps ∙ ap (λ (z : VolumeState). Some z.name) (same_there _ _ _ aimed.there c.volume_at-state.ensures.state) in
+      set_after (g.D.Disk.shown c.args.disk.now) v (c.self.invariant.0 none) (subst (StandsReady (g.D.Disk.shown c.args.disk.now)) (sym c.self.view_is) c.requires.stands) c.args.slot c.args.command.now x c.volume_at-state.ensures.state of
+      c.args.others c.change_snaps-made.new.pool c.change_snaps-made.new.state c.change_snaps-made.ensures.ready c.change_snaps-made.result c.change_snaps-made.ensures.snaps,
 )
 
 pub invariant_of-self-else-is_ok : goal.invariant_of-self-else-is_ok
@@ -61,6 +68,13 @@ invariant_of-self-else-is_ok g c = (
       ap (λ (n : ℕ). c.args.others + n) c.commit.ensures.exact
       ∙ commits_with c.self.inside.volumes (c.self.invariant.0 none).housed.long c.args.slot c.volume_at-state.result.now c.change_snaps-made.new.state c.volume_at-state.ensures.state c.args.others
       (subst (λ (n : Session). c.args.others ≡ sum_of n.volumes - committed_by (state_at n.volumes c.args.slot)) (sym c.self.view_is) c.requires.others),
+  λ none.
+      let v : Session = record { volumes = c.self.inside.volumes; pool = c.self.inside.pool; delays = c.self.inside.delays; pending = c.self.inside.pending; failed = c.self.inside.failed } in
+      let x = c.volume_at-state.result.now in
+      let aimed = subst (λ (n : Session). IsSnapAimed n.volumes c.args.slot c.args.command.now) (sym c.self.view_is) c.requires.aimed in
+      let of : snapped_by c.args.command.now ≡ Some x.name = aimed.snaps ∙ ap (λ (z : VolumeState). Some z.name) (same_there _ _ _ aimed.there c.volume_at-state.ensures.state) in
+      set_after (g.D.Disk.shown c.args.disk.now) v (c.self.invariant.0 none) (subst (StandsReady (g.D.Disk.shown c.args.disk.now)) (sym c.self.view_is) c.requires.stands) c.args.slot c.args.command.now x c.volume_at-state.ensures.state of
+      c.args.others c.change_snaps-made.new.pool c.change_snaps-made.new.state c.change_snaps-made.ensures.ready c.change_snaps-made.result c.change_snaps-made.ensures.snaps,
 )
 
 pub returns : goal.returns
@@ -76,7 +90,7 @@ returns g c =
     let v : Session = record { volumes = c.self.inside.volumes; pool = c.self.inside.pool; delays = c.self.inside.delays; pending = c.self.inside.pending; failed = c.self.inside.failed } in
     let back = sym c.self.view_is in
     let fresh : IsNone v.failed = subst (λ (n : Session). IsNone n.failed) back c.requires.fresh in
-    let stands : Stands d v = subst (Stands d) back c.requires.stands in
+    let stands : StandsReady d v = subst (StandsReady d) back c.requires.stands in
     let aimed : IsSnapAimed v.volumes slot command = subst (λ (n : Session). IsSnapAimed n.volumes slot command) back c.requires.aimed in
     let of : snapped_by command ≡ Some x.name = aimed.snaps ∙ ap (λ (z : VolumeState). Some z.name) (same_there _ _ _ aimed.there c.volume_at-state.ensures.state) in
     let others : c.args.others ≡ sum_of v.volumes - committed_by (state_at v.volumes slot) = subst (λ (n : Session). c.args.others ≡ sum_of n.volumes - committed_by (state_at n.volumes slot)) back c.requires.others in

@@ -4,7 +4,6 @@ use Rattle.fv_aggregate.specs.Answers.{answer}
 use Rattle.fv_aggregate.specs.Looking.{HasSnapped}
 use Rattle.fv_aggregate.specs.Snapping.{snap_blocks}
 use Rattle.fv_aggregate.proofs.Answered.{fails}
-use Rattle.fv_aggregate.proofs.Asked.{damaged_at}
 use Rattle.fv_aggregate.proofs.Holes.{keeps_limit, passes_limit}
 use Rattle.fv_aggregate.specs.Commands.{room_by}
 use Rattle.fv_aggregate.specs.Reclaiming.{HasMadeRoom}
@@ -37,7 +36,7 @@ returns-in_err-make_room g c =
     record {
       snapped = subst (HasSnapped d c.args.disk.now s command e c.make_room.new.disk c.make_room.new.self) (sym failed)
           (snap_roomless d c.args.disk.now s command room past c.if-granted-eq0.false (c.requires.granted.room ∙ aimed_room s.volumes c.args.slot command aimed)
-          (room_places aimed.state aimed.state.name command aimed.snaps (λ none. c.if-granted-eq0.false (same ∙ none))) (damaged_at d s c.args.slot aimed.state aimed.there c.requires.fresh) e c.make_room.new.disk c.make_room.new.self c.in_err-make_room.field-0.0
+          (room_places aimed.state aimed.state.name command aimed.snaps (λ none. c.if-granted-eq0.false (same ∙ none))) e c.make_room.new.disk c.make_room.new.self c.in_err-make_room.field-0.0
           made.runs.goes made.runs.goes_for made.runs.damage made.runs.numbers);
       needs = needs_none s.volumes command _ (room_needs aimed.state aimed.state.name command aimed.snaps (λ none. c.if-granted-eq0.false (same ∙ none)));
       roomy = failed_roomy (room_by s.volumes command) d s e c.in_err-make_room.field-0.0 (answer c.args.into.now c.from_residual.result) failed;
@@ -76,7 +75,7 @@ returns g c =
     let same : room ≡ snap_blocks (Some aimed.state) command = c.requires.granted.room ∙ ap (λ (o : Option VolumeState). snap_blocks o command) aimed.there in
     record {
       snapped = snap_roomy d c.args.disk.now s command room past c.if-granted-eq0.false (c.requires.granted.room ∙ aimed_room s.volumes c.args.slot command aimed)
-          (room_places aimed.state aimed.state.name command aimed.snaps (λ none. c.if-granted-eq0.false (same ∙ none))) (damaged_at d s c.args.slot aimed.state aimed.there c.requires.fresh) e c.make_room.new.disk c.make_room.new.self c.in_ok-make_room.field-0
+          (room_places aimed.state aimed.state.name command aimed.snaps (λ none. c.if-granted-eq0.false (same ∙ none))) e c.make_room.new.disk c.make_room.new.self c.in_ok-make_room.field-0
           (still_room_by s.volumes c.make_room.new.self.volumes made.cores c.args.slot command aimed) made.runs.goes made.pending made.runs.goes_for (made.pointed past) made.runs.numbers c.snap_now-2.new.self (answer c.snap_now-2.new.into c.snap_now-2.result) (record { snapped = did.snapped; placed = did.placed; accepted = did.accepted });
       needs = needs_none s.volumes command _ (room_needs aimed.state aimed.state.name command aimed.snaps (λ none. c.if-granted-eq0.false (same ∙ none)));
       roomy = λ tells last m stands some over.

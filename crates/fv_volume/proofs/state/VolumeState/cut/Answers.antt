@@ -9,7 +9,7 @@ use Rattle.fv_pool.specs.Causes.{of_block}
 use Rattle.fv_volume.specs.OneVolume.{standing_for, volume_for}
 use Rattle.fv_volume.specs.declared.tables.TableAsked.TheVariants.{Active}
 use Rattle.fv_volume.proofs.RightTables.{known_after}
-use Rattle.fv_volume.proofs.CallCauses.{failed_removal_cause, judged_cause}
+use Rattle.fv_volume.proofs.CallCauses.{failed_change_cause}
 use Rattle.fv_volume.proofs.Calling.{counted_all, counted_table, kept_numbers, left_fits, left_table, left_ledger, left_more, failed_changes, no_refusal, failed_head, left_ready, refused_changes, refused_head, done_head, done_ready, parts_of, Parts, if_err_is, refused_standing, refused_table, failed_stands}
 use Rattle.fv_volume.specs.Changing.{IsDeltaBy}
 use Rattle.fv_volume.proofs.JudgedCut.{each_fits, removal_fits}
@@ -38,7 +38,7 @@ pub returns-clause-table : goal.returns-clause-table
 returns-clause-table g c = λ is. counted_table (g.D.Disk.shown c.args.disk.now) c.args.pool.now c.args.self.now (g.D.Disk.shown c.cut_blocks.new.disk) c.cut_blocks.new.pool c.cut_blocks.new.volume c.count_change.new.volume (counted_all c.cut_blocks.new.volume c.count_change.new.volume c.count_change.ensures.others) (left_table (g.D.Disk.shown c.args.disk.now) (g.D.Disk.shown c.judge_cut.new.disk) (g.D.Disk.shown c.cut_blocks.new.disk) c.args.pool.now c.judge_cut.new.pool c.cut_blocks.new.pool c.judge_cut.ensures.reads c.args.self.now c.judge_cut.new.volume c.cut_blocks.new.volume c.judge_cut.ensures.same (Ok c.in_ok-count.count) c.in_ok-count.ensures.alters is)
 
 pub returns-in_err-count-clause-cause : goal.returns-in_err-count-clause-cause
-returns-in_err-count-clause-cause g c = failed_removal_cause (g.D.Disk.shown c.args.disk.now) (g.D.Disk.shown c.judge_cut.new.disk) c.args.pool.now c.judge_cut.new.pool c.judge_cut.ensures.reads c.args.self.now c.judge_cut.new.volume c.judge_cut.ensures.same c.in_ok-removing.ensures.cause (g.D.Disk.shown c.cut_blocks.new.disk).faults c.in_err-count.field-0.0 c.from_residual-in_err-count.result (search rules) c.in_err-count.ensures.cause
+returns-in_err-count-clause-cause g c = failed_change_cause (g.D.Disk.shown c.args.disk.now) (g.D.Disk.shown c.judge_cut.new.disk) c.args.pool.now c.judge_cut.new.pool c.judge_cut.ensures.reads c.args.self.now c.judge_cut.new.volume c.judge_cut.ensures.same c.in_ok-removing.ensures.cause (g.D.Disk.shown c.cut_blocks.new.disk).faults c.in_err-count.field-0.0 c.from_residual-in_err-count.result (search rules) c.in_err-count.ensures.cause
 
 pub returns-in_err-removing-clause-refused : goal.returns-in_err-removing-clause-refused
 returns-in_err-removing-clause-refused g c = λ is. if_err_is _ c.in_err-removing.field-0.0 c.from_residual.result (search rules) (c.in_err-removing.ensures.refused is)
@@ -75,6 +75,3 @@ returns-in_err-count-clause-numbers g c = kept_numbers c.args.self.now c.judge_c
 
 pub returns-clause-numbers : goal.returns-clause-numbers
 returns-clause-numbers g c = ap (λ (z : VolumeState). z.numbers) c.count_change.ensures.others ∙ kept_numbers c.args.self.now c.judge_cut.new.volume c.cut_blocks.new.volume c.judge_cut.ensures.same c.in_ok-count.ensures.alters.same
-
-pub returns-in_err-removing-clause-cause : goal.returns-in_err-removing-clause-cause
-returns-in_err-removing-clause-cause g c = judged_cause (g.D.Disk.shown c.args.disk.now) c.args.pool.now c.args.self.now (g.D.Disk.shown c.judge_cut.new.disk).faults c.in_err-removing.field-0.0 c.from_residual.result (search rules) c.in_err-removing.ensures.cause

@@ -8,7 +8,7 @@ use Rattle.fv_pool.specs.Causes.{of_block}
 use Rattle.fv_volume.specs.OneVolume.{standing_for, volume_for}
 use Rattle.fv_volume.specs.declared.tables.TableAsked.TheVariants.{Active}
 use Rattle.fv_volume.proofs.RightTables.{known_after}
-use Rattle.fv_volume.proofs.CallCauses.{failed_removal_cause, judged_cause}
+use Rattle.fv_volume.proofs.CallCauses.{failed_change_cause}
 use Rattle.fv_volume.proofs.Calling.{counted_table, left_fits, left_table, left_ledger, left_more, failed_changes, no_refusal, failed_head, left_ready, refused_changes, refused_head, done_head, done_ready, parts_of, Parts, if_err_is, refused_standing, refused_table, failed_stands}
 use Rattle.fv_volume.specs.Changing.{IsDeltaBy}
 use Rattle.fv_volume.proofs.JudgedCut.{each_fits, removal_fits}
@@ -37,7 +37,7 @@ pub returns-clause-table : goal.returns-clause-table
 returns-clause-table g c = λ is. counted_table (g.D.Disk.shown c.args.disk.now) c.args.pool.now c.args.self.now (g.D.Disk.shown c.drop_file.new.disk) c.drop_file.new.pool c.drop_file.new.volume c.count_removed.new.volume c.count_removed.ensures.others (left_table (g.D.Disk.shown c.args.disk.now) (g.D.Disk.shown c.judge_removal.new.disk) (g.D.Disk.shown c.drop_file.new.disk) c.args.pool.now c.judge_removal.new.pool c.drop_file.new.pool c.judge_removal.ensures.reads c.args.self.now c.judge_removal.new.volume c.drop_file.new.volume c.judge_removal.ensures.same (Ok c.in_ok-count.count) c.in_ok-count.ensures.alters is)
 
 pub returns-in_err-count-clause-cause : goal.returns-in_err-count-clause-cause
-returns-in_err-count-clause-cause g c = failed_removal_cause (g.D.Disk.shown c.args.disk.now) (g.D.Disk.shown c.judge_removal.new.disk) c.args.pool.now c.judge_removal.new.pool c.judge_removal.ensures.reads c.args.self.now c.judge_removal.new.volume c.judge_removal.ensures.same c.in_ok-removing.ensures.cause (g.D.Disk.shown c.drop_file.new.disk).faults c.in_err-count.field-0.0 c.from_residual-in_err-count.result (search rules) c.in_err-count.ensures.cause
+returns-in_err-count-clause-cause g c = failed_change_cause (g.D.Disk.shown c.args.disk.now) (g.D.Disk.shown c.judge_removal.new.disk) c.args.pool.now c.judge_removal.new.pool c.judge_removal.ensures.reads c.args.self.now c.judge_removal.new.volume c.judge_removal.ensures.same c.in_ok-removing.ensures.cause (g.D.Disk.shown c.drop_file.new.disk).faults c.in_err-count.field-0.0 c.from_residual-in_err-count.result (search rules) c.in_err-count.ensures.cause
 
 pub returns-in_err-removing-clause-refused : goal.returns-in_err-removing-clause-refused
 returns-in_err-removing-clause-refused g c = λ is. if_err_is _ c.in_err-removing.field-0.0 c.from_residual.result (search rules) (c.in_err-removing.ensures.refused is)
@@ -68,6 +68,3 @@ returns-clause-head g c = let parts : Parts {T = ℕ} (g.D.Disk.shown c.args.dis
 
 pub drop_file-requires-clause-there : goal.drop_file-requires-clause-there
 drop_file-requires-clause-there g c = known_after (g.D.Disk.shown c.args.disk.now) (g.D.Disk.shown c.judge_removal.new.disk) c.args.pool.now c.judge_removal.new.pool c.judge_removal.ensures.reads c.args.self.now Active c.judge_removal.new.volume c.judge_removal.ensures.same (λ (s : Standing). IsInfoOf s.inode c.in_ok-removing.removing.info) c.in_ok-removing.ensures.found
-
-pub returns-in_err-removing-clause-cause : goal.returns-in_err-removing-clause-cause
-returns-in_err-removing-clause-cause g c = judged_cause (g.D.Disk.shown c.args.disk.now) c.args.pool.now c.args.self.now (g.D.Disk.shown c.judge_removal.new.disk).faults c.in_err-removing.field-0.0 c.from_residual.result (search rules) c.in_err-removing.ensures.cause

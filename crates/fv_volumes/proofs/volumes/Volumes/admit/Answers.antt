@@ -3,13 +3,13 @@ use Rattle.std.specs.Prelude.{IfOk, IfErr, Result, Ok, Err}
 use Rattle.fv_model.specs.declared.answers.Refusal.{Refusal}
 use Rattle.fv_volumes.specs.declared.admit.Admitted.{Admitted}
 use Rattle.fv_volumes.specs.Creating.{Admits, Refuses}
-use Rattle.fv_volume.specs.Slots.{HaveSpans}
+use Rattle.fv_volume.specs.Slots.{sum_of}
 use Rattle.fv_volume.specs.States.{States}
-use Rattle.fv_volumes.proofs.Made.{accepted, have_spans, refused_as, room_beside}
+use Rattle.fv_volumes.proofs.Made.{accepted, refused_as, room_beside}
 use Rattle.fv_volumes.proofs.volumes.Volumes.admit.Goals as goal
 
-pub admit-requires-clause-spans : goal.admit-requires-clause-spans
-admit-requires-clause-spans c = subst HaveSpans (sym (c.deref.ensures.value ∙ c.self.view_is)) (have_spans c.args.self.now c.requires.each)
+pub admit-requires-clause-sum : goal.admit-requires-clause-sum
+admit-requires-clause-sum c = c.requires.sum ∙ ap (λ (s : States). sum_of s) (sym (c.deref.ensures.value ∙ c.self.view_is))
 
 ok_of : (P Q : Admitted → Type 0) (result : Result Admitted Refusal) → ((a : Admitted) → P a → Q a) → IfOk result P → IfOk result Q
 ok_of P Q (Ok a) so holds = so a holds

@@ -1,0 +1,206 @@
+-- What is damaged in a call of a session, by the steps that it is made of.
+use Rattle.std.proofs.Common.{◌≡◌, ◌<◌, ◌≤◌, ◌+◌, ℕ, List, Option, Some, None, Err, inl, inr, refl, sym, ap, subst, ◌∙◌, length, arith, get_or-set_same}
+use Rattle.std.specs.Prelude.{unwrap_or, IsNone, IsSome, IsTrue}
+use Rattle.std.specs.Option.{option_map}
+use Rattle.fv_disk.specs.Shown.{Shown}
+use Rattle.fv_disk.specs.declared.fault.BlockFault.TheVariants as block
+use Rattle.fv_disk.proofs.Resting.{reads_then}
+use Rattle.fv_tables.specs.Told.{Standing}
+use Rattle.fv_volmap.specs.Slots.{Volume}
+use Rattle.fv_pool.specs.declared.fault.VolumeFault.TheVariants as volume
+use Rattle.fv_pool.specs.declared.pool.Pool.{Pool}
+use Rattle.fv_pool.specs.Calls.{GivesUp, Reads, TableFails}
+use Rattle.fv_pool.specs.Lending.{Lent, lent_for}
+use Rattle.fv_pool.proofs.CallCauses.{cause_for}
+use Rattle.fv_volume.specs.declared.state.VolumeState.{VolumeState}
+use Rattle.fv_volume.specs.declared.tables.TableAsked.{TableAsked}
+use Rattle.fv_volume.specs.declared.tables.TableAsked.TheVariants.{Active}
+use Rattle.fv_volume.specs.Asking.{standing_of, standing_read, table_named, IsTableOf, TellsActive, TellsAsked, TellsRead}
+use Rattle.fv_volume.specs.Held.{MayFail}
+use Rattle.fv_volume.specs.OneVolume.{home_in, standing_for}
+use Rattle.fv_volume.specs.States.{state_at, with_state}
+use Rattle.fv_volumes.proofs.Told.{is_inside}
+use Rattle.fv_aggregate.specs.declared.session.Session.{Session}
+use Rattle.fv_aggregate.specs.Adding.{IsPointed}
+use Rattle.fv_aggregate.specs.Commands.{dirty_limit}
+use Rattle.fv_aggregate.specs.Asking.{AsksWithin}
+use Rattle.fv_aggregate.specs.Damages.{HasBadTable, HasDamage, HasFilesToPlace, HasReadFor, LacksBlocks}
+use Rattle.fv_aggregate.specs.Reading.{IsAsRead, WasRead}
+
+-- ---- a table of a volume
+
+-- What a call on a volume found of a table of it, over what it was told.
+pub record FindsBad (d : Shown) (p : Pool) (x : VolumeState) (at want found : ℕ) : Type 0 where
+  pub table : TableAsked
+  pub of_volume : IsTableOf x table
+  pub fails : TableFails (TellsAsked d p x table) (standing_of d p x table) (lent_for p x.map d 0 (home_in x) 0) d.faults (block.Damaged at want found)
+
+module _ (d : Shown) (p : Pool) (x : VolumeState) (faults at want found : ℕ) (calm : faults ≡ d.faults) where
+  abbrev its : Lent
+  its = lent_for p x.map d 0 (home_in x) 0
+
+  -- the count of faults is the disk's
+  counted : (told : Type 0) (t : Standing) → TableFails told t its faults (block.Damaged at want found) → TableFails told t its d.faults (block.Damaged at want found)
+  counted told t fails = subst (λ (n : ℕ). TableFails told t its n (block.Damaged at want found)) calm fails
+
+  -- of the active one
+  pub finds_active : TableFails (TellsActive d p x) (standing_for d p x) its faults (block.Damaged at want found) → FindsBad d p x at want found
+  finds_active fails = record { table = Active; of_volume = (None, refl); fails = counted (TellsActive d p x) (standing_for d p x) fails }
+
+  -- of the one that is asked
+  pub finds_asked : (s : Option (List ℕ)) → TableFails (TellsRead d p x s) (standing_read d p x s) its faults (block.Damaged at want found) → FindsBad d p x at want found
+  finds_asked s fails = by (table_named x s) refl fails
+    where
+      by : (o : Option TableAsked) → table_named x s ≡ o → TableFails (TellsAsked d p x (unwrap_or o Active)) (unwrap_or (option_map (standing_of d p x) o) (standing_for d p x)) its faults (block.Damaged at want found) → FindsBad d p x at want found
+      by None named fails = finds_active fails
+      by (Some t) named fails = record { table = t; of_volume = (s, named); fails = counted (TellsAsked d p x t) (standing_of d p x t) fails }
+
+-- ---- over a disk that shows as much
+
+module _ (d e : Shown) (tells : e.tells ≡ d.tells) (reads : e.reads ≡ d.reads) (faults : e.faults ≡ d.faults) where
+  abbrev like : Shown
+  like = record d { tells = e.tells; reads = e.reads; faults = e.faults }
+
+  like_is : d ≡ like
+  like_is = λ j. record d { tells = sym tells j; reads = sym reads j; faults = sym faults j }
+
+  module _ (p : Pool) (x : VolumeState) where
+    asked_like : (t : TableAsked) → TellsAsked e p x t → TellsAsked like p x t
+    asked_like t is = record { told = is.told; right = is.right; numbers = is.numbers }
+
+    -- what a call found of a table
+    fails_like : (t : TableAsked) (at want found : ℕ) → TableFails (TellsAsked e p x t) (standing_of like p x t) (lent_for p x.map like 0 (home_in x) 0) like.faults (block.Damaged at want found)
+        → TableFails (TellsAsked e p x t) (standing_of e p x t) (lent_for p x.map e 0 (home_in x) 0) e.faults (block.Damaged at want found)
+    fails_like t at want found (inl fails) = inl fails
+    fails_like t at want found (inr (inl bad)) = inr (inl (record { calm = bad.calm; damage = bad.damage }))
+    fails_like t at want found (inr (inr file)) = inr (inr (record { tree = file.tree; of_file = file.of_file; fails = file.fails }))
+
+    pub finds_after : (at want found : ℕ) → FindsBad d p x at want found → FindsBad e p x at want found
+    finds_after at want found finds = record {
+      table = finds.table;
+      of_volume = finds.of_volume;
+      fails = fails_like finds.table at want found (cause_for (TellsAsked e p x finds.table) (TellsAsked like p x finds.table) (asked_like finds.table) (lent_for p x.map like 0 (home_in x) 0) like.faults {T = Unit {0}}
+          (standing_of like p x finds.table) (standing_of like p x finds.table) (Err (block.Damaged at want found)) refl
+          (subst (λ (k : Shown). TableFails (TellsAsked k p x finds.table) (standing_of k p x finds.table) (lent_for p x.map k 0 (home_in x) 0) k.faults (block.Damaged at want found)) like_is finds.fails));
+    }
+
+    may_after : (at want found : ℕ) → MayFail d p (Some x) (volume.Damaged at want found) → MayFail e p (Some x) (volume.Damaged at want found)
+    may_after at want found may = subst (λ (k : Shown). MayFail k p (Some x) (volume.Damaged at want found)) like_is may
+
+  module _ (s : Session) (at want found : ℕ) where
+    asks_like : (room : ℕ) → AsksWithin e s room → AsksWithin like s room
+    asks_like room asks = record { asked = asks.asked; pending = asks.pending }
+
+    pub lacks_after : (new : Session) → LacksBlocks d s new at want found → LacksBlocks e s new at want found
+    lacks_after new lacks =
+        let now = subst (λ (k : Shown). LacksBlocks k s new at want found) like_is lacks in
+        record { fresh = lacks.fresh; place = lacks.place; asked = lacks.asked; free = lacks.free; short = lacks.short; image = λ told room asks. now.image told room (asks_like room asks); same = lacks.same }
+
+    pub files_after : HasFilesToPlace d s at want found → HasFilesToPlace e s at want found
+    files_after is = record {
+      fresh = is.fresh;
+      files = is.files;
+      slot = is.slot;
+      state = is.state;
+      there = is.there;
+      mid = is.mid;
+      root = is.root;
+      committed = is.committed;
+      placed = is.placed;
+      entries = is.entries;
+      first = is.first;
+      fails = may_after is.mid is.state at want found is.fails;
+    }
+
+-- ---- in a session
+
+pub keeps_map : (m : Volume) → GivesUp m m
+keeps_map m = record { span = refl; snapshots = λ s other. refl; numbers = omega arith }
+
+module _ (d e : Shown) (s : Session) (fresh : IsNone s.failed) (slot : ℕ) (x : VolumeState) (there : state_at s.volumes slot ≡ Some x) (q : Pool) (reads : Reads d s.pool e q) (calm : e.faults ≡ d.faults) (at want found : ℕ) (finds : FindsBad d s.pool x at want found) where
+  now_found : FindsBad e s.pool x at want found
+  now_found = finds_after d e reads.only_reads.stays.tells reads.only_reads.stays.reads calm s.pool x at want found finds
+
+  -- the volume is as it was
+  pub bad_read : HasBadTable e s (record s { pool = q }) at want found
+  bad_read = record {
+    fresh = fresh;
+    slot = slot;
+    state = x;
+    there = there;
+    table = now_found.table;
+    of_volume = now_found.of_volume;
+    fails = now_found.fails;
+    pool = reads.leaves;
+    now = x;
+    left = there;
+    same = refl;
+    maps = keeps_map x.map;
+  }
+
+  -- its files may have changed in memory
+  pub bad_changed : length s.volumes ≡ 64 → (y : VolumeState) → y ≡ record x { map = y.map; files = y.files; changed = y.changed } → GivesUp x.map y.map → (pending : ℕ)
+      → HasBadTable e s (record s { volumes = with_state s.volumes slot (Some y); pool = q; pending = pending }) at want found
+  bad_changed long y same maps pending = record {
+    fresh = fresh;
+    slot = slot;
+    state = x;
+    there = there;
+    table = now_found.table;
+    of_volume = now_found.of_volume;
+    fails = now_found.fails;
+    pool = reads.leaves;
+    now = y;
+    left = get_or-set_same s.volumes slot (Some y) None (let low = is_inside s.volumes slot x long there in omega (arith, low, long));
+    same = same;
+    maps = maps;
+  }
+
+-- ---- in a call
+
+-- one that may add more
+pub damage_more : (least room : ℕ) → least ≤ room → (before : Shown) (old : Session) (after : Shown) (new : Session) (at want found : ℕ) → HasDamage least before old after new at want found → HasDamage room before old after new at want found
+damage_more least room le before old after new at want found (inl unwritten) = inl unwritten
+damage_more least room le before old after new at want found (inr behind) = inr ((let past = behind.0 in omega (arith, past, le)), behind.1)
+
+-- blocks were read, and then again
+pub as_read_then : (s n p : Session) → IsAsRead s n → IsAsRead n p → IsAsRead s p
+as_read_then s n p first second = record {
+  pool = record { map = second.pool.map ∙ first.pool.map; containers = second.pool.containers ∙ first.pool.containers; kept = second.pool.kept ∙ first.pool.kept; found = second.pool.found ∙ first.pool.found };
+  volumes = λ k. second.volumes k ∙ first.volumes k;
+  same = second.same ∙ ap (λ (k : Session). record k { volumes = p.volumes; pool = p.pool }) first.same;
+}
+
+pub as_read : (d : Shown) (s : Session) (e : Shown) (n : Session) → WasRead d s e n → IsAsRead s n
+as_read d s e n read = record { pool = read.pool; volumes = read.volumes; same = read.same }
+
+pub read_then : (d : Shown) (s : Session) (e : Shown) (n : Session) (g : Shown) (p : Session) → WasRead d s e n → WasRead e n g p → WasRead d s g p
+read_then d s e n g p first second =
+    let both = as_read_then s n p (as_read d s e n first) (as_read e n g p second) in
+    record { only_reads = reads_then d e g first.only_reads second.only_reads; pool = both.pool; volumes = both.volumes; same = both.same }
+
+-- a command on the volume of a slot that read blocks first
+module _ (d : Shown) (s : Session) (fresh : IsNone s.failed) (slot : ℕ) (there : IsSome (state_at s.volumes slot)) (e : Shown) (n : Session) (read : WasRead d s e n) (room : ℕ) (g : Shown) (new : Session) (at want found : ℕ) where
+  read_for : HasReadFor s n
+  read_for = record { fresh = fresh; slot = slot; there = there; read = as_read d s e n read }
+
+  both_for : (k : Session) → HasReadFor n k → HasReadFor s k
+  both_for k second = record { fresh = fresh; slot = slot; there = there; read = as_read_then s n k (as_read d s e n read) second.read }
+
+  pub damage_read : HasDamage room e n g new at want found → HasDamage room d s g new at want found
+  damage_read (inl (reads, inl now)) = inl (reads_then d e g read.only_reads reads, inr (record { session = n; read = read_for; damage = now }))
+  damage_read (inl (reads, inr later)) = inl (reads_then d e g read.only_reads reads, inr (record { session = later.session; read = both_for later.session later.read; damage = later.damage }))
+  damage_read (inr (past, behind)) = inr ((let same : n.pending ≡ s.pending = ap (λ (k : Session). k.pending) read.same in omega (arith, past, same)), record { session = behind.session; read = both_for behind.session behind.read; pointed = behind.pointed; left = behind.left; bad = behind.bad })
+
+  -- and for which a point made room
+  pub damage_behind : dirty_limit < s.pending + room → g.tells ≡ e.tells → (p : Session) → IsPointed e n p → HasBadTable g p new at want found → HasDamage room d s g new at want found
+  damage_behind past tells p left bad = inr (
+    past,
+    record {
+      session = n;
+      read = read_for;
+      pointed = p;
+      left = record { pending = left.pending; files = λ told. left.files (subst IsTrue tells told); same = λ told. left.same (subst IsTrue tells told); cores = left.cores; admits = left.admits; none = left.none; blocks = left.blocks };
+      bad = bad;
+    },
+  )

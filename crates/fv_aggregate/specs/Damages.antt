@@ -1,0 +1,108 @@
+-- What is damaged where a call of a session answers so: blocks are lacking, files couldn't be placed, or a table isn't as it has to be.
+use Rattle.std.specs.Prelude.{◌≡◌, ◌<◌, ◌+◌, ◌⊎◌, ℕ, IsTrue, IsNone, IsSome, Some}
+use Rattle.fv_disk.specs.Shown.{Shown}
+use Rattle.fv_disk.specs.DiskCalls.{OnlyReads}
+use Rattle.fv_disk.specs.declared.fault.BlockFault.TheVariants as block
+use Rattle.fv_image.specs.Layout.{root_place}
+use Rattle.fv_aggmap.specs.Space.{free_blocks}
+use Rattle.fv_container.specs.Chains.{container_at}
+use Rattle.fv_pool.specs.declared.fault.VolumeFault.TheVariants as volume
+use Rattle.fv_pool.specs.declared.pool.Pool.{Pool}
+use Rattle.fv_pool.specs.BlocksOver.{LeavesPool}
+use Rattle.fv_pool.specs.Calls.{GivesUp, TableFails}
+use Rattle.fv_pool.specs.Lending.{lent_for}
+use Rattle.fv_volume.specs.declared.state.VolumeState.{VolumeState}
+use Rattle.fv_volume.specs.declared.tables.TableAsked.{TableAsked}
+use Rattle.fv_volume.specs.Asking.{standing_of, IsTableOf, TellsAsked}
+use Rattle.fv_volume.specs.OneVolume.{home_in}
+use Rattle.fv_volume.specs.States.{state_at}
+use Rattle.fv_cp.specs.Lent.{blocks_asked}
+use Rattle.fv_cp.specs.Placing.{HasNoFiles, HaveNoFiles, MayFail, PlacesEntries}
+use Rattle.fv_aggregate.specs.declared.session.Session.{Session}
+use Rattle.fv_aggregate.specs.Adding.{IsPointed}
+use Rattle.fv_aggregate.specs.Asking.{AsksWithin, IsShort}
+use Rattle.fv_aggregate.specs.Commands.{dirty_limit}
+use Rattle.fv_aggregate.specs.Reading.{IsAsRead}
+use Rattle.fv_aggregate.specs.Standing.{taken_since}
+
+-- ---- at a point
+
+-- Fewer blocks are free in the session's map than a consistency point of it asks for, with the files in their places; and so it is in the
+-- image, beside the blocks that were placed. Without a file in memory the session is as it was.
+pub record LacksBlocks (before : Shown) (old new : Session) (at want found : ℕ) : Type 0 where
+  pub fresh : IsNone old.failed
+  pub place : at ≡ root_place old.pool.found.slot
+  pub asked : want ≡ blocks_asked old.volumes
+  pub free : found ≡ free_blocks new.pool.map
+  pub short : found < want
+  pub image : IsTrue before.tells → (room : ℕ) → AsksWithin before old room → IsShort before.reads room (taken_since new.pool.map) at want found
+  pub same : HaveNoFiles old.volumes → new ≡ old
+
+-- The files of a volume of the session couldn't be placed, since no number of the volume was free, or no block. What the volumes share was `mid` then:
+-- the files of the slots before it were placed, its own entries stayed, and where none of those slots has files in memory all did.
+pub record HasFilesToPlace (disk : Shown) (session : Session) (at want found : ℕ) : Type 0 where
+  pub fresh : IsNone session.failed
+  pub files : HaveNoFiles session.volumes → ⊥
+  pub slot : ℕ
+  pub state : VolumeState
+  pub there : state_at session.volumes slot ≡ Some state
+  pub mid : Pool
+  pub root : mid.found ≡ session.pool.found
+  pub committed : mid.map.committed ≡ session.pool.map.committed
+  pub placed : PlacesEntries session.pool.map session.pool.containers mid.containers
+  pub entries : container_at mid.containers slot ≡ container_at session.pool.containers slot
+  pub first : ((s : ℕ) → s < slot → HasNoFiles (state_at session.volumes s)) → mid ≡ session.pool
+  pub fails : MayFail disk mid (Some state) (volume.Damaged at want found)
+
+-- ---- in a table
+
+-- A block of a table of a volume of the session isn't as it has to be, or a pointer of it leads nowhere: the volume and its slot, the table, and why
+-- the call on it failed. The session that it left has of what the volumes share all but the cache, and of that volume all but its files in memory and
+-- the numbers that these gave up.
+pub record HasBadTable (disk : Shown) (session new : Session) (at want found : ℕ) : Type 0 where
+  pub fresh : IsNone session.failed
+  pub slot : ℕ
+  pub state : VolumeState
+  pub there : state_at session.volumes slot ≡ Some state
+  pub table : TableAsked
+  pub of_volume : IsTableOf state table
+  pub fails : TableFails (TellsAsked disk session.pool state table) (standing_of disk session.pool state table) (lent_for session.pool state.map disk 0 (home_in state) 0) disk.faults (block.Damaged at want found)
+  -- what is left of it
+  pub pool : LeavesPool session.pool new.pool
+  pub now : VolumeState
+  pub left : state_at new.volumes slot ≡ Some now
+  pub same : now ≡ record state { map = now.map; files = now.files; changed = now.changed }
+  pub maps : GivesUp state.map now.map
+
+-- ---- in a call
+
+-- Blocks are lacking, files couldn't be placed, or a table isn't as it has to be.
+abbrev pub HasDamageIn : Shown → Session → Session → ℕ → ℕ → ℕ → Type 0
+HasDamageIn disk session new at want found = LacksBlocks disk session new at want found ⊎ (HasFilesToPlace disk session at want found ⊎ HasBadTable disk session new at want found)
+
+-- a session of which blocks were read for a command on the volume of a slot
+pub record HasReadFor (old session : Session) : Type 0 where
+  pub fresh : IsNone old.failed
+  pub slot : ℕ
+  pub there : IsSome (state_at old.volumes slot)
+  pub read : IsAsRead old session
+
+-- it came to the damage once blocks were read
+pub record HasDamageLater (disk : Shown) (old new : Session) (at want found : ℕ) : Type 0 where
+  pub session : Session
+  pub read : HasReadFor old session
+  pub damage : HasDamageIn disk session new at want found
+
+-- it came to a bad table behind the point that made room for it
+pub record HasDamageBehind (disk : Shown) (old new : Session) (at want found : ℕ) : Type 0 where
+  pub session : Session
+  pub read : HasReadFor old session
+  pub pointed : Session
+  pub left : IsPointed disk session pointed
+  pub bad : HasBadTable disk pointed new at want found
+
+-- What is damaged where a call that may add `room` blocks answers so, by what the disk shows then. Nothing was written, but where a point made
+-- room for a command that passes the dirty limit.
+abbrev pub HasDamage : ℕ → Shown → Session → Shown → Session → ℕ → ℕ → ℕ → Type 0
+HasDamage room before old after new at want found = (OnlyReads before after × (HasDamageIn after old new at want found ⊎ HasDamageLater after old new at want found))
+    ⊎ ((dirty_limit < old.pending + room) × HasDamageBehind after old new at want found)
