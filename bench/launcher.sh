@@ -39,6 +39,8 @@ if [ "${0##*/}" = dump ] || [ "${PWD##*/}" = dump ]; then
 elif [ "${2:-}" = create ]; then
     [ "${PROGRAM_STATUS:-0}" = 0 ] && echo bytes >"$1"
     echo "created ${3} capacity 761"
+elif [ "${2:-}" = check ]; then
+    echo "valid volumes 0 charged 0"
 elif [ "${2:-}" = gen ]; then
     echo "generated $4 of $3"
 elif [ "$1" = gen ]; then
@@ -133,7 +135,7 @@ test_words() {
     launch "$tree/flexvol"
     row "no words" ends_at_once 7 usage
     for words in x "x creat 1024" "x create" "x create 511" "x create 1048577" "x create 1e3" "x create +512" \
-        "x create 000000000000000001024" "x create 1024 run" "x run run" "x help" "x gen" "x gen 7" "x gen 7 1000001" "x gen 7 1 1" \
+        "x create 000000000000000001024" "x create 1024 run" "x run run" "x check 1" "x help" "x gen" "x gen 7" "x gen 7 1000001" "x gen 7 1 1" \
         "x gen -7 1" "x gen 7 1.0" "x gen 18446744073709551616 0" "x gen 99999999999999999999 0" "x gen 000000000000000000007 0" \
         "x gen 7 000000000000000000000" "x dump block" "x dump entries" "x dump entries a b" "x dump blocks a"; do
         # shellcheck disable=SC2086
@@ -306,6 +308,10 @@ test_build() {
     row "dump is a program of its own, which gets the words behind its own" gives 0 "a look at $file entries home" ""
     DISK_KIB=0 launch "$tree/flexvol" "$file" dump
     row "a full disk is no matter for a look" gives 0 "a look at $file" ""
+    DISK_KIB=0 launch "$tree/flexvol" "$file" check < <(sleep 60)
+    row "nor for a check, which reads nothing of standard input" gives 0 "valid volumes 0 charged 0" ""
+    PROGRAM_STATUS=1 launch "$tree/flexvol" "$file" check </dev/null
+    row "an aggregate with faults is told in words" gives 1 "valid volumes 0 charged 0" "isn't sound"
     PROGRAM_STATUS=8 launch "$tree/flexvol" "$file" run </dev/null
     row "a status is told in words" gives 8 "" "is damaged"
 }
@@ -389,6 +395,8 @@ test_lock() {
     start_waiting "$file" dump
     launch "$tree/flexvol" "$file" dump blocks
     row "(g) two looks go on at once" gives 0 "a look at $file blocks" ""
+    launch "$tree/flexvol" "$file" check </dev/null
+    row "(g) and a check beside them" gives 0 "valid volumes 0 charged 0" ""
     launch "$tree/flexvol" "$file" run </dev/null
     row "(g) and no run beside them" ends_at_once 75 "in use by another run"
     rm "$scratch/waits"

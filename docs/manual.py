@@ -22,6 +22,7 @@ SYNOPSIS = """\
 .nf
 .B flexvol \\fIFILE\\fB create \\fIBLOCKS\\fR
 .B flexvol \\fIFILE\\fB run < \\fISCRIPT\\fR
+.B flexvol \\fIFILE\\fB check
 .B flexvol \\fIFILE\\fB gen \\fISEED COUNT\\fR
 .B flexvol \\fIFILE\\fB dump\\fR [\\fBblocks\\fR | \\fBentries \\fIV\\fR]
 .B reference \\fIBLOCKS\\fB < \\fISCRIPT\\fR

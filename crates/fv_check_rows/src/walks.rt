@@ -1,15 +1,15 @@
-//! The first three passes over an image, and over images with one number changed.
+//! The passes of a check over an image, and over images with one number changed.
 
 ghost use Rattle.fv_root.specs.Finding.{IsInRange};
 
 use crate::images::{CLONE, Piece};
+use fv_check::check;
 use fv_disk::{Block, Disk, Failed, ZERO};
 use fv_faults::{Fault, Lines};
-use fv_first_pass::{CheckFault, Known, pass_one};
+use fv_first_pass::{CheckFault, Known, Verdict, pass_one};
 use fv_memdisk::{Call, MemHost};
 use fv_root::{Found, find_root};
 use fv_second_pass::{Reached, entry_word, pass_two};
-use fv_third_pass::pass_three;
 use std::alloc::Global;
 use std::test::Fail;
 
@@ -66,17 +66,12 @@ fn passes<D: Disk>(alloc: Global, disk: &mut D, root: &Found) -> Result<Checked,
     })
 }
 
-/// Makes three passes over the aggregate with a root, the third where the first two find nothing, and answers the lines.
-fn three_passes<D: Disk>(alloc: Global, disk: &mut D, root: &Found) -> Result<Lines, CheckFault>
-    requires { IsInRange root.now }
-{
-    let mut lines = Lines::new(alloc);
-    let known = pass_one(alloc, disk, root, &mut lines)?;
-    let reached = pass_two(alloc, disk, root, &known, &mut lines)?;
-    if !lines.is_empty() {
-        return Ok(lines);
+/// The lines that a check of an aggregate finds; none where it is valid.
+fn lines_of<D: Disk>(alloc: Global, disk: &mut D) -> Result<Lines, CheckFault> {
+    match check(alloc, disk)? {
+        Verdict::Valid { .. } => Ok(Lines::new(alloc)),
+        Verdict::Faults(lines) => Ok(lines),
     }
-    pass_three(alloc, disk, root, &known, &reached, lines)
 }
 
 /// The image with one piece changed.
@@ -109,6 +104,25 @@ const CHANGES: [(Piece, (u8, u64, u64, u64)); 6] = [
     ((7, 496, "0166"), (4, 7, 0, 1)),
 ];
 
+/// One number of the fixed blocks or of a label, with the lines that the check finds before it walks.
+const FIRST_CHANGES: [(Piece, &[(u8, u64, u64, u64)]); 3] = [
+    // the older root has another mark
+    (
+        (3, 0, "00"),
+        &[(1, 3, 0x4656_524f_4f54_3030, 0x0056_524f_4f54_3030)],
+    ),
+    // so has the root that counts
+    (
+        (4, 0, "00"),
+        &[(1, 4, 0x4656_524f_4f54_3030, 0x0056_524f_4f54_3030)],
+    ),
+    // the clone's label has
+    (
+        (23, 0, "00"),
+        &[(1, 23, 0x4656_4c41_4245_4c30, 0x0056_4c41_4245_4c30)],
+    ),
+];
+
 /// One number of the image in which the first two passes find nothing, with the lines that the third one finds.
 const THIRD_CHANGES: [(Piece, &[(u8, u64, u64, u64)]); 7] = [
     (SAME, &[]),
@@ -124,6 +138,19 @@ const THIRD_CHANGES: [(Piece, &[(u8, u64, u64, u64)]); 7] = [
     ((20, 1071, "02"), &[(9, 11, 1, 2)]),
     // the clone's last change is older than two of its stamps
     ((23, 119, "03"), &[(10, 11, 3, 4), (10, 23, 3, 4)]),
+];
+
+/// One number of the image in which the first three passes find nothing, with the lines that the fourth one finds.
+const FOURTH_CHANGES: [(Piece, &[(u8, u64, u64, u64)]); 5] = [
+    (SAME, &[]),
+    // the parent's active table leads to its data by another place
+    ((8, 367, "0c"), &[(11, 8, 10, 12)]),
+    // it leads there by none, in a volume of which all places are known
+    ((8, 367, "00"), &[(12, 18, 0, 1), (13, 18, 0, 1)]),
+    // the clone is being split, and the place of its root is known
+    ((23, 143, "010000000000000000"), &[(13, 23, 0, 1)]),
+    // the parent's size is less than its four blocks and the block of its snapshot's map
+    ((18, 95, "04"), &[(14, 18, 4, 5)]),
 ];
 
 /// Which of the first six VVBNs a root reaches.
@@ -180,11 +207,10 @@ fn each_change_makes_its_line(rt: HostRuntime) -> Result<(), Fail> {
 }
 
 #[test]
-fn each_change_makes_its_lines_in_the_third_pass(rt: HostRuntime) -> Result<(), Fail> {
-    for (change, wanted) in THIRD_CHANGES {
+fn each_change_makes_its_lines_before_a_walk(rt: HostRuntime) -> Result<(), Fail> {
+    for (change, wanted) in FIRST_CHANGES {
         let mut host = changed(rt.alloc(), change)?;
-        let root = find_root(&mut host)?;
-        let lines = three_passes(rt.alloc(), &mut host, &root)?;
+        let lines = lines_of(rt.alloc(), &mut host)?;
         assert_eq!(rt; lines.lines.len(), wanted.len());
         for ((rule, block, want, found), line) in wanted.iter().zip(lines.lines.iter()) {
             assert_eq!(rt;
@@ -198,6 +224,71 @@ fn each_change_makes_its_lines_in_the_third_pass(rt: HostRuntime) -> Result<(), 
             );
         }
     }
+    Ok(())
+}
+
+#[test]
+fn each_change_makes_its_lines_in_the_third_pass(rt: HostRuntime) -> Result<(), Fail> {
+    for (change, wanted) in THIRD_CHANGES {
+        let mut host = changed(rt.alloc(), change)?;
+        let lines = lines_of(rt.alloc(), &mut host)?;
+        assert_eq!(rt; lines.lines.len(), wanted.len());
+        for ((rule, block, want, found), line) in wanted.iter().zip(lines.lines.iter()) {
+            assert_eq!(rt;
+                *line,
+                Fault {
+                    rule: *rule,
+                    block: *block,
+                    want: *want,
+                    found: *found
+                }
+            );
+        }
+    }
+    Ok(())
+}
+
+#[test]
+fn each_change_makes_its_lines_in_the_fourth_pass(rt: HostRuntime) -> Result<(), Fail> {
+    for (change, wanted) in FOURTH_CHANGES {
+        let mut host = changed(rt.alloc(), change)?;
+        let lines = lines_of(rt.alloc(), &mut host)?;
+        assert_eq!(rt; lines.lines.len(), wanted.len());
+        for ((rule, block, want, found), line) in wanted.iter().zip(lines.lines.iter()) {
+            assert_eq!(rt;
+                *line,
+                Fault {
+                    rule: *rule,
+                    block: *block,
+                    want: *want,
+                    found: *found
+                }
+            );
+        }
+    }
+    Ok(())
+}
+
+/// The volumes of the image, and what they are charged: the parent four blocks and its snapshot's map, the clone two blocks of its own.
+const SOUND: (u32, u64) = (2, 7);
+
+#[test]
+fn the_image_is_valid(rt: HostRuntime) -> Result<(), Fail> {
+    let mut host = changed(rt.alloc(), SAME)?;
+    let counted = match check(rt.alloc(), &mut host)? {
+        Verdict::Valid { volumes, charged } => Some((volumes, charged)),
+        Verdict::Faults(_) => None,
+    };
+    assert_eq!(rt; counted, Some(SOUND));
+    Ok(())
+}
+
+#[test]
+fn no_aggregate_is_told_as_such(rt: HostRuntime) -> Result<(), Fail> {
+    let mut host = changed(rt.alloc(), (0, 0, "00"))?;
+    let answer = check(rt.alloc(), &mut host);
+    assert_eq!(rt; answer.err(), Some(CheckFault::NotAggregate));
+    assert_eq!(rt; host.faults(), 0);
     Ok(())
 }
 

@@ -18,4 +18,4 @@ mod LabelPlaces
 mod Spelled
 mod OneSlot
 mod Passing
-mod RootShapes
+pub mod RootShapes

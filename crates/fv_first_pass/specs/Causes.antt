@@ -12,7 +12,19 @@ HasCheckCause before now (Err DiskFault) = Rose before now
 HasCheckCause before now (Err NotAggregate) = now ≡ before
 HasCheckCause before now (Err Memory) = now ≡ before
 
--- nothing was written
+-- of a pass, which never answers that there is no aggregate
+abbrev pub HasPassCause : {T : Type 0} → ℕ → ℕ → Result T CheckFault → Type 0
+HasPassCause before now (Ok x) = now ≡ before
+HasPassCause before now (Err DiskFault) = Rose before now
+HasPassCause before now (Err NotAggregate) = ⊥
+HasPassCause before now (Err Memory) = now ≡ before
+
+-- a pass writes nothing
 pub record HasRead {T : Type 0} (old new : Shown) (result : Result T CheckFault) : Type 0 where
+  pub only_reads : OnlyReads old new
+  pub cause : HasPassCause old.faults new.faults result
+
+-- nor does a check
+pub record HasChecked {T : Type 0} (old new : Shown) (result : Result T CheckFault) : Type 0 where
   pub only_reads : OnlyReads old new
   pub cause : HasCheckCause old.faults new.faults result

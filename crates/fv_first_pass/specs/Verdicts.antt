@@ -1,4 +1,4 @@
--- What a check answers, as a whole: the contract of `check`, and the status of the word. No function has this contract yet.
+-- What a check answers, as a whole: the contract of `check` (`fv_check`), and the status of the word.
 use Rattle.std.specs.Prelude.{◌≡◌, ◌≢◌, ℕ, [], sum_by, Some, IsTrue, Result, Ok, Err}
 use Rattle.std.specs.FinMap as fin
 use Rattle.fv_disk.specs.Shown.{Image, Shown}
@@ -14,7 +14,7 @@ use Rattle.fv_first_pass.specs.declared.fault.CheckFault.{CheckFault}
 use Rattle.fv_first_pass.specs.declared.fault.CheckFault.TheVariants.{DiskFault, NotAggregate, Memory}
 use Rattle.fv_first_pass.specs.declared.verdict.Verdict.{Verdict}
 use Rattle.fv_first_pass.specs.declared.verdict.Verdict.TheVariants.{Valid, Faults}
-use Rattle.fv_first_pass.specs.Causes.{HasRead}
+use Rattle.fv_first_pass.specs.Causes.{HasChecked}
 
 -- ---- verdicts
 
@@ -48,7 +48,7 @@ Says i (Err Memory) = Unit {0}
 -- these rose.
 pub record Checks (old new : Shown) (result : Result Verdict CheckFault) : Type 0 where
   pub says : IsTrue old.tells → Says old.reads result
-  pub read : HasRead old new result
+  pub read : HasChecked old new result
 
 -- the status of the word `check`, where the sink took the whole text
 abbrev pub status_of : Result Verdict CheckFault → ℕ

@@ -6,7 +6,7 @@ use Rattle.fv_bits.specs.Members.{is_member, count_between, count_of}
 use Rattle.fv_bits.proofs.Counts.{passing, passing_same}
 use Rattle.fv_codec.specs.declared.label.SnapRecord.{SnapRecord}
 use Rattle.fv_codec.specs.declared.label.Label.{Label}
-use Rattle.fv_model.specs.Space.{map_blocks, charge, need, use_of}
+use Rattle.fv_model.specs.Space.{map_blocks, charge, use_of}
 use Rattle.fv_charge.specs.Counted.{is_apart, count_apart, charge_counted}
 use Rattle.fv_image.specs.Views.{Head, View, head_of, snaps_from}
 use Rattle.fv_image.specs.Volumes.{volume_told}
@@ -53,13 +53,10 @@ module _ (w : View) (s : ℕ) (h : Head) (held : List Bool) (long : length held 
 -- ---- of a label
 
 module _ (w : View) (s : ℕ) (l : Label) where
-  pub used_counted : (held : List Bool) (out : Option (List Bool)) (needed : ℕ) → length held ≡ l.span → HasSets w s (head_of l) held out → needed ≡ need (volume_told w s (head_of l))
-      → charge_counted held out (count_by is_used l.snapshots) l.span + needed ≡ use_of (volume_told w s (head_of l))
+  pub charge_is : (held : List Bool) (out : Option (List Bool)) → length held ≡ l.span → HasSets w s (head_of l) held out
+      → charge_counted held out (count_by is_used l.snapshots) l.span ≡ charge (volume_told w s (head_of l))
   unfolding head_of
-  used_counted held out needed long sets is =
-      ap (λ n. charge_counted held out n l.span + needed) (sym (snaps_counted 1 l.snapshots))
-      ∙ ap (λ n. n + needed) (charged w s (head_of l) held long out sets)
-      ∙ ap (λ n. charge (volume_told w s (head_of l)) + n) is
+  charge_is held out long sets = ap (λ n. charge_counted held out n l.span) (sym (snaps_counted 1 l.snapshots)) ∙ charged w s (head_of l) held long out sets
 
   pub use_added : (used place : ℕ) (old new : Lines) → used ≡ use_of (volume_told w s (head_of l)) → Adds (unless (nat_le used l.size) (line 14 place l.size used)) old new → Adds (use_lines w s place (head_of l)) old new
   unfolding use_lines head_of

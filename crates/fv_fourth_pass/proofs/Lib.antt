@@ -1,4 +1,4 @@
-mod Sums
+pub mod Sums
 mod Totals
 mod Hinted
 mod Charges
@@ -9,3 +9,15 @@ mod Gaining
 mod Copies
 pub mod Sets
 mod Filling
+mod Unions
+mod Slots
+mod Summing
+mod TreeSums
+mod Amounts
+mod Shares
+mod Reserved
+mod FileNeeds
+mod WalkNeeds
+mod TableNeeds
+mod NeedSteps
+mod WalkedRoots

@@ -1,24 +1,32 @@
 -- Where the first three passes found nothing, what the second told of roots gives the sets that the fourth pass counts by.
-use Rattle.std.proofs.Common.{◌≡◌, ◌≢◌, ℕ, ◌-◌, ◌<◌, ◌≤◌, Bool, true, false, List, [], ◌∷◌, length, get_or, inl, inr, refl, sym, ap, ◌∙◌, arith, Ok}
-use Rattle.std.specs.Prelude.{Option, Some, None, not, ◌&&◌, ◌||◌, ◌==◌, ◌/◌, ◌%◌, if◌then◌else◌}
-use Rattle.std.specs.List.{list_any}
+use Rattle.std.proofs.Common.{◌≡◌, ◌≢◌, ℕ, ◌-◌, ◌<◌, ◌≤◌, Bool, true, false, List, [], ◌∷◌, drop, map, length, get_or, inl, inr, refl, sym, ap, subst, ◌∙◌, arith, Ok}
+use Rattle.std.specs.Prelude.{Option, Some, None, IfSome, not, ◌&&◌, ◌||◌, ◌==◌, ◌/◌, ◌%◌, nat_lt, if◌then◌else◌}
+use Rattle.std.specs.List.{list_all, list_any}
 use Rattle.std.specs.Option.{is_none, is_some, option_map_or}
 use Rattle.std.proofs.lemmas.Bool.Decides.{nat_tests}
+use Rattle.std.proofs.lemmas.List.Folds.{list_any-append}
 use Rattle.fv_disk.specs.Shown.{Image}
+use Rattle.fv_bits.specs.Members.{is_member}
 use Rattle.fv_codec.specs.declared.label.Label.{Label}
 use Rattle.fv_laws.proofs.Lists.{In}
 use Rattle.fv_tables.specs.Reached.{Item, items, is_listed}
 use Rattle.fv_image.specs.NewerRoot.{Taken}
-use Rattle.fv_image.specs.Views.{Footing, Head, Placed, Rooted, View, head_of}
+use Rattle.fv_model.specs.Space.{map_blocks}
+use Rattle.fv_image.specs.Views.{Footing, Head, Placed, Rooted, Snap, View, head_of, is_held_in, used_slots, volume_bit}
 use Rattle.fv_image.specs.Held.{layout_at}
 use Rattle.fv_image.specs.Seen.{roots_of}
 use Rattle.fv_image.specs.Volumes.{standing_of}
-use Rattle.fv_image.specs.Staying.{base_items, own_items}
+use Rattle.fv_image.specs.Staying.{base_items, items_of, own_items}
 use Rattle.fv_image.specs.Charged.{out_items}
+use Rattle.fv_image.specs.ReachRules.{has_maps_of_reach, is_reach}
+use Rattle.fv_image.proofs.CountedCharge.{held_is_listed}
+use Rattle.fv_image.proofs.Hints.{place_is}
+use Rattle.fv_image.proofs.WellLabels.{entries_whole}
 use Rattle.fv_faults.specs.Met.{IsClean}
 use Rattle.fv_faults.specs.SecondPass.{ground}
 use Rattle.fv_faults.specs.ThirdPass.{third_pass}
-use Rattle.fv_faults.specs.Walks.{Ground, steps}
+use Rattle.fv_faults.specs.Walks.{Ground, Step, steps}
+use Rattle.fv_faults.proofs.EachVolume.{view_test}
 use Rattle.fv_faults.proofs.FromLines.{low_label}
 use Rattle.fv_faults.proofs.Later as later
 use Rattle.fv_first_pass.specs.declared.first.Known.{Known}
@@ -26,12 +34,15 @@ use Rattle.fv_first_pass.specs.Passed.{spelled}
 use Rattle.fv_second_pass.specs.declared.reached.Reached as sets
 use Rattle.fv_second_pass.proofs.Listed.{reached_is}
 use Rattle.fv_third_pass.specs.Counted.{words_of}
-use Rattle.fv_third_pass.specs.Volumes.{IsReachIn, IsWalked, base_set, reach_at}
+use Rattle.fv_third_pass.specs.declared.roots.MapRoot.{MapRoot}
+use Rattle.fv_third_pass.specs.Volumes.{IsReachIn, IsWalked, base_set, reach_at, root_of}
 use Rattle.fv_third_pass.proofs.WalkedFacts as facts
 use Rattle.fv_third_pass.proofs.VolumeParts as parts
 use Rattle.fv_fourth_pass.specs.Based.{IsOver, has_entry}
+use Rattle.fv_fourth_pass.specs.Filled.{HasFilled}
+use Rattle.fv_fourth_pass.specs.Needed.{HasShared, kept_items}
 use Rattle.fv_fourth_pass.specs.Placed.{IsBased}
-use Rattle.fv_fourth_pass.specs.Silent.{AreSetsOf, any_reached}
+use Rattle.fv_fourth_pass.specs.Silent.{AreSetsOf, AreWide, FitsIn, any_of, any_reached}
 use Rattle.fv_fourth_pass.specs.Used.{HasSets, is_out}
 use Rattle.fv_fourth_pass.proofs.Once.{any_spread}
 
@@ -56,6 +67,11 @@ never_out : (x : Bool) → (not x && false) ≡ false
 never_out true = refl
 never_out false = refl
 
+-- roots behind the first
+rest_of : (roots : List MapRoot) (r : ℕ × Rooted) (rs : List (ℕ × Rooted)) → map root_of roots ≡ r ∷ rs → map root_of (drop 1 roots) ≡ rs
+rest_of [] r rs is = absurd cc
+rest_of (q ∷ qs) r rs is = ap (λ (xs : List (ℕ × Rooted)). drop 1 xs) is
+
 module _ (t : Taken) (i : Image) (long : (b : ℕ) → length (i b) ≡ 4096) (size : 1 ≤ t.blocks) (known : Known) (reached : sets.Reached) (walked : IsWalked t i known reached)
     (s : ℕ) (low : s < 64) (l : Label) (label : get_or known.labels.items s None ≡ Some (Ok l)) where
   abbrev w : View
@@ -70,12 +86,16 @@ module _ (t : Taken) (i : Image) (long : (b : ℕ) → length (i b) ≡ 4096) (s
   abbrev row : List ℕ
   row = words_of (get_or known.rows.items s None)
 
-  pub own_listed : (v : ℕ) → any_reached reached s l v ≡ is_listed (own_items w s h) v
-  own_listed v =
-      any_each (λ (r : ℕ × Rooted). is_out (reach_at reached s r.0) v) (λ (r : ℕ × Rooted). is_listed (items (standing_of w s r.1)) v) (roots_of h)
+  -- what some of its roots reach
+  listed : (rs : List (ℕ × Rooted)) → ((r : ℕ × Rooted) → In r rs → In r (roots_of h)) → (v : ℕ) → any_of reached s rs v ≡ is_listed (items_of w s rs) v
+  listed rs among v =
+      any_each (λ (r : ℕ × Rooted). is_out (reach_at reached s r.0) v) (λ (r : ℕ × Rooted). is_listed (items (standing_of w s r.1)) v) rs
       (λ r there. told (ground w s h) at r.1 l.span (reach_at reached s r.0)
-      (facts.own_clean t i long size known reached walked s low l label r there) (facts.reach_in t i long size known reached walked s low l label r there) v)
-      ∙ sym (any_spread (λ (e : Item). e.pointer.vvbn == v) (λ (r : ℕ × Rooted). items (standing_of w s r.1)) (roots_of h))
+      (facts.own_clean t i long size known reached walked s low l label r (among r there)) (facts.reach_in t i long size known reached walked s low l label r (among r there)) v)
+      ∙ sym (any_spread (λ (e : Item). e.pointer.vvbn == v) (λ (r : ℕ × Rooted). items (standing_of w s r.1)) rs)
+
+  pub own_listed : (v : ℕ) → any_reached reached s l v ≡ is_listed (own_items w s h) v
+  own_listed v = listed (roots_of h) (λ r there. there) v
 
   -- ---- the base
 
@@ -142,10 +162,67 @@ module _ (t : Taken) (i : Image) (long : (b : ℕ) → length (i b) ≡ 4096) (s
       so true e = let none : l.parent ≡ 0 = grind (arith, nat_tests, e) in sym (ap (λ (o : Option Footing). is_none o) (facts.base_none t i long size known reached walked s low l label none))
       so false e = let some : l.parent ≢ 0 = grind (arith, nat_tests, e) in sym (ap (λ (o : Option Footing). is_none o) (facts.base_some t i long size known reached walked s low l label some))
 
+  -- ---- their lengths
+
+  -- what the second pass told of a root has a bit for each VVBN of its volume
+  wide : (span : ℕ) (ss : List Step) (o : Option (List Bool)) → IsReachIn span ss o → IfSome o (λ set. length set ≡ span)
+  wide span ss None is = absurd is
+  wide span ss (Some set) is = is.0
+
+  narrow_set : (span most : ℕ) → span ≤ most → (o : Option (List Bool)) → IfSome o (λ set. length set ≡ span) → FitsIn most o
+  narrow_set span most low None has = tt
+  narrow_set span most low (Some set) has = let e : length set ≡ span = has in omega (arith, e, low)
+
+  pub roots_wide : AreWide reached s l.span (roots_of h)
+  roots_wide r there = wide l.span (steps (ground w s h) at r.1) (reach_at reached s r.0) (facts.reach_in t i long size known reached walked s low l label r there)
+
+  pub base_fits : FitsIn l.span (base_set reached.volumes.items l)
+  unfolding head_of
+  base_fits = so (l.parent == 0) refl
+    where
+      so : (b : Bool) → (l.parent == 0) ≡ b → FitsIn l.span (base_set reached.volumes.items l)
+      so true e = let none : l.parent ≡ 0 = grind (arith, nat_tests, e) in subst (FitsIn l.span) (sym (no_set none)) tt
+      so false e =
+          let some : l.parent ≢ 0 = grind (arith, nat_tests, e) in
+          let parent = parts.parent t i long size known reached walked s low l label some in
+          let table = parts.table t i long size known reached walked s low l label some in
+          subst (FitsIn l.span) (sym (set_is some))
+          (narrow_set parent.span l.span (parts.narrow t i long size known reached walked s low l label some) (reach_at reached p l.base_slot)
+          (wide parent.span (steps (ground w p (head_of parent)) (get_or t.root.labels p 0) table) (reach_at reached p l.base_slot)
+          (facts.reach_in t i long size known reached walked p (parts.parent_low t i long size known reached walked s low l label some) parent
+          (parts.parent_read t i long size known reached walked s low l label some) (l.base_slot, table) (parts.root_there t i long size known reached walked s low l label some))))
+
+  -- its snapshots as roots
+  abbrev snaps : List (ℕ × Rooted)
+  snaps = map (λ (p : Snap). (p.slot, p.table)) h.snapshots
+
+  pub rest_wide : (roots : List MapRoot) → map root_of roots ≡ roots_of h → AreWide reached s l.span (map root_of (drop 1 roots))
+  rest_wide roots mine r there = roots_wide r (inr (subst (λ (rs : List (ℕ × Rooted)). In r rs) (rest_of roots (0, h.active) snaps mine) there))
+
   -- ---- its entries
 
   pub entries_told : (v : ℕ) → is_some (w.entry s v) ≡ has_entry row v
   entries_told v = ap (λ o. is_some o) ((parts.has_words t i long size known reached walked s low l label).entries v) ∙ spelled_there i (get_or row v 0)
+
+  -- ---- what the third pass tells
+
+  module _ (third : third_pass (layout_at t i) ≡ []) where
+    looked : later.IsThird (layout_at t i) (facts.is t i long size known reached walked) (low_label t i long (facts.some_blocks t i long size known reached walked)) (facts.clean t i long size known reached walked)
+        (facts.two t i long size known reached walked).ranges (facts.bases t i long size known reached walked)
+    looked = later.third_true (layout_at t i) (facts.is t i long size known reached walked) (low_label t i long (facts.some_blocks t i long size known reached walked)) (facts.clean t i long size known reached walked)
+        (facts.two t i long size known reached walked).ranges (facts.bases t i long size known reached walked) third
+
+    mapped : list_all (is_reach w s h) (roots_of h) ≡ true
+    unfolding has_maps_of_reach
+    mapped = view_test w (λ s h. list_all (is_reach w s h) (roots_of h)) looked.reach s h low (facts.head t i long size known reached walked s low l label)
+
+    -- a VVBN is held exactly where roots reach it
+    held_listed : (v : ℕ) → v < h.span → is_held_in w s h v ≡ is_listed (own_items w s h) v
+    unfolding is_held_in
+    held_listed v below =
+        let test : nat_lt v h.span ≡ true = grind (arith, nat_tests, below) in
+        ap (λ (b : Bool). if b then list_any (λ slot. volume_bit w s h.span slot v) (used_slots h) else list_any (λ slot. slot == (v - h.span) / map_blocks h.span) (used_slots h)) test
+        ∙ held_is_listed w s h mapped v (omega (arith, below))
 
   -- ---- the sets
 
@@ -169,9 +246,33 @@ module _ (t : Taken) (i : Image) (long : (b : ℕ) → length (i b) ≡ 4096) (s
       numbers = (facts.is t i long size known reached walked).numbers s h (facts.head t i long size known reached walked s low l label);
       parents = λ b g base there. (facts.is t i long size known reached walked).numbers b.parent g there;
       names = (facts.one t i long size known reached walked).snapshots;
-      ids = (later.third_true (layout_at t i) (facts.is t i long size known reached walked) (low_label t i long (facts.some_blocks t i long size known reached walked)) (facts.clean t i long size known reached walked)
-          (facts.two t i long size known reached walked).ranges (facts.bases t i long size known reached walked) third).ids;
+      ids = (looked third).ids;
       ranges = (facts.two t i long size known reached walked).ranges;
       reached = λ v below. are.reaches v ∙ own_listed v;
       based = λ v below. are.left v ∙ out_listed v;
     }
+
+    pub has_filled : third_pass (layout_at t i) ≡ [] → HasFilled w s h held row
+    has_filled third = record { reached = λ v below. are.reaches v ∙ own_listed v ∙ sym (held_listed third v below); entries = λ v. entries_told v }
+
+    -- what its snapshots or its base reach
+    pub has_shared : third_pass (layout_at t i) ≡ [] → (roots : List MapRoot) → map root_of roots ≡ roots_of h → (shared : List Bool)
+        → ((v : ℕ) → is_member shared v ≡ (any_of reached s (map root_of (drop 1 roots)) v || is_out base v)) → HasShared w s h shared
+    unfolding layout_at
+    has_shared third roots mine shared has = record {
+      low = low;
+      head = facts.head t i long size known reached walked s low l label;
+      numbers = (facts.is t i long size known reached walked).numbers s h (facts.head t i long size known reached walked s low l label);
+      parents = λ b g base there. (facts.is t i long size known reached walked).numbers b.parent g there;
+      names = (facts.one t i long size known reached walked).snapshots;
+      ids = (looked third).ids;
+      ranges = (facts.two t i long size known reached walked).ranges;
+      whole = λ v x found. let entry = place_is w s v x found in entries_whole t i long entry.0 v x entry.1;
+      reached = λ v below.
+          has v
+          ∙ (λ n. kept v n || (are.based v ∙ base_listed v) n)
+          ∙ sym (list_any-append (λ (e : Item). e.pointer.vvbn == v) (kept_items w s h) (base_items w h.base));
+    }
+      where
+        kept : (v : ℕ) → any_of reached s (map root_of (drop 1 roots)) v ≡ is_listed (kept_items w s h) v
+        kept v = ap (λ (rs : List (ℕ × Rooted)). any_of reached s rs v) (rest_of roots (0, h.active) snaps mine) ∙ listed snaps (λ r there. inr there) v

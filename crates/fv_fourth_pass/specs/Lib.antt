@@ -8,3 +8,8 @@ pub mod Tallying
 pub mod Placed
 pub mod Silent
 pub mod Filled
+pub mod Summed
+pub mod Noted
+pub mod Needed
+pub mod Needing
+pub mod WalkedTables

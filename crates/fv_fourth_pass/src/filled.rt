@@ -78,8 +78,9 @@ fn count_own(label: &Label, held: &BitMap, row: &[u32]) -> u64
     requires label { IsLabel label.now }
     requires long { length label.now.snapshots ≡ 24 }
     requires held { length held.now ≡ label.now.span }
-    ensures { result ≡ count_by (is_own_by (head_of label.entry.now) held.now row.now)
+    ensures exact { result ≡ count_by (is_own_by (head_of label.entry.now) held.now row.now)
         (range_with_len 0 (entry_count label.entry.now.span)) }
+    ensures most { result ≤ 2 ^ 33 }
 {
     let mut count = 0;
     for vvbn in 0..entry_count(label.span) {
@@ -96,8 +97,9 @@ fn count_delayed(label: &Label, held: &BitMap, row: &[u32]) -> u64
     requires label { IsLabel label.now }
     requires long { length label.now.snapshots ≡ 24 }
     requires held { length held.now ≡ label.now.span }
-    ensures { result ≡ count_by (is_delayed_by (head_of label.entry.now) held.now row.now)
+    ensures exact { result ≡ count_by (is_delayed_by (head_of label.entry.now) held.now row.now)
         (range_with_len 0 (entry_count label.entry.now.span)) }
+    ensures most { result ≤ 2 ^ 33 }
 {
     let mut count = 0;
     for vvbn in 0..entry_count(label.span) {
@@ -118,6 +120,8 @@ pub fn count_filled(label: &Label, held: &BitMap, row: &[u32]) -> Filled
         → result.own ≡ count_by (is_own w s (head_of label.entry.now)) (vvbns label.entry.now.span) }
     ensures delayed { (w : View) (s : ℕ) → HasFilled w s (head_of label.entry.now) held.now row.now
         → result.delayed ≡ count_by (is_delayed w s (head_of label.entry.now)) (vvbns label.entry.now.span) }
+    ensures most_own { result.own ≤ 2 ^ 33 }
+    ensures most_delayed { result.delayed ≤ 2 ^ 33 }
 {
     Filled {
         own: count_own(label, held, row),

@@ -1,19 +1,15 @@
 //! What rules 11 and 12 say of a pointer by itself, along a walk without stops.
 
-ghost use Rattle.std.specs.Prelude.{◌≡◌, ◌≤◌, not, ◌||◌, ◌==◌, count_by, length, IfOk, OnOk};
+ghost use Rattle.std.specs.Prelude.{◌≡◌, ◌≤◌, not, ◌||◌, ◌==◌, count_by, length, OnOk};
 ghost use Rattle.fv_image.specs.HintRules.{is_known, is_unknown};
 ghost use Rattle.fv_faults.specs.Adding.{Adds};
 ghost use Rattle.fv_faults.specs.Lines.{line, unless};
-ghost use Rattle.fv_faults.specs.Met.{IsClean};
-ghost use Rattle.fv_faults.specs.Walks.{steps};
-ghost use Rattle.fv_walk.specs.Causes.{HasWalkCause};
-ghost use Rattle.fv_walk.specs.Visits.{rooted};
-ghost use Rattle.fv_fourth_pass.specs.Hinted.{has_unknown_root, hinted_lines, is_right, place_found, unknown_in};
+ghost use Rattle.fv_fourth_pass.specs.Hinted.{has_unknown_root, is_right, place_found, unknown_in};
 
 use fv_codec::{InodeRecord, Pointer};
 use fv_faults::{Fault, Lines};
-use fv_walk::{Below, Found, Source, Table, Visit, Visitor, WalkFault, walk};
-use std::alloc::{AllocError, Global};
+use fv_walk::{Below, Found, Visit, Visitor};
+use std::alloc::AllocError;
 
 /// Notes what rules 11 and 12 say of each pointer that it is shown, by itself.
 #[derive(Drop)]
@@ -155,27 +151,4 @@ impl Visitor for HintJudge {
     ghost sees_none = { hints_none };
 
     ghost sees_on = { hints_on };
-}
-
-/// Walks along the pointers of a table, whose root stands in the label at a place, and notes what rules 11 and 12 (`docs/FORMAT.md`) say
-/// of each by itself: where it is known it leads to the place at which its VVBN is found, and the block there holds no unknown pointer.
-/// The lines come back with those that are noted. The table is one of which the second pass found nothing.
-///
-/// The one other error is want of memory. Costs what `walk` costs.
-pub fn note_hints<S: Source>(
-    alloc: Global,
-    source: &mut S,
-    lines: Lines,
-    label: u64,
-    table: &Table,
-) -> Result<Lines, WalkFault>
-    requires { table.now.levels ≤ 3 }
-    ensures adds { S.fits source.old → IfOk result (λ noted. IsClean (steps (S.volume source.old) label (rooted table.now))
-        → Adds (hinted_lines (steps (S.volume source.old) label (rooted table.now))) lines noted) }
-    ensures reads { S.reads source.old source.new }
-    ensures cause { HasWalkCause (S.faults source.old) (S.faults source.new) result }
-{
-    let mut judge = HintJudge { lines };
-    walk(alloc, source, &mut judge, label, table)?;
-    Ok(judge.lines)
 }

@@ -1,22 +1,18 @@
 //! How many pointers of a volume's roots are unknown, or wrong while it is being split, each counted once for the block in which it stands:
 //! roots share blocks.
 
-ghost use Rattle.std.specs.Prelude.{◌≡◌, ◌≤◌, ◌∷◌, [], ◌||◌, map, IfOk, OnOk};
+ghost use Rattle.std.specs.Prelude.{◌≡◌, ◌||◌, OnOk};
 ghost use Rattle.std.specs.BTreeSet as sets;
 ghost use Rattle.std.specs.Ordering.{eq_by_cmp};
 ghost use Rattle.fv_bits.specs.Members.{is_member};
-ghost use Rattle.fv_walk.specs.Causes.{HasWalkCause};
-ghost use Rattle.fv_walk.specs.Visits.{item_of, rooted};
-ghost use Rattle.fv_third_pass.specs.Volumes.{AreFew, root_of};
+ghost use Rattle.fv_walk.specs.Visits.{item_of};
 ghost use Rattle.fv_fourth_pass.specs.declared.tally.Mark.{Mark as SpecMark};
-ghost use Rattle.fv_fourth_pass.specs.Tallied.{counts, how_many_in, mark_cmp, mark_of};
-ghost use Rattle.fv_fourth_pass.specs.Tallying.{Gains};
+ghost use Rattle.fv_fourth_pass.specs.Tallied.{counts, mark_cmp, mark_of};
 
 use crate::hints::{is_known, is_unknown};
 use fv_bits::BitMap;
-use fv_third_pass::MapRoot;
-use fv_walk::{Below, Found, Source, Visit, Visitor, WalkFault, walk};
-use std::alloc::{AllocError, Global};
+use fv_walk::{Below, Found, Visit, Visitor};
+use std::alloc::AllocError;
 use std::collections::BTreeSet;
 
 /// What tells a pointer of a volume from all others: the block in which it stands and its position, or its root where that is the label.
@@ -47,7 +43,7 @@ pub(crate) struct Tally {
 
 /// Whether a number is in a set; one past the set's end isn't.
 #[tactic(auto, using(fv_bits::proofs::Laws::is_member_past))]
-fn has(set: &BitMap, number: u64) -> bool
+pub(crate) fn has(set: &BitMap, number: u64) -> bool
     ensures { result ≡ is_member set.now number }
 {
     if number >= u64::from(set.len()) {
@@ -119,66 +115,4 @@ impl Visitor for Tally {
     ghost sees_none = { tallies_none };
 
     ghost sees_on = { tallies_on };
-}
-
-/// Shows a tally the pointers of a root, which stands in the label at a place.
-fn show_root<S: Source>(
-    alloc: Global,
-    source: &mut S,
-    tally: &mut Tally,
-    label: u64,
-    root: &MapRoot,
-) -> Result<(), WalkFault>
-    requires { root.now.table.levels ≤ 2 }
-    ensures saw { S.fits source.old → OnOk result (Gains (S.volume source.old) label (root_of root.now ∷ []) tally.old tally.new) }
-    ensures reads { S.reads source.old source.new }
-    ensures cause { HasWalkCause (S.faults source.old) (S.faults source.new) result }
-{
-    tally.root = u16::from(root.slot) + 1;
-    walk(alloc, source, tally, label, &root.table)?;
-    Ok(())
-}
-
-/// Shows a tally the pointers of several roots.
-fn show_roots<S: Source>(
-    alloc: Global,
-    source: &mut S,
-    tally: &mut Tally,
-    label: u64,
-    roots: &[MapRoot],
-) -> Result<(), WalkFault>
-    requires { AreFew roots.now }
-    ensures saw { S.fits source.old → OnOk result (Gains (S.volume source.old) label (map root_of roots.now) tally.old tally.new) }
-    ensures reads { S.reads source.old source.new }
-    ensures cause { HasWalkCause (S.faults source.old) (S.faults source.new) result }
-{
-    for k in 0..roots.len() {
-        show_root(alloc, source, tally, label, &roots[k])?;
-    }
-    Ok(())
-}
-
-/// How many pointers of roots, which stand in the label at a place, are counted, each once for the block in which it stands. Without copies
-/// these are the unknown ones; with copies the known ones that stand in the label, lead to a copy or stand in one.
-///
-/// The one other error is want of memory. It takes a mark for each pointer that is counted.
-pub(crate) fn count_pointers<S: Source>(
-    alloc: Global,
-    source: &mut S,
-    label: u64,
-    roots: &[MapRoot],
-    copies: Option<BitMap>,
-) -> Result<u64, WalkFault>
-    requires { AreFew roots.now }
-    ensures counted { S.fits source.old → IfOk result (λ n. n ≡ how_many_in (S.volume source.old) copies (map root_of roots.now)) }
-    ensures reads { S.reads source.old source.new }
-    ensures cause { HasWalkCause (S.faults source.old) (S.faults source.new) result }
-{
-    let mut tally = Tally {
-        copies,
-        root: 0,
-        marks: BTreeSet::new(alloc),
-    };
-    show_roots(alloc, source, &mut tally, label, roots)?;
-    Ok(tally.marks.len() as u64)
 }

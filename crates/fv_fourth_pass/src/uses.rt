@@ -6,7 +6,7 @@ ghost use Rattle.fv_faults.specs.FourthPass.{use_lines};
 ghost use Rattle.fv_first_pass.specs.Heads.{IsReadLabel};
 ghost use Rattle.fv_image.specs.Views.{View, head_of, kind_named};
 ghost use Rattle.fv_image.specs.Volumes.{volume_told};
-ghost use Rattle.fv_model.specs.Space.{need, use_of};
+ghost use Rattle.fv_model.specs.Space.{charge, need, use_of};
 ghost use Rattle.fv_fourth_pass.specs.Used.{is_used, HasSets};
 
 use crate::space::note_most;
@@ -44,19 +44,16 @@ fn kind_named(kind: u8) -> Kind
     }
 }
 
-/// How many blocks the volume of a label uses. `held` has the VVBNs that its roots reach, `out` those that its base table reaches; there
-/// is no `out` where the volume has no base or is being split from it. `needed` is the number of blocks that the reserves of its files
-/// still need.
+/// How many blocks the volume of a label is charged for. `held` has the VVBNs that its roots reach, `out` those that its base table
+/// reaches; there is no `out` where the volume has no base or is being split from it.
 ///
 /// Costs a step for each word of `held`, and with `out` for each VVBN. Takes no memory.
-pub fn count_used(label: &Label, held: &BitMap, out: Option<&BitMap>, needed: u64) -> u64
+pub fn count_charge(label: &Label, held: &BitMap, out: Option<&BitMap>) -> u32
     requires label { IsReadLabel (Some (Ok label.now)) }
     requires held { length held.now ≡ label.now.span }
     requires out { IfSome (option_copied out) (λ set. length set ≡ label.now.span) }
-    requires needed { needed ≤ 2 ^ 55 }
-    ensures exact { (w : View) (s : ℕ) → HasSets w s (head_of label.entry.now) held.now (option_copied out.entry)
-        → needed ≡ need (volume_told w s (head_of label.entry.now)) → result ≡ use_of (volume_told w s (head_of label.entry.now)) }
-    ensures most { result ≤ 2 ^ 56 }
+    ensures { (w : View) (s : ℕ) → HasSets w s (head_of label.entry.now) held.now (option_copied out.entry)
+        → result ≡ charge (volume_told w s (head_of label.entry.now)) }
 {
     let ledger = Ledger::counted(
         held,
@@ -67,7 +64,23 @@ pub fn count_used(label: &Label, held: &BitMap, out: Option<&BitMap>, needed: u6
         label.size,
         kind_named(label.kind),
     );
-    u64::from(ledger.charge) + needed
+    ledger.charge
+}
+
+/// How many blocks the volume of a label uses, by the same sets. `needed` is the number of blocks that the reserves of its files still
+/// need.
+///
+/// Costs what `count_charge` costs. Takes no memory.
+pub fn count_used(label: &Label, held: &BitMap, out: Option<&BitMap>, needed: u64) -> u64
+    requires label { IsReadLabel (Some (Ok label.now)) }
+    requires held { length held.now ≡ label.now.span }
+    requires out { IfSome (option_copied out) (λ set. length set ≡ label.now.span) }
+    requires needed { needed ≤ 2 ^ 55 }
+    ensures exact { (w : View) (s : ℕ) → HasSets w s (head_of label.entry.now) held.now (option_copied out.entry)
+        → needed ≡ need (volume_told w s (head_of label.entry.now)) → result ≡ use_of (volume_told w s (head_of label.entry.now)) }
+    ensures most { result ≤ 2 ^ 56 }
+{
+    u64::from(count_charge(label, held, out)) + needed
 }
 
 /// Notes the line of rule 14 (`docs/FORMAT.md`) on the blocks that the volume of a label uses; `place` is that of the label. The one

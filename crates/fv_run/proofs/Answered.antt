@@ -1,5 +1,5 @@
 -- Lines are answered, one after another.
-use Rattle.std.proofs.Common.{◌≡◌, inl, false, ℕ, ◌+◌, ◌<◌, ◌++◌, List, [], ◌∷◌, length, take, refl, sym, ap, subst, ◌∙◌, arith, append_assoc, append-nil}
+use Rattle.std.proofs.Common.{◌≡◌, false, ℕ, ◌+◌, ◌<◌, ◌++◌, List, [], ◌∷◌, length, take, refl, sym, ap, subst, ◌∙◌, arith, append_assoc, append-nil}
 use Rattle.std.specs.Prelude.{flat_map, Some, IsTrue, Result, Err}
 use Rattle.fv_disk.specs.Shown.{Image, Shown, IsDisk}
 use Rattle.fv_disk.specs.HostCalls.{Rests}
@@ -22,11 +22,10 @@ use Rattle.fv_run.specs.Answering.{BeginsFor, HasAnswered, IsCounted, IsLine, St
 use Rattle.fv_run.proofs.Acked.{up_to_take}
 use Rattle.fv_run.proofs.Applying.{applied_one, next_point, none_applied, still_applied}
 use Rattle.fv_run.proofs.Applying as applying
-use Rattle.fv_run.proofs.Following.{follows_first, follows_part, one_more, one_text, taken_next, left_next, left_below}
+use Rattle.fv_run.proofs.Following.{follows_first, follows_part, one_more, one_text, taken_next, left_next}
 use Rattle.fv_run.proofs.Lines.{no_end}
-use Rattle.fv_run.proofs.Counted.{counted_none, counted_still}
-use Rattle.fv_run.proofs.Sessions.{images_stand, point_stays, rests_standing_for}
-use Rattle.fv_run.proofs.Surviving.{after_some, asked_for, rested, rested_after, which_point, IsOnward, onward, one_of, one_told}
+use Rattle.fv_run.proofs.Sessions.{images_stand, rests_standing_for}
+use Rattle.fv_run.proofs.Surviving.{after_some, asked_for, rested, rested_after, which_point, IsOnward, one_of, one_told}
 
 -- what a crash leaves, with an output that is known
 pub survives : (m : Machine) (lines : List Line) (before : List ℕ) (c : Image) (g output : List ℕ) → g ≡ before ++ output → IsAfterSome m lines output c → Survives m lines before c g

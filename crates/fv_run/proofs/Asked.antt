@@ -11,8 +11,9 @@ use Rattle.fv_script.specs.CommandLine.{blocks_of, draws_of, is_aggregate_size, 
 use Rattle.fv_run.specs.declared.ending.Fault.{Fault}
 use Rattle.fv_run.specs.declared.ending.Fault.TheVariants.{Usage}
 use Rattle.fv_run.specs.declared.words.Order.{Order}
-use Rattle.fv_run.specs.declared.words.Order.TheVariants.{Create, Gen, Run}
+use Rattle.fv_run.specs.declared.words.Order.TheVariants.{Check, Create, Gen, Run}
 use Rattle.fv_run.specs.Meaning.{create, generation, meaning}
+use Rattle.fv_run.specs.Checking.{IsChecked}
 use Rattle.fv_run.specs.Creating.{Creates}
 use Rattle.fv_run.specs.Generating.{Generates, lines_drawn}
 use Rattle.fv_run.specs.Running.{Ran}
@@ -46,10 +47,12 @@ created_value (Some x) blocks e = ap Some (same_order x blocks e)
 pub has_size : (words : List (List ℕ)) (blocks : ℕ) → meaning words ≡ Some (Create blocks) → IsSize blocks
 unfolding meaning
 has_size [] blocks e = absurd cc
-has_size (command ∷ []) blocks e = absurd (other (passed (bytes_eq command (codes "run")) (Some Run) (Create blocks) e).1)
+has_size (command ∷ []) blocks e = absurd (other (bytes_eq command (codes "run")) (bytes_eq command (codes "check")) e)
   where
-    other : Some Run ≡ Some (Create blocks) → ⊥
-    other e = cc
+    other : (run check : Bool) → cond run (Some Run) (cond check (Some Check) None) ≡ Some (Create blocks) → ⊥
+    other true check e = cc
+    other false true e = cc
+    other false false e = cc
 has_size (command ∷ size ∷ []) blocks e =
     is_size size blocks (created_value (blocks_of size) blocks (passed (bytes_eq command (codes "create")) (option_map create (blocks_of size)) (Create blocks) e).1)
 has_size (command ∷ seed ∷ count ∷ []) blocks e = absurd (other (seed_of seed) (draws_of count) (passed (bytes_eq command (codes "gen")) (generation (seed_of seed) (draws_of count)) (Create blocks) e).1)
@@ -66,6 +69,7 @@ asks_nothing asked disk none = record {
   usage = λ e. (refl, counts_none disk);
   creates = λ blocks some. absurd (never asked (Create blocks) none some);
   runs = λ some. absurd (never asked Run none some);
+  checks = λ some. absurd (never asked Check none some);
   generates = λ seed count some. absurd (never asked (Gen seed count) none some);
 }
   where
@@ -77,11 +81,15 @@ asks_create asked blocks old new result some creates = record {
   usage = λ none. absurd (never none);
   creates = λ other also. subst (λ (n : ℕ). Creates n old new result) (same other also) creates;
   runs = λ run. absurd (other run);
+  checks = λ check. absurd (third check);
   generates = λ seed count gen. absurd (another seed count gen);
 }
   where
     other : asked ≡ Some Run → ⊥
     other run = cc
+
+    third : asked ≡ Some Check → ⊥
+    third check = cc
 
     another : (seed count : ℕ) → asked ≡ Some (Gen seed count) → ⊥
     another seed count gen = cc
@@ -97,9 +105,13 @@ asks_run asked old new result some ran = record {
   usage = λ none. absurd (never none);
   creates = λ blocks also. absurd (other blocks also);
   runs = λ run. ran;
+  checks = λ check. absurd (third check);
   generates = λ seed count gen. absurd (another seed count gen);
 }
   where
+    third : asked ≡ Some Check → ⊥
+    third check = cc
+
     never : asked ≡ None → ⊥
     never none = cc
 
@@ -109,11 +121,33 @@ asks_run asked old new result some ran = record {
     another : (seed count : ℕ) → asked ≡ Some (Gen seed count) → ⊥
     another seed count gen = cc
 
+pub asks_check : (asked : Option Order) (old new : Shown) (result : Result Unit Fault) → asked ≡ Some Check → IsChecked old new result → Runs asked old new result
+asks_check asked old new result some checked = record {
+  usage = λ none. absurd (never none);
+  creates = λ blocks also. absurd (other blocks also);
+  runs = λ run. absurd (third run);
+  checks = λ check. checked;
+  generates = λ seed count gen. absurd (another seed count gen);
+}
+  where
+    never : asked ≡ None → ⊥
+    never none = cc
+
+    other : (blocks : ℕ) → asked ≡ Some (Create blocks) → ⊥
+    other blocks also = cc
+
+    third : asked ≡ Some Run → ⊥
+    third run = cc
+
+    another : (seed count : ℕ) → asked ≡ Some (Gen seed count) → ⊥
+    another seed count gen = cc
+
 pub asks_gen : (asked : Option Order) (seed count : ℕ) (old new : Shown) (result : Result Unit Fault) → asked ≡ Some (Gen seed count) → Generates (lines_drawn seed count) old new result → Runs asked old new result
 asks_gen asked seed count old new result some holds = record {
   usage = λ none. absurd (never none);
   creates = λ blocks also. absurd (other blocks also);
   runs = λ run. absurd (another run);
+  checks = λ check. absurd (third check);
   generates = λ x y also. subst (λ (n : ℕ). Generates (lines_drawn x n) old new result) (same_count x y also) (subst (λ (n : ℕ). Generates (lines_drawn n count) old new result) (same_seed x y also) holds);
 }
   where
@@ -125,6 +159,9 @@ asks_gen asked seed count old new result some holds = record {
 
     another : asked ≡ Some Run → ⊥
     another run = cc
+
+    third : asked ≡ Some Check → ⊥
+    third check = cc
 
     same_seed : (x y : ℕ) → asked ≡ Some (Gen x y) → seed ≡ x
     same_seed x y also = cc

@@ -1,11 +1,10 @@
 -- A run of a script that was drawn, from its beginning: its session was opened, or it wasn't.
-use Rattle.std.proofs.Common.{◌≡◌, ◌⊎◌, inl, inr, ⊎_elim, ℕ, ◌<◌, ◌++◌, List, length, take, sym, ap, subst, refl, ◌∙◌, arith, append-nil}
+use Rattle.std.proofs.Common.{◌≡◌, ◌⊎◌, inl, inr, ⊎_elim, ℕ, ◌++◌, List, take, sym, ap, subst, refl, ◌∙◌, arith, append-nil}
 use Rattle.std.specs.Prelude.{Some, None, Result, Ok, Err, IsTrue, IfErr, OnOk}
 use Rattle.fv_disk.specs.Shown.{Ends, Image, Shown, IsDisk, IsSettled, Rose}
 use Rattle.fv_disk.specs.Crash.{Leaves}
 use Rattle.fv_disk.proofs.Moments.{goes_on, started, then, weaken}
 use Rattle.fv_disk.proofs.Resting.{settled_image}
-use Rattle.fv_model.specs.declared.commands.Command.{Command}
 use Rattle.fv_model.specs.Machines.{Machine}
 use Rattle.fv_model.specs.Runs.{Line}
 use Rattle.fv_image.specs.WholeMachine.{machine_of}
@@ -20,10 +19,10 @@ use Rattle.fv_aggregate.specs.Causes.{HasOpenCause, IsOpenFault, IsUnwritten}
 use Rattle.fv_aggregate.specs.Opening.{IsOpened}
 use Rattle.fv_aggregate.specs.Standing.{StandsFor, StandsReady}
 use Rattle.fv_run.specs.declared.ending.Fault.{Fault}
-use Rattle.fv_run.specs.declared.ending.Fault.TheVariants.{Usage, NotAggregate, Source, Sink, Disk, Memory, Damaged, Limit}
+use Rattle.fv_run.specs.declared.ending.Fault.TheVariants.{Usage, Unsound, NotAggregate, Source, Sink, Disk, Memory, Damaged, Limit}
 use Rattle.fv_run.specs.Answering.{BeginsFor}
 use Rattle.fv_run.specs.Endings.{count_of, IsWholeFault, of_opening, raised_by}
-use Rattle.fv_run.specs.Generating.{GaveNone, GaveUpTo, Generates, HasGenerated, HasReasonFor, IsAtRestAfter, Outlasts, OutlastsFrom, lines_said, summary_of}
+use Rattle.fv_run.specs.Generating.{GaveNone, GaveUpTo, Generates, HasGenerated, HasReasonFor, Outlasts, OutlastsFrom, summary_of}
 use Rattle.fv_run.specs.Running.{IsUnopened}
 use Rattle.fv_run.proofs.Sessions.{not_damaged, not_opened}
 use Rattle.fv_run.proofs.Summed.{GeneratesOpen, IsLateFault}
@@ -56,7 +55,7 @@ module _ (lines : List Line) (old mid : Shown) (laws : IsDisk old) (unwritten : 
   -- ---- it wasn't opened
 
   module _ (rest : IsTrue old.tells → ¬ Rose old.write_faults mid.write_faults → IsSettled mid) where
-    unopened : (fault : Fault) → Counts old mid (count_of fault) → HasReasonFor old mid fault → (IsTrue old.tells → (m : Machine) → machine_of old.reads ≡ Some m → IsWholeFault fault) → (IsTrue old.tells → IsNoAggregate old.reads → IsUnopened (Err fault))
+    unopened : (fault : Fault) → Counts old mid (count_of fault) → HasReasonFor lines old mid fault → (IsTrue old.tells → (m : Machine) → machine_of old.reads ≡ Some m → IsWholeFault fault) → (IsTrue old.tells → IsNoAggregate old.reads → IsUnopened (Err fault))
         → ((line : List ℕ) → GaveUpTo line old mid fault) → GaveNone old mid fault → Generates lines old mid (Err fault)
     unopened fault counts reason no_damage how given silent = record {
       done = λ tells m is. tt;
@@ -117,6 +116,7 @@ module _ (lines : List Line) (old mid : Shown) (laws : IsDisk old) (unwritten : 
 
     gave_since : (line : List ℕ) (fault : Fault) → GaveUpTo line mid new fault → GaveUpTo line old new fault
     gave_since line Usage is = is ∙ unwritten.kept.given
+    gave_since line Unsound is = is ∙ unwritten.kept.given
     gave_since line NotAggregate is = is ∙ unwritten.kept.given
     gave_since line Source is = is ∙ unwritten.kept.given
     gave_since line Sink is = (is.0, is.1, since_given (take is.0 line) is.2)
@@ -131,6 +131,7 @@ module _ (lines : List Line) (old mid : Shown) (laws : IsDisk old) (unwritten : 
 
     silent_by : (fault : Fault) → GaveNone mid new fault → GaveNone old new fault
     silent_by Usage is = is ∙ unwritten.kept.given
+    silent_by Unsound is = is ∙ unwritten.kept.given
     silent_by NotAggregate is = is ∙ unwritten.kept.given
     silent_by Source is = is ∙ unwritten.kept.given
     silent_by Sink is = tt
@@ -143,17 +144,18 @@ module _ (lines : List Line) (old mid : Shown) (laws : IsDisk old) (unwritten : 
     silent_since (Ok done) is = tt
     silent_since (Err fault) is = silent_by fault is
 
-    reason_by : (fault : Fault) → IsLateFault fault → HasReasonFor old new fault
+    reason_by : (fault : Fault) → IsLateFault lines session new fault → HasReasonFor lines old new fault
     reason_by Usage is = is
+    reason_by Unsound is = is
     reason_by NotAggregate is = absurd is
     reason_by Source is = is
     reason_by Sink is = tt
     reason_by Disk is = tt
     reason_by Memory is = tt
-    reason_by Damaged is = λ tells. inr (session, loaded tells)
+    reason_by Damaged is = λ tells. inr (record { first = session; opened = loaded tells; meets = is })
     reason_by Limit is = is
 
-    reason_since : (result : Result Unit Fault) → IfErr result IsLateFault → IfErr result (HasReasonFor old new)
+    reason_since : (result : Result Unit Fault) → IfErr result (IsLateFault lines session new) → IfErr result (HasReasonFor lines old new)
     reason_since (Ok done) is = tt
     reason_since (Err fault) is = reason_by fault is
 

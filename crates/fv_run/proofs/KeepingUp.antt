@@ -11,7 +11,7 @@ use Rattle.fv_lines.specs.Held.{Held}
 use Rattle.fv_lines.specs.Reading.{to_come, unread, Finds, KnowsEnd}
 use Rattle.fv_lines.proofs.Ends.{whole_append}
 use Rattle.fv_run.specs.declared.ending.Fault.{Fault}
-use Rattle.fv_run.specs.declared.ending.Fault.TheVariants.{Usage, NotAggregate, Source, Sink, Disk, Memory, Damaged, Limit}
+use Rattle.fv_run.specs.declared.ending.Fault.TheVariants.{Source, Limit}
 use Rattle.fv_run.specs.Running.{begun, KeepsUp}
 use Rattle.fv_run.specs.Answering.{HasRead}
 use Rattle.fv_run.proofs.Surviving.{begun_least}

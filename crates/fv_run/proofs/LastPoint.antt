@@ -1,5 +1,5 @@
 -- All lines are answered; then come the last consistency point and the line of `done`.
-use Rattle.std.proofs.Common.{◌≡◌, ◌⊎◌, inl, inr, ⊎_elim, ℕ, ◌+◌, ◌<◌, ◌≤◌, ◌++◌, true, List, [], length, map, take, drop, sym, ap, subst, ◌∙◌, arith, append_assoc, append-nil}
+use Rattle.std.proofs.Common.{◌≡◌, ◌⊎◌, inl, inr, ⊎_elim, ℕ, ◌+◌, ◌≤◌, ◌++◌, List, [], length, map, take, drop, sym, ap, subst, ◌∙◌, arith, append_assoc, append-nil}
 use Rattle.std.specs.Prelude.{flat_map, Some, None, Result, Ok, Err, IsNone, IsTrue}
 use Rattle.std.proofs.lemmas.List.{length-drop}
 use Rattle.fv_disk.specs.Shown.{Ends, Image, Shown, Rose}
@@ -24,22 +24,19 @@ use Rattle.fv_aggregate.specs.declared.session.Session.{Session}
 use Rattle.fv_aggregate.specs.Calls.{Goes, GoesFor}
 use Rattle.fv_aggregate.specs.Calls as calls
 use Rattle.fv_aggregate.specs.Causes.{KeepsEnds}
-use Rattle.fv_aggregate.specs.Commands.{room_by}
-use Rattle.fv_aggregate.specs.Reading.{IsAsRead}
 use Rattle.fv_aggregate.specs.Standing.{OneOf, StandsFor}
 use Rattle.fv_run.specs.declared.ending.Fault.{Fault}
 use Rattle.fv_run.specs.declared.ending.Fault.TheVariants.{Disk, Memory, Damaged}
 use Rattle.fv_run.specs.Built.{built, lines_built}
 use Rattle.fv_run.specs.Endings.{count_of, IsWholeFault, of_session}
-use Rattle.fv_run.specs.Promises.{line_at}
-use Rattle.fv_run.specs.Running.{HasChanged, IsAtRest, IsOverLimit, KeepsUp, MeetsDamage, most_rooms, only_asks, room_in, rooms_along, Survives, IsQuiet}
+use Rattle.fv_run.specs.Running.{HasChanged, IsAtRest, IsHurtBehind, IsOverLimit, KeepsUp, MeetsDamage, most_rooms, rooms_along, Survives, IsQuiet}
 use Rattle.fv_run.specs.Answering.{AsksFor, HasAnswered, IsAtEnd, IsEndOf, IsHurtBy, LacksSpace, IsLine, TellsLine, BeginsFor}
 use Rattle.fv_run.proofs.Acked.{acked_all, acked_whole, up_to_take}
 use Rattle.fv_run.proofs.Following.{follows_part, follows_whole, full}
 use Rattle.fv_run.proofs.KeepingUp.{keeps_up_between, none_before}
 use Rattle.fv_run.proofs.Limits.{all_read, same_behind}
 use Rattle.fv_run.proofs.Lines.{no_end, one_end}
-use Rattle.fv_run.proofs.Sessions.{hurt_by, hurt_more, images_stand, lacks, never_failed, reads_stand, rests_standing_for}
+use Rattle.fv_run.proofs.Sessions.{hurt_by, hurt_last, images_stand, lacks, never_failed, reads_stand, rests_standing_for}
 use Rattle.fv_run.proofs.Surviving.{after_some, after_all, asked_for, part_of_one, rested}
 use Rattle.fv_run.proofs.Answered.{survives, followed}
 use Rattle.fv_run.proofs.Ran.{RanOpen}
@@ -276,11 +273,7 @@ module _ (limit : ℕ) (session : Session) (mid : Shown) (last : Session) (end :
       record {
         output = read.output;
         given = keeps.given ∙ read.given;
-        session = last;
-        opened = subst (λ (n : ℕ). ((j : ℕ) → j < n → only_asks (line_at (lines_built mid.ends.left) j) ≡ true) → IsAsRead session last) (sym read.answered) (at_end.stands.opened tells);
-        left = hurt.0;
-        stands = hurt.1.0;
-        hurt = hurt_more 0 (room_in (room_by last.volumes) (line_at (lines_built mid.ends.left) (whole read.output))) (omega arith) last point hurt.0 hurt.1.1;
+        call = subst (λ (n : ℕ). IsHurtBehind (lines_built mid.ends.left) n session point) (sym read.answered) (hurt_last (lines_built mid.ends.left) count session last point (at_end.stands.opened tells) hurt);
       }
 
   -- a point that lacks blocks lacks them in the image, or for files that a line changed

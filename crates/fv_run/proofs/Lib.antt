@@ -5,7 +5,9 @@ mod Answered
 mod Applied
 mod Applying
 mod Asked
+mod Checked
 mod Created
+mod Digits
 mod Drawn
 mod EndPoint
 mod Following

@@ -1,11 +1,11 @@
 -- What lists of words mean, by their length.
-use Rattle.std.proofs.Common.{◌≡◌, ℕ, ◌<◌, ◌≤◌, cond, List, [], ◌∷◌, length, get_or, map, refl, arith}
+use Rattle.std.proofs.Common.{◌≡◌, ℕ, ◌<◌, ◌≤◌, cond, List, [], ◌∷◌, length, get_or, map, refl, sym, ◌∙◌, arith}
 use Rattle.std.specs.Prelude.{codes, bytes_eq, Option, Some, None}
 use Rattle.std.specs.Option.{option_map, ok_or}
 use Rattle.fv_script.specs.CommandLine.{blocks_of, draws_of, seed_of}
 use Rattle.fv_run.specs.Meaning.{create, generation, meaning, Means}
 use Rattle.fv_run.specs.declared.words.Order.{Order}
-use Rattle.fv_run.specs.declared.words.Order.TheVariants.{Run}
+use Rattle.fv_run.specs.declared.words.Order.TheVariants.{Check, Run}
 use Rattle.fv_run.specs.declared.words.WordsFault.TheVariants.{Usage}
 
 module _ {X : Type 0} (text : X → List ℕ) where
@@ -15,11 +15,15 @@ module _ {X : Type 0} (text : X → List ℕ) where
   none (a ∷ more) below = absurd (omega arith)
 
   pub one : (words : List X) (command : X) → 1 ≤ length words → length words < 2 → command ≡ get_or words 0 command
-      → meaning (map text words) ≡ cond (bytes_eq (text command) (codes "run")) (Some Run) None
+      → meaning (map text words) ≡ cond (bytes_eq (text command) (codes "run")) (Some Run) (cond (bytes_eq (text command) (codes "check")) (Some Check) None)
   unfolding meaning
   one [] command least below first = absurd (omega arith)
   one (a ∷ []) command least below first = rw first refl
   one (a ∷ b ∷ more) command least below first = absurd (omega arith)
+
+  pub same_first : (words : List X) (first again : X) → 1 ≤ length words → first ≡ get_or words 0 first → again ≡ get_or words 0 again → first ≡ again
+  same_first [] first again least is also = absurd (omega arith)
+  same_first (a ∷ more) first again least is also = is ∙ sym also
 
   pub many : (words : List X) → 4 ≤ length words → meaning (map text words) ≡ None
   unfolding meaning

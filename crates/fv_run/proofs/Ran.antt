@@ -18,7 +18,7 @@ use Rattle.fv_aggregate.specs.Opening.{IsOpened}
 use Rattle.fv_aggregate.specs.Causes.{IsUnwritten}
 use Rattle.fv_aggregate.specs.Standing.{IsWithoutFiles, StandsFor, StandsReady}
 use Rattle.fv_run.specs.declared.ending.Fault.{Fault}
-use Rattle.fv_run.specs.declared.ending.Fault.TheVariants.{Usage, NotAggregate, Source, Sink, Disk, Memory, Damaged, Limit}
+use Rattle.fv_run.specs.declared.ending.Fault.TheVariants.{Usage, Unsound, NotAggregate, Source, Sink, Disk, Memory, Damaged, Limit}
 use Rattle.fv_run.specs.Built.{lines_built}
 use Rattle.fv_run.specs.Endings.{IsWholeFault, raised_by}
 use Rattle.fv_run.specs.Promises.{line_at}
@@ -148,15 +148,12 @@ module _ (limit : ℕ) (session : Session) (old mid new : Shown) (laws : IsDisk 
   meets_since is = subst (λ (l : List ℕ). MeetsDamage (lines_built l) session old new) same_left (record {
     output = is.output;
     given = since_given is.output is.given;
-    session = is.session;
-    opened = is.opened;
-    left = is.left;
-    stands = is.stands;
-    hurt = is.hurt;
+    call = is.call;
   })
 
   reason_since : (fault : Fault) → IsEndOf limit session mid new fault → HasReason limit old new fault
   reason_since Usage is = is
+  reason_since Unsound is = is
   reason_since NotAggregate is = absurd is
   reason_since Source is = tt
   reason_since Sink is = tt

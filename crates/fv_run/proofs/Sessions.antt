@@ -1,6 +1,6 @@
 -- What a session on a disk stands for, and that it goes on doing so while the disk rests.
 use Rattle.std.proofs.Common.{◌≡◌, ◌<◌, ◌≤◌, inl, inr, ⊎_elim, ℕ, suc, zero, true, false, refl, sym, ap, subst, ◌∙◌, arith}
-use Rattle.std.specs.Prelude.{Some, None, Option, Result, Ok, Err, IsNone, IsOk, IsErr, IsTrue}
+use Rattle.std.specs.Prelude.{List, Some, None, Option, Result, Ok, Err, IsNone, IsOk, IsErr, IsTrue}
 use Rattle.fv_disk.specs.Shown.{Image, Shown}
 use Rattle.fv_disk.specs.DiskCalls.{Stays}
 use Rattle.fv_disk.specs.HostCalls.{Rests}
@@ -9,6 +9,7 @@ use Rattle.fv_codec.specs.declared.superblock.Super.{Super}
 use Rattle.fv_codec.specs.declared.root.Root.{Root}
 use Rattle.fv_codec.specs.Blocks.{super_at, gate_open}
 use Rattle.fv_model.specs.Machines.{Machine}
+use Rattle.fv_model.specs.Runs.{Line}
 use Rattle.fv_image.specs.Layout.{superblock, gate_place}
 use Rattle.fv_image.specs.NewerRoot.{behind, newer, taken_of, root_of}
 use Rattle.fv_image.specs.Held.{Layout, layout_at}
@@ -24,12 +25,15 @@ use Rattle.fv_aggregate.specs.declared.fault.Fault.TheVariants as session_fault
 use Rattle.fv_aggregate.specs.Standing.{taken_since, StandsAfter, StandsFor, StandsReady}
 use Rattle.fv_aggregate.specs.Asking.{AsksWithin, IsShort}
 use Rattle.fv_aggregate.specs.Calls.{LacksBlocks, HasFilesToPlace}
+use Rattle.fv_aggregate.specs.Commands.{room_by}
 use Rattle.fv_aggregate.specs.Damages.{HasDamage}
+use Rattle.fv_aggregate.specs.Reading.{IsAsRead}
 use Rattle.fv_aggregate.specs.Calls as calls
 use Rattle.fv_aggregate.specs.Causes.{IsOpenFault, IsUnder}
 use Rattle.fv_aggregate.proofs.Clear.{none_taken}
-use Rattle.fv_run.specs.Running.{IsHurt}
-use Rattle.fv_run.specs.Answering.{LacksSpace}
+use Rattle.fv_run.specs.Promises.{line_at}
+use Rattle.fv_run.specs.Running.{IsHurt, IsHurtBehind, only_asks, room_in}
+use Rattle.fv_run.specs.Answering.{IsHurtBy, LacksSpace}
 
 abbrev nothing_behind : Option (Result Root Shape)
 nothing_behind = None
@@ -92,7 +96,7 @@ never_failed (Some x) faults none some = differ none
 
 -- ---- images that are no aggregate
 
-no_root : (i : Image) → IsNoAggregate i → root_of i ≡ None
+pub no_root : (i : Image) → IsNoAggregate i → root_of i ≡ None
 unfolding root_of
 no_root i none = ⊎_elim
     (λ bad. no_super (super_at (i superblock)) (newer (behind i 0) (behind i 1)) bad)
@@ -168,6 +172,32 @@ hurt_more least room le session new left is = record {
   found = is.found;
   damage = ⊎_elim (λ unwritten. inl unwritten) (λ behind. inr ((let past = behind.0 in omega (arith, past, le)), behind.1)) is.damage;
 }
+
+-- the call at work for the line behind `count` others
+pub hurt_behind : (lines : List Line) (count : ℕ) (line : Line) (first session : Session) (end : Shown) → line_at lines count ≡ line
+    → (((j : ℕ) → j < count → only_asks (line_at lines j) ≡ true) → IsAsRead first session) → IsHurtBy (room_in (room_by session.volumes) line) session end → IsHurtBehind lines count first end
+hurt_behind lines count line first session end same opened hurt = record {
+  session = session;
+  opened = opened;
+  left = hurt.0;
+  stands = hurt.1.0;
+  hurt = subst (λ (l : Line). IsHurt (room_in (room_by session.volumes) l) session end hurt.0) (sym same) hurt.1.1;
+}
+
+-- the point behind so many
+pub hurt_last : (lines : List Line) (count : ℕ) (first session : Session) (end : Shown)
+    → (((j : ℕ) → j < count → only_asks (line_at lines j) ≡ true) → IsAsRead first session) → IsHurtBy 0 session end → IsHurtBehind lines count first end
+hurt_last lines count first session end opened hurt = record {
+  session = session;
+  opened = opened;
+  left = hurt.0;
+  stands = hurt.1.0;
+  hurt = hurt_more 0 (room_in (room_by session.volumes) (line_at lines count)) (omega arith) session end hurt.0 hurt.1.1;
+}
+
+-- a session of which nothing was read
+pub as_read_itself : (session : Session) → IsAsRead session session
+as_read_itself session = record { pool = record { map = refl; containers = refl; kept = refl; found = refl }; volumes = λ s. refl; same = refl }
 
 -- ---- points that lack blocks
 

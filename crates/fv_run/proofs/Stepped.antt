@@ -22,15 +22,14 @@ use Rattle.fv_lines.proofs.Ends.{whole_append}
 use Rattle.fv_aggregate.specs.declared.session.Session.{Session}
 use Rattle.fv_aggregate.specs.Asking.{AsksWithin}
 use Rattle.fv_aggregate.specs.Commands.{most_room, room_by}
-use Rattle.fv_aggregate.specs.Reading.{IsAsRead}
 use Rattle.fv_aggregate.proofs.Damages.{as_read_then}
 use Rattle.fv_aggregate.specs.Standing.{IsWithoutFiles}
 use Rattle.fv_run.specs.declared.ending.Fault.{Fault}
-use Rattle.fv_run.specs.declared.ending.Fault.TheVariants.{Usage, NotAggregate, Source, Sink, Disk, Memory, Damaged, Limit}
+use Rattle.fv_run.specs.declared.ending.Fault.TheVariants.{Usage, Unsound, NotAggregate, Source, Sink, Disk, Memory, Damaged, Limit}
 use Rattle.fv_run.specs.Built.{built, lines_built}
 use Rattle.fv_run.specs.Endings.{count_of, IsWholeFault}
 use Rattle.fv_run.specs.Promises.{line_at}
-use Rattle.fv_run.specs.Running.{begun, changes_volumes, HasChanged, Holds, IsOverLimit, IsHurt, IsPastLimit, IsSessionDamage, KeepsUp, MeetsDamage, most_rooms, only_asks, reads_blocks, room_in, rooms_along, Survives, asks_point, pending_behind, IsQuiet}
+use Rattle.fv_run.specs.Running.{begun, changes_volumes, HasChanged, Holds, IsOverLimit, IsHurtBehind, IsPastLimit, IsSessionDamage, KeepsUp, MeetsDamage, most_rooms, only_asks, reads_blocks, room_in, rooms_along, Survives, asks_point, pending_behind, IsQuiet}
 use Rattle.fv_run.specs.Answering.{Applies, AsksFor, BeginsFor, HasAnswered, HasRead, IsAtEnd, IsCounted, IsEndOf, IsHurtBy, LacksSpace, IsReady, IsSessionFault, StandsAt, Stopped, TellsLine}
 use Rattle.fv_run.proofs.Following.{left_next, line_behind}
 use Rattle.fv_run.proofs.KeepingUp.{keeps_up_source, keeps_up_limit, keeps_up_line, next_most, next_all, end_most, knows_on}
@@ -38,7 +37,7 @@ use Rattle.fv_run.proofs.Lines.{no_end, one_end}
 use Rattle.fv_run.proofs.Limits.{all_read, ends_before, ends_all, past_limit, same_behind, none_behind, to_come_most}
 use Rattle.fv_run.proofs.Counted.{bound_for, bound_most, calm_next, counted_next, counted_none, counted_still, quiet_next, quiet_still}
 use Rattle.fv_run.proofs.Rooms.{first_in, later_in, greater_room, room_of_line}
-use Rattle.fv_run.proofs.Sessions.{rests_asking, rests_standing}
+use Rattle.fv_run.proofs.Sessions.{as_read_itself, hurt_behind, rests_asking, rests_standing}
 use Rattle.fv_run.proofs.Answered.{none_answered, followed, rested_here, asked, crash_asked, left_as, crash_applied, rested_unapplied, crash_told, followed_part, rested_part, answered_one}
 
 -- before the first line
@@ -51,7 +50,7 @@ starts limit first old laws ready = record {
   reads = λ tells. record { output = []; given = sym (append-nil old.given); answered = refl; read = []; front = refl; room = omega arith; ended = inl refl; most = omega arith; all = λ going. refl; piece = omega arith; knows = λ ended. absurd (true≢false (sym ended)) };
   lines = λ tells line is. is;
   behind = λ tells. refl;
-  opened = λ tells only. record { pool = record { map = refl; containers = refl; kept = refl; found = refl }; volumes = λ s. refl; same = refl };
+  opened = λ tells only. as_read_itself first;
   counted = λ tells none. counted_none most_rooms (lines_built old.ends.left) old first none;
   asks = λ tells asks none. inl (record { none = none; room = 0; line = inl refl; asks = asks });
   answers = λ tells m stands. none_answered m (lines_built old.ends.left) old first laws stands;
@@ -307,16 +306,12 @@ module _ (limit : ℕ) (first : Session) (old : Shown) (held : Held) (session : 
           record {
             output = read.output;
             given = same ∙ finds.asks.given ∙ read.given;
-            session = session;
-            opened = subst (λ (n : ℕ). ((j : ℕ) → j < n → only_asks (line_at script j) ≡ true) → IsAsRead first session) (sym read.answered) (so_far.opened tells);
-            left = hurt.0;
-            stands = hurt.1.0;
-            hurt = subst (λ (n : ℕ). IsHurt (room_in (room_by session.volumes) (line_at script n)) session end hurt.0) (sym read.answered)
-                (subst (λ (l : Line). IsHurt (room_in (room_by session.volumes) l) session end hurt.0) (sym (line_is tells)) hurt.1.1);
+            call = subst (λ (n : ℕ). IsHurtBehind script n first end) (sym read.answered) (hurt_behind script count (built (line_of bytes)) first session end (line_is tells) (so_far.opened tells) hurt);
           }
 
       ends_so : end.given ≡ mid.given → (fault : Fault) → IsSessionFault (built (line_of bytes)) mid session end fault → IsEndOf limit first old end fault
       ends_so same Usage is = is
+      ends_so same Unsound is = is
       ends_so same NotAggregate is = is
       ends_so same Source is = absurd is
       ends_so same Sink is = absurd is
@@ -339,6 +334,7 @@ module _ (limit : ℕ) (first : Session) (old : Shown) (held : Held) (session : 
       -- a fault of a session's call comes in a line
       in_line : (fault : Fault) → IsSessionFault (built (line_of bytes)) mid session end fault → (output : List ℕ) → begun (Err fault) output ≡ whole output + 1
       in_line Usage is output = refl
+      in_line Unsound is output = refl
       in_line NotAggregate is output = refl
       in_line Source is output = absurd is
       in_line Sink is output = refl

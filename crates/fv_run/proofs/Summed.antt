@@ -1,5 +1,5 @@
 -- All lines of a script are applied; then come the last consistency point and the line that tells of them.
-use Rattle.std.proofs.Common.{◌≡◌, ◌⊎◌, ⊎_elim, ℕ, ◌+◌, ◌-◌, ◌<◌, ◌≤◌, ◌++◌, List, [], length, take, refl, sym, ap, subst, ◌∙◌, arith, append-nil}
+use Rattle.std.proofs.Common.{◌≡◌, ◌⊎◌, ⊎_elim, ℕ, ◌-◌, ◌<◌, ◌++◌, List, [], length, take, refl, sym, ap, subst, ◌∙◌, arith, append-nil}
 use Rattle.std.specs.Prelude.{Some, None, Result, Ok, Err, IsNone, IsTrue, IfErr, OnOk}
 use Rattle.std.proofs.lemmas.List.{take_all}
 use Rattle.fv_disk.specs.Shown.{Ends, Image, Shown, Rose}
@@ -20,20 +20,20 @@ use Rattle.fv_aggregate.specs.Calls.{Goes, GoesFor}
 use Rattle.fv_aggregate.specs.Causes.{KeepsEnds}
 use Rattle.fv_aggregate.specs.Standing.{OneOf, StandsFor, charged_in}
 use Rattle.fv_run.specs.declared.ending.Fault.{Fault}
-use Rattle.fv_run.specs.declared.ending.Fault.TheVariants.{Usage, NotAggregate, Source, Sink, Disk, Memory, Damaged, Limit}
+use Rattle.fv_run.specs.declared.ending.Fault.TheVariants.{Usage, Unsound, NotAggregate, Source, Sink, Disk, Memory, Damaged, Limit}
 use Rattle.fv_run.specs.declared.generating.Tally.{Tally}
 use Rattle.fv_run.specs.Answering.{BeginsFor, HasApplied}
 use Rattle.fv_run.specs.Endings.{count_of, IsWholeFault, of_session, raised_by}
-use Rattle.fv_run.specs.Generating.{accepted, AppliedAt, GaveNone, GaveUpTo, HasGenerated, IsAfterFirst, IsAtRestAfter, IsCallFault, Outlasts, Silent, summary_of, TellsSummary, WasCut}
-use Rattle.fv_run.proofs.Sessions.{images_stand, never_failed, reads_stand, rests_standing_for}
+use Rattle.fv_run.specs.Generating.{accepted, AppliedAt, GaveNone, GaveUpTo, HasGenerated, IsAfterFirst, IsAtRestAfter, IsCallFault, IsHurtWithin, Outlasts, Silent, summary_of, TellsSummary, WasCut}
+use Rattle.fv_run.proofs.Sessions.{hurt_by, hurt_last, images_stand, never_failed, reads_stand, rests_standing_for}
 
 -- a fault that a run may end with once its session is open
-abbrev pub IsLateFault : Fault → Type 0
-IsLateFault Sink = Unit {0}
-IsLateFault Disk = Unit {0}
-IsLateFault Memory = Unit {0}
-IsLateFault Damaged = Unit {0}
-IsLateFault fault = ⊥
+abbrev pub IsLateFault : List Line → Session → Shown → Fault → Type 0
+IsLateFault lines first new Sink = Unit {0}
+IsLateFault lines first new Disk = Unit {0}
+IsLateFault lines first new Memory = Unit {0}
+IsLateFault lines first new Damaged = IsHurtWithin lines first new
+IsLateFault lines first new fault = ⊥
 
 -- of a session that was opened at `mid`
 pub record GeneratesOpen (lines : List Line) (first : Session) (mid new : Shown) (result : Result Unit Fault) : Type 0 where
@@ -44,7 +44,7 @@ pub record GeneratesOpen (lines : List Line) (first : Session) (mid new : Shown)
   pub no_damage : IsTrue mid.tells → (m : Machine) → BeginsFor mid first m → IfErr result IsWholeFault
   pub silent : IfErr result (GaveNone mid new)
   pub counts : Counts mid new (raised_by result)
-  pub reason : IfErr result IsLateFault
+  pub reason : IfErr result (IsLateFault lines first new)
   pub left : new.ends.left ≡ mid.ends.left
 
 -- before a byte of the line is given
@@ -60,18 +60,20 @@ outlasts m lines before c g s = record {
 
 -- ---- a run that was cut
 
-gave_up : (line : List ℕ) (old new : Shown) (fault : Fault) → IsCallFault fault → new.given ≡ old.given → GaveUpTo line old new fault
-gave_up line old new Usage is same = same
-gave_up line old new NotAggregate is same = same
-gave_up line old new Source is same = same
-gave_up line old new Sink is same = absurd is
-gave_up line old new Disk is same = same
-gave_up line old new Memory is same = same
-gave_up line old new Damaged is same = same
-gave_up line old new Limit is same = same
+gave_up : (lines : List Line) (first : Session) (line : List ℕ) (old new : Shown) (fault : Fault) → IsCallFault lines first new fault → new.given ≡ old.given → GaveUpTo line old new fault
+gave_up lines first line old new Usage is same = same
+gave_up lines first line old new Unsound is same = same
+gave_up lines first line old new NotAggregate is same = same
+gave_up lines first line old new Source is same = same
+gave_up lines first line old new Sink is same = absurd is
+gave_up lines first line old new Disk is same = same
+gave_up lines first line old new Memory is same = same
+gave_up lines first line old new Damaged is same = same
+gave_up lines first line old new Limit is same = same
 
 gave_none : (old new : Shown) (fault : Fault) → new.given ≡ old.given → GaveNone old new fault
 gave_none old new Usage same = same
+gave_none old new Unsound same = same
 gave_none old new NotAggregate same = same
 gave_none old new Source same = same
 gave_none old new Sink same = tt
@@ -80,26 +82,27 @@ gave_none old new Memory same = same
 gave_none old new Damaged same = same
 gave_none old new Limit same = same
 
-late : (fault : Fault) → IsCallFault fault → IsLateFault fault
-late Usage is = is
-late NotAggregate is = is
-late Source is = is
-late Sink is = tt
-late Disk is = tt
-late Memory is = tt
-late Damaged is = tt
-late Limit is = is
+late : (lines : List Line) (first : Session) (new : Shown) (fault : Fault) → IsCallFault lines first new fault → IsLateFault lines first new fault
+late lines first new Usage is = is
+late lines first new Unsound is = is
+late lines first new NotAggregate is = is
+late lines first new Source is = is
+late lines first new Sink is = tt
+late lines first new Disk is = tt
+late lines first new Memory is = tt
+late lines first new Damaged is = is
+late lines first new Limit is = is
 
 pub cut_open : (lines : List Line) (first : Session) (mid new : Shown) (fault : Fault) → WasCut lines first mid new fault → GeneratesOpen lines first mid new (Err fault)
 cut_open lines first mid new fault cut = record {
   done = λ tells m begins. tt;
   crash = λ tells m begins. weaken mid new (Silent m lines mid.given) (Outlasts m lines mid.given) (outlasts m lines mid.given) (cut.crash tells m begins);
   at_rest = cut.at_rest;
-  given = λ tells m begins. gave_up (summary_of m lines) mid new fault cut.reason cut.given;
+  given = λ tells m begins. gave_up lines first (summary_of m lines) mid new fault cut.reason cut.given;
   no_damage = cut.no_damage;
   silent = gave_none mid new fault cut.given;
   counts = cut.counts;
-  reason = late fault cut.reason;
+  reason = late lines first new fault cut.reason;
   left = cut.left;
 }
 
@@ -130,7 +133,7 @@ module _ (lines : List Line) (first : Session) (mid : Shown) (session : Session)
 
     -- it wasn't made
     point_cut : (fault : Fault) → Counts end point (count_of fault) → (IsTrue end.tells → (before m : Machine) → StandsFor end session before m → ¬ Rose end.write_faults point.write_faults → StandsFor point next before m)
-        → (IsTrue mid.tells → (m : Machine) → BeginsFor mid first m → IsWholeFault fault) → IsCallFault fault → WasCut lines first mid point fault
+        → (IsTrue mid.tells → (m : Machine) → BeginsFor mid first m → IsWholeFault fault) → IsCallFault lines first point fault → WasCut lines first mid point fault
     point_cut fault counts still no_damage reason = record {
       crash = crash_point;
       at_rest = λ tells m begins calm.
@@ -230,7 +233,7 @@ module _ (lines : List Line) (first : Session) (mid : Shown) (session : Session)
         no_damage = λ tells m begins. subst IsWholeFault (sym told.sink) tt;
         silent = subst (λ (f : Fault). GaveNone mid new f) (sym told.sink) tt;
         counts = counts_then mid point new (count_of fault) point_counts (subst (λ (f : Fault). Counts point new (count_of f)) (sym told.sink) (counting.untold point new bytes (record {}) told.tells));
-        reason = subst IsLateFault (sym told.sink) tt;
+        reason = subst (λ (f : Fault). IsLateFault lines first new f) (sym told.sink) tt;
         left = left_told (Err fault) told;
       }
 
@@ -256,5 +259,10 @@ module _ (lines : List Line) (first : Session) (mid : Shown) (session : Session)
   point_failed next point (session_fault.Damaged at want found) goes goes_for kept = point_cut next point (λ tells before m stands. (goes_for tells before m stands).any_moment) goes.ends Damaged
       (record { tells = goes.ends.tells; source = ap (λ (e : Ends). e.source_faults) goes.ends.ends; sink = ap (λ (e : Ends). e.sink_faults) goes.ends.ends; disk = goes.fault.counts.faults })
       (λ tells before m stands calm. absurd (goes_for tells before m stands).whole)
-      (λ tells m begins. let a = s.applied tells m begins in absurd (goes_for (end_told tells) (after m lines a.point) (after m lines tally.lines) a.stands).whole) tt
+      (λ tells m begins. let a = s.applied tells m begins in absurd (goes_for (end_told tells) (after m lines a.point) (after m lines tally.lines) a.stands).whole)
+      (record {
+        count = tally.lines;
+        all = s.within;
+        call = hurt_last lines tally.lines first session point s.opened (next, (goes.stands goes.fault.session, hurt_by 0 end session point next at want found goes.fault.reason));
+      })
   point_failed next point (session_fault.Failed faults) goes goes_for kept = absurd (never_failed session.failed faults s.ready.unfailed goes.fault.reason)

@@ -9,7 +9,7 @@ use Rattle.fv_lines.proofs.Ends.{whole_append}
 use Rattle.fv_aggregate.specs.declared.session.Session.{Session}
 use Rattle.fv_aggregate.specs.Standing.{OneOf, StandsAfter, StandsFor}
 use Rattle.fv_run.specs.declared.ending.Fault.{Fault}
-use Rattle.fv_run.specs.declared.ending.Fault.TheVariants.{Usage, NotAggregate, Source, Sink, Disk, Memory, Damaged, Limit}
+use Rattle.fv_run.specs.declared.ending.Fault.TheVariants.{Usage, Unsound, NotAggregate, Source, Sink, Disk, Memory, Damaged, Limit}
 use Rattle.fv_run.specs.Running.{asks_behind, asks_point, begun, pending_behind, rooms_along, IsAfterSome, IsAskedFor, IsAtRest}
 use Rattle.fv_run.specs.Answering.{IsLastPoint, StandsOnward}
 use Rattle.fv_run.proofs.Acked.{acked_part, acked_all, up_to_here, up_to_take, up_to_next}
@@ -43,6 +43,7 @@ module _ (m : Machine) (lines : List Line) where
 pub begun_least : (result : Result Unit Fault) (output : List ℕ) → whole output ≤ begun result output
 begun_least (Ok done) output = omega arith
 begun_least (Err Usage) output = omega arith
+begun_least (Err Unsound) output = omega arith
 begun_least (Err NotAggregate) output = omega arith
 begun_least (Err Source) output = omega arith
 begun_least (Err Sink) output = omega arith

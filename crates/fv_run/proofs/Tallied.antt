@@ -14,20 +14,21 @@ use Rattle.fv_image.specs.WholeMachine.{machine_of}
 use Rattle.fv_lines.proofs.Counting.{counts_none, counts_then}
 use Rattle.fv_aggregate.specs.declared.session.Session.{Session}
 use Rattle.fv_aggregate.specs.Standing.{OneOf, StandsAfter}
+use Rattle.fv_aggregate.proofs.Damages.{as_read_then}
 use Rattle.fv_run.specs.declared.ending.Fault.{Fault}
-use Rattle.fv_run.specs.declared.ending.Fault.TheVariants.{Usage, NotAggregate, Source, Sink, Disk, Memory, Damaged, Limit}
+use Rattle.fv_run.specs.declared.ending.Fault.TheVariants.{Usage, Unsound, NotAggregate, Source, Sink, Disk, Memory, Damaged, Limit}
 use Rattle.fv_run.specs.declared.generating.Tally.{Tally}
 use Rattle.fv_run.specs.Answering.{Applies, BeginsFor, HasApplied, IsReady, IsSessionFault}
 use Rattle.fv_run.specs.Built.{built}
 use Rattle.fv_run.specs.Endings.{count_of}
 use Rattle.fv_run.specs.Generating.{accepted, AppliedAt, AppliesAll, is_accepted, IsAfterFirst, IsAtRestAfter, IsCallFault, lines_said, Silent, WasCut}
 use Rattle.fv_run.specs.Promises.{line_at}
-use Rattle.fv_run.specs.Running.{rooms_along}
+use Rattle.fv_run.specs.Running.{only_asks, rooms_along}
 use Rattle.fv_run.proofs.Accepted.{accepted_more, as_accepted}
 use Rattle.fv_run.proofs.Applying.{applied_one, none_applied}
 use Rattle.fv_run.proofs.Counted.{bound_for, calm_next, counted_next}
 use Rattle.fv_run.proofs.Following.{after_next, left_below, left_next, line_behind, taken_next}
-use Rattle.fv_run.proofs.Sessions.{images_stand, reads_stand}
+use Rattle.fv_run.proofs.Sessions.{as_read_itself, hurt_behind, images_stand, reads_stand}
 
 -- before the first line
 pub starts : (lines : List Line) (first : Session) (old : Shown) → IsDisk old → IsReady old first → AppliedAt lines lines first old first old 0 0
@@ -41,20 +42,11 @@ starts lines first old laws ready = record {
   writes = refl;
   given = refl;
   left = refl;
+  opened = λ only. as_read_itself first;
   applied = λ tells m begins. none_applied m lines old first begins;
   accepted = λ tells m begins. refl;
   crash = λ tells m begins. started old (Silent m lines old.given) laws (λ c now. (record { count = 0; all = omega arith; machine = images_stand old first m m begins.stands c now }, refl));
 }
-
-call_fault : (line : Line) (old : Shown) (session : Session) (new : Shown) (fault : Fault) → IsSessionFault line old session new fault → IsCallFault fault
-call_fault line old session new Usage is = is
-call_fault line old session new NotAggregate is = is
-call_fault line old session new Source is = is
-call_fault line old session new Sink is = is
-call_fault line old session new Disk is = tt
-call_fault line old session new Memory is = tt
-call_fault line old session new Damaged is = tt
-call_fault line old session new Limit is = is
 
 most_one : (b : Bool) → cond b 1 0 ≤ 1
 most_one true = omega arith
@@ -99,6 +91,18 @@ module _ (lines rest : List Line) (line : Line) (first : Session) (old : Shown) 
         stands.one;
   }
 
+  -- of the line at work
+  call_fault : (fault : Fault) → IsSessionFault line mid session end fault → IsCallFault lines first end fault
+  call_fault Usage is = is
+  call_fault Unsound is = is
+  call_fault NotAggregate is = is
+  call_fault Source is = is
+  call_fault Sink is = is
+  call_fault Disk is = tt
+  call_fault Memory is = tt
+  call_fault Damaged is = record { count = count; all = let lt = below in omega (arith, lt); call = hurt_behind lines count line first session end line_is so_far.opened is.0 }
+  call_fault Limit is = is
+
   -- the next line wasn't applied
   pub cut : (fault : Fault) → Applies session line mid next end (Err fault) → WasCut lines first old end fault
   cut fault applies = record {
@@ -106,7 +110,7 @@ module _ (lines rest : List Line) (line : Line) (first : Session) (old : Shown) 
     at_rest = λ tells m begins calm. let a = so_far.applied tells m begins in at_rest m a (applies.still (told tells) (after m lines a.point) (after m lines count) a.stands (calm_since calm));
     no_damage = λ tells m begins. let a = so_far.applied tells m begins in applies.no_damage (told tells) (after m lines a.point) (after m lines count) a.stands;
     counts = counts_then old mid end (count_of fault) so_far.counts applies.counts;
-    reason = call_fault line mid session end fault applies.ends;
+    reason = call_fault fault applies.ends;
     given = applies.given ∙ so_far.given;
     left = applies.left ∙ so_far.left;
   }
@@ -139,6 +143,7 @@ module _ (lines rest : List Line) (line : Line) (first : Session) (old : Shown) 
       writes = applies.writes ∙ so_far.writes;
       given = applies.given ∙ so_far.given;
       left = applies.left ∙ so_far.left;
+      opened = λ only. as_read_then first session next (so_far.opened (λ j low. only j (omega (arith, low)))) (applies.read (sym (ap only_asks line_is) ∙ only count (omega arith)));
       applied = applied_next;
       accepted = accepted_next;
       crash = crash_on (Ok reply) applies;

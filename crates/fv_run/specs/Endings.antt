@@ -2,14 +2,17 @@
 use Rattle.std.specs.Prelude.{◌≡◌, ℕ, Option, Some, None, Result, Ok, Err}
 use Rattle.fv_lines.specs.Counts.{Count}
 use Rattle.fv_lines.specs.Counts as count
+use Rattle.fv_first_pass.specs.declared.fault.CheckFault.{CheckFault}
+use Rattle.fv_first_pass.specs.declared.fault.CheckFault.TheVariants as checking
 use Rattle.fv_aggregate.specs.declared.fault.OpenFault.{OpenFault}
 use Rattle.fv_aggregate.specs.declared.fault.OpenFault.TheVariants as opening
 use Rattle.fv_aggregate.specs.declared.fault.Fault.{Fault as SessionFault}
 use Rattle.fv_aggregate.specs.declared.fault.Fault.TheVariants as session
 use Rattle.fv_run.specs.declared.ending.Fault.{Fault}
-use Rattle.fv_run.specs.declared.ending.Fault.TheVariants.{Usage, NotAggregate, Source, Sink, Disk, Memory, Damaged, Limit}
+use Rattle.fv_run.specs.declared.ending.Fault.TheVariants.{Usage, Unsound, NotAggregate, Source, Sink, Disk, Memory, Damaged, Limit}
 
 abbrev pub status_of : Fault → ℕ
+status_of Unsound = 1
 status_of NotAggregate = 2
 status_of Source = 3
 status_of Sink = 4
@@ -53,9 +56,15 @@ of_session (session.Failed faults) = Disk
 of_session (session.Damaged at want found) = Damaged
 of_session session.Memory = Memory
 
+abbrev pub of_check : CheckFault → Fault
+of_check checking.DiskFault = Disk
+of_check checking.NotAggregate = NotAggregate
+of_check checking.Memory = Memory
+
 -- a fault that may end a run over the image of a machine
 abbrev pub IsWholeFault : Fault → Type 0
 IsWholeFault NotAggregate = ⊥
 IsWholeFault Damaged = ⊥
 IsWholeFault Usage = ⊥
+IsWholeFault Unsound = ⊥
 IsWholeFault fault = Unit {0}

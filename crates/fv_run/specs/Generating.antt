@@ -19,13 +19,16 @@ use Rattle.fv_lines.specs.Counts.{Counts}
 use Rattle.fv_aggregate.specs.declared.fault.OpenFault.TheVariants as opening
 use Rattle.fv_aggregate.specs.declared.session.Session.{Session}
 use Rattle.fv_aggregate.specs.Causes.{IsOpenFault, IsUnwritten}
+use Rattle.fv_aggregate.specs.Opening.{IsOpened}
+use Rattle.fv_aggregate.specs.Reading.{IsAsRead}
 use Rattle.fv_aggregate.specs.Standing.{charged_in}
 use Rattle.fv_run.specs.declared.ending.Fault.{Fault}
-use Rattle.fv_run.specs.declared.ending.Fault.TheVariants.{Usage, NotAggregate, Source, Sink, Disk, Memory, Damaged, Limit}
+use Rattle.fv_run.specs.declared.ending.Fault.TheVariants.{Usage, Unsound, NotAggregate, Source, Sink, Disk, Memory, Damaged, Limit}
 use Rattle.fv_run.specs.declared.generating.Tally.{Tally}
 use Rattle.fv_run.specs.Built.{built}
 use Rattle.fv_run.specs.Endings.{EndsWith, IsWholeFault, count_of, raised_by}
-use Rattle.fv_run.specs.Running.{IsUnopened, Opens}
+use Rattle.fv_run.specs.Promises.{line_at}
+use Rattle.fv_run.specs.Running.{IsHurtBehind, IsUnopened, only_asks, Opens}
 use Rattle.fv_run.specs.Answering.{BeginsFor, HasApplied, IsReady}
 
 -- ---- lines
@@ -113,25 +116,38 @@ GaveNone old new fault = new.given ≡ old.given
 abbrev pub IsOpeningDamage : Shown → Shown → Type 0
 IsOpeningDamage old new = IsUnwritten old new × ((at want found : ℕ) × IsOpenFault old.reads (opening.Damaged at want found))
 
--- Why a run ended, with its status: 2, 4, 5, 6 or 8. A fault of the sink or the disk has its count, and want of memory has no cause. Where the image
--- opens, damage comes of a block of files that isn't as it has to be, or of a point that lacks blocks or numbers; that isn't said here.
-abbrev pub HasReasonFor : Shown → Shown → Fault → Type 0
+-- the call at work behind some first lines met damage
+pub record IsHurtWithin (lines : List Line) (first : Session) (end : Shown) : Type 0 where
+  pub count : ℕ
+  pub all : count ≤ length lines
+  pub call : IsHurtBehind lines count first end
+
+-- a session was opened, and then met damage
+pub record IsDamagedWithin (lines : List Line) (old end : Shown) : Type 0 where
+  pub first : Session
+  pub opened : IsOpened old.reads first
+  pub meets : IsHurtWithin lines first end
+
+-- Why a run ended, with its status: 2, 4, 5, 6 or 8. A fault of the sink or the disk has its count, and want of memory has no cause.
+abbrev pub HasReasonFor : List Line → Shown → Shown → Fault → Type 0
+-- 1
+HasReasonFor lines old new Unsound = ⊥
 -- 2
-HasReasonFor old new NotAggregate = IsUnwritten old new × (IsTrue old.tells → IsNoAggregate old.reads)
+HasReasonFor lines old new NotAggregate = IsUnwritten old new × (IsTrue old.tells → IsNoAggregate old.reads)
 -- 3
-HasReasonFor old new Source = ⊥
+HasReasonFor lines old new Source = ⊥
 -- 4
-HasReasonFor old new Sink = Unit {0}
+HasReasonFor lines old new Sink = Unit {0}
 -- 5
-HasReasonFor old new Disk = Unit {0}
+HasReasonFor lines old new Disk = Unit {0}
 -- 6
-HasReasonFor old new Memory = Unit {0}
+HasReasonFor lines old new Memory = Unit {0}
 -- 7
-HasReasonFor old new Usage = ⊥
+HasReasonFor lines old new Usage = ⊥
 -- 8
-HasReasonFor old new Damaged = IsTrue old.tells → IsOpeningDamage old new ⊎ Opens old.reads
+HasReasonFor lines old new Damaged = IsTrue old.tells → IsOpeningDamage old new ⊎ IsDamagedWithin lines old new
 -- 9
-HasReasonFor old new Limit = ⊥
+HasReasonFor lines old new Limit = ⊥
 
 -- Lines are run on the aggregate of a disk, and told of in one line.
 pub record Generates (lines : List Line) (old new : Shown) (result : Result Unit Fault) : Type 0 where
@@ -147,7 +163,7 @@ pub record Generates (lines : List Line) (old new : Shown) (result : Result Unit
   -- over any image
   pub silent : IfErr result (GaveNone old new)
   pub counts : Counts old new (raised_by result)
-  pub reason : IfErr result (HasReasonFor old new)
+  pub reason : IfErr result (HasReasonFor lines old new)
   pub unopened : IsTrue old.tells → IsNoAggregate old.reads → IsUnopened result
   pub opened : IsTrue old.tells → Opens old.reads ⊎ (IsErr result × IsUnwritten old new)
   -- nothing is asked of the source
@@ -159,12 +175,12 @@ IsGeneration seed count old new status = EndsWith (Generates (lines_drawn seed c
 
 -- ---- the loop over the lines
 
--- a fault that a call of a session ends with
-abbrev pub IsCallFault : Fault → Type 0
-IsCallFault Disk = Unit {0}
-IsCallFault Memory = Unit {0}
-IsCallFault Damaged = Unit {0}
-IsCallFault fault = ⊥
+-- a fault that a call of a session ends with, and what was damaged
+abbrev pub IsCallFault : List Line → Session → Shown → Fault → Type 0
+IsCallFault lines first new Disk = Unit {0}
+IsCallFault lines first new Memory = Unit {0}
+IsCallFault lines first new Damaged = IsHurtWithin lines first new
+IsCallFault lines first new fault = ⊥
 
 -- so many lines are applied on a session that began at `old`, and so many of them accepted; `rest` are the others
 pub record AppliedAt (lines rest : List Line) (first : Session) (old : Shown) (session : Session) (now : Shown) (count good : ℕ) : Type 0 where
@@ -176,6 +192,8 @@ pub record AppliedAt (lines rest : List Line) (first : Session) (old : Shown) (s
   pub writes : now.write_faults ≡ old.write_faults
   pub given : now.given ≡ old.given
   pub left : now.ends.left ≡ old.ends.left
+  -- until a line has done more than ask for files
+  pub opened : ((j : ℕ) → j < count → only_asks (line_at lines j) ≡ true) → IsAsRead first session
   pub applied : IsTrue old.tells → (m : Machine) → BeginsFor old first m → HasApplied m lines old session now count
   pub accepted : IsTrue old.tells → (m : Machine) → BeginsFor old first m → good ≡ accepted m (take count lines)
   pub crash : IsTrue old.tells → (m : Machine) → BeginsFor old first m → Leaves old now (Silent m lines old.given)
@@ -186,7 +204,7 @@ pub record WasCut (lines : List Line) (first : Session) (old new : Shown) (fault
   pub at_rest : IsTrue old.tells → (m : Machine) → BeginsFor old first m → ¬ Rose old.write_faults new.write_faults → IsAtRestAfter m lines new
   pub no_damage : IsTrue old.tells → (m : Machine) → BeginsFor old first m → IsWholeFault fault
   pub counts : Counts old new (count_of fault)
-  pub reason : IsCallFault fault
+  pub reason : IsCallFault lines first new fault
   pub given : new.given ≡ old.given
   pub left : new.ends.left ≡ old.ends.left
 

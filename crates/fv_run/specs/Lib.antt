@@ -1,5 +1,7 @@
 pub mod Answering
 pub mod Built
+pub mod CheckTexts
+pub mod Checking
 pub mod Creating
 pub mod Endings
 pub mod Generating

@@ -3,7 +3,7 @@ use Rattle.std.specs.Prelude.{◌≡◌, ℕ, List, [], ◌∷◌, codes, bytes_
 use Rattle.std.specs.Option.{option_map}
 use Rattle.fv_script.specs.CommandLine.{blocks_of, draws_of, seed_of}
 use Rattle.fv_run.specs.declared.words.Order.{Order}
-use Rattle.fv_run.specs.declared.words.Order.TheVariants.{Create, Gen, Run}
+use Rattle.fv_run.specs.declared.words.Order.TheVariants.{Check, Create, Gen, Run}
 use Rattle.fv_run.specs.declared.words.WordsFault.{WordsFault}
 
 abbrev pub create : ℕ → Order
@@ -14,11 +14,11 @@ abbrev pub generation : Option ℕ → Option ℕ → Option Order
 generation (Some seed) (Some count) = Some (Gen seed count)
 generation seed count = None
 
--- `run`; `create` and a number of blocks from 512 to 1,048,576; or `gen`, a seed below 2^64 and a number of commands of at most 1,000,000. Every
+-- `run`; `check`; `create` and a number of blocks from 512 to 1,048,576; or `gen`, a seed below 2^64 and a number of commands of at most 1,000,000. Every
 -- other list of words has no meaning.
 unfoldable pub meaning : List (List ℕ) → Option Order
 meaning [] = None
-meaning (command ∷ []) = if bytes_eq command (codes "run") then Some Run else None
+meaning (command ∷ []) = if bytes_eq command (codes "run") then Some Run else if bytes_eq command (codes "check") then Some Check else None
 meaning (command ∷ size ∷ []) = if bytes_eq command (codes "create") then option_map create (blocks_of size) else None
 meaning (command ∷ seed ∷ count ∷ []) = if bytes_eq command (codes "gen") then generation (seed_of seed) (draws_of count) else None
 meaning (command ∷ first ∷ second ∷ other ∷ others) = None

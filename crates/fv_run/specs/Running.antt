@@ -20,7 +20,7 @@ use Rattle.fv_aggregate.specs.Reading.{IsAsRead}
 use Rattle.fv_aggregate.specs.Reclaiming.{HasPointed}
 use Rattle.fv_aggregate.specs.Standing.{StandsFor, StandsReady}
 use Rattle.fv_run.specs.declared.ending.Fault.{Fault}
-use Rattle.fv_run.specs.declared.ending.Fault.TheVariants.{Usage, NotAggregate, Source, Sink, Disk, Memory, Damaged, Limit}
+use Rattle.fv_run.specs.declared.ending.Fault.TheVariants.{Usage, Unsound, NotAggregate, Source, Sink, Disk, Memory, Damaged, Limit}
 use Rattle.fv_run.specs.Endings.{EndsWith, IsWholeFault, raised_by}
 use Rattle.fv_run.specs.Built.{lines_built}
 use Rattle.fv_run.specs.Promises.{AreGuaranteed, AreIsolated, line_at}
@@ -252,17 +252,21 @@ pub record IsHurt (room : ℕ) (session : Session) (end : Shown) (left : Session
   pub found : ℕ
   pub damage : (HasDamageIn end session left at want found ⊎ HasDamageLater end session left at want found) ⊎ ((dirty_limit < session.pending + room) × HasDamageBehind end session left at want found)
 
--- The call of the session that was at work met damage: the one that the line behind those that are answered asked for, or the point at the end. The session
--- that it left stands on the disk. Where each line before only asks for files, the session is the one that was opened, but for its cache and the numbers of
--- files in memory.
+-- The call of the session that was at work behind the first `count` lines met damage: the one that the next line asked for, or the point at the end. The
+-- session that it left stands on the disk. Where each of those lines only asks for files, the session is the one that was opened, but for its cache and the
+-- numbers of files in memory.
+pub record IsHurtBehind (lines : List Line) (count : ℕ) (first : Session) (end : Shown) : Type 0 where
+  pub session : Session
+  pub opened : ((j : ℕ) → j < count → only_asks (line_at lines j) ≡ true) → IsAsRead first session
+  pub left : Session
+  pub stands : StandsReady end left
+  pub hurt : IsHurt (room_in (room_by session.volumes) (line_at lines count)) session end left
+
+-- the call at work behind the lines that are answered met damage
 pub record MeetsDamage (lines : List Line) (first : Session) (old end : Shown) : Type 0 where
   pub output : List ℕ
   pub given : end.given ≡ old.given ++ output
-  pub session : Session
-  pub opened : ((j : ℕ) → j < whole output → only_asks (line_at lines j) ≡ true) → IsAsRead first session
-  pub left : Session
-  pub stands : StandsReady end left
-  pub hurt : IsHurt (room_in (room_by session.volumes) (line_at lines (whole output))) session end left
+  pub call : IsHurtBehind lines (whole output) first end
 
 -- a session was opened, and then met damage
 pub record IsDamagedOpen (old end : Shown) : Type 0 where
@@ -278,6 +282,8 @@ IsDamage old end = (IsUnwritten old end × ((at want found : ℕ) × IsOpenFault
 
 -- Why a run ended, with its status. A fault of the source, the sink or the disk has its count, and want of memory has no cause.
 abbrev pub HasReason : ℕ → Shown → Shown → Fault → Type 0
+-- 1
+HasReason limit old new Unsound = ⊥
 -- 2
 HasReason limit old new NotAggregate = IsUnwritten old new × (IsTrue old.tells → IsNoAggregate old.reads)
 -- 3

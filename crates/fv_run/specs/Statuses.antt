@@ -5,7 +5,8 @@ use Rattle.fv_lines.specs.Counts.{Counts}
 use Rattle.fv_run.specs.declared.ending.Fault.{Fault}
 use Rattle.fv_run.specs.declared.ending.Fault.TheVariants.{Usage}
 use Rattle.fv_run.specs.declared.words.Order.{Order}
-use Rattle.fv_run.specs.declared.words.Order.TheVariants.{Create, Gen, Run}
+use Rattle.fv_run.specs.declared.words.Order.TheVariants.{Check, Create, Gen, Run}
+use Rattle.fv_run.specs.Checking.{IsChecked}
 use Rattle.fv_run.specs.Creating.{Creates}
 use Rattle.fv_run.specs.Generating.{Generates, lines_drawn}
 use Rattle.fv_run.specs.Running.{Ran}
@@ -19,4 +20,5 @@ pub record Runs (asked : Option Order) (old new : Shown) (result : Result Unit F
   pub usage : asked ≡ None → (result ≡ Err Usage) × Counts old new None
   pub creates : (blocks : ℕ) → asked ≡ Some (Create blocks) → Creates blocks old new result
   pub runs : asked ≡ Some Run → Ran most_bytes old new result
+  pub checks : asked ≡ Some Check → IsChecked old new result
   pub generates : (seed count : ℕ) → asked ≡ Some (Gen seed count) → Generates (lines_drawn seed count) old new result

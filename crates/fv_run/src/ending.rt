@@ -1,16 +1,19 @@
 //! How a run of the program ends.
 
 ghost use Rattle.std.specs.Prelude.{◌≡◌};
-ghost use Rattle.fv_run.specs.Endings.{of_opening, of_session, status_of};
+ghost use Rattle.fv_run.specs.Endings.{of_check, of_opening, of_session, status_of};
 
 use fv_aggregate as sessions;
 use fv_aggregate::OpenFault;
+use fv_first_pass::CheckFault;
 
 /// Why a run of the program ended before all was done.
 #[derive(Clone, Copy, Debug, PartialEq, Eq)]
 pub(crate) enum Fault {
     /// The words have no meaning.
     Usage,
+    /// A check found faults, and told of them.
+    Unsound,
     /// Block 0 is no superblock, or neither gate is open.
     NotAggregate,
     /// The source failed.
@@ -34,6 +37,7 @@ impl Fault {
         ensures { result ≡ status_of self }
     {
         match self {
+            Fault::Unsound => 1,
             Fault::NotAggregate => 2,
             Fault::Source => 3,
             Fault::Sink => 4,
@@ -68,6 +72,18 @@ impl From<sessions::Fault> for Fault {
             sessions::Fault::DiskFault | sessions::Fault::Failed { .. } => Fault::Disk,
             sessions::Fault::Damaged { .. } => Fault::Damaged,
             sessions::Fault::Memory => Fault::Memory,
+        }
+    }
+}
+
+impl From<CheckFault> for Fault {
+    ghost from_gives = { λ fault e. e ≡ of_check fault };
+
+    fn from(fault: CheckFault) -> Fault {
+        match fault {
+            CheckFault::DiskFault => Fault::Disk,
+            CheckFault::NotAggregate => Fault::NotAggregate,
+            CheckFault::Memory => Fault::Memory,
         }
     }
 }

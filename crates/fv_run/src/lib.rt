@@ -3,11 +3,13 @@
 #![tactic(auto)]
 
 mod answering;
+mod checking;
 mod create;
 mod ending;
 mod generating;
 mod program;
 mod running;
+mod verdict;
 mod words;
 
 pub use generating::run_generated;

@@ -3,11 +3,13 @@
 ghost use Rattle.std.specs.Prelude.{◌≡◌, ◌∷◌, [], ◌↔◌, ℕ, map, string_bytes, Some, None, Contains};
 ghost use Rattle.fv_lines.specs.Counts.{Counts, told_by};
 ghost use Rattle.fv_run.specs.Meaning.{meaning};
+ghost use Rattle.fv_run.specs.Checking.{IsCheck};
 ghost use Rattle.fv_run.specs.Creating.{IsCreation};
 ghost use Rattle.fv_run.specs.Generating.{IsGeneration};
 ghost use Rattle.fv_run.specs.Running.{IsRun};
 ghost use Rattle.fv_run.specs.Statuses.{Runs, most_bytes};
 
+use crate::checking::check;
 use crate::create::create;
 use crate::ending::Fault;
 use crate::generating::generate;
@@ -29,11 +31,18 @@ const MOST_BYTES: u64 = 4_294_967_296;
 ///
 /// `run` is `run_script` with a limit of 4,294,967,296 bytes.
 ///
+/// `check` reads the aggregate that the disk has, whatever it holds, and writes nothing. Where it is sound it gives
+/// `valid volumes N charged C`, with the sum of what the volumes are charged, in blocks; otherwise a line `fault RULE BLOCK WANT FOUND` for
+/// each fault, in their order, BLOCK decimal, WANT and FOUND in 16 hexadecimal digits. The status is 0 or 1 then, 2 where block 0 is no
+/// superblock or neither gate is open, 4 where the sink failed, 5 where a read failed, and 6 where memory ran out; at 2, 5 and 6 it has given
+/// nothing. It costs three walks along the pointers of each table, and takes memory by the blocks of the aggregate and the numbers of its
+/// volumes.
+///
 /// `gen SEED COUNT` is `run_generated`, with a seed below 2^64 and at most 1,000,000 drawn commands.
 ///
 /// The status is 7 where the words have no meaning. `docs/MACHINE.md` tells of the words and the statuses.
 pub fn flexvol<H: Host>(alloc: Global, words: &[String], host: &mut H) -> u8
-    ensures statuses { Contains (0 ∷ 2 ∷ 3 ∷ 4 ∷ 5 ∷ 6 ∷ 7 ∷ 8 ∷ 9 ∷ []) result }
+    ensures statuses { Contains (0 ∷ 1 ∷ 2 ∷ 3 ∷ 4 ∷ 5 ∷ 6 ∷ 7 ∷ 8 ∷ 9 ∷ []) result }
     ensures usage { (result ≡ 7) ↔ (meaning (map string_bytes words.now) ≡ None) }
     ensures untouched { meaning (map string_bytes words.now) ≡ None → host.new ≡ host.old }
 
@@ -47,6 +56,9 @@ pub fn flexvol<H: Host>(alloc: Global, words: &[String], host: &mut H) -> u8
     ensures create { (blocks : ℕ) → meaning (map string_bytes words.now) ≡ Some (Order.Create blocks)
         → IsCreation blocks (H.shown host.old) (H.shown host.new) result }
 
+    // The aggregate is checked: 0 and its line where it is sound, 1 and its fault lines where it isn't, and nothing is written.
+    ensures checks { meaning (map string_bytes words.now) ≡ Some Order.Check → IsCheck (H.shown host.old) (H.shown host.new) result }
+
     // The script of a seed is run on the aggregate that the disk has, and told of in one line.
     ensures generates { (seed : ℕ) → (count : ℕ) → meaning (map string_bytes words.now) ≡ Some (Order.Gen seed count)
         → IsGeneration seed count (H.shown host.old) (H.shown host.new) result }
@@ -57,7 +69,7 @@ pub fn flexvol<H: Host>(alloc: Global, words: &[String], host: &mut H) -> u8
     }
 }
 
-#[tactic(auto, using(crate::proofs::Asked::has_size, crate::proofs::Asked::asks_nothing, crate::proofs::Asked::asks_create, crate::proofs::Asked::asks_run, crate::proofs::Asked::asks_gen))]
+#[tactic(auto, using(crate::proofs::Asked::has_size, crate::proofs::Asked::asks_nothing, crate::proofs::Asked::asks_create, crate::proofs::Asked::asks_run, crate::proofs::Asked::asks_check, crate::proofs::Asked::asks_gen))]
 fn obey<H: Host>(alloc: Global, words: &[String], host: &mut H) -> Result<(), Fault>
     ensures runs { Runs (meaning (map string_bytes words.now)) (H.shown host.old) (H.shown host.new) result }
     ensures untouched { meaning (map string_bytes words.now) ≡ None → host.new ≡ host.old }
@@ -65,6 +77,7 @@ fn obey<H: Host>(alloc: Global, words: &[String], host: &mut H) -> Result<(), Fa
     match read_words(words) {
         Ok(Order::Create { blocks }) => create(host, blocks),
         Ok(Order::Run) => run(alloc, host, MOST_BYTES),
+        Ok(Order::Check) => check(alloc, host),
         Ok(Order::Gen { seed, count }) => generate(alloc, host, seed, count),
         Err(_) => Err(Fault::Usage),
     }

@@ -17,6 +17,8 @@ pub enum Order {
     },
     /// Run the script of the source.
     Run,
+    /// Check the aggregate.
+    Check,
     /// Run the script of a seed.
     Gen {
         /// The seed.
@@ -33,7 +35,7 @@ pub enum WordsFault {
     Usage,
 }
 
-/// What the words of the command line mean: `create BLOCKS`, with a number from 512 to 1,048,576; `run`; or
+/// What the words of the command line mean: `create BLOCKS`, with a number from 512 to 1,048,576; `run`; `check`; or
 /// `gen SEED COUNT`, with a seed below 2^64 and a number of drawn commands of at most 1,000,000. A number is 1 to 20 decimal
 /// digits. Every other list of words is `Usage`. It costs by the words' bytes and takes no memory.
 pub fn read_words(words: &[String]) -> Result<Order, WordsFault>
@@ -41,6 +43,7 @@ pub fn read_words(words: &[String]) -> Result<Order, WordsFault>
 {
     match words {
         [command] if command.as_str() == "run" => Ok(Order::Run),
+        [command] if command.as_str() == "check" => Ok(Order::Check),
         [command, size] if command.as_str() == "create" => {
             create(size.as_bytes()).ok_or(WordsFault::Usage)
         }

@@ -1,12 +1,9 @@
--- What is said of cells by the lengths of files that are kept is what rule 10 says by the files themselves.
-use Rattle.std.proofs.Common.{◌≡◌, ℕ, Bool, true, false, not, List, [], map, refl, sym, ap, subst, ◌∙◌, arith}
+-- What is said of cells by the lengths of files is what rule 10 says by the files themselves.
+use Rattle.std.proofs.Common.{◌≡◌, ℕ, ◌≤◌, Bool, true, false, not, List, [], map, refl, sym, ap, subst, ◌∙◌, arith}
 use Rattle.std.specs.Prelude.{flat_map, nat_lt, ◌||◌, ◌&&◌, Option, Some, None, ◌==◌, if◌then◌else◌}
-use Rattle.std.specs.Ordering.{nat_cmp}
-use Rattle.std.specs.BTreeMap as maps
 use Rattle.std.proofs.lemmas.Bool.{and_from}
 use Rattle.std.proofs.lemmas.Bool.Decides.{nat_tests}
-use Rattle.std.proofs.lemmas.List.Folds.{flat_map-map}
-use Rattle.fv_codec.specs.declared.inode.InodeRecord.{InodeRecord}
+use Rattle.fv_codec.specs.Blocks.{greatest_word}
 use Rattle.fv_laws.proofs.Lists.{In, in_flat_map, from_flat_map}
 use Rattle.fv_tables.specs.Reached.{Item}
 use Rattle.fv_image.specs.Views.{Rooted}
@@ -19,22 +16,21 @@ use Rattle.fv_faults.specs.Walks.{Ground, Step, step, steps, met_in}
 use Rattle.fv_faults.specs.Met.{Spot, met, IsClean}
 use Rattle.fv_faults.specs.ThirdPass.{before, length_lines}
 use Rattle.fv_faults.proofs.Plain.{steps_are}
-use Rattle.fv_walk.specs.Sights.{Sight, sight_of}
-use Rattle.fv_walk.specs.Visits.{visit_of}
-use Rattle.fv_third_pass.specs.Lengths.{length_if, length_of, HasLengths}
+use Rattle.fv_walk.specs.Sights.{sight_of}
+use Rattle.fv_third_pass.specs.declared.lengths.Records.{Records}
+use Rattle.fv_third_pass.specs.Lengths.{length_if, lengths_along}
+use Rattle.fv_third_pass.proofs.Behind.{File, said, said_along}
+use Rattle.fv_third_pass.proofs.Keeping.{HasLengths, are_known, last_length, lengths_are}
 use Rattle.fv_faults.proofs.Adding.{same_added}
 use Rattle.fv_faults.proofs.LinesAlong.{run_lines}
 
-abbrev File : Type 0
-File = ℕ × InodeRecord
-
 -- ---- of one pointer
 
-module _ (m : maps.BTreeMap ℕ ℕ) (files : List File) (has : HasLengths m files) (e : Item) (block : ℕ) (f : Fault) where
+module _ (long : ℕ → Option ℕ) (files : List File) (has : HasLengths long files) (e : Item) (block : ℕ) (f : Fault) where
   abbrev of_file : File → List Fault
   of_file h = unless (not (is_cell_of h.0 e) || nat_lt e.place h.1.length) (line 10 block (before h.1.length) e.place)
 
-  look : (o : Option ℕ) → maps.get nat_cmp m e.owner ≡ o → (e.level == 0) ≡ true → In f (length_if block e.place o) → In f (flat_map of_file files)
+  look : (o : Option ℕ) → long e.owner ≡ o → (e.level == 0) ≡ true → In f (length_if block e.place o) → In f (flat_map of_file files)
   look None found is there = absurd there
   look (Some n) found is there =
       let one = has.only e.owner n found in
@@ -47,24 +43,29 @@ module _ (m : maps.BTreeMap ℕ ℕ) (files : List File) (has : HasLengths m fil
       ∙ ap (λ (n : ℕ). unless (nat_lt e.place n) (line 10 block (before n) e.place)) one.long))
       there)
 
-  at_level : (b : Bool) → (e.level == 0) ≡ b → In f (if b then length_if block e.place (maps.get nat_cmp m e.owner) else []) → In f (flat_map of_file files)
-  at_level false is there = absurd there
-  at_level true is there = look (maps.get nat_cmp m e.owner) refl is there
+  abbrev by : Bool → Bool → List Fault
+  by cell inodes = if not cell || inodes then [] else length_if block e.place (long e.owner)
 
-  cell_to : In f (length_of m (visit_of (e, block))) → In f (flat_map of_file files)
-  cell_to there = at_level (e.level == 0) refl there
+  cell_to : In f (by (e.level == 0) (e.owner == greatest_word)) → In f (flat_map of_file files)
+  cell_to there = so (e.level == 0) (e.owner == greatest_word) refl there
+    where
+      so : (cell inodes : Bool) → (e.level == 0) ≡ cell → In f (by cell inodes) → In f (flat_map of_file files)
+      so false inodes is there = absurd there
+      so true true is there = absurd there
+      so true false is there = look (long e.owner) refl is there
 
-  of_one : (h : File) → In h files → (b : Bool) → (e.owner == h.0) ≡ b → (c : Bool) → In f (unless (not (b && c) || nat_lt e.place h.1.length) (line 10 block (before h.1.length) e.place))
-      → In f (if c then length_if block e.place (maps.get nat_cmp m e.owner) else [])
-  of_one h inside false owner c there = absurd there
-  of_one h inside true owner false there = absurd there
-  of_one h inside true owner true there =
+  of_one : (h : File) → In h files → (b : Bool) → (e.owner == h.0) ≡ b → (c : Bool) → (i : Bool) → (e.owner == greatest_word) ≡ i
+      → In f (unless (not (b && c) || nat_lt e.place h.1.length) (line 10 block (before h.1.length) e.place)) → In f (by c i)
+  of_one h inside false owner c i top there = absurd there
+  of_one h inside true owner false i top there = absurd there
+  of_one h inside true owner true true top there = absurd (has.far h inside (let same : h.0 ≡ greatest_word = grind (arith, nat_tests, owner, top) in same))
+  of_one h inside true owner true false top there =
       let same : e.owner ≡ h.0 = grind (arith, nat_tests, owner) in
-      let found : maps.get nat_cmp m e.owner ≡ Some h.1.length = ap (maps.get nat_cmp m) same ∙ has.held h inside in
+      let found : long e.owner ≡ Some h.1.length = ap long same ∙ has.held h inside in
       subst (λ (o : Option ℕ). In f (length_if block e.place o)) (sym found) there
 
-  cell_from : In f (flat_map of_file files) → In f (length_of m (visit_of (e, block)))
-  cell_from there = let at = from_flat_map of_file f files there in of_one at.0 at.1 (e.owner == at.0.0) refl (e.level == 0) at.2
+  cell_from : In f (flat_map of_file files) → In f (by (e.level == 0) (e.owner == greatest_word))
+  cell_from there = let at = from_flat_map of_file f files there in of_one at.0 at.1 (e.owner == at.0.0) refl (e.level == 0) (e.owner == greatest_word) refl at.2
 
 -- ---- of a walk
 
@@ -86,13 +87,12 @@ module _ (g : Ground) (label : ℕ) (r : Rooted) (clean : IsClean (steps g label
   along : flat_map (length_lines files) (steps g label r) ≡ flat_map (of_files files) ps
   along = ap (flat_map (length_lines files)) (steps_are g label r clean) ∙ run_lines g (length_lines files) (of_files files) (of_step g files) [] ps
 
-  pub lengths_added : (m : maps.BTreeMap ℕ ℕ) → HasLengths m files → (old new : Lines) → Adds (flat_map (λ (s : Sight). length_of m s.visit) (map (sight_of g) ps)) old new
-      → Adds (flat_map (length_lines files) (steps g label r)) old new
-  lengths_added m has old new adds =
+  pub lengths_added : r.levels ≤ 2 → (q : Option Records) (old new : Lines) → Adds (lengths_along q (map (sight_of g) ps)) old new → Adds (flat_map (length_lines files) (steps g label r)) old new
+  lengths_added fits q old new adds =
+      let long : ℕ → Option ℕ = last_length files in
+      let has : HasLengths long files = lengths_are g label r clean fits in
       subst (λ ls. Adds ls old new) (sym along)
-      (same_added (flat_map (λ (p : Spot). length_of m (visit_of p)) ps) (flat_map (of_files files) ps) old new
-      (λ f there. let at = from_flat_map (λ (p : Spot). length_of m (visit_of p)) f ps there in in_flat_map (of_files files) at.0 f ps at.1 (cell_to m files has at.0.0 at.0.1 f at.2))
-      (λ f there.
-      let at = from_flat_map (of_files files) f ps there in
-      in_flat_map (λ (p : Spot). length_of m (visit_of p)) at.0 f ps at.1 (cell_from m files has at.0.0 at.0.1 f at.2))
-      (subst (λ ls. Adds ls old new) (flat_map-map (λ (s : Sight). length_of m s.visit) (sight_of g) ps) adds))
+      (same_added (flat_map (said g long) ps) (flat_map (of_files files) ps) old new
+      (λ f there. let at = from_flat_map (said g long) f ps there in in_flat_map (of_files files) at.0 f ps at.1 (cell_to long files has at.0.0 at.0.1 f at.2))
+      (λ f there. let at = from_flat_map (of_files files) f ps there in in_flat_map (said g long) at.0 f ps at.1 (cell_from long files has at.0.0 at.0.1 f at.2))
+      (subst (λ ls. Adds ls old new) (said_along g long label r (are_known g label r clean long has) q) adds))

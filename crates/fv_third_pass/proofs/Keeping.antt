@@ -1,59 +1,48 @@
--- The lengths that are kept along a clean walk are those of the files that its steps met.
-use Rattle.std.proofs.Common.{◌≡◌, ◌≢◌, ℕ, ◌+◌, ◌<◌, ◌≤◌, Bool, true, false, not, List, [], ◌∷◌, ◌++◌, map, cond, length, get_or, take, inl, inr, refl, sym, ap, subst, ◌∙◌, arith}
+-- The lengths of the files whose records a clean walk sees: each number has one, and none is the inode file's.
+use Rattle.std.proofs.Common.{◌≡◌, ◌≢◌, ℕ, zero, suc, ◌^◌, ◌≤◌, Bool, true, false, not, List, [], ◌∷◌, ◌++◌, map, cond, inl, inr, refl, sym, ap, subst, ◌∙◌, arith}
 use Rattle.std.specs.Prelude.{flat_map, Option, Some, None, ◌||◌, ◌==◌, if◌then◌else◌}
 use Rattle.std.specs.List.{list_all}
 use Rattle.std.specs.Option.{option_map_or, option_or}
-use Rattle.std.specs.Ordering.{nat_cmp, is_eq}
-use Rattle.std.specs.BTreeMap as maps
 use Rattle.std.proofs.lemmas.Bool.Decides.{nat_tests}
 use Rattle.std.proofs.lemmas.List.{append_assoc, append-nil}
 use Rattle.std.proofs.lemmas.List.Concat.{flat_map-append}
 use Rattle.std.proofs.lemmas.List.Folds.{flat_map-map}
 use Rattle.fv_codec.specs.declared.inode.InodeRecord.{InodeRecord}
-use Rattle.fv_laws.proofs.Lists.{In, from_flat_map}
+use Rattle.fv_codec.specs.Blocks.{greatest_word}
+use Rattle.fv_laws.proofs.Lists.{In, from_flat_map, in_flat_map}
 use Rattle.fv_laws.proofs.Tests.{from_all, to_all}
+use Rattle.fv_model.specs.Trees.{fan}
 use Rattle.fv_tables.specs.Told.{entry_or, file_at, listed, records}
+use Rattle.fv_tables.proofs.Items.{number_within}
 use Rattle.fv_image.specs.Views.{Placed, Rooted}
 use Rattle.fv_image.specs.Volumes.{standing_of}
-use Rattle.fv_faults.specs.Walks.{Ground, Step, files_under, met_in, step, steps, used_from}
+use Rattle.fv_faults.specs.Walks.{Ground, Step, files_under, met_in, step, steps}
 use Rattle.fv_faults.specs.Met.{IsClean, Spot, met, place_at, run}
 use Rattle.fv_faults.proofs.Plain.{steps_are}
 use Rattle.fv_faults.proofs.Reached.{AreNew, all_fresh, fresh_new}
 use Rattle.fv_faults.proofs.Files.{files_to}
 use Rattle.fv_walk.specs.Sights.{below_of, sight_of}
 use Rattle.fv_walk.specs.Blocks.{files_at}
-use Rattle.fv_walk.proofs.Lists.{used_more, used_none, used_one}
 use Rattle.fv_walk.proofs.Blocks.{spelled_files}
-use Rattle.fv_third_pass.specs.Kept.{Keeps, files_seen, last_length}
-use Rattle.fv_third_pass.specs.Keepings.{keeps_nothing, keeps_then}
-use Rattle.fv_third_pass.specs.Lengths.{HasLengths, IsOneOf}
+use Rattle.fv_third_pass.proofs.Behind.{AreKnown, File, files_seen}
 
-abbrev File : Type 0
-File = ℕ × InodeRecord
+-- the length of the last of some files that has a number
+abbrev pub last_length : List File → ℕ → Option ℕ
+last_length [] k = None
+last_length (f ∷ fs) k = option_or (last_length fs k) (cond (f.0 == k) (Some f.1.length) None)
 
--- ---- the records of a block
+-- a file of this number and length is one of them
+pub record IsOneOf (files : List File) (k n : ℕ) : Type 0 where
+  pub file : File
+  pub there : In file files
+  pub number : file.0 ≡ k
+  pub long : file.1.length ≡ n
 
-same_number : (a b : ℕ) → is_eq (nat_cmp a b) ≡ (a == b)
-same_number a b = grind (arith, nat_tests)
-
-module _ (n : ℕ) (r : InodeRecord) (old : maps.BTreeMap ℕ ℕ) where
-  pub free_kept : r.name_length ≡ 0 → Keeps (used_from n (r ∷ [])) old old
-  free_kept free = subst (λ fs. Keeps fs old old) (sym (used_none n r free)) (keeps_nothing old)
-
-  pub used_kept : (new : maps.BTreeMap ℕ ℕ) → r.name_length ≢ 0 → maps.Updates nat_cmp old new n (Some r.length) → Keeps (used_from n (r ∷ [])) old new
-  used_kept new used updates = subst (λ fs. Keeps fs old new) (sym (used_one n r used)) (record { each = λ k. updates.0 k ∙ ap (λ (b : Bool). cond b (Some r.length) (maps.get nat_cmp old k)) (same_number n k) ∙ so (n == k) (maps.get nat_cmp old k) })
-    where
-      so : (b : Bool) (o : Option ℕ) → cond b (Some r.length) o ≡ option_or (cond b (Some r.length) None) o
-      so true o = refl
-      so false o = refl
-
-pub none_kept : (n : ℕ) (rs : List InodeRecord) (m : maps.BTreeMap ℕ ℕ) → Keeps (used_from n (take 0 rs)) m m
-unfolding used_from
-none_kept n rs m = keeps_nothing m
-
-pub more_kept : (n i : ℕ) (d : InodeRecord) (rs : List InodeRecord) (old mid new : maps.BTreeMap ℕ ℕ) → i < length rs → Keeps (used_from n (take i rs)) old mid → Keeps (used_from (n + i) (get_or rs i d ∷ [])) mid new → Keeps (used_from n (take (i + 1) rs)) old new
-more_kept n i d rs old mid new low first one =
-    subst (λ fs. Keeps fs old new) (sym (used_more n i d rs low)) (keeps_then (used_from n (take i rs)) (used_from (n + i) (get_or rs i d ∷ [])) old mid new first one)
+-- These lengths are those of the files, and none has the inode file's number.
+pub record HasLengths (long : ℕ → Option ℕ) (files : List File) : Type 0 where
+  pub held : (f : File) → In f files → long f.0 ≡ Some f.1.length
+  pub only : (k n : ℕ) → long k ≡ Some n → IsOneOf files k n
+  pub far : (f : File) → In f files → f.0 ≢ greatest_word
 
 -- ---- files of which no two have one number and different lengths
 
@@ -88,24 +77,21 @@ last_there (g ∷ gs) f (inr there) none = so (λ e. last_there gs f there e) (l
     so rest None later none = rest later
     so rest (Some m) later none = cc
 
-lengths_held : (fs : List File) (one : AreOne fs) (m : maps.BTreeMap ℕ ℕ) → ((k : ℕ) → maps.get nat_cmp m k ≡ last_length fs k) → HasLengths m fs
-lengths_held fs one m has = record {
-  held = λ f there. has f.0 ∙ held f there (last_length fs f.0) refl;
-  only = λ k n is. last_is fs k n (sym (has k) ∙ is);
-}
+last_held : (fs : List File) → AreOne fs → (f : File) → In f fs → last_length fs f.0 ≡ Some f.1.length
+last_held fs one f there = so (last_length fs f.0) refl
   where
-    held : (f : File) → In f fs → (o : Option ℕ) → last_length fs f.0 ≡ o → last_length fs f.0 ≡ Some f.1.length
-    held f there None is = absurd (last_there fs f there is)
-    held f there (Some n) is =
+    so : (o : Option ℕ) → last_length fs f.0 ≡ o → last_length fs f.0 ≡ Some f.1.length
+    so None is = absurd (last_there fs f there is)
+    so (Some n) is =
         let last = last_is fs f.0 n is in
         is ∙ ap (λ (n : ℕ). Some n) (sym last.long ∙ one last.file f last.there there last.number)
 
 -- ---- those that a walk meets
 
 module _ (g : Ground) where
-  files_met : (p : Spot) → files_seen (sight_of g p) ≡ option_map_or (files_under p.0) (place_at g p.0) []
+  seen_is : (p : Spot) → files_seen (sight_of g p) ≡ option_map_or (files_under p.0) (place_at g p.0) []
   unfolding below_of
-  files_met p = so (place_at g p.0)
+  seen_is p = so (place_at g p.0)
     where
       so : (o : Option Placed) → files_at p.0 (below_of p.0 o) ≡ option_map_or (files_under p.0) o []
       so None = refl
@@ -118,7 +104,7 @@ module _ (g : Ground) where
       run_files (done ++ (step g done p.0 p.1 ∷ [])) ps are.1.1
       ∙ ap (λ fs. fs ++ flat_map (λ p. files_seen (sight_of g p)) ps)
       (flat_map-append met_in done (step g done p.0 p.1 ∷ [])
-      ∙ ap (λ fs. flat_map met_in done ++ fs) (append-nil (met_in (step g done p.0 p.1)) ∙ ap (λ (b : Bool). if not b then option_map_or (files_under p.0) (place_at g p.0) [] else []) are.0 ∙ sym (files_met p)))
+      ∙ ap (λ fs. flat_map met_in done ++ fs) (append-nil (met_in (step g done p.0 p.1)) ∙ ap (λ (b : Bool). if not b then option_map_or (files_under p.0) (place_at g p.0) [] else []) are.0 ∙ sym (seen_is p)))
       ∙ append_assoc (flat_map met_in done) (files_seen (sight_of g p)) (flat_map (λ p. files_seen (sight_of g p)) ps)
 
   module _ (label : ℕ) (r : Rooted) (clean : IsClean (steps g label r)) where
@@ -175,9 +161,35 @@ module _ (g : Ground) where
         so true test is = grind (arith, nat_tests, is)
         so false test is = absurd cc
 
-    pub lengths_are : r.levels ≤ 2 → (old new : maps.BTreeMap ℕ ℕ) → ((k : ℕ) → maps.get nat_cmp old k ≡ None) → Keeps (flat_map files_seen (map (sight_of g) (met g label r))) old new → HasLengths new fs
-    lengths_are fits old new none keeps = lengths_held fs (are_one fits) new (λ k. keeps.each k ∙ ap (option_or (last_length (flat_map files_seen (map (sight_of g) (met g label r))) k)) (none k) ∙ or_none (last_length (flat_map files_seen (map (sight_of g) (met g label r))) k) ∙ ap (λ gs. last_length gs k) files_along)
+    -- a number is below that of the inode file
+    abbrev apart : File → Bool
+    apart f = not (f.0 == greatest_word)
+
+    low_number : r.levels ≤ 2 → (f : File) → In f rs → apart f ≡ true
+    unfolding records
+    low_number fits f there =
+        let low = number_within (λ e. true) (standing_of g.view g.slot r) f.0 f.1 (record_of (file_at (standing_of g.view g.slot r).inode) _ f there) in
+        let few : fan ^ r.levels ≤ 16384 = three r.levels fits in
+        let far : f.0 ≢ greatest_word = omega (arith, low, few) in
+        grind (arith, nat_tests, far)
       where
-        or_none : (o : Option ℕ) → option_or o None ≡ o
-        or_none None = refl
-        or_none (Some x) = refl
+        three : (k : ℕ) → k ≤ 2 → fan ^ k ≤ 16384
+        three zero low = omega arith
+        three (suc zero) low = omega arith
+        three (suc (suc zero)) low = omega arith
+        three (suc (suc (suc k))) low = absurd (omega (arith, low))
+
+    pub lengths_are : r.levels ≤ 2 → HasLengths (last_length fs) fs
+    lengths_are fits = record {
+      held = last_held fs (are_one fits);
+      only = last_is fs;
+      far = λ f there.
+          let all : list_all apart fs ≡ true = files_to g apart r label fits clean (to_all apart rs (low_number fits)) in
+          let test = from_all apart fs all f there in
+          grind (arith, nat_tests, test);
+    }
+
+    pub are_known : (long : ℕ → Option ℕ) → HasLengths long fs → AreKnown g long (met g label r)
+    are_known long has p inside f seen =
+        let there : In f fs = subst (In f) files_along (subst (In f) (sym (flat_map-map files_seen (sight_of g) (met g label r))) (in_flat_map (λ (p : Spot). files_seen (sight_of g p)) p f (met g label r) inside seen)) in
+        (has.far f there, has.held f there)

@@ -12,20 +12,21 @@ mod Bitwise
 mod Areas
 mod VolumeMaps
 pub mod Judging
-mod Cells
+mod Behind
 mod Keeping
+mod Cells
 mod Firsts
 mod MapRoots
 mod Showing
 mod BaseIds
-mod OwnTables
+pub mod OwnTables
 mod MapsOfRoots
-mod SameLines
+pub mod SameLines
 mod TwinSteps
 pub mod WalkedFacts
 mod SnapTables
 mod VolumeLaw
 pub mod VolumeParts
 mod BaseParts
-mod ThirdSlots
+pub mod ThirdSlots
 mod MapKinds

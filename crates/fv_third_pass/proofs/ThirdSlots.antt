@@ -11,7 +11,7 @@ use Rattle.fv_image.specs.Held.{Layout, Lying, layout_at}
 use Rattle.fv_faults.specs.declared.fault.Fault.{Fault}
 use Rattle.fv_faults.specs.declared.lines.Lines.{Lines}
 use Rattle.fv_faults.specs.Adding.{Adds}
-use Rattle.fv_faults.specs.ThirdPass.{map_lines, third_pass, twice_held, volume_lines}
+use Rattle.fv_faults.specs.ThirdPass.{map_lines, third_pass, twice_held}
 use Rattle.fv_faults.proofs.Adding.{adds_none, adds_then}
 use Rattle.fv_first_pass.specs.declared.first.Known.{Known}
 use Rattle.fv_first_pass.specs.Heads.{head_in}
@@ -26,29 +26,33 @@ label_known None l is = absurd cc
 label_known (Some (Ok k)) l is = let same : k ≡ l = cc in ap (λ (k : Label). Some (Ok k)) same
 label_known (Some (Err fault)) l is = absurd cc
 
-no_head : (o : Option (Result Label Shape)) → label_of o ≡ None → head_in o ≡ None
+pub no_head : (o : Option (Result Label Shape)) → label_of o ≡ None → head_in o ≡ None
 no_head None is = refl
 no_head (Some (Ok k)) is = absurd cc
 no_head (Some (Err fault)) is = refl
 
-module _ (t : Taken) (i : Image) (known : Known) (passed : IsPassed t i known) (s : ℕ) (low : s < 64) where
+-- what is said of the volume of a slot, by the label that was read
+module _ (t : Taken) (i : Image) (known : Known) (passed : IsPassed t i known) (s : ℕ) (low : s < 64) (lines : ℕ → ℕ → Head → List Fault) where
   abbrev y : Layout
   y = layout_at t i
 
-  abbrev of_head : Option Head → List Fault
-  of_head o = option_map_or (λ (x : Lying). option_map_or (λ (h : Head). volume_lines y s x.place h) o []) (y.label s) []
+  abbrev said : List Fault
+  said = option_map_or (λ (x : Lying). option_map_or (λ (h : Head). lines s x.place h) (y.view.head s) []) (y.label s) []
 
-  pub none_said : label_of (get_or known.labels.items s None) ≡ None → slot_lines y s ≡ []
+  abbrev of_head : Option Head → List Fault
+  of_head o = option_map_or (λ (x : Lying). option_map_or (λ (h : Head). lines s x.place h) o []) (y.label s) []
+
+  pub none_said : label_of (get_or known.labels.items s None) ≡ None → said ≡ []
   none_said none = ap of_head (head_is t i known passed s low ∙ no_head (get_or known.labels.items s None) none) ∙ so (y.label s)
     where
       so : (o : Option Lying) → ◌≡◌ {A = List Fault} (option_map_or (λ (x : Lying). []) o []) []
       so None = refl
       so (Some x) = refl
 
-  pub some_said : (l : Label) → get_or known.labels.items s None ≡ Some (Ok l) → slot_lines y s ≡ volume_lines y s (get_or t.root.labels s 0) (head_of l)
+  pub some_said : (l : Label) → get_or known.labels.items s None ≡ Some (Ok l) → said ≡ lines s (get_or t.root.labels s 0) (head_of l)
   some_said l is =
-      ap (λ (o : Option Lying). option_map_or (λ (x : Lying). option_map_or (λ (h : Head). volume_lines y s x.place h) (y.view.head s) []) o []) (label_there t i known passed s low l is)
-      ∙ ap (λ (o : Option Head). option_map_or (λ (h : Head). volume_lines y s (get_or t.root.labels s 0) h) o []) (head_there t i known passed s low l is)
+      ap (λ (o : Option Lying). option_map_or (λ (x : Lying). option_map_or (λ (h : Head). lines s x.place h) (y.view.head s) []) o []) (label_there t i known passed s low l is)
+      ∙ ap (λ (o : Option Head). option_map_or (λ (h : Head). lines s (get_or t.root.labels s 0) h) o []) (head_there t i known passed s low l is)
 
 module _ (y : Layout) where
   pub no_slots : (x : Lines) → Adds (slots_to y 0) x x

@@ -82,6 +82,9 @@ module _ (t : Taken) (i : Image) (long : (b : ℕ) → length (i b) ≡ 4096) (s
     pub parent_low : p < 64
     parent_low = is.inside
 
+    pub narrow : (head_of parent).span ≤ h.span
+    narrow = is.narrow
+
     pub table_found : option_map (λ (q : Snap). q.table) (snap_at (head_of parent) l.base_slot) ≡ Some table
     table_found = ap (option_map (λ (q : Snap). q.table)) is.found
 

@@ -1,6 +1,6 @@
 -- What holds of an aggregate in which the first two passes found nothing.
 use Rattle.std.proofs.Common.{◌≡◌, ◌≢◌, ℕ, ◌-◌, ◌<◌, ◌≤◌, Bool, true, false, List, length, get_or, refl, sym, ap, ◌∙◌, arith, ⊎_elim, Result, Ok, Err}
-use Rattle.std.specs.Prelude.{Option, Some, None, ◌&&◌, ◌==◌, if◌then◌else◌}
+use Rattle.std.specs.Prelude.{Option, Some, None, ◌&&◌, ◌==◌, nat_le, if◌then◌else◌}
 use Rattle.std.specs.Option.{is_some, option_map_or}
 use Rattle.std.proofs.lemmas.Bool.{and_parts, cases_lt}
 use Rattle.std.proofs.lemmas.Bool.Decides.{nat_tests}
@@ -151,10 +151,18 @@ module _ (t : Taken) (i : Image) (long : (b : ℕ) → length (i b) ≡ 4096) (s
       pub read : get_or known.labels.items (l.parent - 1) None ≡ Some (Ok parent)
       pub snap : Snap
       pub found : snap_at (head_of parent) l.base_slot ≡ Some snap
+      pub narrow : (head_of parent).span ≤ h.span
 
     pub based : l.parent ≢ 0 → IsBased
     unfolding has_bases volume_seen
-    based some = record { inside = parent.0; parent = of.label; read = of.read; snap = there.0; found = ap (λ (g : Head). snap_at g l.base_slot) of.head ∙ there.1 }
+    based some = record {
+      inside = parent.0;
+      parent = of.label;
+      read = of.read;
+      snap = there.0;
+      found = ap (λ (g : Head). snap_at g l.base_slot) of.head ∙ there.1;
+      narrow = let e : (head_of of.label).span ≡ parent.1.0.span = ap (λ (g : Head). g.span) of.head in omega (arith, e, below);
+    }
       where
         stands : (comes_to_end (seen y.view) 64 s && option_map_or (has_footing (seen y.view) (volume_seen y.view s h)) h.base true) ≡ true
         stands = volume_test y.view (λ s x. comes_to_end (seen y.view) 64 s && option_map_or (has_footing (seen y.view) x) x.head.base true) bases s h low head
@@ -170,6 +178,9 @@ module _ (t : Taken) (i : Image) (long : (b : ℕ) → length (i b) ≡ 4096) (s
 
         of : IsHeadOf (get_or known.labels.items foot.parent None) parent.1.0
         of = of_head (get_or known.labels.items foot.parent None) parent.1.0 (sym (head_is t i known walked.passed foot.parent parent.0) ∙ parent.1.1)
+
+        below : parent.1.0.span ≤ h.span
+        below = let test = (and_parts (nat_le parent.1.0.span h.span) _ (and_parts (is_some (snap_at parent.1.0 foot.slot)) _ carries).1).0 in grind (arith, nat_tests, test)
 
         there : (p : Snap) × (snap_at parent.1.0 l.base_slot ≡ Some p)
         there = so (snap_at parent.1.0 l.base_slot) refl (and_parts (is_some (snap_at parent.1.0 foot.slot)) _ carries).0

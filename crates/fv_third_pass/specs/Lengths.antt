@@ -1,13 +1,15 @@
--- What rule 10 says of a cell, by the length of its file.
-use Rattle.std.specs.Prelude.{◌≡◌, ℕ, List, [], nat_lt, Option, None, Some, ◌==◌, if◌then◌else◌}
-use Rattle.std.specs.Ordering.{nat_cmp}
-use Rattle.std.specs.BTreeMap as maps
-use Rattle.fv_codec.specs.declared.inode.InodeRecord.{InodeRecord}
-use Rattle.fv_laws.proofs.Lists.{In}
+-- What rule 10 says of a cell, by the records that were seen last before it.
+use Rattle.std.specs.Prelude.{ℕ, ◌/◌, ◌%◌, List, [], ◌++◌, ◌∷◌, get_or, nat_lt, Option, None, Some, ◌==◌, if◌then◌else◌}
+use Rattle.fv_tables.specs.Told.{free_record, records_each}
 use Rattle.fv_faults.specs.declared.fault.Fault.{Fault}
 use Rattle.fv_faults.specs.Lines.{line, unless}
 use Rattle.fv_faults.specs.ThirdPass.{before}
+use Rattle.fv_walk.specs.declared.below.Below.{Below}
+use Rattle.fv_walk.specs.declared.below.Below.TheVariants.{Nothing, Node, Inodes}
 use Rattle.fv_walk.specs.declared.visit.Visit.{Visit}
+use Rattle.fv_walk.specs.Sights.{Sight}
+use Rattle.fv_walk.specs.Visits.{leads_on}
+use Rattle.fv_third_pass.specs.declared.lengths.Records.{Records}
 
 -- of the cell of a place, where the length of its file is known
 abbrev pub length_line : ℕ → ℕ → ℕ → List Fault
@@ -17,18 +19,26 @@ abbrev pub length_if : ℕ → ℕ → Option ℕ → List Fault
 length_if block place None = []
 length_if block place (Some n) = length_line block place n
 
--- of a pointer, by lengths that are kept by the numbers of files; a mark has none
-abbrev pub length_of : maps.BTreeMap ℕ ℕ → Visit → List Fault
-length_of m v = if v.level == 0 then length_if v.block v.place (maps.get nat_cmp m v.owner) else []
+-- the length of the file of a number, where its record stands among these
+abbrev pub length_in : Option Records → ℕ → Option ℕ
+length_in None k = None
+length_in (Some r) k = if k / records_each == r.place then Some (get_or r.block.files (k % records_each) free_record).length else None
 
--- a file of this number and length is one of them
-pub record IsOneOf (files : List (ℕ × InodeRecord)) (k n : ℕ) : Type 0 where
-  pub file : ℕ × InodeRecord
-  pub there : In file files
-  pub number : file.0 ≡ k
-  pub long : file.1.length ≡ n
+-- of a pointer, by records; one that leads on isn't to a cell
+abbrev pub cell_lines : Option Records → Visit → List Fault
+cell_lines r v = if leads_on v then [] else length_if v.block v.place (length_in r v.owner)
 
--- The lengths that are kept are those of the files.
-pub record HasLengths (m : maps.BTreeMap ℕ ℕ) (files : List (ℕ × InodeRecord)) : Type 0 where
-  pub held : (f : ℕ × InodeRecord) → In f files → maps.get nat_cmp m f.0 ≡ Some f.1.length
-  pub only : (k n : ℕ) → maps.get nat_cmp m k ≡ Some n → IsOneOf files k n
+-- the records that are seen last, once this is seen
+abbrev pub records_after : Option Records → Visit → Below → Option Records
+records_after r v Nothing = r
+records_after r v (Node n) = r
+records_after r v (Inodes b) = Some (record { place = v.place; block = b })
+
+abbrev pub records_behind : Option Records → List Sight → Option Records
+records_behind r [] = r
+records_behind r (s ∷ ss) = records_behind (records_after r s.visit s.below) ss
+
+-- of several, each by the records before it
+abbrev pub lengths_along : Option Records → List Sight → List Fault
+lengths_along r [] = []
+lengths_along r (s ∷ ss) = cell_lines r s.visit ++ lengths_along (records_after r s.visit s.below) ss

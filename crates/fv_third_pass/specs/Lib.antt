@@ -9,8 +9,6 @@ pub mod Judged
 pub mod Judges
 pub mod Lengths
 pub mod LengthJudges
-pub mod Kept
-pub mod Keepings
 pub mod Twinned
 pub mod TwinJudges
 pub mod Volumes

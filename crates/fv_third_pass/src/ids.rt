@@ -12,15 +12,15 @@ ghost use Rattle.fv_third_pass.specs.Twinned.{HasSeen, twin_lines, visits};
 ghost use Rattle.fv_third_pass.specs.Volumes.{AreClean, AreFew, own_tables, shown, shown_one};
 
 use crate::judge::judge_table;
-use crate::roots::{MapRoot, show_roots};
-use crate::tables::note_tables;
+use crate::roots::MapRoot;
+use crate::tables::{join_lines, note_tables};
 use crate::twins::IdJudge;
 use fv_faults::Lines;
-use fv_walk::{Source, Table, WalkFault, walk};
+use fv_walk::{Source, Table, WalkFault};
 use std::alloc::Global;
 
 /// Notes what is said of the tables of a volume's roots, whose pointers stand in the label at a place, and of the ids in them. Answers the
-/// judge that saw them, with the lines.
+/// judge that saw them, with the lines. Walks along each table once.
 pub(crate) fn judge_own<S: Source>(
     alloc: Global,
     source: &mut S,
@@ -37,14 +37,20 @@ pub(crate) fn judge_own<S: Source>(
     ensures reads { S.reads source.old source.new }
     ensures cause { HasWalkCause (S.faults source.old) (S.faults source.new) result }
 {
-    let noted = note_tables(alloc, source, lines, label, roots, last)?;
-    let mut judge = IdJudge::new(alloc, noted);
-    show_roots(alloc, source, &mut judge, label, roots)?;
-    Ok(judge)
+    let fresh = IdJudge::new(alloc, Lines::new(alloc));
+    let walked = note_tables(alloc, source, fresh, lines, label, roots, last)?;
+    let judge = walked.visitor;
+    let mut all = walked.lines;
+    join_lines(&mut all, judge.lines)?;
+    Ok(IdJudge {
+        ids: judge.ids,
+        vvbns: judge.vvbns,
+        lines: all,
+    })
 }
 
 /// Notes what is said of the base table of a volume: its ids, by a judge that saw the volume's own tables, and stamps above the volume's
-/// last.
+/// last. Walks along it once.
 pub(crate) fn judge_base<S: Source>(
     alloc: Global,
     source: &mut S,
@@ -61,8 +67,18 @@ pub(crate) fn judge_base<S: Source>(
     ensures reads { S.reads source.old source.new }
     ensures cause { HasWalkCause (S.faults source.old) (S.faults source.new) result }
 {
-    let mut judge = judge;
-    walk(alloc, source, &mut judge, label, table)?;
-    let lines = judge_table(alloc, source, judge.lines, label, table, false, last)?;
+    let walked = judge_table(
+        alloc,
+        source,
+        judge,
+        Lines::new(alloc),
+        label,
+        table,
+        false,
+        last,
+    )?;
+    let judge = walked.visitor;
+    let mut lines = judge.lines;
+    join_lines(&mut lines, walked.lines)?;
     Ok(lines)
 }

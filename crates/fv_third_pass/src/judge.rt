@@ -5,9 +5,10 @@ ghost use Rattle.fv_codec.specs.Fields.{in_range};
 ghost use Rattle.fv_image.specs.ReachRules.{kind_of};
 ghost use Rattle.fv_faults.specs.Adding.{Adds};
 ghost use Rattle.fv_faults.specs.Lines.{expects, line, says, unless};
-ghost use Rattle.fv_faults.specs.Met.{IsClean};
+ghost use Rattle.fv_faults.specs.Met.{IsClean, met};
 ghost use Rattle.fv_faults.specs.Walks.{steps};
 ghost use Rattle.fv_walk.specs.Causes.{HasWalkCause};
+ghost use Rattle.fv_walk.specs.Sights.{sight_of};
 ghost use Rattle.fv_walk.specs.Visits.{item_of, rooted};
 ghost use Rattle.fv_third_pass.specs.Judged.{greatest, judged_lines, kind_found, marks_in, own_lines};
 ghost use Rattle.fv_third_pass.specs.Files.{levels_of};
@@ -15,7 +16,7 @@ ghost use Rattle.fv_third_pass.specs.Files.{levels_of};
 use crate::files::note_file_levels;
 use fv_codec::Pointer;
 use fv_faults::{Fault, Lines};
-use fv_walk::{Below, Found, Source, Table, Visit, Visitor, WalkFault, walk};
+use fv_walk::{Below, Both, Found, Source, Table, Visit, Visitor, WalkFault, walk};
 use std::alloc::{AllocError, Global};
 
 /// Notes what rules 9 and 10 say of each pointer that it is shown, by itself.
@@ -174,28 +175,47 @@ impl Visitor for Judge {
     ghost sees_on = { judges_on };
 }
 
+/// What a walk along a table gives: the lines, and the visitor that was shown the same pointers.
+#[derive(Drop)]
+pub struct Walked<V> {
+    /// The lines that were given, and those that are noted.
+    pub lines: Lines,
+    /// The visitor, with what it was shown.
+    pub visitor: V,
+}
+
 /// Walks along the pointers of a table, whose root stands in the label at a place, and notes what rules 9 and 10 (`docs/FORMAT.md`) say of
 /// each by itself: its entry has the kind of its block, no stamp is below one under it, the files whose records stand there have the levels
 /// that their reserves ask for, and no stamp passes the volume's last. Of a base table (`own` is false) the last alone is said. The lines
-/// come back with those that are noted. The table is one of which the second pass found nothing.
+/// come back with those that are noted. A visitor is shown the same pointers, and comes back too. The table is one of which the second
+/// pass found nothing.
 ///
-/// The one other error is want of memory. Costs what `walk` costs.
-pub fn judge_table<S: Source>(
+/// The one other error is want of memory; the lines and the visitor are gone at any. Costs what `walk` costs, and what the visitor takes.
+pub fn judge_table<S: Source, V: Visitor + Drop>(
     alloc: Global,
     source: &mut S,
+    visitor: V,
     lines: Lines,
     label: u64,
     table: &Table,
     own: bool,
     last: u64,
-) -> Result<Lines, WalkFault>
+) -> Result<Walked<V>, WalkFault>
     requires { table.now.levels ≤ 3 }
-    ensures adds { S.fits source.old → IfOk result (λ noted. IsClean (steps (S.volume source.old) label (rooted table.now))
-        → Adds (judged_lines own last (steps (S.volume source.old) label (rooted table.now))) lines noted) }
+    ensures adds { S.fits source.old → IfOk result (λ walked. IsClean (steps (S.volume source.old) label (rooted table.now))
+        → Adds (judged_lines own last (steps (S.volume source.old) label (rooted table.now))) lines walked.lines) }
+    ensures saw { S.fits source.old → IfOk result (λ walked. V.sees visitor
+        (map (sight_of (S.volume source.old)) (met (S.volume source.old) label (rooted table.now))) walked.visitor) }
     ensures reads { S.reads source.old source.new }
     ensures cause { HasWalkCause (S.faults source.old) (S.faults source.new) result }
 {
-    let mut judge = Judge { own, last, lines };
-    walk(alloc, source, &mut judge, label, table)?;
-    Ok(judge.lines)
+    let mut both = Both {
+        first: Judge { own, last, lines },
+        second: visitor,
+    };
+    walk(alloc, source, &mut both, label, table)?;
+    Ok(Walked {
+        lines: both.first.lines,
+        visitor: both.second,
+    })
 }

@@ -1,28 +1,44 @@
 //! Rule 10: no cell of a file is at or past its length.
 
-ghost use Rattle.std.specs.Prelude.{◌≡◌, ◌≤◌, flat_map, IfOk, OnOk};
-ghost use Rattle.std.specs.Ordering.{nat_cmp};
-ghost use Rattle.std.specs.BTreeMap as maps;
+ghost use Rattle.std.specs.Prelude.{◌≡◌, [], OnOk};
 ghost use Rattle.fv_faults.specs.Adding.{Adds};
-ghost use Rattle.fv_faults.specs.Met.{IsClean};
-ghost use Rattle.fv_faults.specs.ThirdPass.{before, length_lines};
-ghost use Rattle.fv_faults.specs.Walks.{met_in, steps};
-ghost use Rattle.fv_walk.specs.Causes.{HasWalkCause};
-ghost use Rattle.fv_walk.specs.Visits.{rooted};
-ghost use Rattle.fv_third_pass.specs.Lengths.{HasLengths, length_if, length_line, length_of};
+ghost use Rattle.fv_faults.specs.ThirdPass.{before};
+ghost use Rattle.fv_third_pass.specs.Lengths.{cell_lines, length_if, length_in, length_line, records_after};
 
+use fv_codec::InodeBlock;
 use fv_faults::{Fault, Lines};
-use fv_walk::{Below, Found, Source, Table, Visit, Visitor, WalkFault, walk};
+use fv_walk::{Below, Found, Visit, Visitor};
 use std::alloc::{AllocError, Global};
-use std::collections::BTreeMap;
 
-/// Notes a line of rule 10 for each cell that it is shown at or past the length of its file.
+/// The records of an inode block.
+#[derive(Clone, Copy, Debug, PartialEq, Eq)]
+pub(crate) struct Records {
+    /// Which of its table's inode blocks it is: it has the records of 16 files, and 16 times this is the number of the first.
+    pub place: u64,
+    /// The block.
+    pub block: InodeBlock,
+}
+
+/// Notes a line of rule 10 for each cell that it is shown at or past the length of its file. A walk comes to the tree of a file right
+/// behind the block of its record, so it keeps the last block of records alone.
 #[derive(Drop)]
 pub(crate) struct LengthJudge {
-    /// The lengths of files in blocks, by their numbers.
-    pub lengths: BTreeMap<u128, u32>,
+    /// The records that it was shown last.
+    pub records: Option<Records>,
     /// The lines that are noted.
     pub lines: Lines,
+}
+
+impl LengthJudge {
+    /// A judge that saw nothing and noted nothing. It takes no memory.
+    pub fn new(alloc: Global) -> LengthJudge
+        ensures { result.lines.lines.keys ≡ [] }
+    {
+        LengthJudge {
+            records: None,
+            lines: Lines::new(alloc),
+        }
+    }
 }
 
 /// The number before a length; that before 0 is 2^64 - 1.
@@ -63,34 +79,45 @@ fn note_if(lines: &mut Lines, block: u64, place: u64, length: Option<u32>) -> Re
     note_past(lines, block, place, length)
 }
 
-/// The length of the file of a number.
-fn length_in(lengths: &BTreeMap<u128, u32>, number: u128) -> Option<u32>
-    ensures { result ≡ maps.get nat_cmp lengths.now number }
+/// The length of the file of a number, where its record stands among these.
+fn length_in(records: &Option<Records>, number: u64) -> Option<u32>
+    ensures { result ≡ length_in records.now number }
 {
-    match lengths.get(&number) {
-        Some(length) => Some(*length),
-        None => None,
+    let Some(records) = records else {
+        return None;
+    };
+    if number / 16 != records.place {
+        return None;
     }
+    Some(records.block.files[(number % 16) as usize].length)
 }
 
 /// Notes the line of a pointer, if it is to a cell.
 #[tactic(auto, using(fv_faults::proofs::Adding::nothing_added))]
-fn note_cell(
-    lines: &mut Lines,
-    lengths: &BTreeMap<u128, u32>,
-    visit: &Visit,
-) -> Result<(), AllocError>
-    ensures { OnOk result (Adds (length_of lengths.now visit.now) lines.old lines.new) }
+fn note_cell(lines: &mut Lines, records: &Option<Records>, visit: &Visit) -> Result<(), AllocError>
+    ensures { OnOk result (Adds (cell_lines records.now visit.now) lines.old lines.new) }
 {
-    if visit.level != 0 {
+    if visit.leads_on() {
         return Ok(());
     }
     note_if(
         lines,
         visit.block,
         visit.place,
-        length_in(lengths, u128::from(visit.owner)),
+        length_in(records, visit.owner),
     )
+}
+
+/// Keeps the records that stand in the block to which a pointer leads, if there are any.
+fn keep_records(records: &mut Option<Records>, visit: &Visit, below: &Below)
+    ensures { records.new ≡ records_after records.old visit.now below.now }
+{
+    if let Below::Inodes(block) = below {
+        *records = Some(Records {
+            place: visit.place,
+            block: *block,
+        });
+    }
 }
 
 impl Visitor for LengthJudge {
@@ -98,38 +125,13 @@ impl Visitor for LengthJudge {
 
     ghost sees = { JudgesLengths };
 
-    fn see(&mut self, visit: &Visit, _at: Option<Found>, _below: &Below) -> Result<(), AllocError> {
-        note_cell(&mut self.lines, &self.lengths, visit)?;
+    fn see(&mut self, visit: &Visit, _at: Option<Found>, below: &Below) -> Result<(), AllocError> {
+        note_cell(&mut self.lines, &self.records, visit)?;
+        keep_records(&mut self.records, visit, below);
         Ok(())
     }
 
     ghost sees_none = { lengths_none };
 
     ghost sees_on = { lengths_on };
-}
-
-/// Walks along the pointers of a table, whose root stands in the label at a place, and notes a line of rule 10 (`docs/FORMAT.md`) for each
-/// cell at or past the length of its file. `lengths` has the lengths of the table's files in blocks, by their numbers. The lines come back
-/// with those that are noted. The table is one of which the second pass found nothing.
-///
-/// The one other error is want of memory. Costs what `walk` costs, and for each cell the logarithm of the number of files.
-pub fn judge_lengths<S: Source>(
-    alloc: Global,
-    source: &mut S,
-    lines: Lines,
-    label: u64,
-    table: &Table,
-    lengths: BTreeMap<u128, u32>,
-) -> Result<Lines, WalkFault>
-    requires { table.now.levels ≤ 3 }
-    ensures adds { S.fits source.old → IfOk result (λ noted. IsClean (steps (S.volume source.old) label (rooted table.now))
-        → HasLengths lengths (flat_map met_in (steps (S.volume source.old) label (rooted table.now)))
-        → Adds (flat_map (length_lines (flat_map met_in (steps (S.volume source.old) label (rooted table.now))))
-        (steps (S.volume source.old) label (rooted table.now))) lines noted) }
-    ensures reads { S.reads source.old source.new }
-    ensures cause { HasWalkCause (S.faults source.old) (S.faults source.new) result }
-{
-    let mut judge = LengthJudge { lengths, lines };
-    walk(alloc, source, &mut judge, label, table)?;
-    Ok(judge.lines)
 }

@@ -4,14 +4,11 @@ ghost use Rattle.std.specs.Prelude.{◌≡◌, ◌++◌, ◌∷◌, [], length, 
 ghost use Rattle.fv_codec.specs.Blocks.{IsLabel, IsSnapRecord};
 ghost use Rattle.fv_image.specs.Views.{head_of};
 ghost use Rattle.fv_image.specs.Seen.{roots_of};
-ghost use Rattle.fv_walk.specs.Causes.{HasWalkCause};
 ghost use Rattle.fv_second_pass.specs.Reaching.{roots_if};
-ghost use Rattle.fv_third_pass.specs.TwinJudges.{Twins};
-ghost use Rattle.fv_third_pass.specs.Volumes.{AreFew, root_of, shown};
+ghost use Rattle.fv_third_pass.specs.Volumes.{AreFew, root_of};
 
-use crate::twins::IdJudge;
 use fv_codec::{Label, SnapRecord};
-use fv_walk::{Source, Table, WalkFault, walk};
+use fv_walk::Table;
 use std::alloc::{AllocError, Global};
 
 /// A root of a volume.
@@ -71,23 +68,4 @@ pub fn roots_of(alloc: Global, label: &Label) -> Result<Vec<MapRoot>, AllocError
         add_root(&mut roots, slot + 1, &label.snapshots[usize::from(slot)])?;
     }
     Ok(roots)
-}
-
-/// Shows a judge of ids the pointers of several tables, whose roots stand in the label at a place.
-pub(crate) fn show_roots<S: Source>(
-    alloc: Global,
-    source: &mut S,
-    judge: &mut IdJudge,
-    label: u64,
-    roots: &[MapRoot],
-) -> Result<(), WalkFault>
-    requires { AreFew roots.now }
-    ensures saw { S.fits source.old → OnOk result (Twins judge.old (shown (S.volume source.old) label roots.now) judge.new) }
-    ensures reads { S.reads source.old source.new }
-    ensures cause { HasWalkCause (S.faults source.old) (S.faults source.new) result }
-{
-    for k in 0..roots.len() {
-        walk(alloc, source, judge, label, &roots[k].table)?;
-    }
-    Ok(())
 }

@@ -38,8 +38,8 @@ use fv_second_pass::Reached;
 use fv_walk::WalkFault;
 use std::alloc::Global;
 
-/// The label of a slot, where it has one with its shape.
-fn label_of(known: &Known, slot: u8) -> Option<&Label>
+/// The label of a slot, where it has one with its shape. Costs one step.
+pub fn label_of(known: &Known, slot: u8) -> Option<&Label>
     requires { IsKnown known.now }
     ensures label { option_map (λ label. label.now) result ≡ label_of (get_or known.now.labels.items slot None) }
     ensures range { IfSome result (λ label. IsLabel label.now × (length label.now.snapshots ≡ 24)) }
@@ -54,8 +54,8 @@ fn label_of(known: &Known, slot: u8) -> Option<&Label>
     }
 }
 
-/// The words of the entries of a slot; where there is no row, there are none.
-fn row_of(known: &Known, slot: u8) -> &[u32]
+/// The words of the entries of a slot, as the first pass reads them; where there is no row, there are none. Costs one step.
+pub fn row_of(known: &Known, slot: u8) -> &[u32]
     ensures { result.now ≡ words_of (get_or known.now.rows.items slot None) }
 {
     words_in(&known.rows, usize::from(slot))
@@ -247,8 +247,9 @@ fn note_slots<D: Disk>(
 /// (`known`) and what they told of roots (`reached`). The lines come back with those that are noted.
 ///
 /// `DiskFault` comes only where a read failed, `Memory` where memory was refused; the lines that were given are gone then. It reads each
-/// inner node of a container, each block of the maps, and four times each node and inode block that a root leads to. It takes a bit for
-/// each block, and for one volume at a time the length of each file and what it met of each pointer of its tables.
+/// inner node of a container, each block of the maps, and each node and inode block that a root leads to once, and those under the root of
+/// a base once more for each volume on it. It takes a bit for each block, and for one volume at a time what it met of each pointer of its
+/// tables.
 pub fn pass_three<D: Disk>(
     alloc: Global,
     disk: &mut D,

@@ -5,6 +5,7 @@
 
 mod below;
 mod block;
+mod both;
 mod children;
 mod fault;
 mod gather;
@@ -20,6 +21,7 @@ mod visit;
 mod visitor;
 
 pub use below::Below;
+pub use both::Both;
 pub use fault::WalkFault;
 pub use limits::Limits;
 pub use plain::walk;

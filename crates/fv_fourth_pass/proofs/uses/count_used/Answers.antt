@@ -1,14 +1,10 @@
 use Rattle.std.proofs.Common.{ℕ, ap, ◌∙◌, ◌+◌}
-use Rattle.std.specs.Prelude.{option_copied}
-use Rattle.fv_charge.specs.declared.ledger.Ledger.{Ledger}
-use Rattle.fv_charge.specs.Counted.{charge_counted}
-use Rattle.fv_fourth_pass.proofs.Charges.{used_counted}
+use Rattle.fv_image.specs.Views.{head_of}
+use Rattle.fv_image.specs.Volumes.{volume_told}
+use Rattle.fv_model.specs.Space.{charge}
 use Rattle.fv_fourth_pass.proofs.uses.count_used.Goals as goal
 
 pub returns-clause-exact : goal.returns-clause-exact
 returns-clause-exact c = λ w s sets is.
-    ap (λ (n : ℕ). n + c.args.needed)
-    (c.from.ensures
-    ∙ ap (λ (l : Ledger). l.charge) c.counted-ledger.ensures
-    ∙ ap (λ (n : ℕ). charge_counted c.args.held.now (option_copied c.args.out) n c.args.label.now.span) c.used_records.ensures.exact)
-    ∙ used_counted w s c.args.label.now c.args.held.now (option_copied c.args.out) c.args.needed c.requires.held sets is
+    ap (λ (n : ℕ). n + c.args.needed) (c.from.ensures ∙ c.count_charge.ensures w s sets)
+    ∙ ap (λ (n : ℕ). charge (volume_told w s (head_of c.args.label.now)) + n) is

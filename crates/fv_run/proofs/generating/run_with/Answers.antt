@@ -3,7 +3,7 @@ use Rattle.std.specs.Prelude.{Result, Err}
 use Rattle.fv_aggregate.proofs.Charges.{charges_for}
 use Rattle.fv_run.specs.declared.ending.Fault.{Fault}
 use Rattle.fv_run.specs.Endings.{of_opening, of_session}
-use Rattle.fv_run.specs.Generating.{Generates, TellsSummary, lines_said}
+use Rattle.fv_run.specs.Generating.{Generates, lines_said}
 use Rattle.fv_run.proofs.Generated.{generates, not_open}
 use Rattle.fv_run.proofs.Summed.{cut_open, generated_whole, point_failed}
 use Rattle.fv_run.proofs.generating.run_with.Goals as goal

@@ -35,3 +35,9 @@ returns-in-Ok-clause-generates g c = λ seed count is. record { end = Ok tt; sta
 
 pub returns-in-Err-clause-generates : goal.returns-in-Err-clause-generates
 returns-in-Err-clause-generates g c = λ seed count is. record { end = Err c.in-Err.fault; status = c.status.ensures; holds = c.in-Err.ensures.runs.generates seed count is }
+
+pub returns-in-Ok-clause-checks : goal.returns-in-Ok-clause-checks
+returns-in-Ok-clause-checks g c = λ is. record { end = Ok tt; status = refl; holds = c.in-Ok.ensures.runs.checks is }
+
+pub returns-in-Err-clause-checks : goal.returns-in-Err-clause-checks
+returns-in-Err-clause-checks g c = λ is. record { end = Err c.in-Err.fault; status = c.status.ensures; holds = c.in-Err.ensures.runs.checks is }

@@ -1,0 +1,5 @@
+mod VolumeSums
+mod Passed
+mod Counting
+mod Damaged
+mod Answered

@@ -1,0 +1,7 @@
+//! The check of an aggregate: whether it is sound, and else its fault lines (`fv_faults`).
+#![tactic(auto)]
+
+mod judging;
+mod totals;
+
+pub use judging::check;

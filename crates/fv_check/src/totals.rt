@@ -1,0 +1,69 @@
+//! How many volumes there are, and what they are charged together.
+
+ghost use Rattle.std.specs.Prelude.{◌≡◌, ◌≤◌, ◌<◌, ◌+◌, ℕ, length, OnOk, IfOk};
+ghost use Rattle.fv_disk.specs.Shown.{Image};
+ghost use Rattle.fv_image.specs.NewerRoot.{Taken};
+ghost use Rattle.fv_image.specs.Held.{layout_at};
+ghost use Rattle.fv_second_pass.specs.Told.{IsKnown};
+ghost use Rattle.fv_fourth_pass.specs.Silent.{IsSilent};
+ghost use Rattle.fv_check.specs.Judged.{AreFewTotals, AreTotals};
+
+use fv_first_pass::Known;
+use fv_fourth_pass::charge_of;
+use fv_second_pass::Reached;
+use fv_third_pass::label_of;
+use std::alloc::{AllocError, Global};
+
+/// The volumes of the first slots.
+#[derive(Clone, Copy, Debug, PartialEq, Eq)]
+pub(crate) struct Totals {
+    /// How many there are.
+    pub volumes: u32,
+    /// The sum of what they are charged, in blocks.
+    pub charged: u64,
+}
+
+/// Adds the volume of a slot, if it has one.
+fn add_slot(
+    alloc: Global,
+    known: &Known,
+    reached: &Reached,
+    slot: u8,
+    totals: &mut Totals,
+) -> Result<(), AllocError>
+    requires known { IsKnown known.now }
+    requires slot { slot < 64 }
+    requires few { AreFewTotals slot totals.old }
+    ensures few { OnOk result (AreFewTotals (slot + 1) totals.new) }
+    ensures exact { OnOk result ((t : Taken) (i : Image) → ((b : ℕ) → length (i b) ≡ 4096) → 1 ≤ t.blocks
+        → IsSilent t i known.now reached.now
+        → AreTotals (layout_at t i).view slot totals.old → AreTotals (layout_at t i).view (slot + 1) totals.new) }
+{
+    let Some(label) = label_of(known, slot) else {
+        return Ok(());
+    };
+    let charge = charge_of(alloc, reached, slot, label)?;
+    totals.charged += u64::from(charge);
+    totals.volumes += 1;
+    Ok(())
+}
+
+/// The volumes of all slots, in an aggregate in which the first three passes found nothing. The one error is want of memory.
+pub(crate) fn count_totals(
+    alloc: Global,
+    known: &Known,
+    reached: &Reached,
+) -> Result<Totals, AllocError>
+    requires { IsKnown known.now }
+    ensures { (t : Taken) (i : Image) → ((b : ℕ) → length (i b) ≡ 4096) → 1 ≤ t.blocks → IsSilent t i known.now reached.now
+        → IfOk result (AreTotals (layout_at t i).view 64) }
+{
+    let mut totals = Totals {
+        volumes: 0,
+        charged: 0,
+    };
+    for slot in 0..64u8 {
+        add_slot(alloc, known, reached, slot, &mut totals)?;
+    }
+    Ok(totals)
+}
