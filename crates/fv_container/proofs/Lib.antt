@@ -1,6 +1,9 @@
+mod Token
+mod Tests
 mod Chains
 mod Nodes
 mod Reading
+mod Entries
 pub mod Named
 pub mod Leading
 mod Trees
@@ -11,6 +14,11 @@ mod Regions
 mod Taking
 mod Flushed
 pub mod Clean
-mod Rows
+mod Loaded
+mod Puts
+mod Stored
+mod Opened
+mod Counting
+mod Marked
 mod Moving
 pub mod Laws
