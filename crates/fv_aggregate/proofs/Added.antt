@@ -29,7 +29,7 @@ use Rattle.fv_aggregate.specs.Adding.{HasRoom, IsAdded}
 use Rattle.fv_aggregate.specs.declared.fault.Fault.TheVariants.{Memory}
 use Rattle.fv_aggregate.specs.Asking.{AsksWithin}
 use Rattle.fv_aggregate.specs.Calls.{Goes, GoesFor, KeepsAsking}
-use Rattle.fv_aggregate.specs.Commands.{is_refusal}
+use Rattle.fv_aggregate.specs.Commands.{AsksNothing, is_refusal}
 use Rattle.fv_aggregate.specs.Standing.{clear_blocks, unwritten, IsWithoutFiles, StandsFor, StandsReady}
 use Rattle.fv_aggregate.proofs.Applied.{rests_for}
 use Rattle.fv_aggregate.proofs.Standing.{earlier_moments, known_still}
@@ -139,7 +139,7 @@ refused_for disk session last m name size kind r laws stands is = rests_for (Ref
 
 module _ (before : Shown) (old : Session) (mid : Shown) (session : Session) (name : List ℕ) (size : ℕ) (kind : Kind) (room : ℕ) where
   -- it was added
-  pub added_goes : Goes {T = Unit {0}} room before old mid session (Ok tt) → session.pending ≤ old.pending → session.pending + room ≤ max 256 room → (new : Session) → IsAdded session name size kind room new → new.pending ≡ session.pending + room → Goes room before old mid new (Ok Done)
+  pub added_goes : Goes {T = Unit {0}} room AsksNothing before old mid session (Ok tt) → session.pending ≤ old.pending → session.pending + room ≤ max 256 room → (new : Session) → IsAdded session name size kind room new → new.pending ≡ session.pending + room → Goes room AsksNothing before old mid new (Ok Done)
   added_goes goes less few new added pending = record {
     ends = goes.ends;
     stands = λ fresh. stands_added session name size kind room new added mid (goes.stands goes.done.goes_on);
@@ -148,7 +148,7 @@ module _ (before : Shown) (old : Session) (mid : Shown) (session : Session) (nam
     pending = omega (arith, pending, less);
   }
 
-  pub added_asks : Goes {T = Unit {0}} room before old mid session (Ok tt) → KeepsAsking room before old mid session → session.pending + room ≤ max 256 room → (new : Session) → IsAdded session name size kind room new → new.pending ≡ session.pending + room → KeepsAsking room before old mid new
+  pub added_asks : Goes {T = Unit {0}} room AsksNothing before old mid session (Ok tt) → KeepsAsking room before old mid session → session.pending + room ≤ max 256 room → (new : Session) → IsAdded session name size kind room new → new.pending ≡ session.pending + room → KeepsAsking room before old mid new
   added_asks goes keeps few new added pending = λ tells kept asks fresh. asks_added session name size kind room new added mid kept pending few (keeps tells kept asks goes.done.goes_on)
 
   pub added_for : IsTrue mid.tells → StandsOn mid session.pool.store.pairs → (last m : Machine) → GoesFor {T = Unit {0}} before last m m mid session (Ok tt) → room ≡ overhead (span_of size 0 0) → HasRoom mid session room → (new : Session) → IsAdded session name size kind room new → new.pending ≡ session.pending + room
@@ -163,7 +163,7 @@ module _ (before : Shown) (old : Session) (mid : Shown) (session : Session) (nam
       }
 
   -- room was made, and then memory lacked for the volume
-  pub wanting_goes : Goes {T = Unit {0}} room before old mid session (Ok tt) → (old.pending + room ≤ 256 → OnlyReads before mid) → Goes {T = Reply} room before old mid session (Err Memory)
+  pub wanting_goes : Goes {T = Unit {0}} room AsksNothing before old mid session (Ok tt) → (old.pending + room ≤ 256 → OnlyReads before mid) → Goes {T = Reply} room AsksNothing before old mid session (Err Memory)
   wanting_goes goes calm = record {
     ends = goes.ends;
     stands = goes.stands;

@@ -18,7 +18,7 @@ use Rattle.fv_aggregate.specs.declared.fault.Fault.{Fault}
 use Rattle.fv_aggregate.specs.declared.session.Session.{Session}
 use Rattle.fv_aggregate.specs.Aiming.{Aims, AimsAt, IsAimed, IsAimless, IsServed, Suits}
 use Rattle.fv_aggregate.specs.Applying.{HasApplied}
-use Rattle.fv_aggregate.specs.Commands.{file_room, has_range, is_built, managed_by, room_by, snapped_by}
+use Rattle.fv_aggregate.specs.Commands.{slot_named, file_room, has_range, is_built, managed_by, room_by, snapped_by}
 use Rattle.fv_aggregate.specs.Managing.{Manages}
 use Rattle.fv_aggregate.specs.Standing.{StandsReady}
 use Rattle.fv_aggregate.proofs.Applied.{managed_or_unbuilt, no_files}
@@ -99,7 +99,7 @@ module _ {D : Type 0} (shown : D → Shown) (at : D) (laws : IsDisk (shown at)) 
   -- out of its range
   refused_far : (t : Task) (name : List ℕ) → Suits t name c → has_range c ≡ false → Refuses Range
   refused_far task.Look name asks far = look_applied c name asks d at s steps d at s steps (Ok (Refused Range)) fresh
-      (looks_done d d laws s s.pool (reads_alone d d s.pool (reads_itself d) stands.stands.cache) fresh stands c (Refused Range) refl (λ last m held. refused_allows m c Range (asked_far c name asks far m)))
+      (looks_done d d laws s s.pool (reads_alone d d s.pool (reads_itself d) stands.stands.cache) fresh stands c (slot_named s.volumes name) (Refused Range) refl (λ last m held. refused_allows m c Range (asked_far c name asks far m)))
       (record {
         range = λ far. (refl, (refl, refl));
         missing = λ near none. absurd (true≢false (sym near ∙ far));

@@ -1,5 +1,5 @@
 -- The commands as `apply` has them.
-use Rattle.std.proofs.Common.{◌≡◌, ◌≢◌, ◌==◌, ◌||◌, ◌⊎◌, inl, inr, ℕ, Bool, true, false, List, Some, None, Result, Ok, Err, true≢false, refl, sym, ap, subst, ◌∙◌, arith}
+use Rattle.std.proofs.Common.{◌≡◌, ◌≢◌, ◌<◌, ◌==◌, ◌||◌, ◌⊎◌, inl, inr, ℕ, Bool, true, false, List, Some, None, Result, Ok, Err, true≢false, refl, sym, ap, subst, ◌∙◌, arith}
 use Rattle.std.specs.Prelude.{IfOk, IsNone, if◌then◌else◌}
 use Rattle.std.specs.Option.{is_some}
 use Rattle.std.specs.FinMap as fin
@@ -20,7 +20,7 @@ use Rattle.fv_aggregate.specs.declared.fault.Fault.{Fault}
 use Rattle.fv_aggregate.specs.declared.fault.Fault.TheVariants.{Memory}
 use Rattle.fv_aggregate.specs.declared.session.Session.{Session}
 use Rattle.fv_aggregate.specs.Calls.{Goes, GoesFor, IsForWant, IsNoDamage, IsPlain, KeepsAsking}
-use Rattle.fv_aggregate.specs.Commands.{Replies, RepliesBy, volume_asked, changed_by, is_built, machine_after, managed_by, reads_files, room_by, room_with, snapped_by}
+use Rattle.fv_aggregate.specs.Commands.{asked_by, AsksNothing, AsksPoint, Replies, RepliesBy, volume_asked, changed_by, is_built, machine_after, managed_by, reads_files, room_by, room_with, snapped_by}
 use Rattle.fv_aggregate.specs.Standing.{StandsAfter, StandsFor}
 use Rattle.fv_aggregate.specs.Telling.{names_from}
 use Rattle.fv_aggregate.proofs.Standing.{rests_for_last, stays_for}
@@ -70,9 +70,9 @@ fault_plain command shown disk session f damage built memory whole snap names = 
 -- ---- vol create
 
 module _ (command : Command) (name : List ℕ) (size : ℕ) (kind : Kind) (is : command ≡ VolCreate name size kind) where
-  pub create_goes : (before : Shown) (old : Session) (after : Shown) (new : Session) (result : Result Reply Fault) → Goes (overhead (span_of size 0 0)) before old after new result → Goes (room_by old.volumes command) before old after new result
-  unfolding room_with
-  create_goes before old after new result goes = subst (λ (c : Command). Goes (room_by old.volumes c) before old after new result) (sym is) goes
+  pub create_goes : (before : Shown) (old : Session) (after : Shown) (new : Session) (result : Result Reply Fault) → Goes (overhead (span_of size 0 0)) AsksNothing before old after new result → Goes (room_by old.volumes command) (asked_by old.volumes command) before old after new result
+  unfolding room_with asked_by
+  create_goes before old after new result goes = subst (λ (c : Command). Goes (room_by old.volumes c) (asked_by old.volumes c) before old after new result) (sym is) goes
 
   pub create_goes_for : (before : Shown) (last m : Machine) (after : Shown) (new : Session) (result : Result Reply Fault) → GoesFor before last m (next m (VolCreate name size kind)) after new result → GoesFor before last m (machine_after m command) after new result
   unfolding is_built machine_after
@@ -122,10 +122,13 @@ module _ (command : Command) (name : List ℕ) (size : ℕ) (kind : Kind) (is : 
   unfolding room_with
   create_room old = ap (room_by old.volumes) is
 
--- a volume has room of its own, whatever its size
-pub some_room : (size : ℕ) → overhead (span_of size 0 0) ≡ 0 → ⊥
+-- a volume has room of its own, whatever its span
+pub own_room : (span : ℕ) → 0 < overhead span
 unfolding overhead
-some_room size none = omega (arith, none)
+own_room span = omega arith
+
+pub some_room : (size : ℕ) → overhead (span_of size 0 0) ≡ 0 → ⊥
+some_room size none = let some = own_room (span_of size 0 0) in omega (arith, some, none)
 
 -- ---- vol list
 
@@ -208,9 +211,9 @@ pub cp_no_files : (X : Type 0) (command : Command) → command ≡ Cp → reads_
 unfolding reads_files
 cp_no_files X command is files = absurd (true≢false (sym files ∙ ap reads_files is))
 
-pub cp_goes : (command : Command) → command ≡ Cp → (before : Shown) (old : Session) (after : Shown) (new : Session) (result : Result Reply Fault) → Goes 0 before old after new result → Goes (room_by old.volumes command) before old after new result
-unfolding room_with
-cp_goes command is before old after new result goes = subst (λ (c : Command). Goes (room_by old.volumes c) before old after new result) (sym is) goes
+pub cp_goes : (command : Command) → command ≡ Cp → (before : Shown) (old : Session) (after : Shown) (new : Session) (result : Result Reply Fault) → Goes 0 AsksPoint before old after new result → Goes (room_by old.volumes command) (asked_by old.volumes command) before old after new result
+unfolding room_with asked_by
+cp_goes command is before old after new result goes = subst (λ (c : Command). Goes (room_by old.volumes c) (asked_by old.volumes c) before old after new result) (sym is) goes
 
 pub cp_goes_for : (command : Command) → command ≡ Cp → (before : Shown) (last m : Machine) (after : Shown) (new : Session) (result : Result Reply Fault) → GoesFor before last m m after new result → GoesFor before last m (machine_after m command) after new result
 unfolding is_built machine_after conditions change_of

@@ -5,7 +5,7 @@ use Rattle.std.specs.FinMap as fin
 use Rattle.fv_disk.specs.Shown.{Shown, IsDisk, Rose}
 use Rattle.fv_disk.specs.declared.fault.BlockFault.TheVariants as block
 use Rattle.fv_model.specs.declared.answers.Refusal.{Refusal}
-use Rattle.fv_model.specs.declared.answers.Refusal.TheVariants.{NoVolume}
+use Rattle.fv_model.specs.declared.answers.Refusal.TheVariants.{NoSnapshot, NoVolume}
 use Rattle.fv_model.specs.declared.answers.Reply.{Reply}
 use Rattle.fv_model.specs.declared.answers.Reply.TheVariants.{Refused}
 use Rattle.fv_model.specs.declared.commands.Command.{Command}
@@ -17,7 +17,7 @@ use Rattle.fv_pool.specs.declared.fault.VolumeFault.{VolumeFault}
 use Rattle.fv_pool.specs.declared.fault.VolumeFault.TheVariants as volume
 use Rattle.fv_pool.specs.declared.pool.Pool.{Pool}
 use Rattle.fv_volume.specs.declared.state.VolumeState.{VolumeState}
-use Rattle.fv_volume.specs.Asking.{standing_read, TellsRead}
+use Rattle.fv_volume.specs.Asking.{standing_read, table_named, TellsRead}
 use Rattle.fv_pool.specs.Calls.{CallCause, CallFails, Reads, TableFails}
 use Rattle.fv_volume.specs.Calls.{Agrees, Asks, Has}
 use Rattle.fv_pool.specs.Lending.{Lent, lent_for}
@@ -33,7 +33,7 @@ use Rattle.fv_aggregate.specs.declared.fault.Fault.{Fault}
 use Rattle.fv_aggregate.specs.declared.fault.Fault.TheVariants.{DiskFault, Damaged, Memory}
 use Rattle.fv_aggregate.specs.declared.session.Session.{Session}
 use Rattle.fv_aggregate.specs.Calls.{HasDamage, WasRead}
-use Rattle.fv_aggregate.specs.Commands.{has_range, snapshot_asked, volume_asked}
+use Rattle.fv_aggregate.specs.Commands.{AsksTable, slot_named, has_range, snapshot_asked, volume_asked}
 use Rattle.fv_aggregate.specs.Looking.{AsksState, Faults, IsAsked, Looks, Replied}
 use Rattle.fv_aggregate.specs.Standing.{StandsFor, StandsReady}
 use Rattle.fv_aggregate.proofs.Holes.{kept_entries}
@@ -101,7 +101,7 @@ of_ls c name v s is asks = let of : v ≡ name = some_name v name (sym (ap volum
 
 -- ---- a session, by what it read
 
-module _ (d e : Shown) (laws : IsDisk d) (s : Session) (q : Pool) (reads : Reads d s.pool e q) (fresh : IsNone s.failed) (stands : StandsReady d s) (c : Command) where
+module _ (d e : Shown) (laws : IsDisk d) (s : Session) (q : Pool) (reads : Reads d s.pool e q) (fresh : IsNone s.failed) (stands : StandsReady d s) (c : Command) (slot : ℕ) where
   abbrev still : StandsReady e (left d e s q reads)
   still = stands_read d e s q reads stands
 
@@ -109,7 +109,7 @@ module _ (d e : Shown) (laws : IsDisk d) (s : Session) (q : Pool) (reads : Reads
   for_left last m is = stands_for_read d e s q reads last m is
 
   -- an answer that the machine has in each machine that the session may stand for
-  pub looks_done : (reply : Reply) → e.faults ≡ d.faults → ((last m : Machine) → StandsFor d s last m → Allows m c reply) → Looks d s c e (left d e s q reads) (Ok reply)
+  pub looks_done : (reply : Reply) → e.faults ≡ d.faults → ((last m : Machine) → StandsFor d s last m → Allows m c reply) → Looks slot d s c e (left d e s q reads) (Ok reply)
   looks_done reply calm allowed = record {
     goes = goes_done d e laws s (left d e s q reads) 0 reads.only_reads fresh fresh still reply calm (omega arith);
     asks = asks_read d e s q reads;
@@ -121,7 +121,7 @@ module _ (d e : Shown) (laws : IsDisk d) (s : Session) (q : Pool) (reads : Reads
     unanswered = tt;
   }
 
-  pub looks_broken : (o : Option ℕ) → Rose d.faults e.faults → (Rose e.write_faults e.write_faults → o ≡ Some e.faults) → (¬ Rose e.write_faults e.write_faults → IsNone o) → Looks d s c e (record s { pool = q; failed = o }) (Err DiskFault)
+  pub looks_broken : (o : Option ℕ) → Rose d.faults e.faults → (Rose e.write_faults e.write_faults → o ≡ Some e.faults) → (¬ Rose e.write_faults e.write_faults → IsNone o) → Looks slot d s c e (record s { pool = q; failed = o }) (Err DiskFault)
   looks_broken o rose written unwritten = record {
     goes = goes_broken d e laws s (left d e s q reads) 0 reads.only_reads fresh fresh still o rose written unwritten (omega arith);
     asks = λ tells kept asks none. let is = asks_read d e s q reads tells kept asks fresh in record { asked = is.asked; pending = is.pending };
@@ -133,7 +133,7 @@ module _ (d e : Shown) (laws : IsDisk d) (s : Session) (q : Pool) (reads : Reads
     unanswered = was_read d e s q reads;
   }
 
-  pub looks_wanting : e.faults ≡ d.faults → Looks d s c e (left d e s q reads) (Err Memory)
+  pub looks_wanting : e.faults ≡ d.faults → Looks slot d s c e (left d e s q reads) (Err Memory)
   looks_wanting calm = record {
     goes = goes_wanting d e laws s (left d e s q reads) 0 reads.only_reads fresh fresh still calm (omega arith);
     asks = asks_read d e s q reads;
@@ -145,8 +145,8 @@ module _ (d e : Shown) (laws : IsDisk d) (s : Session) (q : Pool) (reads : Reads
     unanswered = was_read d e s q reads;
   }
 
-  pub looks_damaged : (at want found : ℕ) → e.faults ≡ d.faults → HasDamage 0 d s e (left d e s q reads) at want found → (IsTrue d.tells → (last m : Machine) → StandsFor d s last m → ⊥)
-      → Looks d s c e (left d e s q reads) (Err (Damaged at want found))
+  pub looks_damaged : (at want found : ℕ) → e.faults ≡ d.faults → HasDamage 0 (AsksTable slot (snapshot_asked c)) d s e (left d e s q reads) at want found → (IsTrue d.tells → (last m : Machine) → StandsFor d s last m → ⊥)
+      → Looks slot d s c e (left d e s q reads) (Err (Damaged at want found))
   looks_damaged at want found calm damage whole = record {
     goes = goes_damaged d e laws s (left d e s q reads) 0 reads.only_reads fresh fresh still at want found calm damage (omega arith);
     asks = asks_read d e s q reads;
@@ -207,18 +207,21 @@ module _ (d e : Shown) (laws : IsDisk d) (s : Session) (q : Pool) (c : Command) 
   mine : (last m : Machine) → StandsFor d s last m → IsHeldIn d s.pool slot x
   mine last m is = one d s.pool s.volumes long last is.held slot x there
 
-  pub looks_by : (r : Result Reply VolumeFault) → AsksState d s.pool x c start e q steps r → (new : Session) (result : Result Reply Fault) → Replied e r now new result → Looks d s c e new result
-  looks_by (Ok reply) asks new result is = as_told (Looks d s c e) new now result (Ok reply) is.1 is.0 (looks_done d e laws s q asks.reads fresh stands c reply asks.cause
+  lost_damage : (at want found : ℕ) → ◌≡◌ {A = Result Reply VolumeFault} (Err (volume.Damaged at want found)) (Err (volume.Refused NoSnapshot)) → ⊥
+  lost_damage at want found is = cc
+
+  pub looks_by : (r : Result Reply VolumeFault) → (table_named x (snapshot_asked c) ≡ None → r ≡ Err (volume.Refused NoSnapshot)) → AsksState d s.pool x c start e q steps r → (new : Session) (result : Result Reply Fault) → Replied e r now new result → Looks slot d s c e new result
+  looks_by (Ok reply) lost asks new result is = as_told (Looks slot d s c e) new now result (Ok reply) is.1 is.0 (looks_done d e laws s q asks.reads fresh stands c slot reply asks.cause
       (answered_by d s long slot x there c (λ reply. reply) reply closed asks.asked))
-  looks_by (Err (volume.Refused r)) asks new result is = as_told (Looks d s c e) new now result (Ok (Refused r)) is.1 is.0 (looks_done d e laws s q asks.reads fresh stands c (Refused r) asks.cause
+  looks_by (Err (volume.Refused r)) lost asks new result is = as_told (Looks slot d s c e) new now result (Ok (Refused r)) is.1 is.0 (looks_done d e laws s q asks.reads fresh stands c slot (Refused r) asks.cause
       (refused_by d s long slot x there c (λ reply. reply) r asks.asked))
-  looks_by (Err volume.DiskFault) asks new result b = as_told (Looks d s c e) new (record now { failed = new.failed }) result (Err DiskFault) b.1.1.1.same (b.1.0 ∙ ap (λ (g : Fault). Err g) b.1.1.0)
-      (looks_broken d e laws s q asks.reads fresh stands c new.failed (rose_by _ _ _ e.faults asks.cause) b.1.1.1.written b.1.1.1.unwritten)
-  looks_by (Err (volume.Damaged at want found)) asks new result b = as_told (Looks d s c e) new now result (Err (Damaged at want found)) b.1.1.1 (b.1.0 ∙ ap (λ (g : Fault). Err g) b.1.1.0)
-      (looks_damaged d e laws s q asks.reads fresh stands c at want found (calm_damage _ _ _ e.faults at want found asks.cause) (inl (asks.reads.only_reads, inl (inr (inr (bad_read d e s fresh slot x there q asks.reads (calm_damage _ _ _ e.faults at want found asks.cause) at want found (finds_asked d s.pool x e.faults at want found (calm_damage _ _ _ e.faults at want found asks.cause) (snapshot_asked c) asks.cause))))))
+  looks_by (Err volume.DiskFault) lost asks new result b = as_told (Looks slot d s c e) new (record now { failed = new.failed }) result (Err DiskFault) b.1.1.1.same (b.1.0 ∙ ap (λ (g : Fault). Err g) b.1.1.0)
+      (looks_broken d e laws s q asks.reads fresh stands c slot new.failed (rose_by _ _ _ e.faults asks.cause) b.1.1.1.written b.1.1.1.unwritten)
+  looks_by (Err (volume.Damaged at want found)) lost asks new result b = as_told (Looks slot d s c e) new now result (Err (Damaged at want found)) b.1.1.1 (b.1.0 ∙ ap (λ (g : Fault). Err g) b.1.1.0)
+      (looks_damaged d e laws s q asks.reads fresh stands c slot at want found (calm_damage _ _ _ e.faults at want found asks.cause) (inl (asks.reads.only_reads, inl (inr (inr (bad_read d e s fresh slot x there q asks.reads (calm_damage _ _ _ e.faults at want found asks.cause) (snapshot_asked c) at want found (finds_asked d s.pool x e.faults at want found (calm_damage _ _ _ e.faults at want found asks.cause) (snapshot_asked c) (λ none. lost_damage at want found (lost none)) asks.cause))))))
       (λ tells last m is. read_undamaged d s.pool x (mine last m is).stands (mine last m is).well (snapshot_asked c) 0 e.faults at want found asks.cause))
-  looks_by (Err volume.Memory) asks new result b = as_told (Looks d s c e) new now result (Err Memory) b.1.1.1 (b.1.0 ∙ ap (λ (g : Fault). Err g) b.1.1.0)
-      (looks_wanting d e laws s q asks.reads fresh stands c (calm_memory _ _ _ e.faults asks.cause))
+  looks_by (Err volume.Memory) lost asks new result b = as_told (Looks slot d s c e) new now result (Err Memory) b.1.1.1 (b.1.0 ∙ ap (λ (g : Fault). Err g) b.1.1.0)
+      (looks_wanting d e laws s q asks.reads fresh stands c slot (calm_memory _ _ _ e.faults asks.cause))
 
   -- no step was made
   pub known_by : (r : Result Reply VolumeFault) → AsksState d s.pool x c start e q steps r → (new : Session) (result : Result Reply Fault) → Replied e r now new result
@@ -249,8 +252,8 @@ module _ (d e : Shown) (laws : IsDisk d) (v s : Session) (same : v ≡ s) (fit :
   unfailed : IsNone v.failed
   unfailed = subst (λ (n : Session). IsNone n.failed) (sym same) fresh
 
-  pub looks_lent : Looks d s c e new result
-  looks_lent = subst (λ (n : Session). Looks d n c e new result) same (looks_by d e laws v q c slot x lent start steps unfailed (subst (StandsReady d) (sym same) stands) (long_lent v s same fit fresh) (asked_closed c asked.state.name asked.asks) r asks new result as_replied)
+  pub looks_lent : (table_named x (snapshot_asked c) ≡ None → r ≡ Err (volume.Refused NoSnapshot)) → Looks slot d s c e new result
+  looks_lent lost = subst (λ (n : Session). Looks slot d n c e new result) same (looks_by d e laws v q c slot x lent start steps unfailed (subst (StandsReady d) (sym same) stands) (long_lent v s same fit fresh) (asked_closed c asked.state.name asked.asks) r lost asks new result as_replied)
 
   pub known_lent : (last m : Machine) → StandsFor d s last m → OnOk result (steps ≡ start)
   known_lent = subst (λ (n : Session). (last m : Machine) → StandsFor d n last m → OnOk result (steps ≡ start)) same
@@ -261,19 +264,19 @@ pub asks_lent : (v s : Session) → v ≡ s → (slot : ℕ) (x : VolumeState) �
 asks_lent v s same slot x lent c asked = asked.asks ∙ ap (λ (z : VolumeState). Some z.name) (same_there _ _ _ asked.there (lent_there v s same slot x lent))
 
 -- the command asks for files of the volume that its name finds
-pub asked_at : (states : States) (slot : ℕ) (name : List ℕ) (c : Command) → slot < 64 → is_named (state_at states slot) name ≡ true → volume_asked c ≡ Some name → IsAsked states slot c
-asked_at states slot name c within named asks =
+pub asked_at : (states : States) (slot : ℕ) (name : List ℕ) (c : Command) → slot < 64 → has_range c ≡ true → is_named (state_at states slot) name ≡ true → volume_asked c ≡ Some name → IsAsked states slot c
+asked_at states slot name c within near named asks =
     let of = named_there (state_at states slot) name named in
-    record { within = within; state = of.0; there = of.1.0; asks = asks ∙ ap (λ (n : List ℕ). Some n) of.1.1 }
+    record { within = within; near = near; state = of.0; there = of.1.0; asks = asks ∙ ap (λ (n : List ℕ). Some n) of.1.1 }
 
 -- a volume that isn't there is refused at once
 pub looks_missing : (d : Shown) → IsDisk d → (s : Session) → IsNone s.failed → StandsReady d s → length s.volumes ≡ 64 → (name : List ℕ) (c : Command) → volume_asked c ≡ Some name → has_range c ≡ true → NoneHasName s.volumes name
-    → Looks d s c d s (Ok (Refused NoVolume))
-looks_missing d laws s fresh stands long name c asks near none = looks_done d d laws s s.pool (reads_alone d d s.pool (reads_itself d) stands.stands.cache) fresh stands c (Refused NoVolume) refl
+    → Looks (slot_named s.volumes name) d s c d s (Ok (Refused NoVolume))
+looks_missing d laws s fresh stands long name c asks near none = looks_done d d laws s s.pool (reads_alone d d s.pool (reads_itself d) stands.stands.cache) fresh stands c (slot_named s.volumes name) (Refused NoVolume) refl
     (λ last m held. refused_allows m c NoVolume (asked_missing c name asks near m (subst (λ (k : Machine). fin.get k.volumes name ≡ None) held.machine (not_there d s.pool s.volumes long name none))))
 
 -- a session of which blocks were read is asked as before
 pub asked_read : (d : Shown) (s : Session) (e : Shown) (n : Session) (slot : ℕ) (c : Command) → WasRead d s e n → IsAsked s.volumes slot c → IsAsked n.volumes slot c
 asked_read d s e n slot c read asked =
     let one = still_there s.volumes n.volumes read.volumes slot asked.state asked.there in
-    record { within = asked.within; state = one.0; there = one.1.0; asks = asked.asks ∙ ap (λ (n : List ℕ). Some n) one.1.1 }
+    record { within = asked.within; near = asked.near; state = one.0; there = one.1.0; asks = asked.asks ∙ ap (λ (n : List ℕ). Some n) one.1.1 }

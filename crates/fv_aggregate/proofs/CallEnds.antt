@@ -13,7 +13,7 @@ use Rattle.fv_aggregate.specs.declared.fault.Fault.TheVariants.{DiskFault, Damag
 use Rattle.fv_aggregate.specs.declared.session.Session.{Session}
 use Rattle.fv_aggregate.specs.Calls.{Goes, GoesFor, HasDamage, HasFault, IsNoDamage, SameCounts}
 use Rattle.fv_aggregate.specs.Causes.{KeepsEnds}
-use Rattle.fv_aggregate.specs.Commands.{dirty_limit}
+use Rattle.fv_aggregate.specs.Commands.{dirty_limit, Asked}
 use Rattle.fv_aggregate.specs.Standing.{OneOf, StandsAfter, StandsFor, StandsReady}
 use Rattle.fv_aggregate.proofs.Damages.{damage_more}
 use Rattle.fv_aggregate.proofs.Standing.{earlier_moments, rests_for_last, stands_for_last, stays_for}
@@ -24,7 +24,7 @@ module _ (d e : Shown) (laws : IsDisk d) (s left : Session) (room : ℕ) (reads 
   ends : KeepsEnds d e
   ends = record { tells = reads.stays.tells; given = reads.given; ends = reads.ends }
 
-  pub goes_done : {T : Type 0} (x : T) → e.faults ≡ d.faults → left.pending ≤ s.pending + room → Goes room d s e left (Ok x)
+  pub goes_done : {T : Type 0} {asked : Asked} (x : T) → e.faults ≡ d.faults → left.pending ≤ s.pending + room → Goes room asked d s e left (Ok x)
   goes_done x calm few = record {
     ends = ends;
     stands = λ none. stands;
@@ -33,7 +33,7 @@ module _ (d e : Shown) (laws : IsDisk d) (s left : Session) (room : ℕ) (reads 
     pending = few;
   }
 
-  pub goes_wanting : {T : Type 0} → e.faults ≡ d.faults → left.pending ≤ s.pending + room → Goes {T = T} room d s e left (Err Memory)
+  pub goes_wanting : {T : Type 0} {asked : Asked} → e.faults ≡ d.faults → left.pending ≤ s.pending + room → Goes {T = T} room asked d s e left (Err Memory)
   goes_wanting calm few = record {
     ends = ends;
     stands = λ none. stands;
@@ -42,7 +42,7 @@ module _ (d e : Shown) (laws : IsDisk d) (s left : Session) (room : ℕ) (reads 
     pending = few;
   }
 
-  pub goes_damaged : {T : Type 0} (at want found : ℕ) → e.faults ≡ d.faults → HasDamage room d s e left at want found → left.pending ≤ s.pending + room → Goes {T = T} room d s e left (Err (Damaged at want found))
+  pub goes_damaged : {T : Type 0} {asked : Asked} (at want found : ℕ) → e.faults ≡ d.faults → HasDamage room asked d s e left at want found → left.pending ≤ s.pending + room → Goes {T = T} room asked d s e left (Err (Damaged at want found))
   goes_damaged at want found calm damage few = record {
     ends = ends;
     stands = λ none. stands;
@@ -85,7 +85,7 @@ module _ (d e : Shown) (laws : IsDisk d) (s left : Session) (room : ℕ) (reads 
     as_left : IsNone o → left ≡ broken
     as_left none = ap (λ (f : Option ℕ). record left { failed = f }) (same_none left.failed o still none)
 
-    pub goes_broken : {T : Type 0} → Rose d.faults e.faults → (Rose e.write_faults e.write_faults → o ≡ Some e.faults) → (¬ Rose e.write_faults e.write_faults → IsNone o) → left.pending ≤ s.pending + room → Goes {T = T} room d s e broken (Err DiskFault)
+    pub goes_broken : {T : Type 0} {asked : Asked} → Rose d.faults e.faults → (Rose e.write_faults e.write_faults → o ≡ Some e.faults) → (¬ Rose e.write_faults e.write_faults → IsNone o) → left.pending ≤ s.pending + room → Goes {T = T} room asked d s e broken (Err DiskFault)
     goes_broken rose written unwritten few = record {
       ends = ends;
       stands = λ none. subst (StandsReady e) (as_left none) stands;
@@ -113,29 +113,29 @@ module _ (d e : Shown) (laws : IsDisk d) (s left : Session) (room : ℕ) (reads 
 -- ---- one call after another
 
 -- a call may add more
-wider : (room : ℕ) (d : Shown) (s : Session) (e : Shown) (n : Session) (f : Fault) → HasFault 0 d s e n f → HasFault room d s e n f
-wider room d s e n DiskFault row = row
-wider room d s e n (Damaged at want found) row = record {
-  reason = damage_more 0 room (omega arith) d s e n at want found row.reason;
+wider : (asked : Asked) (room : ℕ) (d : Shown) (s : Session) (e : Shown) (n : Session) (f : Fault) → HasFault 0 asked d s e n f → HasFault room asked d s e n f
+wider asked room d s e n DiskFault row = row
+wider asked room d s e n (Damaged at want found) row = record {
+  reason = damage_more asked 0 room (omega arith) d s e n at want found row.reason;
   counts = row.counts;
   session = row.session;
   disk = ⊎_elim (λ read. inl read) (λ past. inr (omega (arith, past))) row.disk;
 }
-wider room d s e n Memory row = record {
+wider asked room d s e n Memory row = record {
   reason = row.reason;
   counts = row.counts;
   session = row.session;
   disk = ⊎_elim (λ read. inl read) (λ past. inr (omega (arith, past))) row.disk;
 }
-wider room d s e n (Failed faults) row = row
+wider asked room d s e n (Failed faults) row = row
 
-pub goes_wider : {T U : Type 0} (room : ℕ) (d : Shown) (s : Session) (e : Shown) (n : Session) (f : Fault) → Goes {T = T} 0 d s e n (Err f) → Goes {T = U} room d s e n (Err f)
-goes_wider room d s e n f goes = record { ends = goes.ends; stands = goes.stands; done = tt; fault = wider room d s e n f goes.fault; pending = omega (arith, goes.pending) }
+pub goes_wider : {T U : Type 0} (asked : Asked) (room : ℕ) (d : Shown) (s : Session) (e : Shown) (n : Session) (f : Fault) → Goes {T = T} 0 asked d s e n (Err f) → Goes {T = U} room asked d s e n (Err f)
+goes_wider asked room d s e n f goes = record { ends = goes.ends; stands = goes.stands; done = tt; fault = wider asked room d s e n f goes.fault; pending = omega (arith, goes.pending) }
 
-pub replies_wider : {T U : Type 0} (x : T) (y : U) (room : ℕ) (d : Shown) (s : Session) (e : Shown) (n : Session) → Goes 0 d s e n (Ok x) → Goes room d s e n (Ok y)
+pub replies_wider : {T U : Type 0} {asked : Asked} (x : T) (y : U) (room : ℕ) (d : Shown) (s : Session) (e : Shown) (n : Session) → Goes 0 asked d s e n (Ok x) → Goes room asked d s e n (Ok y)
 replies_wider x y room d s e n goes = record { ends = goes.ends; stands = goes.stands; done = goes.done; fault = tt; pending = omega (arith, goes.pending) }
 
-module _ {T : Type 0} (x : T) (first second : ℕ) (d : Shown) (s : Session) (e : Shown) (n : Session) (goes : Goes first d s e n (Ok x)) (less : n.pending ≤ s.pending) where
+module _ {T : Type 0} {earlier : Asked} (x : T) (first second : ℕ) (d : Shown) (s : Session) (e : Shown) (n : Session) (goes : Goes first earlier d s e n (Ok x)) (less : n.pending ≤ s.pending) where
   counts_on : (g : Shown) → SameCounts e g → SameCounts d g
   counts_on g counts = record { faults = counts.faults ∙ goes.done.counts.faults; write_faults = counts.write_faults ∙ goes.done.counts.write_faults }
 
@@ -144,11 +144,11 @@ module _ {T : Type 0} (x : T) (first second : ℕ) (d : Shown) (s : Session) (e 
   CanWrite before old after = OnlyReads before after ⊎ (dirty_limit < old.pending + second)
 
   -- what is damaged in a call that comes after, where it ends so, is damaged for both
-  abbrev pub DamagesBoth : {U : Type 0} → Shown → Session → Result U Fault → Type 0
-  DamagesBoth g new r = (at want found : ℕ) → r ≡ Err (Damaged at want found) → HasDamage second e n g new at want found → HasDamage second d s g new at want found
+  abbrev pub DamagesBoth : {U : Type 0} → Asked → Asked → Shown → Session → Result U Fault → Type 0
+  DamagesBoth part asked g new r = (at want found : ℕ) → r ≡ Err (Damaged at want found) → HasDamage second part e n g new at want found → HasDamage second asked d s g new at want found
 
-  faults_on : (U : Type 0) (g : Shown) (new : Session) (f : Fault) → (CanWrite e n g → CanWrite d s g) → DamagesBoth {U = U} g new (Err f) → HasFault second e n g new f → HasFault second d s g new f
-  faults_on U g new DiskFault written damage row =
+  faults_on : (U : Type 0) (part asked : Asked) (g : Shown) (new : Session) (f : Fault) → (CanWrite e n g → CanWrite d s g) → DamagesBoth {U = U} part asked g new (Err f) → HasFault second part e n g new f → HasFault second asked d s g new f
+  faults_on U part asked g new DiskFault written damage row =
       let same = goes.done.counts in
       record {
         reason = goes.done.was;
@@ -162,9 +162,9 @@ module _ {T : Type 0} (x : T) (first second : ℕ) (d : Shown) (s : Session) (e 
         };
         disk = tt;
       }
-  faults_on U g new (Damaged at want found) written damage row = record { reason = damage at want found refl row.reason; counts = counts_on g row.counts; session = row.session; disk = written row.disk }
-  faults_on U g new Memory written damage row = record { reason = goes.done.was; counts = counts_on g row.counts; session = row.session; disk = written row.disk }
-  faults_on U g new (Failed faults) written damage row = absurd (both n.failed goes.done.goes_on row.reason)
+  faults_on U part asked g new (Damaged at want found) written damage row = record { reason = damage at want found refl row.reason; counts = counts_on g row.counts; session = row.session; disk = written row.disk }
+  faults_on U part asked g new Memory written damage row = record { reason = goes.done.was; counts = counts_on g row.counts; session = row.session; disk = written row.disk }
+  faults_on U part asked g new (Failed faults) written damage row = absurd (both n.failed goes.done.goes_on row.reason)
     where
       both : (o : Option ℕ) → IsNone o → o ≡ Some faults → ⊥
       both o none some = cc
@@ -173,29 +173,29 @@ module _ {T : Type 0} (x : T) (first second : ℕ) (d : Shown) (s : Session) (e 
   ends_on g ends = record { tells = ends.tells ∙ goes.ends.tells; given = ends.given ∙ goes.ends.given; ends = ends.ends ∙ goes.ends.ends }
 
   -- A call that comes after one that added nothing.
-  goes_both : {U : Type 0} (g : Shown) (new : Session) (r : Result U Fault) → (CanWrite e n g → CanWrite d s g) → DamagesBoth g new r → Goes second e n g new r → Goes second d s g new r
-  goes_both g new (Ok y) written damage next = record {
+  goes_both : {U : Type 0} (part asked : Asked) (g : Shown) (new : Session) (r : Result U Fault) → (CanWrite e n g → CanWrite d s g) → DamagesBoth part asked g new r → Goes second part e n g new r → Goes second asked d s g new r
+  goes_both part asked g new (Ok y) written damage next = record {
     ends = ends_on g next.ends;
     stands = next.stands;
     done = record { was = goes.done.was; goes_on = next.done.goes_on; counts = counts_on g next.done.counts };
     fault = tt;
     pending = omega (arith, less, next.pending);
   }
-  goes_both g new (Err f) written damage next = record {
+  goes_both part asked g new (Err f) written damage next = record {
     ends = ends_on g next.ends;
     stands = next.stands;
     done = tt;
-    fault = faults_on _ g new f written damage next.fault;
+    fault = faults_on _ part asked g new f written damage next.fault;
     pending = omega (arith, less, next.pending);
   }
 
   -- so it is with room that passes the dirty limit
-  pub goes_after : {U : Type 0} (g : Shown) (new : Session) (r : Result U Fault) → dirty_limit < s.pending + second → DamagesBoth g new r → Goes second e n g new r → Goes second d s g new r
-  goes_after g new r past damage next = goes_both g new r (λ _. inr past) damage next
+  pub goes_after : {U : Type 0} (part asked : Asked) (g : Shown) (new : Session) (r : Result U Fault) → dirty_limit < s.pending + second → DamagesBoth part asked g new r → Goes second part e n g new r → Goes second asked d s g new r
+  goes_after part asked g new r past damage next = goes_both part asked g new r (λ _. inr past) damage next
 
   -- and after one that only read
-  pub goes_on_read : {U : Type 0} (g : Shown) (new : Session) (r : Result U Fault) → OnlyReads d e → n.pending ≡ s.pending → DamagesBoth g new r → Goes second e n g new r → Goes second d s g new r
-  goes_on_read g new r reads same damage next = goes_both g new r (λ w. ⊎_elim (λ (read : OnlyReads e g). inl (reads_then d e g reads read)) (λ past. inr (omega (arith, past, same))) w) damage next
+  pub goes_on_read : {U : Type 0} (part asked : Asked) (g : Shown) (new : Session) (r : Result U Fault) → OnlyReads d e → n.pending ≡ s.pending → DamagesBoth part asked g new r → Goes second part e n g new r → Goes second asked d s g new r
+  goes_on_read part asked g new r reads same damage next = goes_both part asked g new r (λ w. ⊎_elim (λ (read : OnlyReads e g). inl (reads_then d e g reads read)) (λ past. inr (omega (arith, past, same))) w) damage next
 
 -- ---- for the machines that the session stands for
 

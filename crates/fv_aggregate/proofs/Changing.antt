@@ -14,7 +14,7 @@ use Rattle.fv_model.specs.Refusals.{next, refusal}
 use Rattle.fv_model.specs.Replies.{answer, is_open, Allows, AllowsBy, IsAnswer}
 use Rattle.fv_volume.specs.Changing.{IsChangeOf}
 use Rattle.fv_volume.specs.States.{States}
-use Rattle.fv_aggregate.specs.Commands.{volume_asked, changed_by, is_built, machine_after, reads_files, room_by, room_with, Replies, RepliesBy}
+use Rattle.fv_aggregate.specs.Commands.{asked_by, AsksTable, slot_named, snapshot_asked, volume_asked, changed_by, is_built, machine_after, reads_files, room_by, room_with, Replies, RepliesBy}
 use Rattle.fv_aggregate.specs.Looking.{refusal_in, Judges}
 use Rattle.fv_aggregate.proofs.Asked.{answer_allows}
 use Rattle.fv_aggregate.proofs.Missing.{asked_cases}
@@ -82,6 +82,11 @@ module _ (c : Command) (name : List ℕ) (asks : volume_asked c ≡ Some name) w
   unfolding is_built
   look_built = asked_cases (λ (k : Command). is_built k ≡ true) name (λ s f i. refl) (λ s f. refl) (λ s. refl) c asks
 
+  -- each asks for the table that it names
+  pub look_asked : (states : States) → asked_by states c ≡ AsksTable (slot_named states name) (snapshot_asked c)
+  unfolding asked_by
+  look_asked states = asked_cases (λ (k : Command). asked_by states k ≡ AsksTable (slot_named states name) (snapshot_asked k)) name (λ s f i. refl) (λ s f. refl) (λ s. refl) c asks
+
   pub look_reads : reads_files c ≡ true
   unfolding reads_files
   look_reads = asked_cases (λ (k : Command). reads_files k ≡ true) name (λ s f i. refl) (λ s f. refl) (λ s. refl) c asks
@@ -118,6 +123,15 @@ change_of_volume name (Put v f i block) is = same_some v name is
 change_of_volume name (Cut v f length) is = same_some v name is
 change_of_volume name (Remove v f) is = same_some v name is
 change_of_volume name c is = absurd (nothing is)
+
+-- it asks for the active table of its volume
+pub change_asked : (name : List ℕ) (c : Command) → changed_by c ≡ Some name → (states : States) → asked_by states c ≡ AsksTable (slot_named states name) None
+unfolding asked_by
+change_asked name c of states = change_cases (λ (k : Command). changed_by k ≡ Some name → asked_by states k ≡ AsksTable (slot_named states name) None)
+    (λ v f is. at v is) (λ v f i block is. at v is) (λ v f length is. at v is) (λ v f is. at v is) name c (change_of_volume name c of) of
+  where
+    at : (v : List ℕ) → ◌≡◌ {A = Option (List ℕ)} (Some v) (Some name) → AsksTable (slot_named states v) None ≡ AsksTable (slot_named states name) None
+    at v is = ap (λ (n : List ℕ). AsksTable (slot_named states n) None) (same_some v name is)
 
 -- what is judged is refused with the refusal that the reply is
 pub judged_refusal : (reply : Reply) (r : Refusal) → refusal_in reply ≡ Some r → reply ≡ Refused r

@@ -1,5 +1,5 @@
 -- What is damaged in a call of a session, by the steps that it is made of.
-use Rattle.std.proofs.Common.{◌≡◌, ◌<◌, ◌≤◌, ◌+◌, ℕ, List, Option, Some, None, Err, inl, inr, refl, sym, ap, subst, ◌∙◌, length, arith, get_or-set_same}
+use Rattle.std.proofs.Common.{◌≡◌, ◌≤◌, ℕ, List, Option, Some, None, Err, inl, inr, refl, sym, ap, subst, ◌∙◌, length, arith, get_or-set_same}
 use Rattle.std.specs.Prelude.{unwrap_or, IsNone, IsSome, IsTrue}
 use Rattle.std.specs.Option.{option_map}
 use Rattle.fv_disk.specs.Shown.{Shown}
@@ -15,24 +15,24 @@ use Rattle.fv_pool.proofs.CallCauses.{cause_for}
 use Rattle.fv_volume.specs.declared.state.VolumeState.{VolumeState}
 use Rattle.fv_volume.specs.declared.tables.TableAsked.{TableAsked}
 use Rattle.fv_volume.specs.declared.tables.TableAsked.TheVariants.{Active}
-use Rattle.fv_volume.specs.Asking.{standing_of, standing_read, table_named, IsTableOf, TellsActive, TellsAsked, TellsRead}
+use Rattle.fv_volume.specs.Asking.{standing_of, standing_read, table_named, TellsActive, TellsAsked, TellsRead}
 use Rattle.fv_volume.specs.Held.{MayFail}
 use Rattle.fv_volume.specs.OneVolume.{home_in, standing_for}
 use Rattle.fv_volume.specs.States.{state_at, with_state}
 use Rattle.fv_volumes.proofs.Told.{is_inside}
 use Rattle.fv_aggregate.specs.declared.session.Session.{Session}
 use Rattle.fv_aggregate.specs.Adding.{IsPointed}
-use Rattle.fv_aggregate.specs.Commands.{dirty_limit}
+use Rattle.fv_aggregate.specs.Commands.{Asked, AsksNothing, AsksPlacing, AsksPoint, AsksTable}
 use Rattle.fv_aggregate.specs.Asking.{AsksWithin}
-use Rattle.fv_aggregate.specs.Damages.{HasBadTable, HasDamage, HasFilesToPlace, HasReadFor, LacksBlocks}
+use Rattle.fv_aggregate.specs.Damages.{ComesToPlace, ComesToPoint, HasBadTable, HasDamage, HasDamageIn, HasFilesToPlace, HasReadFor, LacksBlocks, PassesLimit}
 use Rattle.fv_aggregate.specs.Reading.{IsAsRead, WasRead}
 
 -- ---- a table of a volume
 
--- What a call on a volume found of a table of it, over what it was told.
-pub record FindsBad (d : Shown) (p : Pool) (x : VolumeState) (at want found : ℕ) : Type 0 where
+-- What a call on a volume found of the table that it asks for, over what it was told.
+pub record FindsBad (d : Shown) (p : Pool) (x : VolumeState) (snapshot : Option (List ℕ)) (at want found : ℕ) : Type 0 where
   pub table : TableAsked
-  pub of_volume : IsTableOf x table
+  pub named : table_named x snapshot ≡ Some table
   pub fails : TableFails (TellsAsked d p x table) (standing_of d p x table) (lent_for p x.map d 0 (home_in x) 0) d.faults (block.Damaged at want found)
 
 module _ (d : Shown) (p : Pool) (x : VolumeState) (faults at want found : ℕ) (calm : faults ≡ d.faults) where
@@ -44,16 +44,16 @@ module _ (d : Shown) (p : Pool) (x : VolumeState) (faults at want found : ℕ) (
   counted told t fails = subst (λ (n : ℕ). TableFails told t its n (block.Damaged at want found)) calm fails
 
   -- of the active one
-  pub finds_active : TableFails (TellsActive d p x) (standing_for d p x) its faults (block.Damaged at want found) → FindsBad d p x at want found
-  finds_active fails = record { table = Active; of_volume = (None, refl); fails = counted (TellsActive d p x) (standing_for d p x) fails }
+  pub finds_active : TableFails (TellsActive d p x) (standing_for d p x) its faults (block.Damaged at want found) → FindsBad d p x None at want found
+  finds_active fails = record { table = Active; named = refl; fails = counted (TellsActive d p x) (standing_for d p x) fails }
 
-  -- of the one that is asked
-  pub finds_asked : (s : Option (List ℕ)) → TableFails (TellsRead d p x s) (standing_read d p x s) its faults (block.Damaged at want found) → FindsBad d p x at want found
-  finds_asked s fails = by (table_named x s) refl fails
+  -- of the one that is asked, which is there
+  pub finds_asked : (s : Option (List ℕ)) → (table_named x s ≡ None → ⊥) → TableFails (TellsRead d p x s) (standing_read d p x s) its faults (block.Damaged at want found) → FindsBad d p x s at want found
+  finds_asked s there fails = by (table_named x s) refl fails
     where
-      by : (o : Option TableAsked) → table_named x s ≡ o → TableFails (TellsAsked d p x (unwrap_or o Active)) (unwrap_or (option_map (standing_of d p x) o) (standing_for d p x)) its faults (block.Damaged at want found) → FindsBad d p x at want found
-      by None named fails = finds_active fails
-      by (Some t) named fails = record { table = t; of_volume = (s, named); fails = counted (TellsAsked d p x t) (standing_of d p x t) fails }
+      by : (o : Option TableAsked) → table_named x s ≡ o → TableFails (TellsAsked d p x (unwrap_or o Active)) (unwrap_or (option_map (standing_of d p x) o) (standing_for d p x)) its faults (block.Damaged at want found) → FindsBad d p x s at want found
+      by None named fails = absurd (there named)
+      by (Some t) named fails = record { table = t; named = named; fails = counted (TellsAsked d p x t) (standing_of d p x t) fails }
 
 -- ---- over a disk that shows as much
 
@@ -75,10 +75,10 @@ module _ (d e : Shown) (tells : e.tells ≡ d.tells) (reads : e.reads ≡ d.read
     fails_like t at want found (inr (inl bad)) = inr (inl (record { calm = bad.calm; damage = bad.damage }))
     fails_like t at want found (inr (inr file)) = inr (inr (record { tree = file.tree; of_file = file.of_file; fails = file.fails }))
 
-    pub finds_after : (at want found : ℕ) → FindsBad d p x at want found → FindsBad e p x at want found
-    finds_after at want found finds = record {
+    pub finds_after : (snapshot : Option (List ℕ)) (at want found : ℕ) → FindsBad d p x snapshot at want found → FindsBad e p x snapshot at want found
+    finds_after snapshot at want found finds = record {
       table = finds.table;
-      of_volume = finds.of_volume;
+      named = finds.named;
       fails = fails_like finds.table at want found (cause_for (TellsAsked e p x finds.table) (TellsAsked like p x finds.table) (asked_like finds.table) (lent_for p x.map like 0 (home_in x) 0) like.faults {T = Unit {0}}
           (standing_of like p x finds.table) (standing_of like p x finds.table) (Err (block.Damaged at want found)) refl
           (subst (λ (k : Shown). TableFails (TellsAsked k p x finds.table) (standing_of k p x finds.table) (lent_for p x.map k 0 (home_in x) 0) k.faults (block.Damaged at want found)) like_is finds.fails));
@@ -117,19 +117,21 @@ module _ (d e : Shown) (tells : e.tells ≡ d.tells) (reads : e.reads ≡ d.read
 pub keeps_map : (m : Volume) → GivesUp m m
 keeps_map m = record { span = refl; snapshots = λ s other. refl; numbers = omega arith }
 
-module _ (d e : Shown) (s : Session) (fresh : IsNone s.failed) (slot : ℕ) (x : VolumeState) (there : state_at s.volumes slot ≡ Some x) (q : Pool) (reads : Reads d s.pool e q) (calm : e.faults ≡ d.faults) (at want found : ℕ) (finds : FindsBad d s.pool x at want found) where
-  now_found : FindsBad e s.pool x at want found
-  now_found = finds_after d e reads.only_reads.stays.tells reads.only_reads.stays.reads calm s.pool x at want found finds
+module _ (d e : Shown) (s : Session) (fresh : IsNone s.failed) (slot : ℕ) (x : VolumeState) (there : state_at s.volumes slot ≡ Some x) (q : Pool) (reads : Reads d s.pool e q) (calm : e.faults ≡ d.faults) (snapshot : Option (List ℕ)) (at want found : ℕ) (finds : FindsBad d s.pool x snapshot at want found) where
+  now_found : FindsBad e s.pool x snapshot at want found
+  now_found = finds_after d e reads.only_reads.stays.tells reads.only_reads.stays.reads calm s.pool x snapshot at want found finds
 
   -- the volume is as it was
-  pub bad_read : HasBadTable e s (record s { pool = q }) at want found
+  pub bad_read : HasBadTable (AsksTable slot snapshot) e s (record s { pool = q }) at want found
   bad_read = record {
     fresh = fresh;
     slot = slot;
+    snapshot = snapshot;
+    asks = refl;
     state = x;
     there = there;
     table = now_found.table;
-    of_volume = now_found.of_volume;
+    named = now_found.named;
     fails = now_found.fails;
     pool = reads.leaves;
     now = x;
@@ -140,14 +142,16 @@ module _ (d e : Shown) (s : Session) (fresh : IsNone s.failed) (slot : ℕ) (x :
 
   -- its files may have changed in memory
   pub bad_changed : length s.volumes ≡ 64 → (y : VolumeState) → y ≡ record x { map = y.map; files = y.files; changed = y.changed } → GivesUp x.map y.map → (pending : ℕ)
-      → HasBadTable e s (record s { volumes = with_state s.volumes slot (Some y); pool = q; pending = pending }) at want found
+      → HasBadTable (AsksTable slot snapshot) e s (record s { volumes = with_state s.volumes slot (Some y); pool = q; pending = pending }) at want found
   bad_changed long y same maps pending = record {
     fresh = fresh;
     slot = slot;
+    snapshot = snapshot;
+    asks = refl;
     state = x;
     there = there;
     table = now_found.table;
-    of_volume = now_found.of_volume;
+    named = now_found.named;
     fails = now_found.fails;
     pool = reads.leaves;
     now = y;
@@ -158,10 +162,66 @@ module _ (d e : Shown) (s : Session) (fresh : IsNone s.failed) (slot : ℕ) (x :
 
 -- ---- in a call
 
+point_table : (slot : ℕ) (snapshot : Option (List ℕ)) → AsksPoint ≡ AsksTable slot snapshot → ⊥
+point_table slot snapshot e = cc
+
+nothing_table : (slot : ℕ) (snapshot : Option (List ℕ)) → AsksNothing ≡ AsksTable slot snapshot → ⊥
+nothing_table slot snapshot e = cc
+
+nothing_point : AsksNothing ≡ AsksPoint → ⊥
+nothing_point e = cc
+
+nothing_placing : (slot : ℕ) → AsksNothing ≡ AsksPlacing slot → ⊥
+nothing_placing slot e = cc
+
 -- one that may add more
-pub damage_more : (least room : ℕ) → least ≤ room → (before : Shown) (old : Session) (after : Shown) (new : Session) (at want found : ℕ) → HasDamage least before old after new at want found → HasDamage room before old after new at want found
-damage_more least room le before old after new at want found (inl unwritten) = inl unwritten
-damage_more least room le before old after new at want found (inr behind) = inr ((let past = behind.0 in omega (arith, past, le)), behind.1)
+module _ (asked : Asked) (least room : ℕ) (le : least ≤ room) where
+  passes_more : (pending : ℕ) → PassesLimit pending least → PassesLimit pending room
+  passes_more pending past = (omega (arith, past.0, le), omega (arith, past.1, le))
+
+  point_more : (s : Session) → ComesToPoint least asked s → ComesToPoint room asked s
+  point_more s (inl is) = inl is
+  point_more s (inr past) = inr (passes_more s.pending past)
+
+  place_more : (s : Session) (slot : ℕ) → ComesToPlace least asked s slot → ComesToPlace room asked s slot
+  place_more s slot (inl is) = inl is
+  place_more s slot (inr point) = inr (point_more s point)
+
+  in_more : (d : Shown) (s new : Session) (at want found : ℕ) → HasDamageIn least asked d s new at want found → HasDamageIn room asked d s new at want found
+  in_more d s new at want found (inl lacks) = inl (point_more s lacks.0, lacks.1)
+  in_more d s new at want found (inr (inl placed)) = inr (inl (record { files = placed.files; comes = place_more s placed.files.slot placed.comes }))
+  in_more d s new at want found (inr (inr bad)) = inr (inr bad)
+
+  pub damage_more : (before : Shown) (old : Session) (after : Shown) (new : Session) (at want found : ℕ) → HasDamage least asked before old after new at want found → HasDamage room asked before old after new at want found
+  damage_more before old after new at want found (inl (reads, inl now)) = inl (reads, inl (in_more after old new at want found now))
+  damage_more before old after new at want found (inl (reads, inr later)) = inl (reads, inr (record { session = later.session; read = later.read; damage = in_more after later.session new at want found later.damage }))
+  damage_more before old after new at want found (inr (past, behind)) = inr (passes_more old.pending past, behind)
+
+-- a call that asks for no table is part of one that comes to a point where this does
+module _ (part asked : Asked) (least room : ℕ) (old : Session) (none : (slot : ℕ) (snapshot : Option (List ℕ)) → part ≡ AsksTable slot snapshot → ⊥) (point : ComesToPoint least part old → ComesToPoint room asked old)
+    (place : (slot : ℕ) → ComesToPlace least part old slot → ComesToPlace room asked old slot) where
+  damage_part : (before after : Shown) (new : Session) (at want found : ℕ) → HasDamage least part before old after new at want found → HasDamage room asked before old after new at want found
+  damage_part before after new at want found (inl (reads, inl (inl lacks))) = inl (reads, inl (inl (point lacks.0, lacks.1)))
+  damage_part before after new at want found (inl (reads, inl (inr (inl placed)))) = inl (reads, inl (inr (inl (record { files = placed.files; comes = place placed.files.slot placed.comes }))))
+  damage_part before after new at want found (inl (reads, inl (inr (inr bad)))) = absurd (none bad.slot bad.snapshot bad.asks)
+  damage_part before after new at want found (inl (reads, inr later)) = absurd (none later.read.slot later.read.snapshot later.read.asks)
+  damage_part before after new at want found (inr (past, behind)) = absurd (none behind.read.slot behind.read.snapshot behind.read.asks)
+
+-- a point that makes room for a call
+pub damage_point : (asked : Asked) (room : ℕ) (old : Session) → PassesLimit old.pending room → (before after : Shown) (new : Session) (at want found : ℕ) → HasDamage 0 AsksPoint before old after new at want found → HasDamage room asked before old after new at want found
+damage_point asked room old past before after new at want found is = damage_part AsksPoint asked 0 room old point_table (λ comes. inr past) (λ slot comes. inr (inr past)) before after new at want found is
+
+-- room that is made for a call, whatever this asks for
+pub damage_room : (asked : Asked) (room : ℕ) (old : Session) (before after : Shown) (new : Session) (at want found : ℕ) → HasDamage room AsksNothing before old after new at want found → HasDamage room asked before old after new at want found
+damage_room asked room old before after new at want found is = damage_part AsksNothing asked room room old nothing_table comes_still places_still before after new at want found is
+  where
+    comes_still : ComesToPoint room AsksNothing old → ComesToPoint room asked old
+    comes_still (inl is) = absurd (nothing_point is)
+    comes_still (inr past) = inr past
+
+    places_still : (slot : ℕ) → ComesToPlace room AsksNothing old slot → ComesToPlace room asked old slot
+    places_still slot (inl is) = absurd (nothing_placing slot is)
+    places_still slot (inr point) = inr (comes_still point)
 
 -- blocks were read, and then again
 pub as_read_then : (s n p : Session) → IsAsRead s n → IsAsRead n p → IsAsRead s p
@@ -180,20 +240,26 @@ read_then d s e n g p first second =
     record { only_reads = reads_then d e g first.only_reads second.only_reads; pool = both.pool; volumes = both.volumes; same = both.same }
 
 -- a command on the volume of a slot that read blocks first
-module _ (d : Shown) (s : Session) (fresh : IsNone s.failed) (slot : ℕ) (there : IsSome (state_at s.volumes slot)) (e : Shown) (n : Session) (read : WasRead d s e n) (room : ℕ) (g : Shown) (new : Session) (at want found : ℕ) where
-  read_for : HasReadFor s n
-  read_for = record { fresh = fresh; slot = slot; there = there; read = as_read d s e n read }
+module _ (d : Shown) (s : Session) (fresh : IsNone s.failed) (slot : ℕ) (snapshot : Option (List ℕ)) (there : IsSome (state_at s.volumes slot)) (e : Shown) (n : Session) (read : WasRead d s e n) (room : ℕ) (g : Shown) (new : Session) (at want found : ℕ) where
+  abbrev asked : Asked
+  asked = AsksTable slot snapshot
 
-  both_for : (k : Session) → HasReadFor n k → HasReadFor s k
-  both_for k second = record { fresh = fresh; slot = slot; there = there; read = as_read_then s n k (as_read d s e n read) second.read }
+  read_for : HasReadFor asked s n
+  read_for = record { fresh = fresh; slot = slot; snapshot = snapshot; asks = refl; there = there; read = as_read d s e n read }
 
-  pub damage_read : HasDamage room e n g new at want found → HasDamage room d s g new at want found
+  both_for : (k : Session) → HasReadFor asked n k → HasReadFor asked s k
+  both_for k second = record { fresh = fresh; slot = slot; snapshot = snapshot; asks = refl; there = there; read = as_read_then s n k (as_read d s e n read) second.read }
+
+  same_pending : n.pending ≡ s.pending
+  same_pending = ap (λ (k : Session). k.pending) read.same
+
+  pub damage_read : HasDamage room asked e n g new at want found → HasDamage room asked d s g new at want found
   damage_read (inl (reads, inl now)) = inl (reads_then d e g read.only_reads reads, inr (record { session = n; read = read_for; damage = now }))
   damage_read (inl (reads, inr later)) = inl (reads_then d e g read.only_reads reads, inr (record { session = later.session; read = both_for later.session later.read; damage = later.damage }))
-  damage_read (inr (past, behind)) = inr ((let same : n.pending ≡ s.pending = ap (λ (k : Session). k.pending) read.same in omega (arith, past, same)), record { session = behind.session; read = both_for behind.session behind.read; pointed = behind.pointed; left = behind.left; bad = behind.bad })
+  damage_read (inr (past, behind)) = inr ((past.0, (let same = same_pending in omega (arith, past.1, same))), record { session = behind.session; read = both_for behind.session behind.read; pointed = behind.pointed; left = behind.left; bad = behind.bad })
 
   -- and for which a point made room
-  pub damage_behind : dirty_limit < s.pending + room → g.tells ≡ e.tells → (p : Session) → IsPointed e n p → HasBadTable g p new at want found → HasDamage room d s g new at want found
+  pub damage_behind : PassesLimit s.pending room → g.tells ≡ e.tells → (p : Session) → IsPointed e n p → HasBadTable asked g p new at want found → HasDamage room asked d s g new at want found
   damage_behind past tells p left bad = inr (
     past,
     record {

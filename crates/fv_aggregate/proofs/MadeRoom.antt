@@ -145,9 +145,9 @@ pub always : (X : Type 0) → X → (r : Result Reply Fault) → IfOk r (λ repl
 always X x (Ok y) = λ accepted. x
 always X x (Err f) = tt
 
-module _ (d : Shown) (s : Session) (c : Command) (e : Shown) (n : Session) where
+module _ (slot : ℕ) (d : Shown) (s : Session) (c : Command) (e : Shown) (n : Session) where
   -- the numbers of files were read first
-  pub roomy_numbered : HasNumbered d s e n (Ok tt) → (room : ℕ) (g : Shown) (r : Result Reply Fault) → MakesRoom room e n g r → MakesRoom room d s g r
+  pub roomy_numbered : HasNumbered slot d s e n (Ok tt) → (room : ℕ) (g : Shown) (r : Result Reply Fault) → MakesRoom room e n g r → MakesRoom room d s g r
   roomy_numbered read room g r roomy tells last m is some past =
       let first = read.goes_for tells last m is in
       let same : n.pending ≡ s.pending = ap (λ (k : Session). k.pending) read.read.same in
@@ -155,7 +155,7 @@ module _ (d : Shown) (s : Session) (c : Command) (e : Shown) (n : Session) where
       (roomy (subst IsTrue (sym read.goes.ends.tells) tells) first.done.point m first.done.stands some (omega (arith, past, same)))
 
   -- the command was judged, room was made, and then it was carried out
-  pub roomy_judged : (y : Reply) → HasJudged d s c e n (Ok y) → (room : ℕ) (h : Shown) (mid : Session) → StandsReady h mid
+  pub roomy_judged : (y : Reply) → HasJudged slot d s c e n (Ok y) → (room : ℕ) (h : Shown) (mid : Session) → StandsReady h mid
       → (IsTrue e.tells → (last m : Machine) → StandsFor e n last m → dirty_limit < n.pending + room → HasPointed room n h mid m)
       → (k : Shown) → OnlyReads h k → (r : Result Reply Fault) → MakesRoom room d s k r
   roomy_judged y judged room h mid stands made k reads r tells last m is some past =

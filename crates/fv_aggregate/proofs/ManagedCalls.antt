@@ -12,7 +12,7 @@ use Rattle.fv_root.specs.declared.find.Found.{Found}
 use Rattle.fv_root.specs.Finding.{root_found}
 use Rattle.fv_aggregate.specs.declared.session.Session.{Session}
 use Rattle.fv_aggregate.specs.Calls.{Goes, GoesFor, IsPlain, KeepsAsking}
-use Rattle.fv_aggregate.specs.Commands.{changes_volume, machine_after, snapped_by}
+use Rattle.fv_aggregate.specs.Commands.{Asked, changes_volume, machine_after, snapped_by}
 use Rattle.fv_aggregate.specs.Standing.{StandsFor, StandsReady}
 use Rattle.fv_aggregate.proofs.Calls.{same_counts, same_ends}
 use Rattle.fv_aggregate.proofs.Managed.{IsManagedOver}
@@ -22,7 +22,7 @@ some_none : (v : List ℕ) → Some v ≡ None → ⊥
 some_none v e = cc
 
 module _ (disk : Shown) (old : Session) (c : Command) (new : Session) (reply : Reply) (over : IsManagedOver disk old c new reply) where
-  pub managed_goes : (room : ℕ) → IsNone old.failed → StandsReady disk old → Goes room disk old disk new (Ok reply)
+  pub managed_goes : {asked : Asked} (room : ℕ) → IsNone old.failed → StandsReady disk old → Goes room asked disk old disk new (Ok reply)
   managed_goes room fresh stands = record {
     ends = same_ends disk;
     stands = λ none. over.stands stands;

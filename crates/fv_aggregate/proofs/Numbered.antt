@@ -1,5 +1,5 @@
 -- A session that read the numbers of a volume's files into memory, and a command on its files that comes then.
-use Rattle.std.proofs.Common.{◌≡◌, ◌≤◌, ℕ, Option, Some, None, Result, Ok, Err, refl, sym, ap, subst, ◌∙◌, arith, ◌⊎◌, ◌+◌}
+use Rattle.std.proofs.Common.{◌≡◌, ◌≤◌, ℕ, List, Option, Some, None, Result, Ok, Err, refl, sym, ap, subst, ◌∙◌, arith, ◌⊎◌, ◌+◌}
 use Rattle.std.specs.Prelude.{IfOk, IsNone, IsSome, IsTrue, OnErr, OnOk}
 use Rattle.std.specs.Option.{option_map}
 use Rattle.fv_disk.specs.DiskCalls.{OnlyReads}
@@ -16,7 +16,7 @@ use Rattle.fv_cp.specs.Placing.{HasNoFiles, HaveNoFiles}
 use Rattle.fv_aggregate.specs.declared.fault.Fault.{Fault}
 use Rattle.fv_aggregate.specs.declared.session.Session.{Session}
 use Rattle.fv_aggregate.specs.Calls.{but_numbers, Goes, GoesFor, KeepsAsking, KeepsEntries, SameButNumbers, WasRead}
-use Rattle.fv_aggregate.specs.Commands.{file_room, is_refusal}
+use Rattle.fv_aggregate.specs.Commands.{Asked, AsksTable, snapshot_asked, file_room, is_refusal}
 use Rattle.fv_aggregate.specs.Looking.{Looks, Makes}
 use Rattle.fv_aggregate.specs.Numbering.{HasNumbered}
 use Rattle.fv_aggregate.specs.Standing.{StandsFor}
@@ -51,10 +51,10 @@ still_there old new same slot x there = by (state_at new slot) refl (same slot �
 -- ---- by a fault
 
 -- a command that changes a file ends with a fault before its volume is called
-pub makes_early : {T : Type 0} (d : Shown) (s : Session) (c : Command) (e : Shown) (n : Session) (f : Fault) → Goes {T = T} 0 d s e n (Err f) → (IsTrue d.tells → (last m : Machine) → StandsFor d s last m → GoesFor {T = T} d last m m e n (Err f))
-    → OnlyReads d e → KeepsEntries s n → Makes file_room d s c e n (Err f)
-makes_early d s c e n f goes goes_for reads entries = record {
-  goes = goes_wider 16 d s e n f goes;
+pub makes_early : {T : Type 0} (asked : Asked) (d : Shown) (s : Session) (c : Command) (e : Shown) (n : Session) (f : Fault) → Goes {T = T} 0 asked d s e n (Err f) → (IsTrue d.tells → (last m : Machine) → StandsFor d s last m → GoesFor {T = T} d last m m e n (Err f))
+    → OnlyReads d e → KeepsEntries s n → Makes file_room asked d s c e n (Err f)
+makes_early asked d s c e n f goes goes_for reads entries = record {
+  goes = goes_wider asked 16 d s e n f goes;
   goes_for = λ tells last m is. fails_early d last m (next m c) e n f (goes_for tells last m is);
   reply = λ tells last m is. tt;
   refused = λ tells last m is. tt;
@@ -65,10 +65,10 @@ makes_early d s c e n f goes goes_for reads entries = record {
 
 -- ---- the numbers couldn't be read
 
-module _ (d : Shown) (s : Session) (c : Command) (e : Shown) (n : Session) (f : Fault) (failed : HasNumbered d s e n (Err f)) where
-  pub look_unnumbered : (r : Result Reply Fault) → r ≡ Err f → Looks d s c e n r
-  look_unnumbered r is = subst (Looks d s c e n) (sym is) (record {
-    goes = goes_wider 0 d s e n f failed.goes;
+module _ (slot : ℕ) (d : Shown) (s : Session) (c : Command) (e : Shown) (n : Session) (f : Fault) (failed : HasNumbered slot d s e n (Err f)) where
+  pub look_unnumbered : snapshot_asked c ≡ None → (r : Result Reply Fault) → r ≡ Err f → Looks slot d s c e n r
+  look_unnumbered active r is = subst (Looks slot d s c e n) (sym is) (record {
+    goes = subst (λ (o : Option (List ℕ)). Goes {T = Reply} 0 (AsksTable slot o) d s e n (Err f)) (sym active) (goes_wider (AsksTable slot None) 0 d s e n f failed.goes);
     asks = failed.asks;
     goes_for = λ tells last m is. fails_early d last m m e n f (failed.goes_for tells last m is);
     reply = λ tells last m is. tt;
@@ -78,12 +78,12 @@ module _ (d : Shown) (s : Session) (c : Command) (e : Shown) (n : Session) (f : 
     unanswered = failed.unread;
   })
 
-  pub make_unnumbered : (r : Result Reply Fault) → r ≡ Err f → Makes file_room d s c e n r
-  make_unnumbered r is = subst (Makes file_room d s c e n) (sym is) (makes_early d s c e n f failed.goes failed.goes_for failed.only_reads failed.entries)
+  pub make_unnumbered : (r : Result Reply Fault) → r ≡ Err f → Makes file_room (AsksTable slot None) d s c e n r
+  make_unnumbered r is = subst (Makes file_room (AsksTable slot None) d s c e n) (sym is) (makes_early (AsksTable slot None) d s c e n f failed.goes failed.goes_for failed.only_reads failed.entries)
 
 -- ---- they were read, and then a command was carried out
 
-module _ (d : Shown) (s : Session) (c : Command) (fresh : IsNone s.failed) (slot : ℕ) (there : IsSome (state_at s.volumes slot)) (e : Shown) (n : Session) (u : Unit {0}) (read : HasNumbered d s e n (Ok u))
+module _ (d : Shown) (s : Session) (c : Command) (fresh : IsNone s.failed) (slot : ℕ) (there : IsSome (state_at s.volumes slot)) (e : Shown) (n : Session) (u : Unit {0}) (read : HasNumbered slot d s e n (Ok u))
     (g : Shown) (new : Session) (r : Result Reply Fault) where
   told : IsTrue d.tells → IsTrue e.tells
   told tells = subst IsTrue (sym read.goes.ends.tells) tells
@@ -119,9 +119,9 @@ module _ (d : Shown) (s : Session) (c : Command) (fresh : IsNone s.failed) (slot
   refused_both (Ok y) second = λ refused. read_then d s e n g new read.read (second refused)
   refused_both (Err f) second = tt
 
-  pub look_numbered : Looks e n c g new r → Looks d s c g new r
+  pub look_numbered : Looks slot e n c g new r → Looks slot d s c g new r
   look_numbered looks = record {
-    goes = goes_on_read u 0 0 d s e n read.goes none_added g new r read.only_reads same_pending (λ at want found is. damage_read d s fresh slot there e n read.read 0 g new at want found) looks.goes;
+    goes = goes_on_read u 0 0 d s e n read.goes none_added (AsksTable slot (snapshot_asked c)) (AsksTable slot (snapshot_asked c)) g new r read.only_reads same_pending (λ at want found is. damage_read d s fresh slot (snapshot_asked c) there e n read.read 0 g new at want found) looks.goes;
     asks = asks_then looks.asks;
     goes_for = for_then (λ m. m) looks.goes_for;
     reply = holds_then (λ m. IfOk r (Allows m c)) looks.reply;
@@ -131,9 +131,9 @@ module _ (d : Shown) (s : Session) (c : Command) (fresh : IsNone s.failed) (slot
     unanswered = unread_both r looks.unanswered;
   }
 
-  pub make_numbered : Makes file_room e n c g new r → Makes file_room d s c g new r
+  pub make_numbered : Makes file_room (AsksTable slot None) e n c g new r → Makes file_room (AsksTable slot None) d s c g new r
   make_numbered makes = record {
-    goes = goes_on_read u 0 16 d s e n read.goes none_added g new r read.only_reads same_pending (λ at want found is. damage_read d s fresh slot there e n read.read 16 g new at want found) makes.goes;
+    goes = goes_on_read u 0 16 d s e n read.goes none_added (AsksTable slot None) (AsksTable slot None) g new r read.only_reads same_pending (λ at want found is. damage_read d s fresh slot None there e n read.read 16 g new at want found) makes.goes;
     goes_for = for_then (λ m. next m c) makes.goes_for;
     reply = holds_then (λ m. IfOk r (Allows m c)) makes.reply;
     refused = λ tells last m is. let first = read.goes_for tells last m is in refused_both r (makes.refused (told tells) first.done.point m first.done.stands);

@@ -186,7 +186,7 @@ module _ (d e : Shown) (laws : IsDisk d) (s : Session) (q : Pool) (slot : ℕ) (
   asks_it : (r : Result Unit BlockFault) → NumbersState d s.pool x e q y r → KeepsAsking 0 d s e now
   asks_it r did = asks_numbered d e s q slot x y there long did.reads did.same did.ready
 
-  pub numbered_done : (u : Unit {0}) → NumbersState d s.pool x e q y (Ok u) → HasNumbered d s e now (Ok u)
+  pub numbered_done : (u : Unit {0}) → NumbersState d s.pool x e q y (Ok u) → HasNumbered slot d s e now (Ok u)
   numbered_done u did = record {
     goes = goes_done d e laws s now 0 did.reads.only_reads fresh fresh (stand (Ok u) did) u did.cause (omega arith);
     asks = asks_it (Ok u) did;
@@ -198,8 +198,8 @@ module _ (d e : Shown) (laws : IsDisk d) (s : Session) (q : Pool) (slot : ℕ) (
     kept = kept_it (Ok u) did;
   }
 
-  pub numbered_failed : (b : BlockFault) → NumbersState d s.pool x e q y (Err b) → (new : Session) (f : Fault) → Breaks e (of_block b) now new f → HasNumbered d s e new (Err f)
-  numbered_failed block.DiskFault did new f b = as_told (λ (n : Session) (g : Fault). HasNumbered d s e n (Err g)) new (record now { failed = new.failed }) f DiskFault b.1.same b.0 (record {
+  pub numbered_failed : (b : BlockFault) → NumbersState d s.pool x e q y (Err b) → (new : Session) (f : Fault) → Breaks e (of_block b) now new f → HasNumbered slot d s e new (Err f)
+  numbered_failed block.DiskFault did new f b = as_told (λ (n : Session) (g : Fault). HasNumbered slot d s e n (Err g)) new (record now { failed = new.failed }) f DiskFault b.1.same b.0 (record {
     goes = goes_broken d e laws s now 0 did.reads.only_reads fresh fresh (stand (Err block.DiskFault) did) new.failed (rose_by _ _ _ e.faults did.cause) b.1.written b.1.unwritten (omega arith);
     asks = λ tells kept asks none. let is = asks_it (Err block.DiskFault) did tells kept asks fresh in record { asked = is.asked; pending = is.pending };
     goes_for = λ tells last m is. goes_for_broken d e laws s now 0 did.reads.only_reads fresh fresh (stand (Err block.DiskFault) did) new.failed last m m is (for_it (Err block.DiskFault) did last m is);
@@ -209,8 +209,8 @@ module _ (d e : Shown) (laws : IsDisk d) (s : Session) (q : Pool) (slot : ℕ) (
     unread = read_numbered d e s q slot x y there long did.reads did.same did.ready;
     kept = kept_it (Err block.DiskFault) did;
   })
-  numbered_failed (block.Damaged at want found) did new f b = as_told (λ (n : Session) (g : Fault). HasNumbered d s e n (Err g)) new now f (Damaged at want found) b.1 b.0 (record {
-    goes = goes_damaged d e laws s now 0 did.reads.only_reads fresh fresh (stand (Err (block.Damaged at want found)) did) at want found (calm_damage _ _ _ e.faults at want found did.cause) (inl (did.reads.only_reads, inl (inr (inr (bad_changed d e s fresh slot x there q did.reads (calm_damage _ _ _ e.faults at want found did.cause) at want found (finds_active d s.pool x e.faults at want found (calm_damage _ _ _ e.faults at want found did.cause) did.cause) long y (kept_same x y did.kept) (kept_maps x y did.kept) s.pending))))) (omega arith);
+  numbered_failed (block.Damaged at want found) did new f b = as_told (λ (n : Session) (g : Fault). HasNumbered slot d s e n (Err g)) new now f (Damaged at want found) b.1 b.0 (record {
+    goes = goes_damaged d e laws s now 0 did.reads.only_reads fresh fresh (stand (Err (block.Damaged at want found)) did) at want found (calm_damage _ _ _ e.faults at want found did.cause) (inl (did.reads.only_reads, inl (inr (inr (bad_changed d e s fresh slot x there q did.reads (calm_damage _ _ _ e.faults at want found did.cause) None at want found (finds_active d s.pool x e.faults at want found (calm_damage _ _ _ e.faults at want found did.cause) did.cause) long y (kept_same x y did.kept) (kept_maps x y did.kept) s.pending))))) (omega arith);
     asks = asks_it (Err (block.Damaged at want found)) did;
     goes_for = λ tells last m is.
         let its = mine d s.pool s.volumes long last is.held slot x there in
@@ -221,7 +221,7 @@ module _ (d e : Shown) (laws : IsDisk d) (s : Session) (q : Pool) (slot : ℕ) (
     unread = read_numbered d e s q slot x y there long did.reads did.same did.ready;
     kept = kept_it (Err (block.Damaged at want found)) did;
   })
-  numbered_failed block.Memory did new f b = as_told (λ (n : Session) (g : Fault). HasNumbered d s e n (Err g)) new now f Memory b.1 b.0 (record {
+  numbered_failed block.Memory did new f b = as_told (λ (n : Session) (g : Fault). HasNumbered slot d s e n (Err g)) new now f Memory b.1 b.0 (record {
     goes = goes_wanting d e laws s now 0 did.reads.only_reads fresh fresh (stand (Err block.Memory) did) (calm_memory _ _ _ e.faults did.cause) (omega arith);
     asks = asks_it (Err block.Memory) did;
     goes_for = λ tells last m is. goes_for_fault d e laws s now 0 did.reads.only_reads fresh fresh (stand (Err block.Memory) did) Memory last m m tt is (for_it (Err block.Memory) did last m is);
@@ -249,11 +249,11 @@ module _ (d e : Shown) (laws : IsDisk d) (v s : Session) (same : v ≡ s) (fit :
   stand_lent : StandsReady d v
   stand_lent = subst (StandsReady d) (sym same) stands
 
-  pub done_lent : NumbersState d v.pool x e q y (Ok tt) → HasNumbered d s e after (Ok tt)
-  done_lent did = subst (λ (n : Session). HasNumbered d n e after (Ok tt)) same (numbered_done d e laws v q slot x y lent (long_lent v s same fit fresh) unfailed stand_lent tt did)
+  pub done_lent : NumbersState d v.pool x e q y (Ok tt) → HasNumbered slot d s e after (Ok tt)
+  done_lent did = subst (λ (n : Session). HasNumbered slot d n e after (Ok tt)) same (numbered_done d e laws v q slot x y lent (long_lent v s same fit fresh) unfailed stand_lent tt did)
 
-  pub failed_lent : (b : BlockFault) → NumbersState d v.pool x e q y (Err b) → (told : VolumeFault) → told ≡ of_block b → (new : Session) (f : Fault) → Breaks e told after new f → HasNumbered d s e new (Err f)
-  failed_lent b did told is new f broke = subst (λ (n : Session). HasNumbered d n e new (Err f)) same
+  pub failed_lent : (b : BlockFault) → NumbersState d v.pool x e q y (Err b) → (told : VolumeFault) → told ≡ of_block b → (new : Session) (f : Fault) → Breaks e told after new f → HasNumbered slot d s e new (Err f)
+  failed_lent b did told is new f broke = subst (λ (n : Session). HasNumbered slot d n e new (Err f)) same
       (numbered_failed d e laws v q slot x y lent (long_lent v s same fit fresh) unfailed stand_lent b did new f (subst (λ (g : VolumeFault). Breaks e g after new f) is broke))
 
   pub knows_lent : Reads d v.pool e q → y ≡ record x { numbers = y.numbers } → IsReady e q y → is_some y.numbers ≡ true → KnowsNumbers (state_at (with_state v.volumes slot (Some y)) slot)

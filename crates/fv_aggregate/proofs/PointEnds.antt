@@ -49,6 +49,7 @@ use Rattle.fv_volumes.proofs.StillLoaded.{none_loaded}
 use Rattle.fv_aggregate.specs.declared.session.Session.{Session}
 use Rattle.fv_aggregate.specs.declared.fault.Fault.TheVariants.{DiskFault, Damaged, Memory}
 use Rattle.fv_aggregate.specs.Adding.{HasRoom, IsPointed, StillAdmits}
+use Rattle.fv_aggregate.specs.Commands.{AsksPoint}
 use Rattle.fv_aggregate.specs.Calls.{Goes, GoesFor, HasFilesToPlace, IsForWant, KeepsAsking}
 use Rattle.fv_aggregate.proofs.Damages.{files_after, lacks_after}
 use Rattle.fv_aggregate.specs.Standing.{clear_blocks, overheads_in, taken_since, unwritten, OneOf, StandsFor, StandsReady}
@@ -116,7 +117,7 @@ pub both : (o : Option ℕ) (n : ℕ) → IsNone o → o ≡ Some n → ⊥
 both o n none some = cc
 
 pub point_done : (before : Shown) (old : Session) (after : Shown) (new : Session) → IsNone old.failed → IsNone new.failed → new.pending ≡ 0 → WholeCounts before after (Ok tt) → (pool : Pool) (states : States)
-    → GoesOnWhole before pool states after new.pool new.volumes → Goes {T = Unit {0}} 0 before old after new (Ok tt)
+    → GoesOnWhole before pool states after new.pool new.volumes → Goes {T = Unit {0}} 0 AsksPoint before old after new (Ok tt)
 point_done before old after new was now none counts pool states goes = record {
   ends = record { tells = counts.tells; given = counts.given; ends = counts.ends };
   stands = λ fresh. record {
@@ -225,7 +226,7 @@ module _ (before : Shown) (old : Session) (after : Shown) (new : Session) (has :
   )
 
   pub point_lacks : (at want found : ℕ) → IsNone old.failed → StandsReady before old → WholeCounts before after (Err (cp.Damaged at want found)) → WholeFails before old.pool old.volumes new.pool new.volumes (cp.Damaged at want found)
-      → Goes {T = Unit {0}} 0 before old after new (Err (Damaged at want found))
+      → Goes {T = Unit {0}} 0 AsksPoint before old after new (Err (Damaged at want found))
   point_lacks at want found was stands counts fails = record {
     ends = record { tells = counts.tells; given = counts.given; ends = counts.ends };
     stands = λ fresh. still_stands stands;
@@ -233,8 +234,8 @@ module _ (before : Shown) (old : Session) (after : Shown) (new : Session) (has :
     fault = record {
       reason = inl (
         reads,
-        inl (⊎_elim (λ lacks. inl (lacks_after before after reads.stays.tells reads.stays.reads counts.cause.0 old at want found new lacks))
-            (λ lacks. inr (inl (files_after before after reads.stays.tells reads.stays.reads counts.cause.0 old at want found lacks))) (still_wants at want found was stands fails).1),
+        inl (⊎_elim (λ lacks. inl (inl refl, lacks_after before after reads.stays.tells reads.stays.reads counts.cause.0 old at want found new lacks))
+            (λ lacks. inr (inl (record { files = files_after before after reads.stays.tells reads.stays.reads counts.cause.0 old at want found lacks; comes = inr (inl refl) }))) (still_wants at want found was stands fails).1),
       );
       counts = record { faults = counts.cause.0; write_faults = counts.cause.1 };
       session = subst IsNone (sym failed_same) was;
@@ -243,7 +244,7 @@ module _ (before : Shown) (old : Session) (after : Shown) (new : Session) (has :
     pending = omega (arith, pending_same);
   }
 
-  pub point_wanting : IsNone old.failed → StandsReady before old → WholeCounts before after (Err cp.Memory) → Goes {T = Unit {0}} 0 before old after new (Err Memory)
+  pub point_wanting : IsNone old.failed → StandsReady before old → WholeCounts before after (Err cp.Memory) → Goes {T = Unit {0}} 0 AsksPoint before old after new (Err Memory)
   point_wanting was stands counts = record {
     ends = record { tells = counts.tells; given = counts.given; ends = counts.ends };
     stands = λ fresh. still_stands stands;

@@ -19,11 +19,11 @@ use Rattle.fv_aggregate.specs.declared.fault.Fault.TheVariants.{Damaged}
 use Rattle.fv_aggregate.specs.declared.session.Session.{Session}
 use Rattle.fv_aggregate.specs.Adding.{IsPointed}
 use Rattle.fv_aggregate.specs.Calls.{Goes, GoesFor, WasRead}
-use Rattle.fv_aggregate.specs.Commands.{dirty_limit, file_room, is_refusal}
+use Rattle.fv_aggregate.specs.Commands.{AsksNothing, AsksTable, dirty_limit, file_room, is_refusal}
 use Rattle.fv_aggregate.specs.Looking.{refusal_in, HasJudged, IsChangeAt, IsTableFault, Makes}
 use Rattle.fv_aggregate.specs.Standing.{StandsFor}
 use Rattle.fv_aggregate.proofs.Holes.{never_within}
-use Rattle.fv_aggregate.proofs.Damages.{damage_behind, damage_read}
+use Rattle.fv_aggregate.proofs.Damages.{damage_behind, damage_read, damage_room}
 use Rattle.fv_aggregate.proofs.CallEnds.{fails_early, goes_after, goes_for_after, replies_wider}
 use Rattle.fv_aggregate.proofs.Changing.{change_done, judged_accepted}
 use Rattle.fv_aggregate.proofs.Missing.{refused_allows, refused_next}
@@ -31,11 +31,11 @@ use Rattle.fv_aggregate.proofs.Numbered.{makes_early, still_there}
 
 -- ---- it ends where it was judged
 
-module _ (d : Shown) (s : Session) (c : Command) (e : Shown) (n : Session) where
-  pub judging_failed : (f : Fault) → HasJudged d s c e n (Err f) → (r : Result Reply Fault) → r ≡ Err f → Makes file_room d s c e n r
-  judging_failed f judged r is = subst (Makes file_room d s c e n) (sym is) (makes_early d s c e n f judged.goes judged.goes_for judged.only_reads judged.entries)
+module _ (slot : ℕ) (d : Shown) (s : Session) (c : Command) (e : Shown) (n : Session) where
+  pub judging_failed : (f : Fault) → HasJudged slot d s c e n (Err f) → (r : Result Reply Fault) → r ≡ Err f → Makes file_room (AsksTable slot None) d s c e n r
+  judging_failed f judged r is = subst (Makes file_room (AsksTable slot None) d s c e n) (sym is) (makes_early (AsksTable slot None) d s c e n f judged.goes judged.goes_for judged.only_reads judged.entries)
 
-  pub judged_refused : (r : Refusal) → HasJudged d s c e n (Ok (Refused r)) → Makes file_room d s c e n (Ok (Refused r))
+  pub judged_refused : (r : Refusal) → HasJudged slot d s c e n (Ok (Refused r)) → Makes file_room (AsksTable slot None) d s c e n (Ok (Refused r))
   judged_refused r judged = record {
     goes = replies_wider (Refused r) (Refused r) 16 d s e n judged.goes;
     goes_for = λ tells last m is. subst (λ (k : Machine). GoesFor d last m k e n (Ok (Refused r))) (sym (refused_next m c r (judged.judges tells last m is))) (judged.goes_for tells last m is);
@@ -47,22 +47,23 @@ module _ (d : Shown) (s : Session) (c : Command) (e : Shown) (n : Session) where
   }
 
 -- what was judged leaves as much pending
-pub judged_pending : (d : Shown) (s : Session) (c : Command) (e : Shown) (n : Session) (reply : Reply) → HasJudged d s c e n (Ok reply) → n.pending ≡ s.pending
-judged_pending d s c e n reply judged = ap (λ (k : Session). k.pending) judged.read.same
+pub judged_pending : (slot : ℕ) (d : Shown) (s : Session) (c : Command) (e : Shown) (n : Session) (reply : Reply) → HasJudged slot d s c e n (Ok reply) → n.pending ≡ s.pending
+judged_pending slot d s c e n reply judged = ap (λ (k : Session). k.pending) judged.read.same
 
 -- ---- room is made for what was accepted
 
 module _ (d : Shown) (s : Session) (c : Command) (past : dirty_limit < s.pending + 16) (fresh : IsNone s.failed) (slot : ℕ) (there : IsSome (state_at s.volumes slot))
-    (e : Shown) (n : Session) (reply : Reply) (judged : HasJudged d s c e n (Ok reply)) (g : Shown) (p : Session) where
+    (e : Shown) (n : Session) (reply : Reply) (judged : HasJudged slot d s c e n (Ok reply)) (g : Shown) (p : Session) where
   none_added : n.pending ≤ s.pending
   none_added = omega (arith, judged.goes.pending)
 
   told : IsTrue d.tells → IsTrue e.tells
   told tells = subst IsTrue (sym judged.goes.ends.tells) tells
 
-  pub room_failed : (f : Fault) → Goes {T = Unit {0}} 16 e n g p (Err f) → (IsTrue e.tells → (last m : Machine) → StandsFor e n last m → GoesFor {T = Unit {0}} e last m m g p (Err f)) → Makes file_room d s c g p (Err f)
+  pub room_failed : (f : Fault) → Goes {T = Unit {0}} 16 AsksNothing e n g p (Err f) → (IsTrue e.tells → (last m : Machine) → StandsFor e n last m → GoesFor {T = Unit {0}} e last m m g p (Err f)) → Makes file_room (AsksTable slot None) d s c g p (Err f)
   room_failed f goes goes_for = record {
-    goes = goes_after reply 16 16 d s e n (replies_wider reply reply 16 d s e n judged.goes) none_added g p (Err f) past (λ at want found is. damage_read d s fresh slot there e n judged.read 16 g p at want found) (fails_as goes);
+    goes = goes_after reply 16 16 d s e n (replies_wider reply reply 16 d s e n judged.goes) none_added AsksNothing (AsksTable slot None) g p (Err f) past
+        (λ at want found is damage. damage_read d s fresh slot None there e n judged.read 16 g p at want found (damage_room (AsksTable slot None) 16 n e g p at want found damage)) (fails_as goes);
     goes_for = λ tells last m is.
         let first = judged.goes_for tells last m is in
         fails_early d last m (next m c) g p f (goes_for_after reply d e g n p last m m first judged.goes.ends.given (Err f) (goes_for (told tells) first.done.point m first.done.stands));
@@ -73,13 +74,13 @@ module _ (d : Shown) (s : Session) (c : Command) (past : dirty_limit < s.pending
     entries = λ low. never_within 16 s.pending (λ e. absurd (omega (arith, e))) past low;
   }
     where
-      fails_as : Goes {T = Unit {0}} 16 e n g p (Err f) → Goes {T = Reply} 16 e n g p (Err f)
+      fails_as : Goes {T = Unit {0}} 16 AsksNothing e n g p (Err f) → Goes {T = Reply} 16 AsksNothing e n g p (Err f)
       fails_as goes = record { ends = goes.ends; stands = goes.stands; done = tt; fault = goes.fault; pending = goes.pending }
 
-  module _ (name : List ℕ) (change : IsChangeOf name c) (other : refusal_in reply ≡ None) (u : Unit {0}) (goes : Goes 16 e n g p (Ok u)) (less : p.pending ≤ n.pending)
+  module _ (name : List ℕ) (change : IsChangeOf name c) (other : refusal_in reply ≡ None) (u : Unit {0}) (goes : Goes 16 AsksNothing e n g p (Ok u)) (less : p.pending ≤ n.pending)
       (goes_for : IsTrue e.tells → (last m : Machine) → StandsFor e n last m → GoesFor e last m m g p (Ok u)) (h : Shown) (new : Session) where
-    both : Goes 16 d s g p (Ok u)
-    both = goes_after reply 16 16 d s e n (replies_wider reply reply 16 d s e n judged.goes) none_added g p (Ok u) past (λ at want found is. absurd (done_fails at want found is)) goes
+    both : Goes 16 AsksNothing d s g p (Ok u)
+    both = goes_after reply 16 16 d s e n (replies_wider reply reply 16 d s e n judged.goes) none_added AsksNothing AsksNothing g p (Ok u) past (λ at want found is. absurd (done_fails at want found is)) goes
       where
         done_fails : (at want found : ℕ) → ◌≡◌ {A = Result (Unit {0}) Fault} (Ok u) (Err (Damaged at want found)) → ⊥
         done_fails at want found is = cc
@@ -97,10 +98,10 @@ module _ (d : Shown) (s : Session) (c : Command) (past : dirty_limit < s.pending
     not_refused m accepted (Err f) allowed = tt
     not_refused m accepted (Ok y) allowed = λ refused. absurd (true≢false (sym refused ∙ ap is_refusal (change_done name c change m y accepted allowed)))
 
-    pub made_after : IsPointed e n p → (result : Result Reply Fault) → IfErr result (IsTableFault h p new) → Makes file_room g p c h new result → Makes file_room d s c h new result
+    pub made_after : IsPointed e n p → (result : Result Reply Fault) → IfErr result (IsTableFault (AsksTable slot None) h p new) → Makes file_room (AsksTable slot None) g p c h new result → Makes file_room (AsksTable slot None) d s c h new result
     made_after left result bad makes = record {
-      goes = goes_after u 16 16 d s g p both (omega (arith, less, none_added)) h new result past
-          (λ at want found is damage. damage_behind d s fresh slot there e n judged.read 16 h new at want found past (makes.goes.ends.tells ∙ goes.ends.tells) p left (subst (λ (r : Result Reply Fault). IfErr r (IsTableFault h p new)) is bad)) makes.goes;
+      goes = goes_after u 16 16 d s g p both (omega (arith, less, none_added)) (AsksTable slot None) (AsksTable slot None) h new result past
+          (λ at want found is damage. damage_behind d s fresh slot None there e n judged.read 16 h new at want found (omega arith, past) (makes.goes.ends.tells ∙ goes.ends.tells) p left (subst (λ (r : Result Reply Fault). IfErr r (IsTableFault (AsksTable slot None) h p new)) is bad)) makes.goes;
       goes_for = λ tells last m is.
           let first = both_for tells last m is in
           goes_for_after u d g h p new last m (next m c) first both.ends.given result (makes.goes_for (told_then tells) first.done.point m first.done.stands);

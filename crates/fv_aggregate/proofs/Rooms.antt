@@ -25,7 +25,7 @@ use Rattle.fv_volume.specs.Slots.{is_named, HasName}
 use Rattle.fv_volume.specs.States.{state_at, States}
 use Rattle.fv_cp.specs.Held.{machine_held, named_held}
 use Rattle.fv_aggregate.specs.declared.session.Session.{Session}
-use Rattle.fv_aggregate.specs.Commands.{changes_volume, map_among, map_at, map_in, most_room, room_by, room_of, room_with, snap_room}
+use Rattle.fv_aggregate.specs.Commands.{slot_among, slot_named, changes_volume, map_among, map_at, map_in, most_room, room_by, room_of, room_with, snap_room}
 use Rattle.fv_aggregate.specs.Standing.{StandsFor, StandsReady}
 
 -- ---- by the maps
@@ -66,6 +66,22 @@ module _ (states : States) (slot : ℕ) (name : List ℕ) (has : HasName states 
   pub map_there : slot < 64 → map_among states slots name ≡ map_at (state_at states slot)
   unfolding slots
   map_there within = among 0 64 (omega arith) (omega (arith, within))
+
+  -- it is the slot that the name names
+  slot_in : (from count : ℕ) → from ≤ slot → slot < from + count → slot_among states (range_with_len from count) name ≡ slot
+  unfolding slot_among
+  slot_in from zero least most = absurd (omega (arith, least, most))
+  slot_in from (suc count) least most = ⊎_elim
+      (λ (before : from < slot).
+      ap (λ (t : Bool). if t then from else slot_among states (range_with_len (from + 1) count) name) (has.first from before) ∙ slot_in (from + 1) count (omega (arith, before)) (omega (arith, most)))
+      (λ (reached : slot ≤ from).
+      let here : from ≡ slot = omega (arith, least, reached) in
+      ap (λ (t : Bool). if t then from else slot_among states (range_with_len (from + 1) count) name) (ap (λ (s : ℕ). is_named (state_at states s) name) here ∙ has.named) ∙ here)
+      (cases_lt from slot)
+
+  pub slot_there : slot < 64 → slot_named states name ≡ slot
+  unfolding slots
+  slot_there within = slot_in 0 64 (omega arith) (omega (arith, within))
 
 -- ---- in the machine
 

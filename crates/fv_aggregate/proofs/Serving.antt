@@ -20,7 +20,7 @@ use Rattle.fv_aggregate.specs.declared.fault.Fault.TheVariants.{Failed, Memory}
 use Rattle.fv_aggregate.specs.declared.session.Session.{Session}
 use Rattle.fv_aggregate.specs.Applying.{HasApplied}
 use Rattle.fv_aggregate.specs.Calls.{Goes, GoesFor, IsPlain, IsUntouched, LacksSnapshot, NeedsSnapshot}
-use Rattle.fv_aggregate.specs.Commands.{changed_by, dirty_limit, file_room, finds_file, has_range, is_built, is_get, machine_after, managed_by, reads_files, room_by, snapped_by, volume_asked, Replies}
+use Rattle.fv_aggregate.specs.Commands.{asked_by, AsksTable, slot_named, changed_by, dirty_limit, file_room, finds_file, has_range, is_built, is_get, machine_after, managed_by, reads_files, room_by, snapped_by, volume_asked, Replies}
 use Rattle.fv_aggregate.specs.Failing.{IsUnmadeIn}
 use Rattle.fv_aggregate.specs.Known.{KeepsNumbers, KeepsNumbersBut, KnowsNamed, KnowsNumbers, MayLose}
 use Rattle.fv_aggregate.specs.Looking.{HasSnapped, Looks, Makes}
@@ -55,7 +55,7 @@ not_none X states slot name within named none = absurd (true≢false (sym named.
 
 module _ {D : Type 0} (c : Command) (d : Shown) (at : D) (s : Session) (steps : ℕ) where
   -- a command that reads no file, and is no `cp`
-  rests_applied : (r : Result Reply Fault) → IsNone s.failed → reads_files c ≡ false → c ≢ Cp → room_by s.volumes c ≡ 0 → Goes (room_by s.volumes c) d s d s r
+  rests_applied : (r : Result Reply Fault) → IsNone s.failed → reads_files c ≡ false → c ≢ Cp → room_by s.volumes c ≡ 0 → Goes (room_by s.volumes c) (asked_by s.volumes c) d s d s r
       → (IsTrue d.tells → (last m : Machine) → StandsFor d s last m → GoesFor d last m (machine_after m c) d s r) → (IsTrue d.tells → (last m : Machine) → StandsFor d s last m → IfOk r (Replies m c)) → IsPlain c d at s d at s r
       → HasApplied c d at s steps d at s steps r
   rests_applied r fresh reads other none goes goes_for reply plain = record {
@@ -178,7 +178,7 @@ pub record LooksBeside {D : Type 0} (c : Command) (name : List ℕ) (d : Shown) 
   pub finds : finds_file c ≡ true → has_range c ≡ true → OnOk r (KnowsNamed s.volumes name n.volumes)
 
 pub look_applied : {D : Type 0} (c : Command) (name : List ℕ) → volume_asked c ≡ Some name → (d : Shown) (at : D) (s : Session) (start : ℕ) (e : Shown) (left : D) (n : Session) (steps : ℕ) (r : Result Reply Fault)
-    → IsNone s.failed → Looks d s c e n r → LooksBeside c name d at s start left n steps r → HasApplied c d at s start e left n steps r
+    → IsNone s.failed → Looks (slot_named s.volumes name) d s c e n r → LooksBeside c name d at s start left n steps r → HasApplied c d at s start e left n steps r
 look_applied c name asks d at s start e left n steps r fresh looks beside = record {
   goes = look_goes c name asks d s e n r looks;
   asks = λ none. look_asks c name asks d s e n r looks;
@@ -218,7 +218,7 @@ pub record MakesBeside {D : Type 0} (c : Command) (name : List ℕ) (at : D) (s 
   pub finds : finds_file c ≡ true → has_range c ≡ true → OnOk r (KnowsNamed s.volumes name n.volumes)
 
 pub make_applied : {D : Type 0} (c : Command) (name : List ℕ) → changed_by c ≡ Some name → (d : Shown) (at : D) (s : Session) (e : Shown) (left : D) (n : Session) (steps : ℕ) (r : Result Reply Fault)
-    → IsNone s.failed → Makes file_room d s c e n r → MakesRoom file_room d s e r → (s.pending + file_room ≤ dirty_limit → OnErr r (IsUnmadeIn d s name e n)) → MakesBeside c name at s left n r → HasApplied c d at s steps e left n steps r
+    → IsNone s.failed → Makes file_room (AsksTable (slot_named s.volumes name) None) d s c e n r → MakesRoom file_room d s e r → (s.pending + file_room ≤ dirty_limit → OnErr r (IsUnmadeIn d s name e n)) → MakesBeside c name at s left n r → HasApplied c d at s steps e left n steps r
 make_applied c name of d at s e left n steps r fresh makes roomy unmade beside = record {
   roomy = subst (λ (k : ℕ). MakesRoom k d s e r) (sym (change_room name c (change_of_volume name c of) s.volumes)) roomy;
   goes = make_goes c name of d s e n r makes;

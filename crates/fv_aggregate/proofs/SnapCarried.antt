@@ -30,13 +30,13 @@ use Rattle.fv_volume.specs.declared.state.VolumeState.{VolumeState}
 use Rattle.fv_volume.specs.Held.{MayFail}
 use Rattle.fv_volume.specs.OneVolume.{volume_for, IsReady}
 use Rattle.fv_pool.specs.Tables.{pending_of}
-use Rattle.fv_volume.specs.Slots.{is_named}
+use Rattle.fv_volume.specs.Slots.{is_named, HasName}
 use Rattle.fv_volume.specs.States.{state_at, with_state}
 use Rattle.fv_volume.specs.Writing.{map_wait}
 use Rattle.fv_volumes.proofs.Told.{is_inside}
 use Rattle.fv_cp.specs.Held.{machine_held, IsHeldIn}
 use Rattle.fv_cp.specs.Lent.{FitTogether}
-use Rattle.fv_cp.proofs.Flushing.{lacks_place, passed_none}
+use Rattle.fv_cp.proofs.Flushing.{passed_none}
 use Rattle.fv_cp.specs.Placing.{pending_by, HasNoFiles, HasNumbers, HaveNoFiles, IsPlacedAs}
 use Rattle.fv_snapshot.specs.Creating.{creation_refusal, Creates, TellsCreation}
 use Rattle.fv_snapshot.specs.Deleting.{Deletes, HasUnused}
@@ -44,7 +44,7 @@ use Rattle.fv_snapshot.specs.Restoring.{Restores}
 use Rattle.fv_aggregate.specs.declared.fault.Fault.{Fault}
 use Rattle.fv_aggregate.specs.declared.fault.Fault.TheVariants.{Damaged, Memory}
 use Rattle.fv_aggregate.specs.declared.session.Session.{Session}
-use Rattle.fv_aggregate.specs.Commands.{places_files, room_by, snapped_by}
+use Rattle.fv_aggregate.specs.Commands.{asked_by, AsksPlacing, slot_named, places_files, room_by, snapped_by}
 use Rattle.fv_aggregate.specs.Known.{KeepsNumbersBut, KnowsNumbers, MayLose}
 use Rattle.fv_aggregate.specs.Looking.{done_as, Replied, SnapsState}
 use Rattle.fv_aggregate.specs.Snapping.{snap_blocks, IsAccepted}
@@ -54,7 +54,8 @@ use Rattle.fv_aggregate.proofs.Asked.{answer_allows}
 use Rattle.fv_aggregate.proofs.Changed.{beside, has_within, mine}
 use Rattle.fv_aggregate.proofs.HeldMachine.{bare, is_there}
 use Rattle.fv_aggregate.proofs.Keeping.{keeps_with}
-use Rattle.fv_aggregate.proofs.PointEnds.{filed_as, has_full_room}
+use Rattle.fv_aggregate.proofs.PointEnds.{has_full_room}
+use Rattle.fv_aggregate.proofs.Rooms.{slot_there}
 use Rattle.fv_aggregate.proofs.SnapCommands.{snap_cases}
 use Rattle.fv_aggregate.proofs.SnapDone.{carried_damaged, carried_done, carried_refused, carried_wanting, IsCarried}
 use Rattle.fv_aggregate.proofs.SnapSessions.{none_with, placed_entries, placed_for, placed_stands, snapped_for, snapped_stands, stepped_for, stepped_stands}
@@ -96,7 +97,7 @@ carried_session s slot q y room = record s { volumes = with_state s.volumes slot
 abbrev pub left_session : Session → ℕ → Pool → VolumeState → Session
 left_session s slot q y = record s { volumes = with_state s.volumes slot (Some y); pool = q }
 
-module _ {D : Type 0} (d : Shown) (disk : D) (laws : IsDisk d) (s : Session) (fresh : IsNone s.failed) (stands : StandsReady d s) (fit : FitTogether s.pool s.volumes) (slot : ℕ) (x : VolumeState) (there : state_at s.volumes slot ≡ Some x) (slot_is : x.slot ≡ slot) (room : ℕ) where
+module _ {D : Type 0} (d : Shown) (disk : D) (laws : IsDisk d) (s : Session) (fresh : IsNone s.failed) (stands : StandsReady d s) (fit : FitTogether s.pool s.volumes) (slot : ℕ) (x : VolumeState) (there : state_at s.volumes slot ≡ Some x) (slot_is : x.slot ≡ slot) (named : HasName s.volumes slot x.name) (room : ℕ) where
   long : length s.volumes ≡ 64
   long = fit.housed.long
 
@@ -104,6 +105,18 @@ module _ {D : Type 0} (d : Shown) (disk : D) (laws : IsDisk d) (s : Session) (fr
   inside = let low = is_inside s.volumes slot x long there in let many = long in omega (arith, low, many)
 
   -- ---- the volume in the machine
+
+  -- its slot is the one that is asked
+  its_slot : slot_named s.volumes x.name ≡ slot
+  its_slot = slot_there s.volumes slot x.name named (let within = inside in let many = long in omega (arith, within, many))
+
+  made_asks : (name : List ℕ) → asked_by s.volumes (SnapCreate x.name name) ≡ AsksPlacing slot
+  unfolding asked_by
+  made_asks name = ap (λ (n : ℕ). AsksPlacing n) its_slot
+
+  removed_asks : (name : List ℕ) → asked_by s.volumes (SnapDelete x.name name) ≡ AsksPlacing slot
+  unfolding asked_by
+  removed_asks name = ap (λ (n : ℕ). AsksPlacing n) its_slot
 
   held : (last m : Machine) → StandsFor d s last m → IsHeldIn d s.pool x.slot x
   held last m is = subst (λ (n : ℕ). IsHeldIn d s.pool n x) (sym slot_is) (mine d s.pool s.volumes long last is.held slot x there)
@@ -150,10 +163,25 @@ module _ {D : Type 0} (d : Shown) (disk : D) (laws : IsDisk d) (s : Session) (fr
     pub wanting : IsCarried d disk s c room (left_session s slot q y) (Err Memory)
     wanting = carried_wanting d disk laws s fresh c room (left_session s slot q y) fresh its_stands (omega arith) numbers_left (placed_entries d s q slot x y there slot_is fit placed) places (λ last m is. placed_for d s q slot x y there slot_is fit placed last m is)
 
-    pub damaged : (at want found : ℕ) → MayFail d s.pool (Some x) (volume.Damaged at want found) → IsCarried d disk s c room (left_session s slot q y) (Err (Damaged at want found))
-    damaged at want found may = carried_damaged d disk laws s fresh c room (left_session s slot q y) fresh its_stands (omega arith) numbers_left (placed_entries d s q slot x y there slot_is fit placed) places at want found
-        (filed_as d s at want found fresh (lacks_place d s.pool s.volumes s.pool s.volumes (passed_none d s.pool s.volumes fit stands.ready stands.stands.cache).come.placed slot refl refl (λ none. (refl, refl)) (volume.Damaged at want found)
-        (subst (λ (o : Option VolumeState). MayFail d s.pool o (volume.Damaged at want found)) (sym there) may)))
+    pub damaged : asked_by s.volumes c ≡ AsksPlacing slot → (at want found : ℕ) → MayFail d s.pool (Some x) (volume.Damaged at want found) → IsCarried d disk s c room (left_session s slot q y) (Err (Damaged at want found))
+    damaged asks at want found may = carried_damaged d disk laws s fresh c room (left_session s slot q y) fresh its_stands (omega arith) numbers_left (placed_entries d s q slot x y there slot_is fit placed) places at want found
+        (record {
+          files = record {
+            fresh = fresh;
+            files = λ none. true≢false (sym may.0 ∙ ap is_some (its_files none));
+            slot = slot;
+            state = x;
+            there = there;
+            mid = s.pool;
+            root = refl;
+            committed = refl;
+            placed = (passed_none d s.pool s.volumes fit stands.ready stands.stands.cache).come.placed.entries;
+            entries = refl;
+            first = λ none. refl;
+            fails = may;
+          };
+          comes = inl asks;
+        })
         (λ last m is.
         let full = has_full_room d s last m is in
         let all = full.free in
@@ -210,7 +238,7 @@ module _ {D : Type 0} (d : Shown) (disk : D) (laws : IsDisk d) (s : Session) (fr
         both : ◌≡◌ {A = Option Refusal} None (Some r) → ⊥
         both e = cc
     unmade volume.DiskFault did tells new result b = absurd did.cause
-    unmade (volume.Damaged at want found) did tells new result b = carried_as (SnapCreate x.name name) new result (Err (Damaged at want found)) (left_session s slot q y) b.1.1.1 (b.1.0 ∙ ap (λ (g : Fault). Err g) b.1.1.0) (damaged (SnapCreate x.name name) q y did.failed refl at want found did.cause)
+    unmade (volume.Damaged at want found) did tells new result b = carried_as (SnapCreate x.name name) new result (Err (Damaged at want found)) (left_session s slot q y) b.1.1.1 (b.1.0 ∙ ap (λ (g : Fault). Err g) b.1.1.0) (damaged (SnapCreate x.name name) q y did.failed refl (made_asks name) at want found did.cause)
     unmade volume.Memory did tells new result b = carried_as (SnapCreate x.name name) new result (Err Memory) (left_session s slot q y) b.1.1.1 (b.1.0 ∙ ap (λ (g : Fault). Err g) b.1.1.0) (wanting (SnapCreate x.name name) q y did.failed refl)
 
   -- a session that changed nothing
@@ -263,7 +291,7 @@ module _ {D : Type 0} (d : Shown) (disk : D) (laws : IsDisk d) (s : Session) (fr
         (carried_refused d disk laws s fresh (SnapDelete x.name name) room stands r
         (λ last m is. for_machine (λ (k : Machine). refusal k (SnapDelete x.name name) ≡ Some r) last m is ((did.changes (held last m is)).agrees _ (unused last m is))) nothing)
     unremoved volume.DiskFault did new result b = absurd did.cause
-    unremoved (volume.Damaged at want found) did new result b = carried_as (SnapDelete x.name name) new result (Err (Damaged at want found)) (left_session s slot q y) b.1.1.1 (b.1.0 ∙ ap (λ (g : Fault). Err g) b.1.1.0) (damaged (SnapDelete x.name name) q y did.failed refl at want found did.cause)
+    unremoved (volume.Damaged at want found) did new result b = carried_as (SnapDelete x.name name) new result (Err (Damaged at want found)) (left_session s slot q y) b.1.1.1 (b.1.0 ∙ ap (λ (g : Fault). Err g) b.1.1.0) (damaged (SnapDelete x.name name) q y did.failed refl (removed_asks name) at want found did.cause)
     unremoved volume.Memory did new result b = carried_as (SnapDelete x.name name) new result (Err Memory) (left_session s slot q y) b.1.1.1 (b.1.0 ∙ ap (λ (g : Fault). Err g) b.1.1.0) (wanting (SnapDelete x.name name) q y did.failed refl)
 
   -- ---- the table of a snapshot became the active one

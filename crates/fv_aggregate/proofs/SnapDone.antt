@@ -13,8 +13,9 @@ use Rattle.fv_cp.specs.Placing.{HaveNoFiles}
 use Rattle.fv_aggregate.specs.declared.fault.Fault.{Fault}
 use Rattle.fv_aggregate.specs.declared.fault.Fault.TheVariants.{Damaged, Memory}
 use Rattle.fv_aggregate.specs.declared.session.Session.{Session}
-use Rattle.fv_aggregate.specs.Calls.{GoesFor, HasFilesToPlace, KeepsEntries, WasRead}
-use Rattle.fv_aggregate.specs.Commands.{is_refusal, places_files, room_by}
+use Rattle.fv_aggregate.specs.Calls.{GoesFor, KeepsEntries, WasRead}
+use Rattle.fv_aggregate.specs.Commands.{asked_by, is_refusal, places_files, room_by}
+use Rattle.fv_aggregate.specs.Damages.{HasUnplaced}
 use Rattle.fv_aggregate.specs.Known.{KeepsNumbersBut, MayLose}
 use Rattle.fv_aggregate.specs.Looking.{HasSnapped}
 use Rattle.fv_aggregate.specs.Standing.{IsWithoutFiles, StandsFor, StandsReady}
@@ -118,11 +119,11 @@ module _ {D : Type 0} (d : Shown) (disk : D) (laws : IsDisk d) (s : Session) (fr
         accepted = λ some. tt;
       }
 
-      pub carried_damaged : (at want found : ℕ) → HasFilesToPlace d s at want found → ((last m : Machine) → StandsFor d s last m → ⊥) → IsCarried d disk s c room after (Err (Damaged at want found))
-      carried_damaged at want found filed whole = record {
+      pub carried_damaged : (at want found : ℕ) → HasUnplaced (room_by s.volumes c) (asked_by s.volumes c) d s at want found → ((last m : Machine) → StandsFor d s last m → ⊥) → IsCarried d disk s c room after (Err (Damaged at want found))
+      carried_damaged at want found unplaced whole = record {
         snapped = record {
           makes = record {
-            goes = goes_damaged d d laws s after (room_by s.volumes c) (reads_itself d) fresh still stands at want found refl (inl (reads_itself d, inl (inr (inl filed)))) few;
+            goes = goes_damaged d d laws s after (room_by s.volumes c) (reads_itself d) fresh still stands at want found refl (inl (reads_itself d, inl (inr (inl unplaced)))) few;
             goes_for = λ tells last m is. absurd (whole last m is);
             reply = λ tells last m is. tt;
             refused = λ tells last m is. tt;
@@ -130,7 +131,7 @@ module _ {D : Type 0} (d : Shown) (disk : D) (laws : IsDisk d) (s : Session) (fr
             calm = λ low. reads_itself d;
             entries = λ low. entries;
           };
-          damage = (reads_itself d, inr filed);
+          damage = (reads_itself d, inr unplaced.files);
           refused = tt;
           calm = λ low. refl;
           map = λ none. never none;
@@ -139,6 +140,6 @@ module _ {D : Type 0} (d : Shown) (disk : D) (laws : IsDisk d) (s : Session) (fr
           same = λ tells which same. tt;
           numbers = λ none. numbers;
         };
-        placed = λ nothing. absurd (filed.files nothing);
+        placed = λ nothing. absurd (unplaced.files.files nothing);
         accepted = λ some. tt;
       }

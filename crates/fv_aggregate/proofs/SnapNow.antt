@@ -9,6 +9,7 @@ use Rattle.fv_pool.specs.declared.fault.VolumeFault.{VolumeFault}
 use Rattle.fv_pool.specs.declared.pool.Pool.{Pool}
 use Rattle.fv_volume.specs.declared.state.VolumeState.{VolumeState}
 use Rattle.fv_volume.specs.Files.{IsLabelled}
+use Rattle.fv_volume.specs.Slots.{HasName}
 use Rattle.fv_volume.specs.States.{state_at, with_state}
 use Rattle.fv_cp.specs.Lent.{FitTogether}
 use Rattle.fv_aggregate.specs.declared.fault.Fault.{Fault}
@@ -20,6 +21,7 @@ use Rattle.fv_volume.specs.OneVolume.{IsReady}
 use Rattle.fv_aggregate.specs.Snapping.{snap_blocks, HasGrant, IsAccepted}
 use Rattle.fv_aggregate.specs.Standing.{StandsReady}
 use Rattle.fv_aggregate.proofs.Changed.{beside}
+use Rattle.fv_aggregate.proofs.Returned.{same_there}
 use Rattle.fv_aggregate.proofs.SnapCarried.{carried_by, pending_after}
 use Rattle.fv_aggregate.proofs.SnapCommands.{aimed_room}
 use Rattle.fv_aggregate.proofs.SnapDone.{IsCarried}
@@ -30,7 +32,7 @@ module _ {D : Type 0} (d : Shown) (disk : D) (laws : IsDisk d) (s : Session) (fr
   pub carried_now : (q : Pool) (y : VolumeState) → IsReady d q y → (r : Result Unit VolumeFault) → SnapsState d s.pool x others c q y r
       → (before : Session) → before ≡ record s { volumes = with_state s.volumes slot (Some y); pool = q; pending = cond (is_ok r) (s.pending + granted.room) s.pending } → (asked : Result Reply VolumeFault) → asked ≡ done_as r → (new : Session) (result : Result Reply Fault) → Replied d asked before new result → IsCarried d disk s c granted.room new result
   carried_now q y ready r did before before_is asked asked_is new result replied =
-      carried_by d disk laws s fresh stands fit slot x there slot_is granted.room c of q y r ready (subst (λ (n : ℕ). SnapsState d s.pool x n c q y r) others_are did)
+      carried_by d disk laws s fresh stands fit slot x there slot_is named granted.room c of q y r ready (subst (λ (n : ℕ). SnapsState d s.pool x n c q y r) others_are did)
       (grant.room ∙ ap (λ (o : Option VolumeState). snap_blocks o c) there) few (grant.room ∙ aimed_room s.volumes slot c aimed)
       (subst (λ (n : ℕ). IsAccepted (Some x) s.pool.found.blocks n c) others_are (subst (λ (o : Option VolumeState). IsAccepted o s.pool.found.blocks others c) there grant.accepted))
       new result (subst (λ (n : Session). Replied d (done_as r) n new result) (before_is ∙ as_said) (subst (λ (a : Result Reply VolumeFault). Replied d a before new result) asked_is replied))
@@ -38,9 +40,12 @@ module _ {D : Type 0} (d : Shown) (disk : D) (laws : IsDisk d) (s : Session) (fr
       slot_is : x.slot ≡ slot
       slot_is = (subst (λ (o : Option VolumeState). IfSome o (IsLabelled slot)) there (fit.housed.volumes slot)).slot_is
 
-      counted : (r : Result Unit VolumeFault) → cond (is_ok r) (s.pending + granted.room) s.pending ≡ pending_after d disk laws s fresh stands fit slot x there slot_is granted.room r
+      named : HasName s.volumes slot x.name
+      named = subst (λ (z : VolumeState). HasName s.volumes slot z.name) (same_there _ _ _ aimed.there there) aimed.named
+
+      counted : (r : Result Unit VolumeFault) → cond (is_ok r) (s.pending + granted.room) s.pending ≡ pending_after d disk laws s fresh stands fit slot x there slot_is named granted.room r
       counted (Ok u) = refl
       counted (Err f) = refl
 
-      as_said : ◌≡◌ {A = Session} (record s { volumes = with_state s.volumes slot (Some y); pool = q; pending = cond (is_ok r) (s.pending + granted.room) s.pending }) (record s { volumes = with_state s.volumes slot (Some y); pool = q; pending = pending_after d disk laws s fresh stands fit slot x there slot_is granted.room r })
+      as_said : ◌≡◌ {A = Session} (record s { volumes = with_state s.volumes slot (Some y); pool = q; pending = cond (is_ok r) (s.pending + granted.room) s.pending }) (record s { volumes = with_state s.volumes slot (Some y); pool = q; pending = pending_after d disk laws s fresh stands fit slot x there slot_is named granted.room r })
       as_said = λ j. record s { volumes = with_state s.volumes slot (Some y); pool = q; pending = counted r j }

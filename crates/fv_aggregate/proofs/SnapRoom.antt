@@ -29,8 +29,8 @@ use Rattle.fv_aggregate.specs.declared.fault.Fault.{Fault}
 use Rattle.fv_aggregate.specs.declared.fault.Fault.TheVariants.{Damaged, Memory}
 use Rattle.fv_aggregate.specs.declared.session.Session.{Session}
 use Rattle.fv_aggregate.specs.Adding.{IsPointed}
-use Rattle.fv_aggregate.specs.Calls.{Goes, GoesFor, IsForWant, IsWithinLimit}
-use Rattle.fv_aggregate.specs.Commands.{dirty_limit, is_refusal, loses_numbers, places_files, room_by, snapped_by}
+use Rattle.fv_aggregate.specs.Calls.{Goes, GoesFor, HasDamage, IsForWant, IsWithinLimit}
+use Rattle.fv_aggregate.specs.Commands.{asked_by, AsksNothing, dirty_limit, is_refusal, loses_numbers, places_files, room_by, snapped_by}
 use Rattle.fv_aggregate.specs.Known.{KeepsNumbers}
 use Rattle.fv_aggregate.specs.Looking.{HasSnapped, IsSnapAimed}
 use Rattle.fv_aggregate.specs.Snapping.{nothing, snap_blocks, HasGrant, HasSlot, IsAccepted, JudgesSnap}
@@ -39,6 +39,7 @@ use Rattle.fv_aggregate.proofs.CallEnds.{fails_early, goes_after, goes_for_after
 use Rattle.fv_aggregate.proofs.Calls.{goes_as}
 use Rattle.fv_aggregate.proofs.Changed.{beside, has_within, mine}
 use Rattle.fv_aggregate.proofs.Commits.{commits_kept, commits_still}
+use Rattle.fv_aggregate.proofs.Damages.{damage_room}
 use Rattle.fv_aggregate.proofs.Keeping.{keeps_but}
 use Rattle.fv_aggregate.proofs.SnapCommands.{aimed_room, snap_cases}
 use Rattle.fv_aggregate.proofs.SnapDone.{IsCarried}
@@ -195,11 +196,12 @@ module _ {D : Type 0} (d : Shown) (disk : D) (s : Session) (c : Command) (room :
   places : {X : Type 0} → places_files c ≡ false → X
   places none = absurd (true≢false (sym makes.0 ∙ none))
 
-  pub snap_roomless : (f : Fault) → Goes {T = Unit {0}} room d s e n (Err f) → (IsTrue d.tells → (last m : Machine) → StandsFor d s last m → GoesFor {T = Unit {0}} d last m m e n (Err f)) → IsForWant d s e n f
+  pub snap_roomless : (f : Fault) → Goes {T = Unit {0}} room AsksNothing d s e n (Err f) → (IsTrue d.tells → (last m : Machine) → StandsFor d s last m → GoesFor {T = Unit {0}} d last m m e n (Err f)) → IsForWant d s e n f
       → (IsNone n.failed → KeepsNumbers s.volumes n.volumes) → HasSnapped d disk s c e mid n (Err f)
   snap_roomless f goes goes_for wants numbers = record {
     makes = record {
-      goes = goes_as room (room_by s.volumes c) (omega (arith, exact)) d s e n (Err f) (Err f) refl goes;
+      goes = goes_as room (room_by s.volumes c) AsksNothing (asked_by s.volumes c) (omega (arith, exact)) d s e n (Err f) (Err f) refl
+          (λ at want found is. damage_room (asked_by s.volumes c) (room_by s.volumes c) s d e n at want found (subst (λ (k : ℕ). HasDamage k AsksNothing d s e n at want found) exact is)) goes;
       goes_for = λ tells last m is. fails_early d last m (next m c) e n f (goes_for tells last m is);
       reply = λ tells last m is. tt;
       refused = λ tells last m is. tt;
@@ -217,7 +219,7 @@ module _ {D : Type 0} (d : Shown) (disk : D) (s : Session) (c : Command) (room :
     numbers = λ alive. keeps_but _ s.volumes n.volumes (numbers alive);
   }
 
-  module _ (u : Unit {0}) (still : room_by n.volumes c ≡ room_by s.volumes c) (goes : Goes room d s e n (Ok u)) (less : n.pending ≤ s.pending) (goes_for : IsTrue d.tells → (last m : Machine) → StandsFor d s last m → GoesFor d last m m e n (Ok u)) (pointed : IsPointed d s n)
+  module _ (u : Unit {0}) (still : room_by n.volumes c ≡ room_by s.volumes c) (goes : Goes room AsksNothing d s e n (Ok u)) (less : n.pending ≤ s.pending) (goes_for : IsTrue d.tells → (last m : Machine) → StandsFor d s last m → GoesFor d last m m e n (Ok u)) (pointed : IsPointed d s n)
       (numbers : IsNone n.failed → KeepsNumbers s.volumes n.volumes) (new : Session) (result : Result Reply Fault) (carried : IsCarried e mid n c room new result) where
     told : IsTrue d.tells → IsTrue e.tells
     told tells = subst IsTrue (sym goes.ends.tells) tells
@@ -234,7 +236,7 @@ module _ {D : Type 0} (d : Shown) (disk : D) (s : Session) (c : Command) (room :
     pub snap_roomy : HasSnapped d disk s c e mid new result
     snap_roomy = record {
       makes = record {
-        goes = goes_after u room (room_by s.volumes c) d s e n goes less e new result (omega (arith, past, exact)) (λ at want found is damage. absurd (wants_none at want found (subst (λ (r : Result Reply Fault). IfErr r (λ f. f ≡ Memory)) is (carried.placed pointed.none)))) (subst (λ (k : ℕ). Goes k e n e new result) still carried.snapped.makes.goes);
+        goes = goes_after u room (room_by s.volumes c) d s e n goes less (asked_by n.volumes c) (asked_by s.volumes c) e new result (omega (arith, past, exact)) (λ at want found is damage. absurd (wants_none at want found (subst (λ (r : Result Reply Fault). IfErr r (λ f. f ≡ Memory)) is (carried.placed pointed.none)))) (subst (λ (k : ℕ). Goes k (asked_by n.volumes c) e n e new result) still carried.snapped.makes.goes);
         goes_for = λ tells last m is.
             let first = goes_for tells last m is in
             goes_for_after u d e e n new last m (next m c) first goes.ends.given result (carried.snapped.makes.goes_for (told tells) first.done.point m first.done.stands);

@@ -11,7 +11,7 @@ use Rattle.fv_cp.specs.Settling.{OldOrHeld}
 use Rattle.fv_aggregate.specs.declared.fault.Fault.{Fault}
 use Rattle.fv_aggregate.specs.declared.session.Session.{Session}
 use Rattle.fv_aggregate.specs.Calls.{CountsSteps, Goes, GoesFor, IsOnFiles, IsPlain, IsWithinLimit, KeepsAsking, MakesNoHoles}
-use Rattle.fv_aggregate.specs.Commands.{changed_by, changes_volume, machine_after, places_files, reads_files, removes_volume, room_by, Replies}
+use Rattle.fv_aggregate.specs.Commands.{asked_by, changed_by, changes_volume, machine_after, places_files, reads_files, removes_volume, room_by, Replies}
 use Rattle.fv_aggregate.specs.Known.{KeepsNumbersBut, MayLose}
 use Rattle.fv_aggregate.specs.Reclaiming.{HasPointed, MakesRoom}
 use Rattle.fv_aggregate.specs.Standing.{HoldsAsCommitted, IsWithoutFiles, StandsFor}
@@ -21,7 +21,7 @@ use Rattle.fv_aggregate.specs.Standing.{HoldsAsCommitted, IsWithoutFiles, Stands
 -- is answered as that answers (`reply`), and stands for the next one (`goes_for`).
 pub record HasApplied {D : Type 0} (command : Command) (shown : Shown) (before : D) (old : Session) (start : ℕ)
     (shown_after : Shown) (after : D) (new : Session) (stop : ℕ) (result : Result Reply Fault) : Type 0 where
-  pub goes : Goes (room_by old.volumes command) shown old shown_after new result
+  pub goes : Goes (room_by old.volumes command) (asked_by old.volumes command) shown old shown_after new result
   pub asks : changes_volume command ≡ false → KeepsAsking (room_by old.volumes command) shown old shown_after new
   pub goes_for : IsTrue shown.tells → (last m : Machine) → StandsFor shown old last m
       → GoesFor shown last m (machine_after m command) shown_after new result

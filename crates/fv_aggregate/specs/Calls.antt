@@ -22,7 +22,7 @@ use Rattle.fv_aggregate.specs.declared.session.Session.{Session}
 use Rattle.fv_aggregate.specs.Adding.{IsPointed}
 use Rattle.fv_aggregate.specs.Asking.{AsksWithin}
 use Rattle.fv_aggregate.specs.Causes.{KeepsEnds}
-use Rattle.fv_aggregate.specs.Commands.{changed_by, dirty_limit, finds_file, has_range, is_built, is_get, is_refusal, managed_by, places_files, removes_volume, room_by, snapped_by, snapshot_asked, snapshot_needed, volume_asked}
+use Rattle.fv_aggregate.specs.Commands.{Asked, changed_by, dirty_limit, finds_file, has_range, is_built, is_get, is_refusal, managed_by, places_files, removes_volume, room_by, snapped_by, snapshot_asked, snapshot_needed, volume_asked}
 pub use Rattle.fv_aggregate.specs.Damages.{HasDamage, HasFilesToPlace, LacksBlocks}
 use Rattle.fv_aggregate.specs.Failing.{IsUnmadeIn}
 use Rattle.fv_aggregate.specs.Known.{KeepsNumbers, KnowsNamed}
@@ -60,15 +60,16 @@ pub record Row (Reason Counts Kept Written : Type 0) : Type 0 where
   -- what was written
   pub disk : Written
 
--- Why a call that may add `room` blocks wasn't done. Want of memory and damage write nothing, but where room had to be made first.
-abbrev pub HasFault : ℕ → Shown → Session → Shown → Session → Fault → Type 0
-HasFault room before old after new DiskFault =
+-- Why a call that may add `room` blocks, and asks for this, wasn't done. Want of memory and damage write nothing, but where room had to be
+-- made first.
+abbrev pub HasFault : ℕ → Asked → Shown → Session → Shown → Session → Fault → Type 0
+HasFault room asked before old after new DiskFault =
     Row (IsNone old.failed) (RoseOnDisk before after) (FailsByWrite before after new) (Unit {0})
-HasFault room before old after new (Damaged at want found) =
-    Row (HasDamage room before old after new at want found) (SameCounts before after) (IsNone new.failed) (OnlyReads before after ⊎ (dirty_limit < old.pending + room))
-HasFault room before old after new Memory =
+HasFault room asked before old after new (Damaged at want found) =
+    Row (HasDamage room asked before old after new at want found) (SameCounts before after) (IsNone new.failed) (OnlyReads before after ⊎ (dirty_limit < old.pending + room))
+HasFault room asked before old after new Memory =
     Row (IsNone old.failed) (SameCounts before after) (IsNone new.failed) (OnlyReads before after ⊎ (dirty_limit < old.pending + room))
-HasFault room before old after new (Failed faults) =
+HasFault room asked before old after new (Failed faults) =
     Row (old.failed ≡ Some faults) (SameCounts before after) (new ≡ old) (OnlyReads before after)
 
 -- a fault that is no damage
@@ -84,12 +85,13 @@ pub record IsDone (before : Shown) (old : Session) (after : Shown) (new : Sessio
   pub goes_on : IsNone new.failed
   pub counts : SameCounts before after
 
--- What a call does that may add `room` blocks, whatever the disk tells. So many it counts at most as pending, whether it was done or not.
-pub record Goes {T : Type 0} (room : ℕ) (before : Shown) (old : Session) (after : Shown) (new : Session) (result : Result T Fault) : Type 0 where
+-- What a call does that may add `room` blocks, and asks for this, whatever the disk tells. So many it counts at most as pending, whether it
+-- was done or not.
+pub record Goes {T : Type 0} (room : ℕ) (asked : Asked) (before : Shown) (old : Session) (after : Shown) (new : Session) (result : Result T Fault) : Type 0 where
   pub ends : KeepsEnds before after
   pub stands : IsNone new.failed → StandsReady after new
   pub done : OnOk result (IsDone before old after new)
-  pub fault : IfErr result (HasFault room before old after new)
+  pub fault : IfErr result (HasFault room asked before old after new)
   pub pending : new.pending ≤ old.pending + room
 
 -- Where a point of the session asked for no more than the space rule keeps, it does so after a call that may add `room` blocks. A change of
@@ -110,11 +112,11 @@ abbrev pub IsForWant : Shown → Session → Shown → Session → Fault → Typ
 IsForWant before old after new (Damaged at want found) = OnlyReads before after × (LacksBlocks before old new at want found ⊎ HasFilesToPlace before old at want found)
 IsForWant before old after new fault = Unit {0}
 
--- What a call does that may run a consistency point, for which it may add `room` blocks, and that makes `next m` of the machine `m`. A
--- point asks for no more than before, damage comes for want of blocks alone, and the numbers of files stay in memory.
-pub record Runs {T : Type 0} (room : ℕ) (next : Machine → Machine) (before : Shown) (old : Session) (after : Shown) (new : Session)
+-- What a call does that may run a consistency point, since it asks for it or for the `room` blocks that it may add, and that makes `next m`
+-- of the machine `m`. A point asks for no more than before, damage comes for want of blocks alone, and the numbers of files stay in memory.
+pub record Runs {T : Type 0} (room : ℕ) (asked : Asked) (next : Machine → Machine) (before : Shown) (old : Session) (after : Shown) (new : Session)
     (result : Result T Fault) : Type 0 where
-  pub goes : Goes room before old after new result
+  pub goes : Goes room asked before old after new result
   pub asks : KeepsAsking room before old after new
   pub damage : IfErr result (IsForWant before old after new)
   pub goes_for : IsTrue before.tells → (last m : Machine) → StandsFor before old last m → GoesFor before last m (next m) after new result

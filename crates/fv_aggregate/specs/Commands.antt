@@ -6,13 +6,14 @@ use Rattle.fv_model.specs.declared.answers.Refusal.TheVariants.{Syntax}
 use Rattle.fv_model.specs.declared.answers.Reply.{Reply}
 use Rattle.fv_model.specs.declared.answers.Reply.TheVariants.{Refused}
 use Rattle.fv_model.specs.declared.commands.Command.{Command}
-use Rattle.fv_model.specs.declared.commands.Command.TheVariants.{VolCreate, VolDestroy, VolResize, VolGuarantee, VolStat, New, Put, Get, Len, Cut, Remove, Ls, SnapCreate, SnapDelete, SnapRestore, CloneCreate, SplitStart, SplitFinish, Mirror, Clean, Probe, Work}
+use Rattle.fv_model.specs.declared.commands.Command.TheVariants.{VolCreate, VolDestroy, VolResize, VolGuarantee, VolStat, New, Put, Get, Len, Cut, Remove, Ls, SnapCreate, SnapDelete, SnapRestore, CloneCreate, SplitStart, SplitFinish, Mirror, Clean, Probe, Work, Cp}
 use Rattle.fv_model.specs.Machines.{Machine}
 use Rattle.fv_model.specs.Numbers.{is_index, is_reserve, is_size}
 use Rattle.fv_model.specs.Refusals.{next}
 use Rattle.fv_model.specs.Replies.{Allows}
 use Rattle.fv_model.specs.Space.{map_blocks, overhead, span_of}
 use Rattle.fv_image.specs.Views.{slots}
+use Rattle.fv_container.specs.Chains.{slot_count}
 use Rattle.fv_volume.specs.declared.state.VolumeState.{VolumeState}
 use Rattle.fv_volume.specs.Slots.{is_named}
 use Rattle.fv_volume.specs.States.{States, state_at}
@@ -194,3 +195,39 @@ most_room command = room_with (λ volume. snap_room) command
 -- so many blocks may be pending, with the room of the next command, before a consistency point makes room for it
 abbrev pub dirty_limit : ℕ
 dirty_limit = 256
+
+-- ---- what is asked for
+
+-- what a call of a session asks for beside its room
+pub data Asked : Type 0 where
+  -- nothing
+  AsksNothing : Asked
+  -- a consistency point
+  AsksPoint : Asked
+  -- that what changed of the files of a slot's volume is placed
+  AsksPlacing : (slot : ℕ) → Asked
+  -- the active table of a slot's volume, or that of a snapshot of it
+  AsksTable : (slot : ℕ) (snapshot : Option (List ℕ)) → Asked
+
+-- the slot of the first volume of a name in these slots, and the one behind the last where none of them has it
+unfoldable pub slot_among : States → List ℕ → List ℕ → ℕ
+slot_among states [] name = slot_count
+slot_among states (slot ∷ rest) name = if is_named (state_at states slot) name then slot else slot_among states rest name
+
+abbrev pub slot_named : States → List ℕ → ℕ
+slot_named states name = slot_among states slots name
+
+-- What a command asks for by a session's volumes: a `cp` asks for a point; a snapshot that is made or removed for the placing of its
+-- volume's files; a change of a file for the active table of its volume, and a look at files for the table that it names.
+unfoldable pub asked_by : States → Command → Asked
+asked_by states (New volume file reserve) = if reserve == 0 then AsksTable (slot_named states volume) None else AsksNothing
+asked_by states (Put volume file index block) = AsksTable (slot_named states volume) None
+asked_by states (Get volume snapshot file index) = AsksTable (slot_named states volume) snapshot
+asked_by states (Len volume snapshot file) = AsksTable (slot_named states volume) snapshot
+asked_by states (Cut volume file length) = AsksTable (slot_named states volume) None
+asked_by states (Remove volume file) = AsksTable (slot_named states volume) None
+asked_by states (Ls volume snapshot) = AsksTable (slot_named states volume) snapshot
+asked_by states (SnapCreate volume snapshot) = AsksPlacing (slot_named states volume)
+asked_by states (SnapDelete volume snapshot) = AsksPlacing (slot_named states volume)
+asked_by states Cp = AsksPoint
+asked_by states command = AsksNothing

@@ -1,5 +1,5 @@
 -- What is damaged where a call of a session answers so: blocks are lacking, files couldn't be placed, or a table isn't as it has to be.
-use Rattle.std.specs.Prelude.{◌≡◌, ◌<◌, ◌+◌, ◌⊎◌, ℕ, IsTrue, IsNone, IsSome, Some}
+use Rattle.std.specs.Prelude.{◌≡◌, ◌<◌, ◌+◌, ◌⊎◌, ℕ, IsTrue, IsNone, IsSome, List, Option, Some}
 use Rattle.fv_disk.specs.Shown.{Shown}
 use Rattle.fv_disk.specs.DiskCalls.{OnlyReads}
 use Rattle.fv_disk.specs.declared.fault.BlockFault.TheVariants as block
@@ -13,7 +13,7 @@ use Rattle.fv_pool.specs.Calls.{GivesUp, TableFails}
 use Rattle.fv_pool.specs.Lending.{lent_for}
 use Rattle.fv_volume.specs.declared.state.VolumeState.{VolumeState}
 use Rattle.fv_volume.specs.declared.tables.TableAsked.{TableAsked}
-use Rattle.fv_volume.specs.Asking.{standing_of, IsTableOf, TellsAsked}
+use Rattle.fv_volume.specs.Asking.{standing_of, table_named, TellsAsked}
 use Rattle.fv_volume.specs.OneVolume.{home_in}
 use Rattle.fv_volume.specs.States.{state_at}
 use Rattle.fv_cp.specs.Lent.{blocks_asked}
@@ -21,7 +21,7 @@ use Rattle.fv_cp.specs.Placing.{HasNoFiles, HaveNoFiles, MayFail, PlacesEntries}
 use Rattle.fv_aggregate.specs.declared.session.Session.{Session}
 use Rattle.fv_aggregate.specs.Adding.{IsPointed}
 use Rattle.fv_aggregate.specs.Asking.{AsksWithin, IsShort}
-use Rattle.fv_aggregate.specs.Commands.{dirty_limit}
+use Rattle.fv_aggregate.specs.Commands.{dirty_limit, Asked, AsksPlacing, AsksPoint, AsksTable}
 use Rattle.fv_aggregate.specs.Reading.{IsAsRead}
 use Rattle.fv_aggregate.specs.Standing.{taken_since}
 
@@ -56,16 +56,18 @@ pub record HasFilesToPlace (disk : Shown) (session : Session) (at want found : �
 
 -- ---- in a table
 
--- A block of a table of a volume of the session isn't as it has to be, or a pointer of it leads nowhere: the volume and its slot, the table, and why
--- the call on it failed. The session that it left has of what the volumes share all but the cache, and of that volume all but its files in memory and
--- the numbers that these gave up.
-pub record HasBadTable (disk : Shown) (session new : Session) (at want found : ℕ) : Type 0 where
+-- A block of the table that a call asks for isn't as it has to be, or a pointer of it leads nowhere: the slot, its volume, the table, and
+-- why the call on it failed. The session that it left has of what the volumes share all but the cache, and of that volume all but its files
+-- in memory and the numbers that these gave up.
+pub record HasBadTable (asked : Asked) (disk : Shown) (session new : Session) (at want found : ℕ) : Type 0 where
   pub fresh : IsNone session.failed
   pub slot : ℕ
+  pub snapshot : Option (List ℕ)
+  pub asks : asked ≡ AsksTable slot snapshot
   pub state : VolumeState
   pub there : state_at session.volumes slot ≡ Some state
   pub table : TableAsked
-  pub of_volume : IsTableOf state table
+  pub named : table_named state snapshot ≡ Some table
   pub fails : TableFails (TellsAsked disk session.pool state table) (standing_of disk session.pool state table) (lent_for session.pool state.map disk 0 (home_in state) 0) disk.faults (block.Damaged at want found)
   -- what is left of it
   pub pool : LeavesPool session.pool new.pool
@@ -76,33 +78,56 @@ pub record HasBadTable (disk : Shown) (session new : Session) (at want found : �
 
 -- ---- in a call
 
--- Blocks are lacking, files couldn't be placed, or a table isn't as it has to be.
-abbrev pub HasDamageIn : Shown → Session → Session → ℕ → ℕ → ℕ → Type 0
-HasDamageIn disk session new at want found = LacksBlocks disk session new at want found ⊎ (HasFilesToPlace disk session at want found ⊎ HasBadTable disk session new at want found)
+-- what is pending and some room pass the dirty limit together, so that a call that may add this room is preceded by a consistency point
+abbrev pub PassesLimit : ℕ → ℕ → Type 0
+PassesLimit pending room = (0 < room) × (dirty_limit < pending + room)
 
--- a session of which blocks were read for a command on the volume of a slot
-pub record HasReadFor (old session : Session) : Type 0 where
+-- a call comes to a consistency point, since it asks for one, or to make room
+abbrev pub ComesToPoint : ℕ → Asked → Session → Type 0
+ComesToPoint room asked session = (asked ≡ AsksPoint) ⊎ PassesLimit session.pending room
+
+-- it comes to place the files of the volume of a slot, at a point or by itself
+abbrev pub ComesToPlace : ℕ → Asked → Session → ℕ → Type 0
+ComesToPlace room asked session slot = (asked ≡ AsksPlacing slot) ⊎ ComesToPoint room asked session
+
+-- a call that places files found those of a volume that couldn't be placed
+pub record HasUnplaced (room : ℕ) (asked : Asked) (disk : Shown) (session : Session) (at want found : ℕ) : Type 0 where
+  pub files : HasFilesToPlace disk session at want found
+  pub comes : ComesToPlace room asked session files.slot
+
+-- Blocks are lacking for a point, or files couldn't be placed, where a call that may add `room` blocks comes to that; or the table that it
+-- asks for isn't as it has to be.
+abbrev pub HasDamageIn : ℕ → Asked → Shown → Session → Session → ℕ → ℕ → ℕ → Type 0
+HasDamageIn room asked disk session new at want found =
+    (ComesToPoint room asked session × LacksBlocks disk session new at want found)
+    ⊎ (HasUnplaced room asked disk session at want found ⊎ HasBadTable asked disk session new at want found)
+
+-- a session of which blocks were read for a call that asks for a table
+pub record HasReadFor (asked : Asked) (old session : Session) : Type 0 where
   pub fresh : IsNone old.failed
   pub slot : ℕ
+  pub snapshot : Option (List ℕ)
+  pub asks : asked ≡ AsksTable slot snapshot
   pub there : IsSome (state_at old.volumes slot)
   pub read : IsAsRead old session
 
 -- it came to the damage once blocks were read
-pub record HasDamageLater (disk : Shown) (old new : Session) (at want found : ℕ) : Type 0 where
+pub record HasDamageLater (room : ℕ) (asked : Asked) (disk : Shown) (old new : Session) (at want found : ℕ) : Type 0 where
   pub session : Session
-  pub read : HasReadFor old session
-  pub damage : HasDamageIn disk session new at want found
+  pub read : HasReadFor asked old session
+  pub damage : HasDamageIn room asked disk session new at want found
 
 -- it came to a bad table behind the point that made room for it
-pub record HasDamageBehind (disk : Shown) (old new : Session) (at want found : ℕ) : Type 0 where
+pub record HasDamageBehind (asked : Asked) (disk : Shown) (old new : Session) (at want found : ℕ) : Type 0 where
   pub session : Session
-  pub read : HasReadFor old session
+  pub read : HasReadFor asked old session
   pub pointed : Session
   pub left : IsPointed disk session pointed
-  pub bad : HasBadTable disk pointed new at want found
+  pub bad : HasBadTable asked disk pointed new at want found
 
--- What is damaged where a call that may add `room` blocks answers so, by what the disk shows then. Nothing was written, but where a point made
--- room for a command that passes the dirty limit.
-abbrev pub HasDamage : ℕ → Shown → Session → Shown → Session → ℕ → ℕ → ℕ → Type 0
-HasDamage room before old after new at want found = (OnlyReads before after × (HasDamageIn after old new at want found ⊎ HasDamageLater after old new at want found))
-    ⊎ ((dirty_limit < old.pending + room) × HasDamageBehind after old new at want found)
+-- What is damaged where a call that may add `room` blocks, and asks for this, answers so, by what the disk shows then. Nothing was written,
+-- but where a point made room for a command that passes the dirty limit.
+abbrev pub HasDamage : ℕ → Asked → Shown → Session → Shown → Session → ℕ → ℕ → ℕ → Type 0
+HasDamage room asked before old after new at want found =
+    (OnlyReads before after × (HasDamageIn room asked after old new at want found ⊎ HasDamageLater room asked after old new at want found))
+    ⊎ (PassesLimit old.pending room × HasDamageBehind asked after old new at want found)

@@ -33,14 +33,15 @@ use Rattle.fv_aggregate.specs.Damages.{HasBadTable}
 use Rattle.fv_snapshot.specs.Creating.{Creates, TellsCreation}
 use Rattle.fv_snapshot.specs.Deleting.{Deletes}
 use Rattle.fv_snapshot.specs.Restoring.{Restores}
-use Rattle.fv_aggregate.specs.Commands.{dirty_limit, is_refusal, places_files, room_by, snapped_by, snapshot_asked, volume_asked}
+use Rattle.fv_aggregate.specs.Commands.{asked_by, Asked, AsksTable, dirty_limit, has_range, is_refusal, places_files, room_by, snapped_by, snapshot_asked, volume_asked}
 use Rattle.fv_aggregate.specs.Known.{KeepsNumbersBut, MayLose}
 use Rattle.fv_aggregate.specs.Standing.{HoldsAsCommitted, IsWithoutFiles, StandsFor}
 
--- A command that asks was answered as the machine answers it, and nothing changed but the cache and the numbers of files in memory. After a fault the
--- session stands for what it stood for, and nothing changed, either, but for these and that it may have failed.
-pub record Looks (before : Shown) (old : Session) (command : Command) (after : Shown) (new : Session) (result : Result Reply Fault) : Type 0 where
-  pub goes : Goes 0 before old after new result
+-- A command that asks the volume of a slot was answered as the machine answers it, and nothing changed but the cache and the numbers of
+-- files in memory. After a fault the session stands for what it stood for, and nothing changed, either, but for these and that it may have
+-- failed.
+pub record Looks (slot : ℕ) (before : Shown) (old : Session) (command : Command) (after : Shown) (new : Session) (result : Result Reply Fault) : Type 0 where
+  pub goes : Goes 0 (AsksTable slot (snapshot_asked command)) before old after new result
   pub asks : KeepsAsking 0 before old after new
   pub goes_for : IsTrue before.tells → (last m : Machine) → StandsFor before old last m → GoesFor before last m m after new result
   pub reply : IsTrue before.tells → (last m : Machine) → StandsFor before old last m → IfOk result (Allows m command)
@@ -49,10 +50,11 @@ pub record Looks (before : Shown) (old : Session) (command : Command) (after : S
   pub read : OnOk result (WasRead before old after new)
   pub unanswered : OnErr result (WasRead before old after (record new { failed = old.failed }))
 
--- A command that changes a volume, for which it may add `room` blocks, was carried out as the machine carries it out. One with room within the dirty
--- limit wrote nothing, and made no entry a hole. A refused one changed nothing but the cache and the numbers of files in memory, where the session stands for a machine.
-pub record Makes (room : ℕ) (before : Shown) (old : Session) (command : Command) (after : Shown) (new : Session) (result : Result Reply Fault) : Type 0 where
-  pub goes : Goes room before old after new result
+-- A command that changes a volume, for which it may add `room` blocks and asks for this, was carried out as the machine carries it out. One
+-- with room within the dirty limit wrote nothing, and made no entry a hole. A refused one changed nothing but the cache and the numbers of
+-- files in memory, where the session stands for a machine.
+pub record Makes (room : ℕ) (asked : Asked) (before : Shown) (old : Session) (command : Command) (after : Shown) (new : Session) (result : Result Reply Fault) : Type 0 where
+  pub goes : Goes room asked before old after new result
   pub goes_for : IsTrue before.tells → (last m : Machine) → StandsFor before old last m → GoesFor before last m (next m command) after new result
   pub reply : IsTrue before.tells → (last m : Machine) → StandsFor before old last m → IfOk result (Allows m command)
   pub refused : IsTrue before.tells → (last m : Machine) → StandsFor before old last m → IfOk result (λ reply. IsTrue (is_refusal reply) → WasRead before old after new)
@@ -115,7 +117,7 @@ pub record IsSnapAimed (states : States) (slot : ℕ) (command : Command) : Type
 -- file comes into memory. Beside blocks of files nothing is taken that the next root wouldn't hold, and the numbers of files stay in memory, but for
 -- a table that is no longer the active one.
 pub record HasSnapped {D : Type 0} (before : Shown) (disk : D) (old : Session) (command : Command) (after : Shown) (left : D) (new : Session) (result : Result Reply Fault) : Type 0 where
-  pub makes : Makes (room_by old.volumes command) before old command after new result
+  pub makes : Makes (room_by old.volumes command) (asked_by old.volumes command) before old command after new result
   pub damage : IfErr result (IsForWant before old after new)
   pub refused : IfOk result (λ reply. IsTrue (is_refusal reply) → IsUntouched disk old left new)
   pub calm : IsWithinLimit old command → left ≡ disk
@@ -143,9 +145,10 @@ pub record IsChangeAt (states : States) (slot : ℕ) (command : Command) : Type 
   pub there : state_at states slot ≡ Some state
   pub change : IsChangeOf state.name command
 
--- a command asks for files of the volume of a slot
+-- a command asks for files of the volume of a slot, with its number in its range
 pub record IsAsked (states : States) (slot : ℕ) (command : Command) : Type 0 where
   pub within : slot < slot_count
+  pub near : has_range command ≡ true
   pub state : VolumeState
   pub there : state_at states slot ≡ Some state
   pub asks : volume_asked command ≡ Some state.name
@@ -155,9 +158,9 @@ abbrev pub Judges : Machine → Command → Reply → Type 0
 Judges m command (Refused r) = refusal m command ≡ Some r
 Judges m command reply = refusal m command ≡ None
 
--- A command was judged. Nothing changed but the cache.
-pub record HasJudged (before : Shown) (old : Session) (command : Command) (after : Shown) (new : Session) (result : Result Reply Fault) : Type 0 where
-  pub goes : Goes 0 before old after new result
+-- A command that changes a file of the volume of a slot was judged. Nothing changed but the cache.
+pub record HasJudged (slot : ℕ) (before : Shown) (old : Session) (command : Command) (after : Shown) (new : Session) (result : Result Reply Fault) : Type 0 where
+  pub goes : Goes 0 (AsksTable slot None) before old after new result
   pub goes_for : IsTrue before.tells → (last m : Machine) → StandsFor before old last m → GoesFor before last m m after new result
   pub judges : IsTrue before.tells → (last m : Machine) → StandsFor before old last m → IfOk result (Judges m command)
   pub only_reads : OnlyReads before after
@@ -166,10 +169,10 @@ pub record HasJudged (before : Shown) (old : Session) (command : Command) (after
 
 -- ---- faults
 
--- damage is of a table of a volume that isn't as it has to be
-abbrev pub IsTableFault : Shown → Session → Session → Fault → Type 0
-IsTableFault after old new (Damaged at want found) = HasBadTable after old new at want found
-IsTableFault after old new fault = Unit {0}
+-- damage is of the table that is asked for, which isn't as it has to be
+abbrev pub IsTableFault : Asked → Shown → Session → Session → Fault → Type 0
+IsTableFault asked after old new (Damaged at want found) = HasBadTable asked after old new at want found
+IsTableFault asked after old new fault = Unit {0}
 
 -- A read failed: the session goes on, but where the count of failed writes stands at its greatest value.
 pub record HasFailed (disk : Shown) (old new : Session) : Type 0 where

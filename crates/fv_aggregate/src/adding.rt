@@ -13,7 +13,7 @@ ghost use Rattle.fv_aggregate.specs.declared.fault.Fault.TheVariants.{Memory};
 ghost use Rattle.fv_aggregate.specs.Adding.{IsAdded};
 ghost use Rattle.fv_aggregate.specs.Answers.{answer};
 ghost use Rattle.fv_aggregate.specs.Calls.{KeepsHolding, MakesNoHoles, Runs};
-ghost use Rattle.fv_aggregate.specs.Commands.{dirty_limit, is_refusal, most_overhead};
+ghost use Rattle.fv_aggregate.specs.Commands.{AsksNothing, dirty_limit, is_refusal, most_overhead};
 ghost use Rattle.fv_aggregate.specs.Reclaiming.{MakesRoom};
 ghost use Rattle.fv_aggregate.specs.Standing.{StandsFor, StandsReady};
 
@@ -38,7 +38,7 @@ impl Session {
     ) -> Result<(), Fault>
         requires fresh { IsNone self.old.failed }
         requires stands { StandsReady (D.shown disk.old) self.old }
-        ensures runs { Runs (overhead (span_of size 0 0)) (λ m. next m (VolCreate name.now size kind))
+        ensures runs { Runs (overhead (span_of size 0 0)) AsksNothing (λ m. next m (VolCreate name.now size kind))
             (D.shown disk.old) self.old (D.shown disk.new) self.new (answer into.new result) }
         ensures reply { IsTrue (D.shown disk.old).tells → (last m : Machine) → StandsFor (D.shown disk.old) self.old last m
             → IfOk (answer into.new result) (Allows m (VolCreate name.now size kind)) }
@@ -74,7 +74,7 @@ impl Session {
         requires stands { StandsReady (D.shown disk.old) self.old }
         requires long { length self.old.volumes ≡ slot_count }
         requires admitted { Admits self.old.volumes self.old.pool.found.blocks name.now size kind admitted.slot admitted.span }
-        ensures runs { Runs (overhead admitted.span) (λ m. next m (VolCreate name.now size kind))
+        ensures runs { Runs (overhead admitted.span) AsksNothing (λ m. next m (VolCreate name.now size kind))
             (D.shown disk.old) self.old (D.shown disk.new) self.new (answer into.new result) }
         ensures reply { IfOk (answer into.new result) (λ reply. reply ≡ Done) }
         ensures calm { self.old.pending + overhead admitted.span ≤ dirty_limit → disk.new ≡ disk.old }

@@ -6,7 +6,7 @@ ghost use Rattle.fv_model.specs.declared.answers.Reply.TheVariants.{Refused};
 ghost use Rattle.fv_volume.specs.Changing.{keeps_numbers};
 ghost use Rattle.fv_volume.specs.States.{state_at};
 ghost use Rattle.fv_aggregate.specs.Answers.{answer};
-ghost use Rattle.fv_aggregate.specs.Commands.{dirty_limit, file_room, finds_file};
+ghost use Rattle.fv_aggregate.specs.Commands.{AsksTable, dirty_limit, file_room, finds_file};
 ghost use Rattle.fv_aggregate.specs.Failing.{IsUnmade};
 ghost use Rattle.fv_aggregate.specs.Known.{KeepsNumbersBut, KnowsNumbers};
 ghost use Rattle.fv_aggregate.specs.Looking.{HasJudged, IsChangeAt, IsTableFault, Makes, refusal_in};
@@ -35,7 +35,7 @@ impl Session {
         requires fresh { IsNone self.old.failed }
         requires stands { StandsReady (D.shown disk.old) self.old }
         requires aimed { IsChangeAt self.old.volumes slot command.now }
-        ensures makes { Makes file_room (D.shown disk.old) self.old command.now (D.shown disk.new) self.new (answer into.new result) }
+        ensures makes { Makes file_room (AsksTable slot None) (D.shown disk.old) self.old command.now (D.shown disk.new) self.new (answer into.new result) }
         ensures roomy { MakesRoom file_room (D.shown disk.old) self.old (D.shown disk.new) (answer into.new result) }
         ensures unmade { self.old.pending + file_room ≤ dirty_limit → OnErr (answer into.new result) (IsUnmade (D.shown disk.old) self.old slot (D.shown disk.new) self.new) }
         ensures kept { IsNone self.new.failed → KeepsNumbersBut (λ s. (s ≡ slot) × (keeps_numbers command.now ≡ false)) self.old.volumes self.new.volumes }
@@ -57,7 +57,7 @@ impl Session {
         requires fresh { IsNone self.old.failed }
         requires stands { StandsReady (D.shown disk.old) self.old }
         requires aimed { IsChangeAt self.old.volumes slot command.now }
-        ensures makes { Makes file_room (D.shown disk.old) self.old command.now (D.shown disk.new) self.new (answer into.new result) }
+        ensures makes { Makes file_room (AsksTable slot None) (D.shown disk.old) self.old command.now (D.shown disk.new) self.new (answer into.new result) }
         ensures roomy { MakesRoom file_room (D.shown disk.old) self.old (D.shown disk.new) (answer into.new result) }
         ensures unmade { self.old.pending + file_room ≤ dirty_limit → OnErr (answer into.new result) (IsUnmade (D.shown disk.old) self.old slot (D.shown disk.new) self.new) }
         ensures kept { IsNone self.new.failed → KeepsNumbersBut (λ s. (s ≡ slot) × (keeps_numbers command.now ≡ false)) self.old.volumes self.new.volumes }
@@ -87,9 +87,9 @@ impl Session {
         requires stands { StandsReady (D.shown disk.old) self.old }
         requires few { self.old.pending + file_room ≤ max dirty_limit file_room }
         requires aimed { IsChangeAt self.old.volumes slot command.now }
-        ensures makes { Makes file_room (D.shown disk.old) self.old command.now (D.shown disk.new) self.new (answer into.new result) }
+        ensures makes { Makes file_room (AsksTable slot None) (D.shown disk.old) self.old command.now (D.shown disk.new) self.new (answer into.new result) }
         ensures reads { OnlyReads (D.shown disk.old) (D.shown disk.new) }
-        ensures damage { IfErr (answer into.new result) (IsTableFault (D.shown disk.new) self.old self.new) }
+        ensures damage { IfErr (answer into.new result) (IsTableFault (AsksTable slot None) (D.shown disk.new) self.old self.new) }
         ensures unmade { OnErr (answer into.new result) (IsUnmade (D.shown disk.old) self.old slot (D.shown disk.new) self.new) }
         ensures kept { KeepsNumbersBut (λ s. (s ≡ slot) × (keeps_numbers command.now ≡ false)) self.old.volumes self.new.volumes }
     {
@@ -115,7 +115,7 @@ impl Session {
         requires fresh { IsNone self.old.failed }
         requires stands { StandsReady (D.shown disk.old) self.old }
         requires aimed { IsChangeAt self.old.volumes slot command.now }
-        ensures judged { HasJudged (D.shown disk.old) self.old command.now (D.shown disk.new) self.new (answer into.new result) }
+        ensures judged { HasJudged slot (D.shown disk.old) self.old command.now (D.shown disk.new) self.new (answer into.new result) }
         ensures volumes { self.new.volumes ≡ self.old.volumes }
     {
         let others = self.commits_beside(slot);

@@ -16,7 +16,7 @@ use fv_volume::VolumeFault;
 
 impl Session {
     /// Reads the numbers of all files of a slot's volume into memory, where they aren't there. No call on the volume walks its inode file
-    /// for a name or a free number from then on, until memory lacks for the numbers of a file that is made or removed.
+    /// for a name or a free number from then on, until a file is made or removed, for whose number memory can lack.
     pub(crate) fn read_numbers<D: Disk>(&mut self, disk: &mut D, slot: u8) -> Result<(), Fault>
         requires fresh { IsNone self.old.failed }
         requires stands { StandsReady (D.shown disk.old) self.old }
@@ -25,7 +25,7 @@ impl Session {
         ensures there { OnOk result (KnowsNumbers (state_at self.new.volumes slot)) }
         ensures idle { KnowsNumbers (state_at self.old.volumes slot)
             → (disk.new ≡ disk.old) × ((self.new.pool ≡ self.old.pool) × (self.new.volumes ≡ self.old.volumes)) }
-        ensures numbered { HasNumbered (D.shown disk.old) self.old (D.shown disk.new) self.new result }
+        ensures numbered { HasNumbered slot (D.shown disk.old) self.old (D.shown disk.new) self.new result }
         ensures unmade { IsUnmade (D.shown disk.old) self.old slot (D.shown disk.new) self.new }
     {
         let state = volume_at(&mut self.volumes, slot);

@@ -10,7 +10,7 @@ ghost use Rattle.fv_aggregate.specs.declared.fault.Fault.TheVariants.{Memory};
 ghost use Rattle.fv_aggregate.specs.Answers.{answer};
 ghost use Rattle.fv_aggregate.specs.Adding.{HasRoom, IsPointed, StillAdmits};
 ghost use Rattle.fv_aggregate.specs.Calls.{Goes, GoesFor, IsForWant, KeepsAsking, KeepsHolding, Runs};
-ghost use Rattle.fv_aggregate.specs.Commands.{dirty_limit};
+ghost use Rattle.fv_aggregate.specs.Commands.{AsksNothing, AsksPoint, dirty_limit};
 ghost use Rattle.fv_aggregate.specs.Known.{KeepsNumbers};
 ghost use Rattle.fv_aggregate.specs.Reclaiming.{HasPointed, Points};
 ghost use Rattle.fv_aggregate.specs.Standing.{IsWithoutFiles, StandsFor, StandsReady};
@@ -33,7 +33,8 @@ impl Session {
     pub(crate) fn make_room<D: Disk>(&mut self, disk: &mut D, room: u64) -> Result<(), Fault>
         requires fresh { IsNone self.old.failed }
         requires stands { StandsReady (D.shown disk.old) self.old }
-        ensures runs { Runs room (λ m. m) (D.shown disk.old) self.old (D.shown disk.new) self.new result }
+        requires some { 0 < room }
+        ensures runs { Runs room AsksNothing (λ m. m) (D.shown disk.old) self.old (D.shown disk.new) self.new result }
         ensures room { IsTrue (D.shown disk.old).tells → (last m : Machine) → StandsFor (D.shown disk.old) self.old last m
             → commits m + 2 * room ≤ capacity m.blocks → OnOk result (HasRoom (D.shown disk.new) self.new room) }
         ensures pending { self.new.pending ≤ self.old.pending }
@@ -64,7 +65,7 @@ impl Session {
     pub(crate) fn reclaim<D: Disk>(&mut self, disk: &mut D, into: &mut Reply) -> Result<(), Fault>
         requires fresh { IsNone self.old.failed }
         requires stands { StandsReady (D.shown disk.old) self.old }
-        ensures runs { Runs 0 (λ m. m) (D.shown disk.old) self.old (D.shown disk.new) self.new (answer into.new result) }
+        ensures runs { Runs 0 AsksPoint (λ m. m) (D.shown disk.old) self.old (D.shown disk.new) self.new (answer into.new result) }
         ensures points { Points 0 (D.shown disk.old) self.old (D.shown disk.new) self.new (answer into.new result) }
         ensures reply { IfOk (answer into.new result) (λ reply. reply ≡ Done) }
         ensures files { IsTrue (D.shown disk.old).tells → OnOk (answer into.new result) (IsWithoutFiles self.new) }
@@ -78,7 +79,7 @@ impl Session {
     pub(crate) fn point<D: Disk>(&mut self, disk: &mut D, want: u64) -> Result<(), Fault>
         requires fresh { IsNone self.old.failed }
         requires stands { StandsReady (D.shown disk.old) self.old }
-        ensures goes { Goes 0 (D.shown disk.old) self.old (D.shown disk.new) self.new result }
+        ensures goes { Goes 0 AsksPoint (D.shown disk.old) self.old (D.shown disk.new) self.new result }
         ensures asks { KeepsAsking 0 (D.shown disk.old) self.old (D.shown disk.new) self.new }
         ensures damage { IfErr result (IsForWant (D.shown disk.old) self.old (D.shown disk.new) self.new) }
         ensures goes_for { IsTrue (D.shown disk.old).tells → (last m : Machine) → StandsFor (D.shown disk.old) self.old last m

@@ -41,7 +41,7 @@ impl Session {
         requires fresh { IsNone self.old.failed }
         requires stands { StandsReady (D.shown disk.old) self.old }
         requires asked { IsAsked self.old.volumes slot command.now }
-        ensures looks { Looks (D.shown disk.old) self.old command.now (D.shown disk.new) self.new (answer into.new result) }
+        ensures looks { Looks slot (D.shown disk.old) self.old command.now (D.shown disk.new) self.new (answer into.new result) }
         ensures lost { has_range command.now ≡ true → IfSome (state_at self.old.volumes slot) (λ x. table_named x (snapshot_asked command.now) ≡ None → (answer into.new result ≡ Ok (Refused NoSnapshot)) × IsUntouched disk.old self.old disk.new self.new) }
         ensures only { answer into.new result ≡ Ok (Refused NoSnapshot) → IfSome (state_at self.old.volumes slot) (λ x. table_named x (snapshot_asked command.now) ≡ None) }
         ensures steps { is_get command.now ≡ false → steps.new ≡ steps.old }
@@ -68,7 +68,7 @@ impl Session {
         requires fresh { IsNone self.old.failed }
         requires stands { StandsReady (D.shown disk.old) self.old }
         requires asked { IsAsked self.old.volumes slot command.now }
-        ensures looks { Looks (D.shown disk.old) self.old command.now (D.shown disk.new) self.new (answer into.new result) }
+        ensures looks { Looks slot (D.shown disk.old) self.old command.now (D.shown disk.new) self.new (answer into.new result) }
         ensures lost { has_range command.now ≡ true → IfSome (state_at self.old.volumes slot) (λ x. table_named x (snapshot_asked command.now) ≡ None → (answer into.new result ≡ Ok (Refused NoSnapshot)) × IsUntouched disk.old self.old disk.new self.new) }
         ensures only { answer into.new result ≡ Ok (Refused NoSnapshot) → IfSome (state_at self.old.volumes slot) (λ x. table_named x (snapshot_asked command.now) ≡ None) }
         ensures steps { is_get command.now ≡ false → steps.new ≡ steps.old }

@@ -13,6 +13,7 @@ ghost use Rattle.fv_aggregate.specs.Asking.{AsksWithin};
 ghost use Rattle.fv_aggregate.specs.Answers.{answer};
 ghost use Rattle.fv_aggregate.specs.Applying.{HasApplied};
 ghost use Rattle.fv_aggregate.specs.Calls.{Runs, SameCounts};
+ghost use Rattle.fv_aggregate.specs.Commands.{AsksPoint};
 ghost use Rattle.fv_aggregate.specs.Causes.{HasOpenCause, IsUnwritten, OpenFails};
 ghost use Rattle.fv_aggregate.specs.Opening.{IsFresh, IsOpened};
 ghost use Rattle.fv_aggregate.specs.Reclaiming.{Points};
@@ -110,14 +111,15 @@ impl Session {
     /// has failed: it answers `Failed`, with the disk's count of faults of that moment, to every call from then on, and reaches the
     /// disk no more. `Memory` comes where memory ran out: contracts rule it out for a `cp` without files in memory alone. `Damaged` comes
     /// where fewer blocks or numbers are free than a consistency point asks for, or a block of a volume's files isn't as it has to be. Over an
-    /// image that stands for a machine it never comes; over another one contracts tell which of these it was, of which volume, and at which
-    /// place (`HasDamage`). After these, and after a read that failed, the session goes on; where it stood for a machine it still stands for it.
+    /// image that stands for a machine it never comes; over another one contracts tell which of these it was, that the command
+    /// came to it, of which volume and table, and at which place (`HasDamage`). After these, and after a read that failed, the session goes
+    /// on; where it stood for a machine it still stands for it.
     /// A command on files that ends with a fault before which no point came made no change: what it left is in memory alone (`IsUnmade`).
     ///
     /// Costs a step for each slot, and memory for the names in `vol list`. A command on files costs what the call of `VolumeState` does.
     /// The first one that names a file of a volume costs a block for each inode block and each node over them, and the session
     /// then holds each name with its number, and each free number below the greatest that is taken; a later one finds its file by
-    /// these, and costs nothing for the others, unless memory lacked when a file was made or removed.
+    /// these, and costs nothing for the others, unless a file was made or removed since, for whose number memory can lack.
     /// Where room has to be made the command is judged first, which costs its reads twice, from the cache where they fit there. `vol create`
     /// costs a step for each VVBN of the new volume, and holds an entry for each. `vol stat`, `vol resize` and `vol guarantee` take no memory
     /// and walk nothing but the slots; `vol destroy` takes none, either, and costs a step for each entry and each node of the volume's
@@ -204,7 +206,7 @@ impl Session {
     /// `docs/SPACE.md` has the order.
     pub fn consistency_point<D: Disk>(&mut self, disk: &mut D) -> Result<(), Fault>
         requires stands { IsNone self.old.failed → Stands (D.shown disk.old) self.old }
-        ensures runs { Runs 0 (λ m. m) (D.shown disk.old) self.old (D.shown disk.new) self.new result }
+        ensures runs { Runs 0 AsksPoint (λ m. m) (D.shown disk.old) self.old (D.shown disk.new) self.new result }
         ensures points { Points 0 (D.shown disk.old) self.old (D.shown disk.new) self.new result }
         ensures kept { IsTrue (D.shown disk.old).tells → (last m : Machine) → StandsFor (D.shown disk.old) self.old last m
             → IsNone self.new.failed → OnErr result (StandsFor (D.shown disk.new) self.new last m) }

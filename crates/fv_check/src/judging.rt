@@ -13,7 +13,7 @@ ghost use Rattle.fv_faults.specs.ThirdPass.{third_pass};
 ghost use Rattle.fv_first_pass.specs.Causes.{HasRead};
 ghost use Rattle.fv_first_pass.specs.Verdicts.{Checks, IsVerdict};
 ghost use Rattle.fv_second_pass.specs.Told.{IsKnown, IsPassed};
-ghost use Rattle.fv_third_pass.specs.Volumes.{IsWalked};
+ghost use Rattle.fv_third_pass.specs.Surveys.{HasRange, IsSurveyOf, layout_of};
 ghost use Rattle.fv_check.specs.Judged.{IsJudged};
 
 use crate::totals::count_totals;
@@ -22,8 +22,8 @@ use fv_faults::Lines;
 use fv_first_pass::{CheckFault, Known, Verdict, note_roots, pass_one};
 use fv_fourth_pass::pass_four;
 use fv_root::{Found, RootFault, find_root};
-use fv_second_pass::{Reached, pass_two};
-use fv_third_pass::pass_three;
+use fv_second_pass::pass_two;
+use fv_third_pass::{Survey, pass_three};
 use std::alloc::Global;
 
 /// Whether there is a line. Lines stand in their order.
@@ -47,33 +47,30 @@ fn judge_roots<D: Disk>(alloc: Global, disk: &mut D) -> Result<Verdict, CheckFau
     Ok(Verdict::Faults(lines))
 }
 
-/// Makes the third and the fourth pass, by what the first two read and told, and counts the volumes where they find nothing.
+/// Makes the third and the fourth pass, by what the first two learnt, and counts the volumes where they find nothing.
 fn judge_walked<D: Disk>(
     alloc: Global,
     disk: &mut D,
-    root: &Found,
-    known: &Known,
-    reached: &Reached,
+    survey: &Survey<'_, '_, '_>,
     lines: Lines,
 ) -> Result<Verdict, CheckFault>
-    requires size { IsInRange root.now }
-    requires known { IsKnown known.now }
+    requires range { HasRange survey.now }
     requires clean { lines.lines.keys ≡ [] }
-    ensures says { IsTrue (D.shown disk.old).tells → IsWalked (root_found root.now) (D.shown disk.old).reads known.now reached.now
-        → IfOk result (IsJudged (layout_at (root_found root.now) (D.shown disk.old).reads).view
-        (or_next (third_pass (layout_at (root_found root.now) (D.shown disk.old).reads))
-        (fourth_pass (root_place root.now.slot) (layout_at (root_found root.now) (D.shown disk.old).reads)))) }
+    ensures says { IsTrue (D.shown disk.old).tells → IsSurveyOf survey.now (D.shown disk.old).reads
+        → IfOk result (IsJudged (layout_of survey.now (D.shown disk.old).reads).view
+        (or_next (third_pass (layout_of survey.now (D.shown disk.old).reads))
+        (fourth_pass (root_place survey.now.root.now.slot) (layout_of survey.now (D.shown disk.old).reads)))) }
     ensures read { HasRead (D.shown disk.old) (D.shown disk.new) result }
 {
-    let third = pass_three(alloc, disk, root, known, reached, lines)?;
+    let third = pass_three(alloc, disk, survey, lines)?;
     if has_lines(&third) {
         return Ok(Verdict::Faults(third));
     }
-    let fourth = pass_four(alloc, disk, root, known, reached, third)?;
+    let fourth = pass_four(alloc, disk, survey, third)?;
     if has_lines(&fourth) {
         return Ok(Verdict::Faults(fourth));
     }
-    let totals = count_totals(alloc, known, reached)?;
+    let totals = count_totals(alloc, survey)?;
     Ok(Verdict::Valid {
         volumes: totals.volumes,
         charged: totals.charged,
@@ -103,7 +100,12 @@ fn judge_read<D: Disk>(
     if has_lines(&second) {
         return Ok(Verdict::Faults(second));
     }
-    judge_walked(alloc, disk, root, known, &reached, second)
+    let survey = Survey {
+        root,
+        known,
+        reached: &reached,
+    };
+    judge_walked(alloc, disk, &survey, second)
 }
 
 /// Makes the passes over the aggregate with this root.

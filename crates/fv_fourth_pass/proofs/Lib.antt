@@ -8,6 +8,7 @@ mod Marks
 mod Gaining
 mod Copies
 pub mod Sets
+mod Silence
 mod Filling
 mod Unions
 mod Slots

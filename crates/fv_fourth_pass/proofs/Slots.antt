@@ -1,5 +1,5 @@
 -- What is noted of volumes, part by part and slot by slot, is what the fourth pass says.
-use Rattle.std.proofs.Common.{◌≡◌, ℕ, ◌+◌, ◌<◌, ◌≤◌, List, [], ◌∷◌, ◌++◌, length, get_or, take, map, refl, sym, ap, subst, ◌∙◌, arith}
+use Rattle.std.proofs.Common.{◌≡◌, ℕ, ◌+◌, List, [], ◌∷◌, ◌++◌, map, refl, sym, ap, ◌∙◌, arith}
 use Rattle.std.specs.Prelude.{flat_map}
 use Rattle.std.proofs.lemmas.Grind.{flat_map-append}
 use Rattle.std.proofs.lemmas.List.{append_assoc}
@@ -11,17 +11,13 @@ use Rattle.fv_faults.specs.declared.fault.Fault.{Fault}
 use Rattle.fv_faults.specs.declared.lines.Lines.{Lines}
 use Rattle.fv_faults.specs.Adding.{Adds}
 use Rattle.fv_faults.specs.FourthPass.{commit_lines, fourth_pass, hint_lines, known_in, none_of, not_on_base, own_over_base, place_lines, room_lines, unknown_in, unknown_lines, use_lines}
-use Rattle.fv_faults.specs.Met.{IsClean}
 use Rattle.fv_faults.specs.SecondPass.{ground, root_steps}
-use Rattle.fv_faults.specs.Walks.{Ground, Step, steps}
+use Rattle.fv_faults.specs.Walks.{Step, steps}
 use Rattle.fv_faults.proofs.Adding.{adds_then}
-use Rattle.fv_walk.specs.Visits.{rooted}
 use Rattle.fv_third_pass.specs.declared.roots.MapRoot.{MapRoot}
-use Rattle.fv_third_pass.specs.Volumes.{AreClean, root_of}
-use Rattle.fv_third_pass.proofs.Noting.{each_all, each_first, each_next, range_first, range_next}
-use Rattle.fv_third_pass.proofs.OwnTables.{in_at}
+use Rattle.fv_third_pass.specs.Volumes.{root_of}
+use Rattle.fv_third_pass.proofs.Noting.{range_first, range_next}
 use Rattle.fv_third_pass.proofs.SameLines.{Same, same_adds, same_both, same_is, same_spread, same_then}
-use Rattle.fv_fourth_pass.specs.Hinted.{hinted_lines}
 use Rattle.fv_fourth_pass.specs.Noted.{hinted_roots, slot_lines, slots_to, volume_lines}
 
 -- ---- one volume

@@ -1,5 +1,5 @@
 -- What is noted and counted root by root along the tables of a volume.
-use Rattle.std.proofs.Common.{◌≡◌, ℕ, zero, suc, ◌+◌, ◌<◌, ◌≤◌, Bool, true, false, List, [], ◌∷◌, ◌++◌, length, get_or, take, map, refl, sym, ap, subst, ◌∙◌, arith, inl, inr}
+use Rattle.std.proofs.Common.{◌≡◌, ℕ, ◌+◌, ◌<◌, ◌≤◌, Bool, true, false, List, [], ◌∷◌, ◌++◌, length, get_or, take, map, refl, sym, ap, subst, ◌∙◌, arith, inl, inr}
 use Rattle.std.specs.Prelude.{Option, Some, None, ◌||◌, ◌==◌, ◌-◌, if◌then◌else◌}
 use Rattle.std.proofs.lemmas.Bool.Decides.{nat_tests}
 use Rattle.std.proofs.lemmas.List.{append-nil, append_assoc}
@@ -8,8 +8,7 @@ use Rattle.fv_codec.specs.Blocks.{IsLabel}
 use Rattle.fv_codec.specs.Fields.{up_to}
 use Rattle.fv_image.specs.HintRules.{is_splitting}
 use Rattle.fv_image.specs.Seen.{roots_of}
-use Rattle.fv_image.specs.Views.{Footing, Head, Rooted, View, footing_of, head_of}
-use Rattle.fv_laws.proofs.Lists.{In}
+use Rattle.fv_image.specs.Views.{Head, Rooted, View, footing_of, head_of}
 use Rattle.fv_faults.specs.declared.fault.Fault.{Fault}
 use Rattle.fv_faults.specs.declared.lines.Lines.{Lines}
 use Rattle.fv_faults.specs.Adding.{Adds}

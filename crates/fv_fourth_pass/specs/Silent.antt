@@ -13,7 +13,9 @@ use Rattle.fv_image.specs.Seen.{roots_of}
 use Rattle.fv_faults.specs.ThirdPass.{third_pass}
 use Rattle.fv_first_pass.specs.declared.first.Known.{Known}
 use Rattle.fv_second_pass.specs.declared.reached.Reached.{Reached}
+use Rattle.fv_root.specs.Finding.{root_found}
 use Rattle.fv_third_pass.specs.declared.roots.MapRoot.{MapRoot}
+use Rattle.fv_third_pass.specs.declared.survey.Survey.{Survey}
 use Rattle.fv_third_pass.specs.Volumes.{IsWalked, base_set, reach_at, root_of}
 use Rattle.fv_fourth_pass.specs.declared.reach_sets.Sets.{Sets}
 use Rattle.fv_fourth_pass.specs.Used.{is_out}
@@ -68,3 +70,14 @@ pub record IsSilentVolume (t : Taken) (i : Image) (known : Known) (reached : Rea
   pub label : get_or known.labels.items s None ≡ Some (Ok l)
   pub roots : map root_of rs ≡ roots_of (head_of l)
   pub sets : AreSetsOf reached s l x.held x.base (left_of l x.base)
+
+-- ---- the same, by what the first two passes learnt
+
+abbrev pub IsSilentOf : Survey → Image → Type 0
+IsSilentOf x i = IsSilent (root_found x.root.now) i x.known.now x.reached.now
+
+abbrev pub IsSilentAt : Survey → Image → ℕ → Label → Type 0
+IsSilentAt x i s l = IsSilentLabel (root_found x.root.now) i x.known.now x.reached.now s l
+
+abbrev pub IsSilentWith : Survey → Image → ℕ → Label → List MapRoot → Sets → Type 0
+IsSilentWith x i s l rs sets = IsSilentVolume (root_found x.root.now) i x.known.now x.reached.now s l rs sets

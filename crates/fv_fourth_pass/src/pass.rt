@@ -3,19 +3,17 @@
 ghost use Rattle.std.specs.Prelude.{◌≡◌, ◌≤◌, ◌<◌, ◌+◌, ◌++◌, ◌^◌, [], IsTrue, get_or, length, map, IfOk, IfSome, None, OnOk};
 ghost use Rattle.fv_codec.specs.Blocks.{IsLabel};
 ghost use Rattle.fv_image.specs.Layout.{root_place};
-ghost use Rattle.fv_image.specs.Held.{layout_at};
 ghost use Rattle.fv_image.specs.Seen.{roots_of};
 ghost use Rattle.fv_image.specs.Views.{head_of};
 ghost use Rattle.fv_image.specs.Volumes.{volume_told};
 ghost use Rattle.fv_model.specs.Space.{need};
-ghost use Rattle.fv_root.specs.Finding.{IsInRange, root_found};
 ghost use Rattle.fv_faults.specs.Adding.{Adds};
 ghost use Rattle.fv_faults.specs.FourthPass.{fourth_pass, place_lines};
 ghost use Rattle.fv_first_pass.specs.Causes.{HasRead};
-ghost use Rattle.fv_second_pass.specs.Told.{IsKnown, ground_at};
+ghost use Rattle.fv_third_pass.specs.Surveys.{HasRange, Passes, ground_of, label_place, layout_of};
 ghost use Rattle.fv_third_pass.specs.Volumes.{AreFew, root_of};
 ghost use Rattle.fv_fourth_pass.specs.Noted.{hinted_roots, slot_lines, slots_to, volume_lines};
-ghost use Rattle.fv_fourth_pass.specs.Silent.{IsSilent, IsSilentLabel, IsSilentVolume};
+ghost use Rattle.fv_fourth_pass.specs.Silent.{IsSilentAt, IsSilentOf, IsSilentWith};
 ghost use Rattle.fv_fourth_pass.specs.Summed.{AreSums, AreWithin, IsSpace, IsSpaceAt, IsWithin};
 
 use crate::reach_sets::{Sets, sets_of, shared_by};
@@ -27,10 +25,9 @@ use crate::volume::note_rules;
 use fv_codec::Label;
 use fv_disk::Disk;
 use fv_faults::Lines;
-use fv_first_pass::{CheckFault, Known};
-use fv_root::{Found, root_place};
-use fv_second_pass::Reached;
-use fv_third_pass::{MapRoot, label_of, roots_of, row_of};
+use fv_first_pass::CheckFault;
+use fv_root::root_place;
+use fv_third_pass::{MapRoot, Survey, label_of, roots_of, row_of};
 use fv_walk::WalkFault;
 use std::alloc::Global;
 
@@ -47,38 +44,33 @@ struct Noted {
 fn note_walked<D: Disk>(
     alloc: Global,
     disk: &mut D,
-    root: &Found,
-    known: &Known,
-    reached: &Reached,
+    survey: &Survey<'_, '_, '_>,
     slot: u8,
     label: &Label,
     roots: &[MapRoot],
     sets: &Sets,
     lines: Lines,
 ) -> Result<Walked, CheckFault>
-    requires size { IsInRange root.now }
-    requires known { IsKnown known.now }
+    requires range { HasRange survey.now }
     requires slot { slot < 64 }
     requires label { IsLabel label.now }
     requires few { AreFew roots.now }
     requires held { length sets.now.held ≡ label.now.span }
     requires base { IfSome sets.now.base (λ set. length set ≡ label.now.span) }
     ensures adds { IsTrue (D.shown disk.old).tells → IfOk result (λ walked.
-        IsSilentVolume (root_found root.now) (D.shown disk.old).reads known.now reached.now slot label.entry.now roots.now sets.now
-        → Adds (hinted_roots (ground_at (root_found root.now) (D.shown disk.old).reads slot label.entry.now.span)
-        (get_or root.now.root.labels slot 0) roots.now
-        ++ place_lines (layout_at (root_found root.now) (D.shown disk.old).reads).view slot (get_or root.now.root.labels slot 0)
+        IsSilentWith survey.now (D.shown disk.old).reads slot label.entry.now roots.now sets.now
+        → Adds (hinted_roots (ground_of survey.now (D.shown disk.old).reads slot label.entry.now)
+        (label_place survey.now slot) roots.now
+        ++ place_lines (layout_of survey.now (D.shown disk.old).reads).view slot (label_place survey.now slot)
         (head_of label.entry.now)) lines walked.lines) }
     ensures exact { IsTrue (D.shown disk.old).tells → IfOk result (λ walked.
-        IsSilentVolume (root_found root.now) (D.shown disk.old).reads known.now reached.now slot label.entry.now roots.now sets.now
-        → walked.needed ≡ need (volume_told (layout_at (root_found root.now) (D.shown disk.old).reads).view slot (head_of label.entry.now))) }
+        IsSilentWith survey.now (D.shown disk.old).reads slot label.entry.now roots.now sets.now
+        → walked.needed ≡ need (volume_told (layout_of survey.now (D.shown disk.old).reads).view slot (head_of label.entry.now))) }
     ensures most { IfOk result (λ walked. walked.needed ≤ 2 ^ 55) }
     ensures read { HasRead (D.shown disk.old) (D.shown disk.new) result }
 {
-    let shared = shared_by(alloc, reached, slot, label.span, roots, sets.base())?;
-    match note_rules(
-        alloc, disk, root, known, slot, label, roots, sets, shared, lines,
-    ) {
+    let shared = shared_by(alloc, survey.reached, slot, label.span, roots, sets.base())?;
+    match note_rules(alloc, disk, survey, slot, label, roots, sets, shared, lines) {
         Ok(walked) => Ok(walked),
         Err(WalkFault::DiskFault) => Err(CheckFault::DiskFault),
         Err(WalkFault::Memory) => Err(CheckFault::Memory),
@@ -89,35 +81,30 @@ fn note_walked<D: Disk>(
 fn note_volume<D: Disk>(
     alloc: Global,
     disk: &mut D,
-    root: &Found,
-    known: &Known,
-    reached: &Reached,
+    survey: &Survey<'_, '_, '_>,
     slot: u8,
     label: &Label,
     lines: Lines,
 ) -> Result<Noted, CheckFault>
-    requires size { IsInRange root.now }
-    requires known { IsKnown known.now }
+    requires range { HasRange survey.now }
     requires slot { slot < 64 }
     requires label { IsLabel label.now }
     requires long { length label.now.snapshots ≡ 24 }
     ensures adds { IsTrue (D.shown disk.old).tells → IfOk result (λ noted.
-        IsSilentLabel (root_found root.now) (D.shown disk.old).reads known.now reached.now slot label.entry.now
-        → Adds (volume_lines (layout_at (root_found root.now) (D.shown disk.old).reads).view slot (get_or root.now.root.labels slot 0)
+        IsSilentAt survey.now (D.shown disk.old).reads slot label.entry.now
+        → Adds (volume_lines (layout_of survey.now (D.shown disk.old).reads).view slot (label_place survey.now slot)
         (head_of label.entry.now)) lines noted.lines) }
     ensures space { IsTrue (D.shown disk.old).tells → IfOk result (λ noted.
-        IsSilentLabel (root_found root.now) (D.shown disk.old).reads known.now reached.now slot label.entry.now
-        → IsSpace (layout_at (root_found root.now) (D.shown disk.old).reads).view slot (head_of label.entry.now) noted.space) }
+        IsSilentAt survey.now (D.shown disk.old).reads slot label.entry.now
+        → IsSpace (layout_of survey.now (D.shown disk.old).reads).view slot (head_of label.entry.now) noted.space) }
     ensures within { IfOk result (λ noted. IsWithin noted.space) }
     ensures read { HasRead (D.shown disk.old) (D.shown disk.new) result }
 {
     let roots = roots_of(alloc, label)?;
-    let sets = sets_of(alloc, reached, slot, label, &roots)?;
-    let walked = note_walked(
-        alloc, disk, root, known, reached, slot, label, &roots, &sets, lines,
-    )?;
-    let space = count_space(label, &sets, row_of(known, slot), walked.needed);
-    let at = u64::from(root.root.labels[usize::from(slot)]);
+    let sets = sets_of(alloc, survey.reached, slot, label, &roots)?;
+    let walked = note_walked(alloc, disk, survey, slot, label, &roots, &sets, lines)?;
+    let space = count_space(label, &sets, row_of(survey.known, slot), walked.needed);
+    let at = u64::from(survey.root.root.labels[usize::from(slot)]);
     let mut noted = walked.lines;
     note_use(label, space.used, at, &mut noted)?;
     Ok(Noted {
@@ -130,34 +117,28 @@ fn note_volume<D: Disk>(
 fn note_slot<D: Disk>(
     alloc: Global,
     disk: &mut D,
-    root: &Found,
-    known: &Known,
-    reached: &Reached,
+    survey: &Survey<'_, '_, '_>,
     slot: u8,
     sums: &mut Sums,
     lines: Lines,
 ) -> Result<Lines, CheckFault>
-    requires size { IsInRange root.now }
-    requires known { IsKnown known.now }
+    requires range { HasRange survey.now }
     requires slot { slot < 64 }
     requires at { length sums.old.uses.items ≡ slot }
     requires within { AreWithin sums.old }
-    ensures adds { IsTrue (D.shown disk.old).tells → IfOk result (λ noted.
-        IsSilent (root_found root.now) (D.shown disk.old).reads known.now reached.now
-        → Adds (slot_lines (layout_at (root_found root.now) (D.shown disk.old).reads) slot) lines noted) }
-    ensures sums { IsTrue (D.shown disk.old).tells → OnOk result (
-        IsSilent (root_found root.now) (D.shown disk.old).reads known.now reached.now
-        → AreSums (layout_at (root_found root.now) (D.shown disk.old).reads).view slot sums.old
-        → AreSums (layout_at (root_found root.now) (D.shown disk.old).reads).view (slot + 1) sums.new) }
+    ensures passes { Passes (D.shown disk.old) (D.shown disk.new) (IsSilentOf survey.now)
+        (λ i. slot_lines (layout_of survey.now i) slot) lines result }
+    ensures sums { IsTrue (D.shown disk.old).tells → OnOk result (IsSilentOf survey.now (D.shown disk.old).reads
+        → AreSums (layout_of survey.now (D.shown disk.old).reads).view slot sums.old
+        → AreSums (layout_of survey.now (D.shown disk.old).reads).view (slot + 1) sums.new) }
     ensures at { OnOk result (length sums.new.uses.items ≡ slot + 1) }
     ensures within { OnOk result (AreWithin sums.new) }
-    ensures read { HasRead (D.shown disk.old) (D.shown disk.new) result }
 {
-    let Some(label) = label_of(known, slot) else {
+    let Some(label) = label_of(survey.known, slot) else {
         add_space(sums, NOTHING)?;
         return Ok(lines);
     };
-    let noted = note_volume(alloc, disk, root, known, reached, slot, label, lines)?;
+    let noted = note_volume(alloc, disk, survey, slot, label, lines)?;
     add_space(sums, noted.space)?;
     Ok(noted.lines)
 }
@@ -167,36 +148,29 @@ fn note_slot<D: Disk>(
 fn note_slots<D: Disk>(
     alloc: Global,
     disk: &mut D,
-    root: &Found,
-    known: &Known,
-    reached: &Reached,
+    survey: &Survey<'_, '_, '_>,
     sums: &mut Sums,
     lines: Lines,
 ) -> Result<Lines, CheckFault>
-    requires size { IsInRange root.now }
-    requires known { IsKnown known.now }
+    requires range { HasRange survey.now }
     requires at { length sums.old.uses.items ≡ 0 }
     requires within { AreWithin sums.old }
-    ensures adds { IsTrue (D.shown disk.old).tells → IfOk result (λ noted.
-        IsSilent (root_found root.now) (D.shown disk.old).reads known.now reached.now
-        → Adds (slots_to (layout_at (root_found root.now) (D.shown disk.old).reads) 64) lines noted) }
-    ensures sums { IsTrue (D.shown disk.old).tells → OnOk result (
-        IsSilent (root_found root.now) (D.shown disk.old).reads known.now reached.now
-        → AreSums (layout_at (root_found root.now) (D.shown disk.old).reads).view 0 sums.old
-        → AreSums (layout_at (root_found root.now) (D.shown disk.old).reads).view 64 sums.new) }
+    ensures passes { Passes (D.shown disk.old) (D.shown disk.new) (IsSilentOf survey.now)
+        (λ i. slots_to (layout_of survey.now i) 64) lines result }
+    ensures sums { IsTrue (D.shown disk.old).tells → OnOk result (IsSilentOf survey.now (D.shown disk.old).reads
+        → AreSums (layout_of survey.now (D.shown disk.old).reads).view 0 sums.old
+        → AreSums (layout_of survey.now (D.shown disk.old).reads).view 64 sums.new) }
     ensures within { OnOk result (AreWithin sums.new) }
-    ensures read { HasRead (D.shown disk.old) (D.shown disk.new) result }
 {
     let mut noted = lines;
     for slot in 0..64u8 {
-        noted = note_slot(alloc, disk, root, known, reached, slot, sums, noted)?;
+        noted = note_slot(alloc, disk, survey, slot, sums, noted)?;
     }
     Ok(noted)
 }
 
-/// Makes the fourth pass over the aggregate with this root: notes the lines of rules 11 to 14 that it has (`docs/FORMAT.md`), of hints,
-/// unknown places, bases and space. It is for an aggregate in which the first three passes found nothing, by what the first read (`known`)
-/// and what the second told of roots (`reached`). The lines come back with those that are noted.
+/// Makes the fourth pass over an aggregate in which the first three found nothing, by what the first two learnt of it: notes the lines of
+/// rules 11 to 14 that it has (`docs/FORMAT.md`), of hints, unknown places, bases and space. The lines come back with those that are noted.
 ///
 /// `DiskFault` comes only where a read failed, `Memory` where memory was refused; the lines that were given are gone then. It reads the
 /// nodes and inode blocks that a root leads to, once for each root. For one volume at a time it takes four bits for each VVBN, and 40 bytes
@@ -204,23 +178,20 @@ fn note_slots<D: Disk>(
 pub fn pass_four<D: Disk>(
     alloc: Global,
     disk: &mut D,
-    root: &Found,
-    known: &Known,
-    reached: &Reached,
+    survey: &Survey<'_, '_, '_>,
     lines: Lines,
 ) -> Result<Lines, CheckFault>
-    requires size { IsInRange root.now }
-    requires known { IsKnown known.now }
-    ensures adds { IsTrue (D.shown disk.old).tells → IfOk result (λ noted.
-        IsSilent (root_found root.now) (D.shown disk.old).reads known.now reached.now
-        → Adds (fourth_pass (root_place root.now.slot) (layout_at (root_found root.now) (D.shown disk.old).reads)) lines noted) }
-    ensures read { HasRead (D.shown disk.old) (D.shown disk.new) result }
+    requires { HasRange survey.now }
+    ensures { Passes (D.shown disk.old) (D.shown disk.new) (IsSilentOf survey.now)
+        (λ i. fourth_pass (root_place survey.now.root.now.slot) (layout_of survey.now i)) lines result }
 {
     let mut sums = Sums {
         uses: Vec::with_capacity(alloc, 64)?,
         filled: Filled { own: 0, delayed: 0 },
     };
-    let mut noted = note_slots(alloc, disk, root, known, reached, &mut sums, lines)?;
+    let mut noted = note_slots(alloc, disk, survey, &mut sums, lines)?;
+    let root = survey.root;
+    let known = survey.known;
     let at = root_place(root.slot);
     note_commits(root.blocks, &known.labels, &sums.uses, at, &mut noted)?;
     note_room(root.blocks, &known.labels, sums.filled, at, &mut noted)?;

@@ -7,12 +7,11 @@ ghost use Rattle.fv_image.specs.Seen.{roots_of};
 ghost use Rattle.fv_image.specs.Views.{head_of};
 ghost use Rattle.fv_image.specs.Volumes.{volume_told};
 ghost use Rattle.fv_model.specs.Space.{need};
-ghost use Rattle.fv_root.specs.Finding.{IsInRange, root_found};
 ghost use Rattle.fv_faults.specs.Adding.{Adds};
 ghost use Rattle.fv_faults.specs.FourthPass.{place_lines};
 ghost use Rattle.fv_walk.specs.Causes.{HasWalkCause};
-ghost use Rattle.fv_second_pass.specs.Told.{IsKnown, IsLabelled, ground_at};
 ghost use Rattle.fv_third_pass.specs.Counted.{words_of};
+ghost use Rattle.fv_third_pass.specs.Surveys.{HasRange, IsLabelledAt, ground_of, label_place};
 ghost use Rattle.fv_third_pass.specs.Volumes.{AreClean, AreFew, root_of};
 ghost use Rattle.fv_fourth_pass.specs.Based.{IsOver};
 ghost use Rattle.fv_fourth_pass.specs.Needed.{HasShared};
@@ -26,10 +25,8 @@ use fv_bits::BitMap;
 use fv_codec::Label;
 use fv_disk::Disk;
 use fv_faults::Lines;
-use fv_first_pass::Known;
-use fv_root::Found;
 use fv_second_pass::VolumeSource;
-use fv_third_pass::{MapRoot, row_of};
+use fv_third_pass::{MapRoot, Survey, row_of};
 use fv_walk::{Source, WalkFault};
 use std::alloc::Global;
 
@@ -73,8 +70,7 @@ fn note_pointers<S: Source>(
 pub(crate) fn note_rules<D: Disk>(
     alloc: Global,
     disk: &mut D,
-    root: &Found,
-    known: &Known,
+    survey: &Survey<'_, '_, '_>,
     slot: u8,
     label: &Label,
     roots: &[MapRoot],
@@ -82,42 +78,38 @@ pub(crate) fn note_rules<D: Disk>(
     shared: BitMap,
     lines: Lines,
 ) -> Result<Walked, WalkFault>
-    requires known { IsKnown known.now }
+    requires range { HasRange survey.now }
     requires slot { slot < 64 }
     requires label { IsLabel label.now }
     requires few { AreFew roots.now }
     requires held { length sets.now.held ≡ label.now.span }
     requires base { IfSome sets.now.base (λ set. length set ≡ label.now.span) }
-    ensures adds { IsTrue (D.shown disk.old).tells
-        → IsLabelled (root_found root.now) (D.shown disk.old).reads known.now slot label.entry.now
+    ensures adds { IsTrue (D.shown disk.old).tells → IsLabelledAt survey.now (D.shown disk.old).reads slot label.entry.now
         → map root_of roots.now ≡ roots_of (head_of label.entry.now)
-        → AreClean (ground_at (root_found root.now) (D.shown disk.old).reads slot label.entry.now.span)
-        (get_or root.now.root.labels slot 0) roots.now
-        → IsBased (ground_at (root_found root.now) (D.shown disk.old).reads slot label.entry.now.span).view slot (head_of label.entry.now)
-        sets.now.base (words_of (get_or known.now.rows.items slot None))
-        → IsOver (ground_at (root_found root.now) (D.shown disk.old).reads slot label.entry.now.span).view slot (head_of label.entry.now)
-        sets.now.held sets.now.base (words_of (get_or known.now.rows.items slot None))
-        → IfOk result (λ walked. Adds (hinted_roots (ground_at (root_found root.now) (D.shown disk.old).reads slot label.entry.now.span)
-        (get_or root.now.root.labels slot 0) roots.now
-        ++ place_lines (ground_at (root_found root.now) (D.shown disk.old).reads slot label.entry.now.span).view slot
-        (get_or root.now.root.labels slot 0) (head_of label.entry.now)) lines walked.lines) }
-    ensures exact { IsTrue (D.shown disk.old).tells
-        → IsLabelled (root_found root.now) (D.shown disk.old).reads known.now slot label.entry.now
+        → AreClean (ground_of survey.now (D.shown disk.old).reads slot label.entry.now) (label_place survey.now slot) roots.now
+        → IsBased (ground_of survey.now (D.shown disk.old).reads slot label.entry.now).view slot (head_of label.entry.now)
+        sets.now.base (words_of (get_or survey.now.known.now.rows.items slot None))
+        → IsOver (ground_of survey.now (D.shown disk.old).reads slot label.entry.now).view slot (head_of label.entry.now)
+        sets.now.held sets.now.base (words_of (get_or survey.now.known.now.rows.items slot None))
+        → IfOk result (λ walked.
+        Adds (hinted_roots (ground_of survey.now (D.shown disk.old).reads slot label.entry.now) (label_place survey.now slot) roots.now
+        ++ place_lines (ground_of survey.now (D.shown disk.old).reads slot label.entry.now).view slot (label_place survey.now slot)
+        (head_of label.entry.now)) lines walked.lines) }
+    ensures exact { IsTrue (D.shown disk.old).tells → IsLabelledAt survey.now (D.shown disk.old).reads slot label.entry.now
         → map root_of roots.now ≡ roots_of (head_of label.entry.now)
-        → HasShared (ground_at (root_found root.now) (D.shown disk.old).reads slot label.entry.now.span).view slot
-        (head_of label.entry.now) shared
-        → IfOk result (λ walked. walked.needed ≡ need (volume_told
-        (ground_at (root_found root.now) (D.shown disk.old).reads slot label.entry.now.span).view slot (head_of label.entry.now))) }
+        → HasShared (ground_of survey.now (D.shown disk.old).reads slot label.entry.now).view slot (head_of label.entry.now) shared
+        → IfOk result (λ walked. walked.needed
+        ≡ need (volume_told (ground_of survey.now (D.shown disk.old).reads slot label.entry.now).view slot (head_of label.entry.now))) }
     ensures most { IfOk result (λ walked. walked.needed ≤ 2 ^ 55) }
     ensures only_reads { OnlyReads (D.shown disk.old) (D.shown disk.new) }
     ensures cause { HasWalkCause (D.shown disk.old).faults (D.shown disk.new).faults result }
 {
-    let at = u64::from(root.root.labels[usize::from(slot)]);
-    let row = row_of(known, slot);
+    let at = u64::from(survey.root.root.labels[usize::from(slot)]);
+    let row = row_of(survey.known, slot);
     let mut source = VolumeSource {
         disk,
-        root,
-        known,
+        root: survey.root,
+        known: survey.known,
         slot,
         span: label.span,
     };

@@ -2,7 +2,7 @@
 use Rattle.std.proofs.Common.{◌≡◌, ◌≢◌, ◌⊎◌, ◌≤◌, ◌+◌, ℕ, max, inl, inr, ⊎_elim, Bool, true, false, cond, List, [], ◌∷◌, refl, sym, subst, ap, ◌∙◌, arith}
 use Rattle.std.proofs.lemmas.Bool.{both_ways}
 use Rattle.std.proofs.lemmas.Bool.Decides.{nat_tests}
-use Rattle.std.specs.Prelude.{◌||◌, ◌==◌, ◌&&◌, is_some, nat_lt, if◌then◌else◌, Option, Some, None, Ok, Err, IsTrue, IsNone, IsSome}
+use Rattle.std.specs.Prelude.{◌||◌, ◌==◌, ◌&&◌, is_some, nat_lt, if◌then◌else◌, Option, Some, None, Result, Ok, Err, IsTrue, IsNone, IsSome}
 use Rattle.fv_disk.specs.Shown.{Shown, IsDisk, Ends, Rose}
 use Rattle.fv_disk.specs.Crash.{Leaves}
 use Rattle.fv_disk.proofs.Moments.{started}
@@ -24,7 +24,7 @@ use Rattle.fv_aggregate.specs.declared.fault.Fault.TheVariants as session_fault
 use Rattle.fv_aggregate.specs.declared.session.Session.{Session}
 use Rattle.fv_aggregate.specs.Calls.{Goes, GoesFor, KeepsAsking}
 use Rattle.fv_aggregate.specs.Calls as calls
-use Rattle.fv_aggregate.specs.Commands.{changed_by, changes_volume, dirty_limit, is_built, machine_after, reads_files, most_room, Replies, RepliesBy, room_by, room_with, snapped_by, volume_asked}
+use Rattle.fv_aggregate.specs.Commands.{asked_by, Asked, AsksNothing, changed_by, changes_volume, dirty_limit, is_built, machine_after, reads_files, most_room, Replies, RepliesBy, room_by, room_with, snapped_by, volume_asked, is_refusal}
 use Rattle.fv_aggregate.specs.Asking.{AsksWithin}
 use Rattle.fv_aggregate.specs.Damages.{HasDamage}
 use Rattle.fv_aggregate.specs.Reading.{IsAsRead}
@@ -34,10 +34,11 @@ use Rattle.fv_run.specs.declared.ending.Fault.{Fault}
 use Rattle.fv_run.specs.declared.ending.Fault.TheVariants.{Disk, Memory, Damaged}
 use Rattle.fv_run.specs.Endings.{count_of, of_session, IsWholeFault}
 use Rattle.fv_run.specs.Built.{built}
-use Rattle.fv_run.specs.Running.{asks_point, changes_volumes, left_by, room_in, IsHurt, IsRoomIn, only_asks, reads_blocks}
+use Rattle.fv_run.specs.Running.{asked_in, asks_point, changes_volumes, left_by, room_in, IsHurt, IsRoomIn, only_asks, reads_blocks, UndergoesCommand, UndergoesSaid}
 use Rattle.fv_run.specs.Answering.{Applies, IsReady, IsSessionFault, LacksSpace}
 use Rattle.fv_run.proofs.Rooms.{left_other}
-use Rattle.fv_run.proofs.Sessions.{hurt_by, images_stand, lacks, never_failed}
+use Rattle.fv_run.proofs.Courses.{stands_on}
+use Rattle.fv_run.proofs.Sessions.{as_read_itself, hurt_by, images_stand, lacks, never_failed}
 
 -- ---- a command, built or not
 
@@ -152,6 +153,28 @@ room_built session c = so (is_built c) refl
     so true e = refl
     so false e = sym (unbuilt_room _ c e)
 
+-- so it asks for what its command asks for
+unbuilt_asks : (session : Session) (c : Command) → is_built c ≡ false → asked_by session.volumes c ≡ AsksNothing
+unfolding is_built asked_by
+unbuilt_asks session (New v f reserve) e = rw e refl
+unbuilt_asks session (Put v f i block) e = absurd cc
+unbuilt_asks session (Get v s f i) e = absurd cc
+unbuilt_asks session (Len v s f) e = absurd cc
+unbuilt_asks session (Cut v f length) e = absurd cc
+unbuilt_asks session (Remove v f) e = absurd cc
+unbuilt_asks session (Ls v s) e = absurd cc
+unbuilt_asks session (SnapCreate v s) e = absurd cc
+unbuilt_asks session (SnapDelete v s) e = absurd cc
+unbuilt_asks session Cp e = absurd cc
+unbuilt_asks session c e = refl
+
+asked_built : (session : Session) (c : Command) → asked_in (asked_by session.volumes) (built (Says c)) ≡ asked_by session.volumes c
+asked_built session c = so (is_built c) refl
+  where
+    so : (is : Bool) → is_built c ≡ is → asked_in (asked_by session.volumes) (cond is (Says c) NoCommand) ≡ asked_by session.volumes c
+    so true e = refl
+    so false e = sym (unbuilt_asks session c e)
+
 pub cp_reads_none : (c : Command) → c ≡ Cp → reads_files c ≡ false
 unfolding reads_files
 cp_reads_none c is = ap reads_files is
@@ -206,6 +229,18 @@ changes_none c none = so (changed_by c) (is_some (snapped_by c)) none
     so None snaps e = refl
     so (Some v) snaps e = absurd cc
 
+unbuilt_look : (c : Command) → is_built c ≡ false → volume_asked c ≡ None
+unfolding is_built
+unbuilt_look (Get v s f i) e = absurd cc
+unbuilt_look (Len v s f) e = absurd cc
+unbuilt_look (Ls v s) e = absurd cc
+unbuilt_look c e = refl
+
+-- what isn't built reads no file
+unbuilt_reads : (c : Command) → is_built c ≡ false → reads_files c ≡ false
+unfolding reads_files
+unbuilt_reads c e = rw (changes_none c (unbuilt_change c e), unbuilt_look c e) refl
+
 -- a built command that only asks for files
 asked_said : (c : Command) → only_asks (built (Says c)) ≡ true → (reads_files c ≡ true) × IsSome (volume_asked c)
 unfolding reads_files
@@ -249,8 +284,8 @@ said_range OutOfRange e = refl
 -- ---- lines that say no command
 
 no_change : (session : Session) (line : Line) (reply : Reply) (host : Shown) → IsDisk host → IsReady host session → is_cp line ≡ false
-    → ((m : Machine) → AllowsAt m line reply) → ((m : Machine) → after_line m line ≡ m) → Applies session line host session host (Ok reply)
-no_change session line reply host laws ready no_point allowed stays = record {
+    → UndergoesSaid line host.reads session host.reads session reply → ((m : Machine) → AllowsAt m line reply) → ((m : Machine) → after_line m line ≡ m) → Applies session line host session host (Ok reply)
+no_change session line reply host laws ready no_point said allowed stays = record {
   done = λ tells last m stands. (
     allowed m,
     record {
@@ -263,15 +298,22 @@ no_change session line reply host laws ready no_point allowed stays = record {
   no_damage = λ tells last m stands. tt;
   ready = ready;
   ends = tt;
-  read = λ asks. record { pool = record { map = refl; containers = refl; kept = refl; found = refl }; volumes = λ s. refl; same = refl };
-  files = λ tells same none. none;
+  read = λ asks. as_read_itself session;
+  led = λ tells. record {
+    stands = stands_on host session tells ready.stands;
+    reply = reply;
+    said = said;
+    read = λ asks. as_read_itself session;
+    files = λ same none. none;
+    calm = λ none. refl;
+    pending = left_other (room_by session.volumes) line session.pending no_point;
+  };
   asks = λ tells same room asks. (0, inl refl, record { asked = asks.asked; pending = omega (arith, asks.pending) });
   given = refl;
   left = refl;
   counts = counts_none host;
   writes = refl;
   calm = λ pending few none. refl;
-  pending = left_other (room_by session.volumes) line session.pending no_point;
 }
   where
     never : is_cp line ≡ false → is_cp line ≡ true → ⊥
@@ -281,10 +323,10 @@ no_change session line reply host laws ready no_point allowed stays = record {
         differ e = cc
 
 pub applied_none : (session : Session) (line : Line) (host : Shown) → IsDisk host → IsReady host session → line ≡ NoCommand → Applies session (built line) host session host (Ok (Refused Syntax))
-applied_none session line host laws ready is = subst (λ (l : Line). Applies session (built l) host session host (Ok (Refused Syntax))) (sym is) (no_change session NoCommand (Refused Syntax) host laws ready refl (λ m. refl) (λ m. refl))
+applied_none session line host laws ready is = subst (λ (l : Line). Applies session (built l) host session host (Ok (Refused Syntax))) (sym is) (no_change session NoCommand (Refused Syntax) host laws ready refl (refl, refl) (λ m. refl) (λ m. refl))
 
 pub applied_range : (session : Session) (line : Line) (host : Shown) → IsDisk host → IsReady host session → line ≡ OutOfRange → Applies session (built line) host session host (Ok (Refused Range))
-applied_range session line host laws ready is = subst (λ (l : Line). Applies session (built l) host session host (Ok (Refused Range))) (sym is) (no_change session OutOfRange (Refused Range) host laws ready refl (λ m. refl) (λ m. refl))
+applied_range session line host laws ready is = subst (λ (l : Line). Applies session (built l) host session host (Ok (Refused Range))) (sym is) (no_change session OutOfRange (Refused Range) host laws ready refl (refl, refl) (λ m. refl) (λ m. refl))
 
 -- ---- commands
 
@@ -314,7 +356,7 @@ module _ (session new_session : Session) (line : Line) (command : Command) (old 
   same_by none = changes_said command (subst (λ (l : Line). changes_volumes (built l) ≡ false) says none)
 
   -- the command was carried out, or refused
-  pub applied : (reply : Reply) → (command ≢ Cp → (room_by session.volumes command ≡ 0) ⊎ (session.pending + room_by session.volumes command ≤ dirty_limit) → new.reads ≡ old.reads) → Goes (room_by session.volumes command) old session new new_session (Ok reply)
+  pub applied : (reply : Reply) → (command ≢ Cp → (room_by session.volumes command ≡ 0) ⊎ (session.pending + room_by session.volumes command ≤ dirty_limit) → new.reads ≡ old.reads) → Goes (room_by session.volumes command) (asked_by session.volumes command) old session new new_session (Ok reply)
       → (changes_volume command ≡ false → KeepsAsking (room_by session.volumes command) old session new new_session)
       → (IsTrue old.tells → changed_by command ≡ None → IsWithoutFiles session → IsWithoutFiles new_session)
       → (IsTrue old.tells → (last m : Machine) → StandsFor old session last m → GoesFor {T = Reply} old last m (machine_after m command) new new_session (Ok reply))
@@ -322,8 +364,9 @@ module _ (session new_session : Session) (line : Line) (command : Command) (old 
       → (IsTrue old.tells → (last m : Machine) → StandsFor old session last m → command ≡ Cp → StandsFor new new_session m m)
       → (command ≡ Cp → new_session.pending ≡ 0)
       → (reads_files command ≡ true → IsSome (volume_asked command) → IsAsRead session new_session)
+      → (IsTrue old.tells → UndergoesCommand command old.reads session new.reads new_session reply)
       → Applies session (built line) old new_session new (Ok reply)
-  applied reply calm goes keeps files goes_for replies point pointed read = record {
+  applied reply calm goes keeps files goes_for replies point pointed read undergoes = record {
     done = λ tells last m so_far. (
       subst (λ (l : Line). AllowsAt m (built l) reply) (sym says) (allowed_built m command reply (replies tells last m so_far)),
       record {
@@ -336,8 +379,16 @@ module _ (session new_session : Session) (line : Line) (command : Command) (old 
     no_damage = λ tells last m so_far. tt;
     ready = record { unfailed = goes.done.goes_on; stands = goes.stands goes.done.goes_on };
     ends = tt;
-    read = λ asks. let asked = asked_said command (subst (λ (l : Line). only_asks (built l) ≡ true) says asks) in read asked.0 asked.1;
-    files = λ tells same none. files tells (changes_none command (same_by same)) none;
+    read = read_by;
+    led = λ tells. record {
+      stands = stands_on new new_session (rw goes.ends.tells tells) (goes.stands goes.done.goes_on);
+      reply = reply;
+      said = said_by tells;
+      read = read_by;
+      files = λ same none. files tells (changes_none command (same_by same)) none;
+      calm = λ none. calm_by calm session.pending (omega arith) none;
+      pending = pending_by pointed goes.pending;
+    };
     asks = λ tells same room asks. (
       most_room command,
       subst (λ (l : Line). IsRoomIn (built l ∷ []) (most_room command)) (sym says) (room_said command),
@@ -348,14 +399,29 @@ module _ (session new_session : Session) (line : Line) (command : Command) (old 
     counts = record { tells = goes.ends.tells; source = ap (λ (e : Ends). e.source_faults) goes.ends.ends; sink = ap (λ (e : Ends). e.sink_faults) goes.ends.ends; disk = goes.done.counts.faults };
     writes = goes.done.counts.write_faults;
     calm = calm_by calm;
-    pending = pending_by pointed goes.pending;
   }
     where
+      read_by : only_asks (built line) ≡ true → IsAsRead session new_session
+      read_by asks = let asked = asked_said command (subst (λ (l : Line). only_asks (built l) ≡ true) says asks) in read asked.0 asked.1
+
+      answered : (r : Reply) → ◌≡◌ {A = Result Reply SessionFault} (Ok r) (Ok (Refused Syntax)) → r ≡ Refused Syntax
+      answered r e = cc
+
+      -- a command that isn't built is refused as none, which leaves all as it was
+      said_as : IsTrue old.tells → (is : Bool) → is_built command ≡ is → UndergoesSaid (cond is (Says command) NoCommand) old.reads session new.reads new_session reply
+      said_as tells true e = undergoes tells
+      said_as tells false e =
+          let plain = (undergoes tells).plain (unbuilt_reads command e) in
+          plain.refused (subst (λ (r : Reply). IsTrue (is_refusal r)) (sym (answered reply (plain.unbuilt ready.unfailed e))) refl)
+
+      said_by : IsTrue old.tells → UndergoesSaid (built line) old.reads session new.reads new_session reply
+      said_by tells = subst (λ (l : Line). UndergoesSaid (built l) old.reads session new.reads new_session reply) (sym says) (said_as tells (is_built command) refl)
+
       at_point : (m : Machine) → command ≡ Cp → (command ≡ Cp → StandsFor new new_session m m) → StandsFor new new_session (after_line m (built line)) (after_line m (built line))
       at_point m is stands = subst (λ (x : Machine). StandsFor new new_session x x) (sym (ap (machine_after m) is ∙ after_cp m) ∙ after_is m) (stands is)
 
   -- it wasn't
-  module _ (calm : command ≢ Cp → (room_by session.volumes command ≡ 0) ⊎ (session.pending + room_by session.volumes command ≤ dirty_limit) → new.reads ≡ old.reads) (fault : SessionFault) (goes : Goes {T = Reply} (room_by session.volumes command) old session new new_session (Err fault))
+  module _ (calm : command ≢ Cp → (room_by session.volumes command ≡ 0) ⊎ (session.pending + room_by session.volumes command ≤ dirty_limit) → new.reads ≡ old.reads) (fault : SessionFault) (goes : Goes {T = Reply} (room_by session.volumes command) (asked_by session.volumes command) old session new new_session (Err fault))
       (goes_for : IsTrue old.tells → (last m : Machine) → StandsFor old session last m → GoesFor {T = Reply} old last m (machine_after m command) new new_session (Err fault)) where
     stopped_by : (end : Fault) → Counts old new (count_of end) → (¬ Rose old.write_faults new.write_faults → IsNone new_session.failed)
         → (IsTrue old.tells → (last m : Machine) → StandsFor old session last m → IsWholeFault end) → IsSessionFault (built line) old session new end → Applies session (built line) old new_session new (Err end)
@@ -367,31 +433,43 @@ module _ (session new_session : Session) (line : Line) (command : Command) (old 
       ready = tt;
       ends = ends;
       read = tt;
-      files = λ tells same none. tt;
+      led = λ tells. tt;
       asks = λ tells same room asks. tt;
       given = goes.ends.given;
       left = ap (λ (e : Ends). e.left) goes.ends.ends;
       counts = counts;
       writes = tt;
       calm = calm_by calm;
-      pending = tt;
     }
 
     no_count : new.faults ≡ old.faults → Counts old new None
     no_count same = record { tells = goes.ends.tells; source = ap (λ (e : Ends). e.source_faults) goes.ends.ends; sink = ap (λ (e : Ends). e.sink_faults) goes.ends.ends; disk = same }
 
   -- damage in a line
-  damaged : (at want found : ℕ) → StandsReady new new_session → HasDamage (room_by session.volumes command) old session new new_session at want found → (reads_files command ≡ false → calls.IsForWant old session new new_session (session_fault.Damaged at want found)) → IsSessionFault (built line) old session new Damaged
-  damaged at want found stands damage plain = ((new_session, (stands, subst (λ (n : ℕ). IsHurt n session new new_session) room (hurt_by (room_by session.volumes command) old session new new_session at want found damage))), so (reads_files command) refl)
+  damaged : (at want found : ℕ) → StandsReady new new_session → HasDamage (room_by session.volumes command) (asked_by session.volumes command) old session new new_session at want found → (reads_files command ≡ false → calls.IsForWant old session new new_session (session_fault.Damaged at want found)) → IsSessionFault (built line) old session new Damaged
+  damaged at want found stands damage plain = (
+    (
+      new_session,
+      (
+        stands,
+        subst (λ (asked : Asked). IsHurt (room_in (room_by session.volumes) (built line)) asked session new new_session) asks
+            (subst (λ (n : ℕ). IsHurt n (asked_by session.volumes command) session new new_session) room (hurt_by (room_by session.volumes command) (asked_by session.volumes command) old session new new_session at want found damage)),
+      ),
+    ),
+    so (reads_files command) refl,
+  )
     where
       room : room_by session.volumes command ≡ room_in (room_by session.volumes) (built line)
       room = sym (ap (λ (l : Line). room_in (room_by session.volumes) (built l)) says ∙ room_built session command)
+
+      asks : asked_by session.volumes command ≡ asked_in (asked_by session.volumes) (built line)
+      asks = sym (ap (λ (l : Line). asked_in (asked_by session.volumes) (built l)) says ∙ asked_built session command)
 
       so : (reads : Bool) → reads_files command ≡ reads → (reads_blocks (built line) ≡ true) ⊎ LacksSpace old session new
       so true e = inl (ap (λ (l : Line). reads_blocks (built l)) says ∙ reads_said command e)
       so false e = inr (lacks old new session new_session at want found (plain e))
 
-  pub unapplied : (command ≢ Cp → (room_by session.volumes command ≡ 0) ⊎ (session.pending + room_by session.volumes command ≤ dirty_limit) → new.reads ≡ old.reads) → (fault : SessionFault) → Goes {T = Reply} (room_by session.volumes command) old session new new_session (Err fault)
+  pub unapplied : (command ≢ Cp → (room_by session.volumes command ≡ 0) ⊎ (session.pending + room_by session.volumes command ≤ dirty_limit) → new.reads ≡ old.reads) → (fault : SessionFault) → Goes {T = Reply} (room_by session.volumes command) (asked_by session.volumes command) old session new new_session (Err fault)
       → (reads_files command ≡ false → calls.IsForWant old session new new_session fault)
       → (IsTrue old.tells → (last m : Machine) → StandsFor old session last m → GoesFor {T = Reply} old last m (machine_after m command) new new_session (Err fault))
       → Applies session (built line) old new_session new (Err (of_session fault))

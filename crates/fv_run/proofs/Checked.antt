@@ -20,7 +20,6 @@ use Rattle.fv_image.proofs.SoundTests.{machine_under, tells_from}
 use Rattle.fv_root.specs.Finding.{IsNoAggregate}
 use Rattle.fv_faults.specs.declared.fault.Fault.{Fault as Line}
 use Rattle.fv_faults.specs.declared.lines.Lines.{Lines}
-use Rattle.fv_faults.specs.Faults.{faults}
 use Rattle.fv_faults.proofs.Whole.{no_lines_of_machine, no_lines_where_sound}
 use Rattle.fv_first_pass.specs.declared.fault.CheckFault.{CheckFault}
 use Rattle.fv_first_pass.specs.declared.fault.CheckFault.TheVariants as checking

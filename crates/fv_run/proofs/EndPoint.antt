@@ -11,8 +11,8 @@ use Rattle.fv_lines.specs.Reading.{unread}
 use Rattle.fv_image.specs.Held.{view_at}
 use Rattle.fv_root.specs.Finding.{root_found}
 use Rattle.fv_cp.specs.Choosing.{LeavesRoom}
+use Rattle.fv_aggregate.specs.Commands.{AsksPoint}
 use Rattle.fv_aggregate.specs.declared.session.Session.{Session}
-use Rattle.fv_aggregate.specs.Adding.{IsPointed}
 use Rattle.fv_aggregate.specs.Calls.{Goes}
 use Rattle.fv_aggregate.specs.Reclaiming.{HasPointed, Points}
 use Rattle.fv_aggregate.specs.Standing.{StandsFor}
@@ -20,6 +20,7 @@ use Rattle.fv_aggregate.proofs.MadeRoom.{entries_still}
 use Rattle.fv_run.specs.Answering.{BeginsFor, HasAnswered, IsAtEnd}
 use Rattle.fv_run.specs.Built.{lines_built}
 use Rattle.fv_run.specs.Running.{still_disk, IsLastFor}
+use Rattle.fv_run.proofs.Courses.{pointed_on}
 use Rattle.fv_run.proofs.LastPoint.{all_lines}
 use Rattle.fv_run.proofs.Ran.{PointedOpen}
 use Rattle.fv_run.proofs.Sessions.{rests_standing, rests_standing_for, stays_standing_for}
@@ -45,7 +46,7 @@ pointed_still want last next point new m rests is = record {
 -- ---- the point behind all lines
 
 module _ (limit : ℕ) (session : Session) (mid : Shown) (last : Session) (end : Shown) (count : ℕ) (at_end : IsAtEnd limit session mid last end count) (laws : IsDisk end) (next : Session) (point : Shown)
-    (goes : Goes {T = Unit {0}} 0 end last point next (Ok tt)) (points : Points {T = Unit {0}} 0 end last point next (Ok tt)) (new : Shown) (rests : Rests point new) (tells : IsTrue mid.tells) (begins : session.pending ≡ 0) where
+    (goes : Goes {T = Unit {0}} 0 AsksPoint end last point next (Ok tt)) (points : Points {T = Unit {0}} 0 end last point next (Ok tt)) (new : Shown) (rests : Rests point new) (tells : IsTrue mid.tells) (begins : session.pending ≡ 0) where
   abbrev L : List Line
   L = lines_built mid.ends.left
 
@@ -69,24 +70,13 @@ module _ (limit : ℕ) (session : Session) (mid : Shown) (last : Session) (end :
       all : count ≡ length L
       all = let within = a.applied.within in let most = all_lines limit session mid last end count at_end tells in omega (arith, within, most)
 
-  left_still : IsPointed end last next → IsPointed new last next
-  left_still is = record {
-    pending = is.pending;
-    files = λ told. is.files end_tells;
-    same = λ told. is.same end_tells;
-    cores = is.cores;
-    admits = is.admits;
-    none = is.none;
-    blocks = is.blocks;
-  }
-
   pub pointed_open : PointedOpen session mid new
   pointed_open = record {
     before = end.reads;
     last = last;
     next = next;
     quiet = λ none. (at_end.stands.counted tells begins).quiet (λ line low. none line);
-    left = left_still points.left;
+    left = pointed_on end new last next end_tells points.left;
     stands = rests_standing point new next rests (goes.stands goes.done.goes_on);
     machine = for_machine;
   }

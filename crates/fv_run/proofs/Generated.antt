@@ -22,7 +22,7 @@ use Rattle.fv_run.specs.declared.ending.Fault.{Fault}
 use Rattle.fv_run.specs.declared.ending.Fault.TheVariants.{Usage, Unsound, NotAggregate, Source, Sink, Disk, Memory, Damaged, Limit}
 use Rattle.fv_run.specs.Answering.{BeginsFor}
 use Rattle.fv_run.specs.Endings.{count_of, IsWholeFault, of_opening, raised_by}
-use Rattle.fv_run.specs.Generating.{GaveNone, GaveUpTo, Generates, HasGenerated, HasReasonFor, Outlasts, OutlastsFrom, summary_of}
+use Rattle.fv_run.specs.Generating.{GaveNone, GaveUpTo, Generates, HasGenerated, HasReasonFor, IsHurtWithin, Outlasts, OutlastsFrom, summary_of}
 use Rattle.fv_run.specs.Running.{IsUnopened}
 use Rattle.fv_run.proofs.Sessions.{not_damaged, not_opened}
 use Rattle.fv_run.proofs.Summed.{GeneratesOpen, IsLateFault}
@@ -144,7 +144,7 @@ module _ (lines : List Line) (old mid : Shown) (laws : IsDisk old) (unwritten : 
     silent_since (Ok done) is = tt
     silent_since (Err fault) is = silent_by fault is
 
-    reason_by : (fault : Fault) → IsLateFault lines session new fault → HasReasonFor lines old new fault
+    reason_by : (fault : Fault) → IsLateFault lines mid.reads session new fault → HasReasonFor lines old new fault
     reason_by Usage is = is
     reason_by Unsound is = is
     reason_by NotAggregate is = absurd is
@@ -152,10 +152,10 @@ module _ (lines : List Line) (old mid : Shown) (laws : IsDisk old) (unwritten : 
     reason_by Sink is = tt
     reason_by Disk is = tt
     reason_by Memory is = tt
-    reason_by Damaged is = λ tells. inr (record { first = session; opened = loaded tells; meets = is })
+    reason_by Damaged is = λ tells. inr (record { first = session; opened = loaded tells; meets = subst (λ (i : Image). IsHurtWithin lines i session new) unwritten.reads is })
     reason_by Limit is = is
 
-    reason_since : (result : Result Unit Fault) → IfErr result (IsLateFault lines session new) → IfErr result (HasReasonFor lines old new)
+    reason_since : (result : Result Unit Fault) → IfErr result (IsLateFault lines mid.reads session new) → IfErr result (HasReasonFor lines old new)
     reason_since (Ok done) is = tt
     reason_since (Err fault) is = reason_by fault is
 

@@ -18,6 +18,7 @@ use Rattle.fv_lines.specs.Reading.{to_come, unread}
 use Rattle.fv_lines.proofs.Counting.{counts_then}
 use Rattle.fv_lines.proofs.Counting as counting
 use Rattle.fv_lines.proofs.Ends.{whole_append}
+use Rattle.fv_aggregate.specs.Commands.{AsksPoint}
 use Rattle.fv_aggregate.specs.declared.fault.Fault.{Fault as SessionFault}
 use Rattle.fv_aggregate.specs.declared.fault.Fault.TheVariants as session_fault
 use Rattle.fv_aggregate.specs.declared.session.Session.{Session}
@@ -32,6 +33,7 @@ use Rattle.fv_run.specs.Endings.{count_of, IsWholeFault, of_session}
 use Rattle.fv_run.specs.Running.{HasChanged, IsAtRest, IsHurtBehind, IsOverLimit, KeepsUp, MeetsDamage, most_rooms, rooms_along, Survives, IsQuiet}
 use Rattle.fv_run.specs.Answering.{AsksFor, HasAnswered, IsAtEnd, IsEndOf, IsHurtBy, LacksSpace, IsLine, TellsLine, BeginsFor}
 use Rattle.fv_run.proofs.Acked.{acked_all, acked_whole, up_to_take}
+use Rattle.fv_run.proofs.Courses.{undergoes_read}
 use Rattle.fv_run.proofs.Following.{follows_part, follows_whole, full}
 use Rattle.fv_run.proofs.KeepingUp.{keeps_up_between, none_before}
 use Rattle.fv_run.proofs.Limits.{all_read, same_behind}
@@ -260,24 +262,25 @@ module _ (limit : ℕ) (session : Session) (mid : Shown) (last : Session) (end :
       }
 
   -- the point was made, and the last line was given, or not
-  pub ran_whole : (next : Session) (point : Shown) → Goes {T = Unit {0}} 0 end last point next (Ok tt)
+  pub ran_whole : (next : Session) (point : Shown) → Goes {T = Unit {0}} 0 AsksPoint end last point next (Ok tt)
       → (IsTrue end.tells → (before m : Machine) → StandsFor end last before m → GoesFor {T = Unit {0}} end before m m point next (Ok tt))
       → (IsTrue end.tells → (before m : Machine) → StandsFor end last before m → StandsFor point next m m)
       → (new : Shown) (result : Result Unit Fault) → TellsLine point (done_text count) new result → RanOpen limit session mid new result
   ran_whole next point goes goes_for done new result told = told_whole next point (λ tells before m stands. (goes_for tells before m stands).any_moment) goes.ends done goes.done.counts.faults new result told
 
   -- what was damaged at the end
-  meets : (point : Shown) → KeepsEnds end point → IsHurtBy 0 last point → IsTrue mid.tells → MeetsDamage (lines_built mid.ends.left) session mid point
+  meets : (point : Shown) → KeepsEnds end point → IsHurtBy 0 AsksPoint last point → IsTrue mid.tells → MeetsDamage (lines_built mid.ends.left) session mid point
   meets point keeps hurt tells =
       let read = at_end.stands.reads tells in
       record {
         output = read.output;
         given = keeps.given ∙ read.given;
-        call = subst (λ (n : ℕ). IsHurtBehind (lines_built mid.ends.left) n session point) (sym read.answered) (hurt_last (lines_built mid.ends.left) count session last point (at_end.stands.opened tells) hurt);
+        call = subst (λ (n : ℕ). IsHurtBehind (lines_built mid.ends.left) n mid.reads session point) (sym read.answered) (hurt_last (lines_built mid.ends.left) count mid.reads session end.reads last point (all_lines tells)
+            (λ told. at_end.stands.course tells) (undergoes_read (lines_built mid.ends.left) count mid.reads session end.reads last (at_end.stands.course tells)) hurt);
       }
 
   -- a point that lacks blocks lacks them in the image, or for files that a line changed
-  damaged : (point : Shown) → KeepsEnds end point → IsHurtBy 0 last point → LacksSpace end last point → IsEndOf limit session mid point Damaged
+  damaged : (point : Shown) → KeepsEnds end point → IsHurtBy 0 AsksPoint last point → LacksSpace end last point → IsEndOf limit session mid point Damaged
   damaged point keeps hurt wants = λ tells. (
     meets point keeps hurt tells,
     λ within none. ⊎_elim
@@ -291,7 +294,7 @@ module _ (limit : ℕ) (session : Session) (mid : Shown) (last : Session) (end :
   )
 
   -- it wasn't made
-  pub point_failed : (next : Session) (point : Shown) (fault : SessionFault) → Goes {T = Unit {0}} 0 end last point next (Err fault)
+  pub point_failed : (next : Session) (point : Shown) (fault : SessionFault) → Goes {T = Unit {0}} 0 AsksPoint end last point next (Err fault)
       → (IsTrue end.tells → (before m : Machine) → StandsFor end last before m → GoesFor {T = Unit {0}} end before m m point next (Err fault))
       → (IsTrue end.tells → (before m : Machine) → StandsFor end last before m → IsNone next.failed → StandsFor point next before m)
       → calls.IsForWant end last point next fault → RanOpen limit session mid point (Err (of_session fault))
@@ -305,5 +308,5 @@ module _ (limit : ℕ) (session : Session) (mid : Shown) (last : Session) (end :
       (record { tells = goes.ends.tells; source = ap (λ (e : Ends). e.source_faults) goes.ends.ends; sink = ap (λ (e : Ends). e.sink_faults) goes.ends.ends; disk = goes.fault.counts.faults })
       (λ tells before m stands calm. absurd (goes_for tells before m stands).whole)
       (λ tells m stands. let a = answers tells m stands in absurd (goes_for (end_told tells) (after m (lines_built mid.ends.left) a.applied.point) (after m (lines_built mid.ends.left) count) a.applied.stands).whole)
-      (damaged point goes.ends (next, (goes.stands goes.fault.session, hurt_by 0 end last point next at want found goes.fault.reason)) (lacks end point last next at want found wants))
+      (damaged point goes.ends (next, (goes.stands goes.fault.session, hurt_by 0 AsksPoint end last point next at want found goes.fault.reason)) (lacks end point last next at want found wants))
   point_failed next point (session_fault.Failed faults) goes goes_for kept wants = absurd (never_failed last.failed faults at_end.stands.ready.unfailed goes.fault.reason)

@@ -23,6 +23,7 @@ mod Ran
 mod Resting
 mod Rooms
 mod Counted
+mod Courses
 mod Sessions
 mod Stepped
 mod Summed

@@ -1,6 +1,6 @@
 -- What a session on a disk stands for, and that it goes on doing so while the disk rests.
 use Rattle.std.proofs.Common.{◌≡◌, ◌<◌, ◌≤◌, inl, inr, ⊎_elim, ℕ, suc, zero, true, false, refl, sym, ap, subst, ◌∙◌, arith}
-use Rattle.std.specs.Prelude.{List, Some, None, Option, Result, Ok, Err, IsNone, IsOk, IsErr, IsTrue}
+use Rattle.std.specs.Prelude.{List, length, Some, None, Option, Result, Ok, Err, IsNone, IsOk, IsErr, IsTrue}
 use Rattle.fv_disk.specs.Shown.{Image, Shown}
 use Rattle.fv_disk.specs.DiskCalls.{Stays}
 use Rattle.fv_disk.specs.HostCalls.{Rests}
@@ -25,14 +25,14 @@ use Rattle.fv_aggregate.specs.declared.fault.Fault.TheVariants as session_fault
 use Rattle.fv_aggregate.specs.Standing.{taken_since, StandsAfter, StandsFor, StandsReady}
 use Rattle.fv_aggregate.specs.Asking.{AsksWithin, IsShort}
 use Rattle.fv_aggregate.specs.Calls.{LacksBlocks, HasFilesToPlace}
-use Rattle.fv_aggregate.specs.Commands.{room_by}
+use Rattle.fv_aggregate.specs.Commands.{asked_by, Asked, AsksPoint, room_by}
 use Rattle.fv_aggregate.specs.Damages.{HasDamage}
 use Rattle.fv_aggregate.specs.Reading.{IsAsRead}
 use Rattle.fv_aggregate.specs.Calls as calls
 use Rattle.fv_aggregate.specs.Causes.{IsOpenFault, IsUnder}
 use Rattle.fv_aggregate.proofs.Clear.{none_taken}
 use Rattle.fv_run.specs.Promises.{line_at}
-use Rattle.fv_run.specs.Running.{IsHurt, IsHurtBehind, only_asks, room_in}
+use Rattle.fv_run.specs.Running.{asked_in, IsHurt, IsHurtBehind, only_asks, room_in, UndergoesLines}
 use Rattle.fv_run.specs.Answering.{IsHurtBy, LacksSpace}
 
 abbrev nothing_behind : Option (Result Root Shape)
@@ -160,39 +160,36 @@ not_damaged i at want number none fault = ⊎_elim
 -- ---- calls that met damage
 
 -- what was damaged, by what the disk shows after it
-pub hurt_by : (room : ℕ) (old : Shown) (session : Session) (new : Shown) (left : Session) (at want found : ℕ) → HasDamage room old session new left at want found → IsHurt room session new left
-hurt_by room old session new left at want found (inl unwritten) = record { at = at; want = want; found = found; damage = inl unwritten.1 }
-hurt_by room old session new left at want found (inr behind) = record { at = at; want = want; found = found; damage = inr behind }
-
--- so it is of one that may add more
-pub hurt_more : (least room : ℕ) → least ≤ room → (session : Session) (new : Shown) (left : Session) → IsHurt least session new left → IsHurt room session new left
-hurt_more least room le session new left is = record {
-  at = is.at;
-  want = is.want;
-  found = is.found;
-  damage = ⊎_elim (λ unwritten. inl unwritten) (λ behind. inr ((let past = behind.0 in omega (arith, past, le)), behind.1)) is.damage;
-}
+pub hurt_by : (room : ℕ) (asked : Asked) (old : Shown) (session : Session) (new : Shown) (left : Session) (at want found : ℕ) → HasDamage room asked old session new left at want found → IsHurt room asked session new left
+hurt_by room asked old session new left at want found (inl unwritten) = record { at = at; want = want; found = found; damage = inl unwritten.1 }
+hurt_by room asked old session new left at want found (inr behind) = record { at = at; want = want; found = found; damage = inr behind }
 
 -- the call at work for the line behind `count` others
-pub hurt_behind : (lines : List Line) (count : ℕ) (line : Line) (first session : Session) (end : Shown) → line_at lines count ≡ line
-    → (((j : ℕ) → j < count → only_asks (line_at lines j) ≡ true) → IsAsRead first session) → IsHurtBy (room_in (room_by session.volumes) line) session end → IsHurtBehind lines count first end
-hurt_behind lines count line first session end same opened hurt = record {
+pub hurt_behind : (lines : List Line) (count : ℕ) (line : Line) (i : Image) (first : Session) (over : Image) (session : Session) (end : Shown) → line_at lines count ≡ line
+    → (IsTrue end.tells → UndergoesLines lines count i first over session) → (((j : ℕ) → j < count → only_asks (line_at lines j) ≡ true) → IsAsRead first session)
+    → IsHurtBy (room_in (room_by session.volumes) line) (asked_in (asked_by session.volumes) line) session end → IsHurtBehind lines count i first end
+hurt_behind lines count line i first over session end same course opened hurt = record {
   session = session;
+  over = over;
+  course = course;
   opened = opened;
   left = hurt.0;
   stands = hurt.1.0;
-  hurt = subst (λ (l : Line). IsHurt (room_in (room_by session.volumes) l) session end hurt.0) (sym same) hurt.1.1;
+  hurt = inl (subst (λ (l : Line). IsHurt (room_in (room_by session.volumes) l) (asked_in (asked_by session.volumes) l) session end hurt.0) (sym same) hurt.1.1);
 }
 
--- the point behind so many
-pub hurt_last : (lines : List Line) (count : ℕ) (first session : Session) (end : Shown)
-    → (((j : ℕ) → j < count → only_asks (line_at lines j) ≡ true) → IsAsRead first session) → IsHurtBy 0 session end → IsHurtBehind lines count first end
-hurt_last lines count first session end opened hurt = record {
+-- the point behind all of them
+pub hurt_last : (lines : List Line) (count : ℕ) (i : Image) (first : Session) (over : Image) (session : Session) (end : Shown) → length lines ≤ count
+    → (IsTrue end.tells → UndergoesLines lines count i first over session) → (((j : ℕ) → j < count → only_asks (line_at lines j) ≡ true) → IsAsRead first session)
+    → IsHurtBy 0 AsksPoint session end → IsHurtBehind lines count i first end
+hurt_last lines count i first over session end all course opened hurt = record {
   session = session;
+  over = over;
+  course = course;
   opened = opened;
   left = hurt.0;
   stands = hurt.1.0;
-  hurt = hurt_more 0 (room_in (room_by session.volumes) (line_at lines count)) (omega arith) session end hurt.0 hurt.1.1;
+  hurt = inr (all, hurt.1.1);
 }
 
 -- a session of which nothing was read

@@ -21,7 +21,7 @@ use Rattle.fv_lines.proofs.Counting as counting
 use Rattle.fv_lines.proofs.Ends.{whole_append}
 use Rattle.fv_aggregate.specs.declared.session.Session.{Session}
 use Rattle.fv_aggregate.specs.Asking.{AsksWithin}
-use Rattle.fv_aggregate.specs.Commands.{most_room, room_by}
+use Rattle.fv_aggregate.specs.Commands.{asked_by, most_room, room_by}
 use Rattle.fv_aggregate.proofs.Damages.{as_read_then}
 use Rattle.fv_aggregate.specs.Standing.{IsWithoutFiles}
 use Rattle.fv_run.specs.declared.ending.Fault.{Fault}
@@ -29,7 +29,7 @@ use Rattle.fv_run.specs.declared.ending.Fault.TheVariants.{Usage, Unsound, NotAg
 use Rattle.fv_run.specs.Built.{built, lines_built}
 use Rattle.fv_run.specs.Endings.{count_of, IsWholeFault}
 use Rattle.fv_run.specs.Promises.{line_at}
-use Rattle.fv_run.specs.Running.{begun, changes_volumes, HasChanged, Holds, IsOverLimit, IsHurtBehind, IsPastLimit, IsSessionDamage, KeepsUp, MeetsDamage, most_rooms, only_asks, reads_blocks, room_in, rooms_along, Survives, asks_point, pending_behind, IsQuiet}
+use Rattle.fv_run.specs.Running.{asked_in, begun, changes_volumes, HasChanged, Holds, IsOverLimit, IsHurtBehind, IsPastLimit, IsSessionDamage, KeepsUp, MeetsDamage, most_rooms, only_asks, reads_blocks, room_in, rooms_along, Survives, asks_point, pending_behind, IsQuiet}
 use Rattle.fv_run.specs.Answering.{Applies, AsksFor, BeginsFor, HasAnswered, HasRead, IsAtEnd, IsCounted, IsEndOf, IsHurtBy, LacksSpace, IsReady, IsSessionFault, StandsAt, Stopped, TellsLine}
 use Rattle.fv_run.proofs.Following.{left_next, line_behind}
 use Rattle.fv_run.proofs.KeepingUp.{keeps_up_source, keeps_up_limit, keeps_up_line, next_most, next_all, end_most, knows_on}
@@ -37,7 +37,8 @@ use Rattle.fv_run.proofs.Lines.{no_end, one_end}
 use Rattle.fv_run.proofs.Limits.{all_read, ends_before, ends_all, past_limit, same_behind, none_behind, to_come_most}
 use Rattle.fv_run.proofs.Counted.{bound_for, bound_most, calm_next, counted_next, counted_none, counted_still, quiet_next, quiet_still}
 use Rattle.fv_run.proofs.Rooms.{first_in, later_in, greater_room, room_of_line}
-use Rattle.fv_run.proofs.Sessions.{as_read_itself, hurt_behind, rests_asking, rests_standing}
+use Rattle.fv_run.proofs.Courses.{undergoes_next, undergoes_none, undergoes_read, undergoes_still}
+use Rattle.fv_run.proofs.Sessions.{hurt_behind, rests_asking, rests_standing}
 use Rattle.fv_run.proofs.Answered.{none_answered, followed, rested_here, asked, crash_asked, left_as, crash_applied, rested_unapplied, crash_told, followed_part, rested_part, answered_one}
 
 -- before the first line
@@ -50,7 +51,7 @@ starts limit first old laws ready = record {
   reads = λ tells. record { output = []; given = sym (append-nil old.given); answered = refl; read = []; front = refl; room = omega arith; ended = inl refl; most = omega arith; all = λ going. refl; piece = omega arith; knows = λ ended. absurd (true≢false (sym ended)) };
   lines = λ tells line is. is;
   behind = λ tells. refl;
-  opened = λ tells only. as_read_itself first;
+  course = λ tells. undergoes_none (lines_built old.ends.left) old.reads first;
   counted = λ tells none. counted_none most_rooms (lines_built old.ends.left) old first none;
   asks = λ tells asks none. inl (record { none = none; room = 0; line = inl refl; asks = asks });
   answers = λ tells m stands. none_answered m (lines_built old.ends.left) old first laws stands;
@@ -180,7 +181,7 @@ module _ (limit : ℕ) (first : Session) (old : Shown) (held : Held) (session : 
         reads = end_reads;
         lines = λ tells line is. let more = finds.reads (told tells) in so_far.lines tells line (subst (λ (l : List Line). Contains l line) (ap lines_built (more.found.1 ∙ sym more.found.0)) is);
         behind = λ tells. let more = finds.reads (told tells) in ap lines_built (more.found.1 ∙ sym more.found.0) ∙ so_far.behind tells;
-        opened = so_far.opened;
+        course = λ tells. undergoes_still script count old.reads first now.reads mid.reads session finds.asks.rests.stays.reads (so_far.course tells);
         counted = λ tells none. counted_still most_rooms script old session now count (so_far.counted tells none) mid finds.asks.rests.stays.reads;
         asks = λ tells within none. asks_still finds.asks.rests (so_far.asks tells within none);
         answers = λ tells m stands.
@@ -300,13 +301,14 @@ module _ (limit : ℕ) (first : Session) (old : Shown) (held : Held) (session : 
             line = subst (λ (n : ℕ). (reads_blocks (line_at script n) ≡ true) ⊎ HasChanged script n) (sym read.answered) line;
           })
 
-      meets : end.given ≡ mid.given → IsTrue old.tells → IsHurtBy (room_in (room_by session.volumes) (built (line_of bytes))) session end → MeetsDamage script first old end
+      meets : end.given ≡ mid.given → IsTrue old.tells → IsHurtBy (room_in (room_by session.volumes) (built (line_of bytes))) (asked_in (asked_by session.volumes) (built (line_of bytes))) session end → MeetsDamage script first old end
       meets same tells hurt =
           let read = so_far.reads tells in
           record {
             output = read.output;
             given = same ∙ finds.asks.given ∙ read.given;
-            call = subst (λ (n : ℕ). IsHurtBehind script n first end) (sym read.answered) (hurt_behind script count (built (line_of bytes)) first session end (line_is tells) (so_far.opened tells) hurt);
+            call = subst (λ (n : ℕ). IsHurtBehind script n old.reads first end) (sym read.answered) (hurt_behind script count (built (line_of bytes)) old.reads first now.reads session end (line_is tells)
+                (λ told. so_far.course tells) (undergoes_read script count old.reads first now.reads session (so_far.course tells)) hurt);
           }
 
       ends_so : end.given ≡ mid.given → (fault : Fault) → IsSessionFault (built (line_of bytes)) mid session end fault → IsEndOf limit first old end fault
@@ -459,7 +461,7 @@ module _ (limit : ℕ) (first : Session) (old : Shown) (held : Held) (session : 
                 let next = applies.asks (mid_told tells) e asks.room asks.asks in
                 let more = room_of_line script line next.0 (all_lines tells line (first_in line (lines_built (unread new_held mid)))) next.1 in
                 inl (record {
-                  none = applies.files (mid_told tells) e asks.none;
+                  none = (applies.led (mid_told tells)).files e asks.none;
                   room = max asks.room next.0;
                   line = greater_room script asks.room next.0 asks.line more;
                   asks = rests_asking end new next_session (max asks.room next.0) tells_it.tells.gives.rests next.2;
@@ -475,7 +477,9 @@ module _ (limit : ℕ) (first : Session) (old : Shown) (held : Held) (session : 
           reads = reads_next tells_it;
           lines = λ tells line is. all_lines tells line (later_in (built (line_of bytes)) (lines_built (unread new_held mid)) line (subst (λ (l : List ℕ). Contains (lines_built l) line) (same_left tells_it) is));
           behind = λ tells. ap lines_built (same_left tells_it) ∙ left_next count script (lines_built (unread new_held mid)) (built (line_of bytes)) (mid_behind tells);
-          opened = λ tells only. as_read_then first session next_session (so_far.opened tells (λ j low. only j (omega (arith, low)))) (applies.read (sym (ap only_asks (line_is tells)) ∙ only count (omega arith)));
+          course = λ tells. undergoes_still script (count + 1) old.reads first end.reads new.reads next_session tells_it.tells.gives.rests.stays.reads
+              (undergoes_next script count (built (line_of bytes)) (line_is tells) old.reads first mid.reads session end.reads next_session
+              (undergoes_still script count old.reads first now.reads mid.reads session finds.asks.rests.stays.reads (so_far.course tells)) (applies.led (mid_told tells)));
           counted = λ tells none. next_counted most_rooms (mid_counted tells none) mid_bound tells;
           asks = asks_next tells_it;
           answers = λ tells m stands.
@@ -490,4 +494,4 @@ module _ (limit : ℕ) (first : Session) (old : Shown) (held : Held) (session : 
           where
             next_counted : (rooms : ℕ → Command → ℕ) → IsCounted rooms script old session mid count → ((c : Command) → room_by session.volumes c ≤ rooms count c) → IsTrue old.tells → IsCounted rooms script old next_session new (count + 1)
             next_counted rooms counted bound tells =
-                counted_next rooms script old session mid count counted (built (line_of bytes)) (line_is tells) bound end applies.calm next_session new tells_it.tells.gives.rests.stays.reads applies.pending
+                counted_next rooms script old session mid count counted (built (line_of bytes)) (line_is tells) bound end applies.calm next_session new tells_it.tells.gives.rests.stays.reads (applies.led (mid_told tells)).pending

@@ -13,6 +13,7 @@ use Rattle.fv_script.specs.Summary.{summary}
 use Rattle.fv_lines.specs.Counts.{Counts}
 use Rattle.fv_lines.proofs.Counting.{counts_then}
 use Rattle.fv_lines.proofs.Counting as counting
+use Rattle.fv_aggregate.specs.Commands.{AsksPoint}
 use Rattle.fv_aggregate.specs.declared.fault.Fault.{Fault as SessionFault}
 use Rattle.fv_aggregate.specs.declared.fault.Fault.TheVariants as session_fault
 use Rattle.fv_aggregate.specs.declared.session.Session.{Session}
@@ -28,12 +29,12 @@ use Rattle.fv_run.specs.Generating.{accepted, AppliedAt, GaveNone, GaveUpTo, Has
 use Rattle.fv_run.proofs.Sessions.{hurt_by, hurt_last, images_stand, never_failed, reads_stand, rests_standing_for}
 
 -- a fault that a run may end with once its session is open
-abbrev pub IsLateFault : List Line → Session → Shown → Fault → Type 0
-IsLateFault lines first new Sink = Unit {0}
-IsLateFault lines first new Disk = Unit {0}
-IsLateFault lines first new Memory = Unit {0}
-IsLateFault lines first new Damaged = IsHurtWithin lines first new
-IsLateFault lines first new fault = ⊥
+abbrev pub IsLateFault : List Line → Image → Session → Shown → Fault → Type 0
+IsLateFault lines i first new Sink = Unit {0}
+IsLateFault lines i first new Disk = Unit {0}
+IsLateFault lines i first new Memory = Unit {0}
+IsLateFault lines i first new Damaged = IsHurtWithin lines i first new
+IsLateFault lines i first new fault = ⊥
 
 -- of a session that was opened at `mid`
 pub record GeneratesOpen (lines : List Line) (first : Session) (mid new : Shown) (result : Result Unit Fault) : Type 0 where
@@ -44,7 +45,7 @@ pub record GeneratesOpen (lines : List Line) (first : Session) (mid new : Shown)
   pub no_damage : IsTrue mid.tells → (m : Machine) → BeginsFor mid first m → IfErr result IsWholeFault
   pub silent : IfErr result (GaveNone mid new)
   pub counts : Counts mid new (raised_by result)
-  pub reason : IfErr result (IsLateFault lines first new)
+  pub reason : IfErr result (IsLateFault lines mid.reads first new)
   pub left : new.ends.left ≡ mid.ends.left
 
 -- before a byte of the line is given
@@ -60,16 +61,16 @@ outlasts m lines before c g s = record {
 
 -- ---- a run that was cut
 
-gave_up : (lines : List Line) (first : Session) (line : List ℕ) (old new : Shown) (fault : Fault) → IsCallFault lines first new fault → new.given ≡ old.given → GaveUpTo line old new fault
-gave_up lines first line old new Usage is same = same
-gave_up lines first line old new Unsound is same = same
-gave_up lines first line old new NotAggregate is same = same
-gave_up lines first line old new Source is same = same
-gave_up lines first line old new Sink is same = absurd is
-gave_up lines first line old new Disk is same = same
-gave_up lines first line old new Memory is same = same
-gave_up lines first line old new Damaged is same = same
-gave_up lines first line old new Limit is same = same
+gave_up : (lines : List Line) (i : Image) (first : Session) (line : List ℕ) (old new : Shown) (fault : Fault) → IsCallFault lines i first new fault → new.given ≡ old.given → GaveUpTo line old new fault
+gave_up lines i first line old new Usage is same = same
+gave_up lines i first line old new Unsound is same = same
+gave_up lines i first line old new NotAggregate is same = same
+gave_up lines i first line old new Source is same = same
+gave_up lines i first line old new Sink is same = absurd is
+gave_up lines i first line old new Disk is same = same
+gave_up lines i first line old new Memory is same = same
+gave_up lines i first line old new Damaged is same = same
+gave_up lines i first line old new Limit is same = same
 
 gave_none : (old new : Shown) (fault : Fault) → new.given ≡ old.given → GaveNone old new fault
 gave_none old new Usage same = same
@@ -82,27 +83,27 @@ gave_none old new Memory same = same
 gave_none old new Damaged same = same
 gave_none old new Limit same = same
 
-late : (lines : List Line) (first : Session) (new : Shown) (fault : Fault) → IsCallFault lines first new fault → IsLateFault lines first new fault
-late lines first new Usage is = is
-late lines first new Unsound is = is
-late lines first new NotAggregate is = is
-late lines first new Source is = is
-late lines first new Sink is = tt
-late lines first new Disk is = tt
-late lines first new Memory is = tt
-late lines first new Damaged is = is
-late lines first new Limit is = is
+late : (lines : List Line) (i : Image) (first : Session) (new : Shown) (fault : Fault) → IsCallFault lines i first new fault → IsLateFault lines i first new fault
+late lines i first new Usage is = is
+late lines i first new Unsound is = is
+late lines i first new NotAggregate is = is
+late lines i first new Source is = is
+late lines i first new Sink is = tt
+late lines i first new Disk is = tt
+late lines i first new Memory is = tt
+late lines i first new Damaged is = is
+late lines i first new Limit is = is
 
 pub cut_open : (lines : List Line) (first : Session) (mid new : Shown) (fault : Fault) → WasCut lines first mid new fault → GeneratesOpen lines first mid new (Err fault)
 cut_open lines first mid new fault cut = record {
   done = λ tells m begins. tt;
   crash = λ tells m begins. weaken mid new (Silent m lines mid.given) (Outlasts m lines mid.given) (outlasts m lines mid.given) (cut.crash tells m begins);
   at_rest = cut.at_rest;
-  given = λ tells m begins. gave_up lines first (summary_of m lines) mid new fault cut.reason cut.given;
+  given = λ tells m begins. gave_up lines mid.reads first (summary_of m lines) mid new fault cut.reason cut.given;
   no_damage = cut.no_damage;
   silent = gave_none mid new fault cut.given;
   counts = cut.counts;
-  reason = late lines first new fault cut.reason;
+  reason = late lines mid.reads first new fault cut.reason;
   left = cut.left;
 }
 
@@ -133,7 +134,7 @@ module _ (lines : List Line) (first : Session) (mid : Shown) (session : Session)
 
     -- it wasn't made
     point_cut : (fault : Fault) → Counts end point (count_of fault) → (IsTrue end.tells → (before m : Machine) → StandsFor end session before m → ¬ Rose end.write_faults point.write_faults → StandsFor point next before m)
-        → (IsTrue mid.tells → (m : Machine) → BeginsFor mid first m → IsWholeFault fault) → IsCallFault lines first point fault → WasCut lines first mid point fault
+        → (IsTrue mid.tells → (m : Machine) → BeginsFor mid first m → IsWholeFault fault) → IsCallFault lines mid.reads first point fault → WasCut lines first mid point fault
     point_cut fault counts still no_damage reason = record {
       crash = crash_point;
       at_rest = λ tells m begins calm.
@@ -233,12 +234,12 @@ module _ (lines : List Line) (first : Session) (mid : Shown) (session : Session)
         no_damage = λ tells m begins. subst IsWholeFault (sym told.sink) tt;
         silent = subst (λ (f : Fault). GaveNone mid new f) (sym told.sink) tt;
         counts = counts_then mid point new (count_of fault) point_counts (subst (λ (f : Fault). Counts point new (count_of f)) (sym told.sink) (counting.untold point new bytes (record {}) told.tells));
-        reason = subst (λ (f : Fault). IsLateFault lines first new f) (sym told.sink) tt;
+        reason = subst (λ (f : Fault). IsLateFault lines mid.reads first new f) (sym told.sink) tt;
         left = left_told (Err fault) told;
       }
 
   -- the point was made, and the line was given, or not
-  pub generated_whole : (next : Session) (point : Shown) → Goes {T = Unit {0}} 0 end session point next (Ok tt)
+  pub generated_whole : (next : Session) (point : Shown) → Goes {T = Unit {0}} 0 AsksPoint end session point next (Ok tt)
       → (IsTrue end.tells → (before m : Machine) → StandsFor end session before m → GoesFor {T = Unit {0}} end before m m point next (Ok tt))
       → (IsTrue end.tells → (before m : Machine) → StandsFor end session before m → StandsFor point next m m)
       → (charged : ℕ) → ((last m : Machine) → StandsFor point next last m → charged ≡ charged_in m)
@@ -246,7 +247,7 @@ module _ (lines : List Line) (first : Session) (mid : Shown) (session : Session)
   generated_whole next point goes goes_for done charged sums new result told = told_all next point (λ tells before m stands. (goes_for tells before m stands).any_moment) goes.ends done goes.done.counts.faults charged sums new result told
 
   -- it wasn't made
-  pub point_failed : (next : Session) (point : Shown) (fault : SessionFault) → Goes {T = Unit {0}} 0 end session point next (Err fault)
+  pub point_failed : (next : Session) (point : Shown) (fault : SessionFault) → Goes {T = Unit {0}} 0 AsksPoint end session point next (Err fault)
       → (IsTrue end.tells → (before m : Machine) → StandsFor end session before m → GoesFor {T = Unit {0}} end before m m point next (Err fault))
       → (IsTrue end.tells → (before m : Machine) → StandsFor end session before m → IsNone next.failed → StandsFor point next before m)
       → WasCut lines first mid point (of_session fault)
@@ -263,6 +264,7 @@ module _ (lines : List Line) (first : Session) (mid : Shown) (session : Session)
       (record {
         count = tally.lines;
         all = s.within;
-        call = hurt_last lines tally.lines first session point s.opened (next, (goes.stands goes.fault.session, hurt_by 0 end session point next at want found goes.fault.reason));
+        call = hurt_last lines tally.lines mid.reads first end.reads session point (omega (arith, all)) (λ told. s.course (subst IsTrue (goes.ends.tells ∙ s.counts.tells) told)) s.opened
+            (next, (goes.stands goes.fault.session, hurt_by 0 AsksPoint end session point next at want found goes.fault.reason));
       })
   point_failed next point (session_fault.Failed faults) goes goes_for kept = absurd (never_failed session.failed faults s.ready.unfailed goes.fault.reason)

@@ -27,6 +27,7 @@ use Rattle.fv_run.specs.Running.{only_asks, rooms_along}
 use Rattle.fv_run.proofs.Accepted.{accepted_more, as_accepted}
 use Rattle.fv_run.proofs.Applying.{applied_one, none_applied}
 use Rattle.fv_run.proofs.Counted.{bound_for, calm_next, counted_next}
+use Rattle.fv_run.proofs.Courses.{undergoes_next, undergoes_none}
 use Rattle.fv_run.proofs.Following.{after_next, left_below, left_next, line_behind, taken_next}
 use Rattle.fv_run.proofs.Sessions.{as_read_itself, hurt_behind, images_stand, reads_stand}
 
@@ -43,6 +44,7 @@ starts lines first old laws ready = record {
   given = refl;
   left = refl;
   opened = λ only. as_read_itself first;
+  course = λ tells. undergoes_none lines old.reads first;
   applied = λ tells m begins. none_applied m lines old first begins;
   accepted = λ tells m begins. refl;
   crash = λ tells m begins. started old (Silent m lines old.given) laws (λ c now. (record { count = 0; all = omega arith; machine = images_stand old first m m begins.stands c now }, refl));
@@ -92,16 +94,16 @@ module _ (lines rest : List Line) (line : Line) (first : Session) (old : Shown) 
   }
 
   -- of the line at work
-  call_fault : (fault : Fault) → IsSessionFault line mid session end fault → IsCallFault lines first end fault
-  call_fault Usage is = is
-  call_fault Unsound is = is
-  call_fault NotAggregate is = is
-  call_fault Source is = is
-  call_fault Sink is = is
-  call_fault Disk is = tt
-  call_fault Memory is = tt
-  call_fault Damaged is = record { count = count; all = let lt = below in omega (arith, lt); call = hurt_behind lines count line first session end line_is so_far.opened is.0 }
-  call_fault Limit is = is
+  call_fault : end.tells ≡ old.tells → (fault : Fault) → IsSessionFault line mid session end fault → IsCallFault lines old.reads first end fault
+  call_fault same Usage is = is
+  call_fault same Unsound is = is
+  call_fault same NotAggregate is = is
+  call_fault same Source is = is
+  call_fault same Sink is = is
+  call_fault same Disk is = tt
+  call_fault same Memory is = tt
+  call_fault same Damaged is = record { count = count; all = let lt = below in omega (arith, lt); call = hurt_behind lines count line old.reads first mid.reads session end line_is (λ told. so_far.course (subst IsTrue same told)) so_far.opened is.0 }
+  call_fault same Limit is = is
 
   -- the next line wasn't applied
   pub cut : (fault : Fault) → Applies session line mid next end (Err fault) → WasCut lines first old end fault
@@ -110,7 +112,7 @@ module _ (lines rest : List Line) (line : Line) (first : Session) (old : Shown) 
     at_rest = λ tells m begins calm. let a = so_far.applied tells m begins in at_rest m a (applies.still (told tells) (after m lines a.point) (after m lines count) a.stands (calm_since calm));
     no_damage = λ tells m begins. let a = so_far.applied tells m begins in applies.no_damage (told tells) (after m lines a.point) (after m lines count) a.stands;
     counts = counts_then old mid end (count_of fault) so_far.counts applies.counts;
-    reason = call_fault fault applies.ends;
+    reason = call_fault (applies.counts.tells ∙ so_far.counts.tells) fault applies.ends;
     given = applies.given ∙ so_far.given;
     left = applies.left ∙ so_far.left;
   }
@@ -124,7 +126,7 @@ module _ (lines rest : List Line) (line : Line) (first : Session) (old : Shown) 
         applied_one m lines line rest old session mid count so_far.rest_is a next end
         (calm_next (rooms_along m lines) lines old session mid count a.counted line line_is (λ c. bound_for mid session (after m lines a.point) (after m lines count) a.stands c) end applies.calm)
         done.1 end (rests_itself end)
-        (counted_next (rooms_along m lines) lines old session mid count a.counted line line_is (λ c. bound_for mid session (after m lines a.point) (after m lines count) a.stands c) end applies.calm next end refl applies.pending)
+        (counted_next (rooms_along m lines) lines old session mid count a.counted line line_is (λ c. bound_for mid session (after m lines a.point) (after m lines count) a.stands c) end applies.calm next end refl (applies.led (told tells)).pending)
 
     accepted_next : IsTrue old.tells → (m : Machine) → BeginsFor old first m → good + cond (is_accepted reply) 1 0 ≡ accepted m (take (count + 1) lines)
     accepted_next tells m begins =
@@ -144,6 +146,7 @@ module _ (lines rest : List Line) (line : Line) (first : Session) (old : Shown) 
       given = applies.given ∙ so_far.given;
       left = applies.left ∙ so_far.left;
       opened = λ only. as_read_then first session next (so_far.opened (λ j low. only j (omega (arith, low)))) (applies.read (sym (ap only_asks line_is) ∙ only count (omega arith)));
+      course = λ tells. undergoes_next lines count line line_is old.reads first mid.reads session end.reads next (so_far.course tells) (applies.led (told tells));
       applied = applied_next;
       accepted = accepted_next;
       crash = crash_on (Ok reply) applies;

@@ -13,7 +13,7 @@ use Rattle.fv_lines.specs.Held.{Held}
 use Rattle.fv_lines.specs.Reading.{KnowsEnd, unread}
 use Rattle.fv_aggregate.specs.declared.session.Session.{Session}
 use Rattle.fv_aggregate.specs.Asking.{AsksWithin, IsShort}
-use Rattle.fv_aggregate.specs.Commands.{room_by}
+use Rattle.fv_aggregate.specs.Commands.{asked_by, Asked, room_by}
 use Rattle.fv_aggregate.specs.Reading.{IsAsRead}
 use Rattle.fv_aggregate.specs.Standing.{IsWithoutFiles, OneOf, StandsAfter, StandsFor, StandsReady}
 use Rattle.fv_run.specs.declared.ending.Fault.{Fault}
@@ -21,7 +21,7 @@ use Rattle.fv_run.specs.declared.ending.Fault.TheVariants.{Source, Sink, Disk, M
 use Rattle.fv_run.specs.Endings.{IsWholeFault, count_of, raised_by}
 use Rattle.fv_run.specs.Built.{lines_built}
 use Rattle.fv_run.specs.Promises.{line_at}
-use Rattle.fv_run.specs.Running.{asks_behind, asks_point, changes_volumes, HasChanged, Holds, IsOverLimit, IsHurt, IsPastLimit, IsRoomIn, IsSessionDamage, KeepsUp, MeetsDamage, most_rooms, only_asks, reads_blocks, room_in, rooms_along, Survives, left_by, pending_behind, IsQuiet}
+use Rattle.fv_run.specs.Running.{asked_in, asks_behind, asks_point, changes_volumes, HasChanged, Holds, IsOverLimit, IsHurt, IsPastLimit, IsRoomIn, IsSessionDamage, KeepsUp, MeetsDamage, most_rooms, only_asks, reads_blocks, room_in, rooms_along, Survives, left_by, pending_behind, IsQuiet, UndergoesLine, UndergoesLines}
 
 -- ---- lines and their replies
 
@@ -47,15 +47,15 @@ Lacks room i = (at want found : ℕ) × IsShort i room 0 at want found
 abbrev pub LacksSpace : Shown → Session → Shown → Type 0
 LacksSpace old session new = IsTrue old.tells → IsWithoutFiles session → (room : ℕ) → AsksWithin old session room → Lacks room new.reads
 
--- a call of a session met damage, and left it standing
-abbrev pub IsHurtBy : ℕ → Session → Shown → Type 0
-IsHurtBy room session new = (left : Session) × (StandsReady new left × IsHurt room session new left)
+-- a call of a session that asks for this met damage, and left it standing
+abbrev pub IsHurtBy : ℕ → Asked → Session → Shown → Type 0
+IsHurtBy room asked session new = (left : Session) × (StandsReady new left × IsHurt room asked session new left)
 
 -- a fault of a session's calls in a line, each with its reason beside the counts
 abbrev pub IsSessionFault : Line → Shown → Session → Shown → Fault → Type 0
 IsSessionFault line old session new Disk = Unit {0}
 IsSessionFault line old session new Memory = Unit {0}
-IsSessionFault line old session new Damaged = IsHurtBy (room_in (room_by session.volumes) line) session new × ((reads_blocks line ≡ true) ⊎ LacksSpace old session new)
+IsSessionFault line old session new Damaged = IsHurtBy (room_in (room_by session.volumes) line) (asked_in (asked_by session.volumes) line) session new × ((reads_blocks line ≡ true) ⊎ LacksSpace old session new)
 IsSessionFault line old session new fault = ⊥
 
 -- a session that hasn't failed, on its disk
@@ -90,15 +90,14 @@ pub record Applies (session : Session) (line : Line) (old : Shown) (new_session 
   pub ready : OnOk result (IsReady new new_session)
   pub ends : IfErr result (IsSessionFault line old session new)
   pub read : OnOk result (only_asks line ≡ true → IsAsRead session new_session)
-  -- a line that changes no volume that stays
-  pub files : IsTrue old.tells → changes_volumes line ≡ false → IsWithoutFiles session → OnOk result (IsWithoutFiles new_session)
+  -- whatever the images stand for
+  pub led : IsTrue old.tells → OnOk result (UndergoesLine line old.reads session new.reads new_session)
   pub asks : IsTrue old.tells → changes_volumes line ≡ false → (room : ℕ) → AsksWithin old session room → OnOk result ((more : ℕ) × IsRoomIn (line ∷ []) more × AsksWithin new new_session (max room more))
   pub given : new.given ≡ old.given
   pub left : new.ends.left ≡ old.ends.left
   pub counts : Counts old new (raised_by result)
   pub writes : OnOk result (new.write_faults ≡ old.write_faults)
   pub calm : (pending : ℕ) → session.pending ≤ pending → asks_point (room_by session.volumes) pending line ≡ false → new.reads ≡ old.reads
-  pub pending : OnOk result (new_session.pending ≤ left_by (room_by session.volumes) session.pending line)
 
 -- ---- all lines
 
@@ -156,8 +155,8 @@ pub record StandsAt (limit : ℕ) (first : Session) (old : Shown) (held : Held) 
   pub reads : IsTrue old.tells → HasRead limit old held now count
   pub lines : IsTrue old.tells → (line : Line) → Contains (lines_built (unread held now)) line → Contains (lines_built old.ends.left) line
   pub behind : IsTrue old.tells → lines_built (unread held now) ≡ drop count (lines_built old.ends.left)
-  -- until a line has done more than ask for files
-  pub opened : IsTrue old.tells → ((j : ℕ) → j < count → only_asks (line_at (lines_built old.ends.left) j) ≡ true) → IsAsRead first session
+  -- each line was applied to the session that the one before it left
+  pub course : IsTrue old.tells → UndergoesLines (lines_built old.ends.left) count old.reads first now.reads session
   -- over any disk
   pub counted : IsTrue old.tells → first.pending ≡ 0 → IsCounted most_rooms (lines_built old.ends.left) old session now count
   -- until a line has changed a volume that stays

@@ -28,7 +28,7 @@ use Rattle.fv_run.specs.declared.generating.Tally.{Tally}
 use Rattle.fv_run.specs.Built.{built}
 use Rattle.fv_run.specs.Endings.{EndsWith, IsWholeFault, count_of, raised_by}
 use Rattle.fv_run.specs.Promises.{line_at}
-use Rattle.fv_run.specs.Running.{IsHurtBehind, IsUnopened, only_asks, Opens}
+use Rattle.fv_run.specs.Running.{IsHurtBehind, IsUnopened, only_asks, Opens, UndergoesLines}
 use Rattle.fv_run.specs.Answering.{BeginsFor, HasApplied, IsReady}
 
 -- ---- lines
@@ -117,16 +117,16 @@ abbrev pub IsOpeningDamage : Shown → Shown → Type 0
 IsOpeningDamage old new = IsUnwritten old new × ((at want found : ℕ) × IsOpenFault old.reads (opening.Damaged at want found))
 
 -- the call at work behind some first lines met damage
-pub record IsHurtWithin (lines : List Line) (first : Session) (end : Shown) : Type 0 where
+pub record IsHurtWithin (lines : List Line) (i : Image) (first : Session) (end : Shown) : Type 0 where
   pub count : ℕ
   pub all : count ≤ length lines
-  pub call : IsHurtBehind lines count first end
+  pub call : IsHurtBehind lines count i first end
 
 -- a session was opened, and then met damage
 pub record IsDamagedWithin (lines : List Line) (old end : Shown) : Type 0 where
   pub first : Session
   pub opened : IsOpened old.reads first
-  pub meets : IsHurtWithin lines first end
+  pub meets : IsHurtWithin lines old.reads first end
 
 -- Why a run ended, with its status: 2, 4, 5, 6 or 8. A fault of the sink or the disk has its count, and want of memory has no cause.
 abbrev pub HasReasonFor : List Line → Shown → Shown → Fault → Type 0
@@ -176,11 +176,11 @@ IsGeneration seed count old new status = EndsWith (Generates (lines_drawn seed c
 -- ---- the loop over the lines
 
 -- a fault that a call of a session ends with, and what was damaged
-abbrev pub IsCallFault : List Line → Session → Shown → Fault → Type 0
-IsCallFault lines first new Disk = Unit {0}
-IsCallFault lines first new Memory = Unit {0}
-IsCallFault lines first new Damaged = IsHurtWithin lines first new
-IsCallFault lines first new fault = ⊥
+abbrev pub IsCallFault : List Line → Image → Session → Shown → Fault → Type 0
+IsCallFault lines i first new Disk = Unit {0}
+IsCallFault lines i first new Memory = Unit {0}
+IsCallFault lines i first new Damaged = IsHurtWithin lines i first new
+IsCallFault lines i first new fault = ⊥
 
 -- so many lines are applied on a session that began at `old`, and so many of them accepted; `rest` are the others
 pub record AppliedAt (lines rest : List Line) (first : Session) (old : Shown) (session : Session) (now : Shown) (count good : ℕ) : Type 0 where
@@ -194,6 +194,7 @@ pub record AppliedAt (lines rest : List Line) (first : Session) (old : Shown) (s
   pub left : now.ends.left ≡ old.ends.left
   -- until a line has done more than ask for files
   pub opened : ((j : ℕ) → j < count → only_asks (line_at lines j) ≡ true) → IsAsRead first session
+  pub course : IsTrue old.tells → UndergoesLines lines count old.reads first now.reads session
   pub applied : IsTrue old.tells → (m : Machine) → BeginsFor old first m → HasApplied m lines old session now count
   pub accepted : IsTrue old.tells → (m : Machine) → BeginsFor old first m → good ≡ accepted m (take count lines)
   pub crash : IsTrue old.tells → (m : Machine) → BeginsFor old first m → Leaves old now (Silent m lines old.given)
@@ -204,7 +205,7 @@ pub record WasCut (lines : List Line) (first : Session) (old new : Shown) (fault
   pub at_rest : IsTrue old.tells → (m : Machine) → BeginsFor old first m → ¬ Rose old.write_faults new.write_faults → IsAtRestAfter m lines new
   pub no_damage : IsTrue old.tells → (m : Machine) → BeginsFor old first m → IsWholeFault fault
   pub counts : Counts old new (count_of fault)
-  pub reason : IsCallFault lines first new fault
+  pub reason : IsCallFault lines old.reads first new fault
   pub given : new.given ≡ old.given
   pub left : new.ends.left ≡ old.ends.left
 

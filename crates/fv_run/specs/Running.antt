@@ -1,24 +1,28 @@
 -- Running a script on an aggregate: the headline, clause by clause.
-use Rattle.std.specs.Prelude.{◌≡◌, ◌⊎◌, ◌<◌, ◌≤◌, ◌+◌, ◌||◌, ◌&&◌, ℕ, zero, suc, nat_lt, if◌then◌else◌, Bool, true, false, List, [], ◌++◌, length, take, get_or, is_some, Some, Contains, IsTrue, Result, Err, IsErr, IfErr, OnOk}
+use Rattle.std.specs.Prelude.{◌≡◌, ◌⊎◌, ◌<◌, ◌≤◌, ◌+◌, ◌||◌, ◌&&◌, ℕ, zero, suc, nat_lt, if◌then◌else◌, Bool, true, false, List, [], ◌++◌, ◌≢◌, length, take, get_or, is_some, Some, Contains, IsTrue, Result, Ok, Err, IsErr, IfErr, OnOk}
 use Rattle.fv_disk.specs.Shown.{Image, Shown, IsSettled, Rose}
 use Rattle.fv_disk.specs.Crash.{Leaves}
 use Rattle.fv_lines.specs.Counts.{Counts}
+use Rattle.fv_model.specs.declared.answers.Reply.{Reply}
 use Rattle.fv_model.specs.declared.commands.Command.{Command}
+use Rattle.fv_model.specs.declared.commands.Command.TheVariants.{Cp}
 use Rattle.fv_model.specs.Machines.{Machine}
 use Rattle.fv_model.specs.Runs.{Line, Says, NoCommand, OutOfRange, after, Full, Follows, is_cp, whole, acked}
 use Rattle.fv_image.specs.WholeMachine.{machine_of}
-use Rattle.fv_root.specs.Finding.{IsNoAggregate}
+use Rattle.fv_root.specs.Finding.{IsFound, IsNoAggregate}
+use Rattle.fv_volumes.specs.UnderRoot.{IsMapOf}
 use Rattle.fv_aggregate.specs.declared.fault.OpenFault.TheVariants as opening
 use Rattle.fv_aggregate.specs.declared.session.Session.{Session}
 use Rattle.fv_aggregate.specs.Adding.{IsPointed}
 use Rattle.fv_aggregate.specs.Asking.{IsShort}
+use Rattle.fv_aggregate.specs.Calls.{IsPlain, IsUntouched, IsWithinLimit, MakesNoHoles}
 use Rattle.fv_aggregate.specs.Causes.{IsOpenFault, IsUnwritten}
-use Rattle.fv_aggregate.specs.Commands.{changes_volume, dirty_limit, most_room, reads_files, room_by, room_of, volume_asked}
-use Rattle.fv_aggregate.specs.Damages.{HasDamageBehind, HasDamageIn, HasDamageLater}
+use Rattle.fv_aggregate.specs.Commands.{asked_by, Asked, AsksNothing, AsksPoint, changes_volume, dirty_limit, most_room, reads_files, room_by, room_of, volume_asked, is_refusal, removes_volume}
+use Rattle.fv_aggregate.specs.Damages.{HasDamageBehind, HasDamageIn, HasDamageLater, PassesLimit}
 use Rattle.fv_aggregate.specs.Opening.{IsOpened}
 use Rattle.fv_aggregate.specs.Reading.{IsAsRead}
 use Rattle.fv_aggregate.specs.Reclaiming.{HasPointed}
-use Rattle.fv_aggregate.specs.Standing.{StandsFor, StandsReady}
+use Rattle.fv_aggregate.specs.Standing.{IsWithoutFiles, StandsFor, StandsReady}
 use Rattle.fv_run.specs.declared.ending.Fault.{Fault}
 use Rattle.fv_run.specs.declared.ending.Fault.TheVariants.{Usage, Unsound, NotAggregate, Source, Sink, Disk, Memory, Damaged, Limit}
 use Rattle.fv_run.specs.Endings.{EndsWith, IsWholeFault, raised_by}
@@ -199,6 +203,12 @@ pub record IsOverLimit (limit : ℕ) (old new : Shown) : Type 0 where
 abbrev pub IsRoomIn : List Line → ℕ → Type 0
 IsRoomIn lines room = (room ≡ 0) ⊎ ((command : Command) × Contains lines (Says command) × (room ≡ most_room command))
 
+-- what a line asks a session for
+abbrev pub asked_in : (Command → Asked) → Line → Asked
+asked_in asked (Says command) = asked command
+asked_in asked NoCommand = AsksNothing
+asked_in asked OutOfRange = AsksNothing
+
 -- whether a line changes a volume that was there before it and is there after it: its files, its snapshots, its size or its kind of guarantee
 abbrev pub changes_volumes : Line → Bool
 changes_volumes (Says command) = changes_volume command
@@ -244,29 +254,81 @@ only_asks (Says command) = is_some (volume_asked command)
 only_asks NoCommand = false
 only_asks OutOfRange = false
 
--- A call of a session that may add `room` blocks met damage, by what the disk shows at the end, and left the session so: blocks are lacking, the files of
--- a volume couldn't be placed, or a table of one isn't as it has to be; with room that passes the dirty limit also behind a point.
-pub record IsHurt (room : ℕ) (session : Session) (end : Shown) (left : Session) : Type 0 where
+-- ---- the sessions of a run
+
+-- A session stands on an image: its root is the one that counts there, and its map is that of the root's area.
+pub record StandsOnImage (i : Image) (session : Session) : Type 0 where
+  pub found : IsFound i session.pool.found
+  pub map : IsMapOf i session.pool.found session.pool.map
+
+-- A session over the image `i` carried out a command, and left `next` over `j`. Of a command that reads no file this is all that a
+-- session's call says of one. One on files that is refused, with room within the dirty limit, leaves all but the cache and the numbers of
+-- files in memory. With such room no entry of a volume that stays becomes a hole, but at a `cp`.
+pub record UndergoesCommand (command : Command) (i : Image) (session : Session) (j : Image) (next : Session) (reply : Reply) : Type 0 where
+  pub plain : reads_files command ≡ false → IsPlain command (still_disk i) i session (still_disk j) j next (Ok reply)
+  pub refused : reads_files command ≡ true → IsWithinLimit session command → IsTrue (is_refusal reply) → IsAsRead session next
+  pub entries : command ≢ Cp → IsWithinLimit session command → removes_volume command ≡ false → MakesNoHoles session next
+
+-- a line that says no command leaves all as it was
+abbrev pub UndergoesSaid : Line → Image → Session → Image → Session → Reply → Type 0
+UndergoesSaid (Says command) i session j next reply = UndergoesCommand command i session j next reply
+UndergoesSaid NoCommand i session j next reply = IsUntouched i session j next
+UndergoesSaid OutOfRange i session j next reply = IsUntouched i session j next
+
+-- A line was applied to a session that stood on the image `i`, whatever that stands for, and was answered. The session `next` was left,
+-- which stands on `j`.
+pub record UndergoesLine (line : Line) (i : Image) (session : Session) (j : Image) (next : Session) : Type 0 where
+  pub stands : StandsOnImage j next
+  pub reply : Reply
+  pub said : UndergoesSaid line i session j next reply
+  -- one that only asks for files leaves all but the cache and the numbers of files in memory
+  pub read : only_asks line ≡ true → IsAsRead session next
+  -- one that changes no volume that stays brings no file into memory
+  pub files : changes_volumes line ≡ false → IsWithoutFiles session → IsWithoutFiles next
+  -- one that asks for no point writes nothing
+  pub calm : asks_point (room_by session.volumes) session.pending line ≡ false → j ≡ i
+  pub pending : next.pending ≤ left_by (room_by session.volumes) session.pending line
+
+-- The first `count` lines were applied, one after another, each to the session that the one before it left, over the image of that moment.
+-- The first session was opened on `i`, and the last one stands on `j`.
+abbrev pub UndergoesLines : List Line → ℕ → Image → Session → Image → Session → Type 0
+UndergoesLines lines zero i first j session = (session ≡ first) × (j ≡ i)
+UndergoesLines lines (suc count) i first j session = (mid : Session) × (k : Image) × UndergoesLines lines count i first k mid × UndergoesLine (line_at lines count) k mid j session
+
+-- A call of a session that may add `room` blocks, and asks for this, met damage, by what the disk shows at the end, and left the session
+-- so: blocks are lacking, or the files of a volume couldn't be placed, where the call comes to a point or to placing; or the table that it
+-- asks for isn't as it has to be, with room that passes the dirty limit also behind a point.
+pub record IsHurt (room : ℕ) (asked : Asked) (session : Session) (end : Shown) (left : Session) : Type 0 where
   pub at : ℕ
   pub want : ℕ
   pub found : ℕ
-  pub damage : (HasDamageIn end session left at want found ⊎ HasDamageLater end session left at want found) ⊎ ((dirty_limit < session.pending + room) × HasDamageBehind end session left at want found)
+  pub damage : (HasDamageIn room asked end session left at want found ⊎ HasDamageLater room asked end session left at want found)
+      ⊎ (PassesLimit session.pending room × HasDamageBehind asked end session left at want found)
 
--- The call of the session that was at work behind the first `count` lines met damage: the one that the next line asked for, or the point at the end. The
--- session that it left stands on the disk. Where each of those lines only asks for files, the session is the one that was opened, but for its cache and the
--- numbers of files in memory.
-pub record IsHurtBehind (lines : List Line) (count : ℕ) (first : Session) (end : Shown) : Type 0 where
+-- The call of a session that was at work behind the first `count` lines met damage: the one that the next line asked for, or, where there
+-- is no further line, the point at the end.
+abbrev pub IsHurtNext : List Line → ℕ → Session → Shown → Session → Type 0
+IsHurtNext lines count session end left =
+    IsHurt (room_in (room_by session.volumes) (line_at lines count)) (asked_in (asked_by session.volumes) (line_at lines count)) session end left
+    ⊎ ((length lines ≤ count) × IsHurt 0 AsksPoint session end left)
+
+-- So it was. Those lines led to that session from the one that was opened on the image `i`, each over the image of its moment. The session
+-- that the call left stands on the disk. Where each of those lines only asks for files, the session is the one that was opened, but for its
+-- cache and the numbers of files in memory.
+pub record IsHurtBehind (lines : List Line) (count : ℕ) (i : Image) (first : Session) (end : Shown) : Type 0 where
   pub session : Session
+  pub over : Image
+  pub course : IsTrue end.tells → UndergoesLines lines count i first over session
   pub opened : ((j : ℕ) → j < count → only_asks (line_at lines j) ≡ true) → IsAsRead first session
   pub left : Session
   pub stands : StandsReady end left
-  pub hurt : IsHurt (room_in (room_by session.volumes) (line_at lines count)) session end left
+  pub hurt : IsHurtNext lines count session end left
 
 -- the call at work behind the lines that are answered met damage
 pub record MeetsDamage (lines : List Line) (first : Session) (old end : Shown) : Type 0 where
   pub output : List ℕ
   pub given : end.given ≡ old.given ++ output
-  pub call : IsHurtBehind lines (whole output) first end
+  pub call : IsHurtBehind lines (whole output) old.reads first end
 
 -- a session was opened, and then met damage
 pub record IsDamagedOpen (old end : Shown) : Type 0 where

@@ -23,6 +23,7 @@ pub mod OwnTables
 mod MapsOfRoots
 pub mod SameLines
 mod TwinSteps
+mod OneTable
 pub mod WalkedFacts
 mod SnapTables
 mod VolumeLaw

@@ -12,3 +12,4 @@ pub mod LengthJudges
 pub mod Twinned
 pub mod TwinJudges
 pub mod Volumes
+pub mod Surveys

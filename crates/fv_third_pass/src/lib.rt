@@ -1,6 +1,7 @@
-//! The third pass of a check: the fault lines (`fv_faults`) of held blocks and of the aggregate map.
+//! The third pass of a check: the fault lines (`fv_faults`) of held blocks, maps, kinds and tables.
 #![tactic(auto)]
 
+mod alone;
 mod bases;
 mod bits;
 mod counting;
@@ -15,6 +16,7 @@ mod reaching;
 mod roots;
 mod sizes;
 mod span;
+mod survey;
 mod tables;
 mod third;
 mod twice;
@@ -31,6 +33,7 @@ pub use map::note_map;
 pub use roots::{MapRoot, roots_of};
 pub use sizes::entry_count;
 pub use span::note_span;
+pub use survey::Survey;
 pub use tables::note_table;
 pub use third::{label_of, pass_three, row_of};
 pub use twice::note_twice;

@@ -6,7 +6,6 @@ ghost use Rattle.fv_disk.specs.DiskCalls.{OnlyReads};
 ghost use Rattle.fv_codec.specs.Blocks.{IsLabel};
 ghost use Rattle.fv_image.specs.Views.{head_of};
 ghost use Rattle.fv_image.specs.Volumes.{snap_at};
-ghost use Rattle.fv_root.specs.Finding.{IsInRange, root_found};
 ghost use Rattle.fv_faults.specs.Adding.{Adds};
 ghost use Rattle.fv_faults.specs.Met.{IsClean};
 ghost use Rattle.fv_faults.specs.ThirdPass.{stamp_lines};
@@ -14,18 +13,17 @@ ghost use Rattle.fv_faults.specs.Walks.{steps};
 ghost use Rattle.fv_walk.specs.declared.visit.Visit.{Visit};
 ghost use Rattle.fv_walk.specs.Causes.{HasWalkCause};
 ghost use Rattle.fv_walk.specs.Visits.{rooted};
-ghost use Rattle.fv_second_pass.specs.Told.{IsKnown, IsLabelled, ground_at};
+ghost use Rattle.fv_third_pass.specs.Surveys.{HasRange, IsLabelledAt, ground_of, label_place};
 ghost use Rattle.fv_third_pass.specs.Twinned.{HasSeen, twin_lines, visits};
 ghost use Rattle.fv_third_pass.specs.Volumes.{AreClean, AreFew, own_tables, shown, shown_one};
 
 use crate::ids::{judge_base, judge_own};
 use crate::roots::MapRoot;
+use crate::survey::Survey;
 use crate::twins::IdJudge;
 use fv_codec::Label;
 use fv_disk::Disk;
 use fv_faults::Lines;
-use fv_first_pass::Known;
-use fv_root::Found;
 use fv_second_pass::VolumeSource;
 use fv_walk::{Table, WalkFault};
 use std::alloc::Global;
@@ -55,36 +53,38 @@ pub fn snap_table(parent: &Label, slot: u8) -> Option<Table>
 pub(crate) fn walk_own<D: Disk>(
     alloc: Global,
     disk: &mut D,
-    root: &Found,
-    known: &Known,
+    survey: &Survey<'_, '_, '_>,
     slot: u8,
     label: &Label,
     roots: &[MapRoot],
     lines: Lines,
 ) -> Result<IdJudge, WalkFault>
-    requires known { IsKnown known.now }
+    requires range { HasRange survey.now }
     requires slot { slot < 64 }
     requires few { AreFew roots.now }
     ensures seen { IsTrue (D.shown disk.old).tells
-        → IsLabelled (root_found root.now) (D.shown disk.old).reads known.now slot label.entry.now
-        → IfOk result (HasSeen (visits (shown (ground_at (root_found root.now) (D.shown disk.old).reads slot label.entry.now.span)
-        (get_or root.now.root.labels slot 0) roots.now))) }
+        → IsLabelledAt survey.now (D.shown disk.old).reads slot label.entry.now
+        → IfOk result (HasSeen (visits (shown
+        (ground_of survey.now (D.shown disk.old).reads slot label.entry.now)
+        (label_place survey.now slot) roots.now))) }
     ensures adds { IsTrue (D.shown disk.old).tells
-        → IsLabelled (root_found root.now) (D.shown disk.old).reads known.now slot label.entry.now
-        → IfOk result (λ judge. AreClean (ground_at (root_found root.now) (D.shown disk.old).reads slot label.entry.now.span)
-        (get_or root.now.root.labels slot 0) roots.now
-        → Adds (own_tables (ground_at (root_found root.now) (D.shown disk.old).reads slot label.entry.now.span)
-        (get_or root.now.root.labels slot 0) label.entry.now.now roots.now
-        ++ twin_lines [] (visits (shown (ground_at (root_found root.now) (D.shown disk.old).reads slot label.entry.now.span)
-        (get_or root.now.root.labels slot 0) roots.now))) lines judge.lines) }
+        → IsLabelledAt survey.now (D.shown disk.old).reads slot label.entry.now
+        → IfOk result (λ judge.
+        AreClean (ground_of survey.now (D.shown disk.old).reads slot label.entry.now)
+        (label_place survey.now slot) roots.now
+        → Adds (own_tables (ground_of survey.now (D.shown disk.old).reads slot label.entry.now)
+        (label_place survey.now slot) label.entry.now.now roots.now
+        ++ twin_lines [] (visits (shown
+        (ground_of survey.now (D.shown disk.old).reads slot label.entry.now)
+        (label_place survey.now slot) roots.now))) lines judge.lines) }
     ensures only_reads { OnlyReads (D.shown disk.old) (D.shown disk.new) }
     ensures cause { HasWalkCause (D.shown disk.old).faults (D.shown disk.new).faults result }
 {
-    let at = u64::from(root.root.labels[usize::from(slot)]);
+    let at = u64::from(survey.root.root.labels[usize::from(slot)]);
     let mut source = VolumeSource {
         disk,
-        root,
-        known,
+        root: survey.root,
+        known: survey.known,
         slot,
         span: label.span,
     };
@@ -95,34 +95,35 @@ pub(crate) fn walk_own<D: Disk>(
 pub(crate) fn walk_base<D: Disk>(
     alloc: Global,
     disk: &mut D,
-    root: &Found,
-    known: &Known,
+    survey: &Survey<'_, '_, '_>,
     slot: u8,
     parent: &Label,
     table: &Table,
     judge: IdJudge,
     last: u64,
 ) -> Result<Lines, WalkFault>
-    requires known { IsKnown known.now }
+    requires range { HasRange survey.now }
     requires slot { slot < 64 }
     requires levels { table.now.levels ≤ 2 }
     ensures adds { IsTrue (D.shown disk.old).tells
-        → IsLabelled (root_found root.now) (D.shown disk.old).reads known.now slot parent.entry.now
+        → IsLabelledAt survey.now (D.shown disk.old).reads slot parent.entry.now
         → IfOk result (λ lines. (done : List Visit) → HasSeen done judge
-        → IsClean (steps (ground_at (root_found root.now) (D.shown disk.old).reads slot parent.entry.now.span)
-        (get_or root.now.root.labels slot 0) (rooted table.now))
-        → Adds (twin_lines done (shown_one (ground_at (root_found root.now) (D.shown disk.old).reads slot parent.entry.now.span)
-        (get_or root.now.root.labels slot 0) (rooted table.now))
-        ++ flat_map (stamp_lines last) (steps (ground_at (root_found root.now) (D.shown disk.old).reads slot parent.entry.now.span)
-        (get_or root.now.root.labels slot 0) (rooted table.now))) judge.lines lines) }
+        → IsClean (steps (ground_of survey.now (D.shown disk.old).reads slot parent.entry.now)
+        (label_place survey.now slot) (rooted table.now))
+        → Adds (twin_lines done (shown_one
+        (ground_of survey.now (D.shown disk.old).reads slot parent.entry.now)
+        (label_place survey.now slot) (rooted table.now))
+        ++ flat_map (stamp_lines last) (steps
+        (ground_of survey.now (D.shown disk.old).reads slot parent.entry.now)
+        (label_place survey.now slot) (rooted table.now))) judge.lines lines) }
     ensures only_reads { OnlyReads (D.shown disk.old) (D.shown disk.new) }
     ensures cause { HasWalkCause (D.shown disk.old).faults (D.shown disk.new).faults result }
 {
-    let at = u64::from(root.root.labels[usize::from(slot)]);
+    let at = u64::from(survey.root.root.labels[usize::from(slot)]);
     let mut source = VolumeSource {
         disk,
-        root,
-        known,
+        root: survey.root,
+        known: survey.known,
         slot,
         span: parent.span,
     };

@@ -1,6 +1,6 @@
 -- What a change of a volume's files leaves that was refused, or failed while it was made.
 use Rattle.std.proofs.Common.{Option, ◌≡◌, ◌≢◌, ℕ, ◌+◌, ◌<◌, ◌≤◌, true, refl, sym, ap, subst, ◌∙◌, arith}
-use Rattle.std.specs.Prelude.{Result, Ok, Err, OnOk, IfOk, IfErr}
+use Rattle.std.specs.Prelude.{Result, Ok, Err, OnErr, OnOk, IfOk, IfErr}
 use Rattle.std.proofs.lemmas.Bool.{both_ways}
 use Rattle.fv_disk.specs.Shown.{Shown as Disk}
 use Rattle.fv_disk.specs.declared.fault.BlockFault.{BlockFault}
@@ -16,12 +16,14 @@ use Rattle.fv_charge.specs.Changes.{IsChanged, IsDeltaOf}
 use Rattle.fv_charge.specs.Ledgers.{IsLedgerOf}
 use Rattle.fv_model.specs.Volumes.{Volume}
 use Rattle.fv_volmap.specs.Slots.{Volume as Maps, slot_at}
-use Rattle.fv_tables.specs.Told.{Standing}
+use Rattle.fv_tables.specs.Told.{table_told, Standing}
 use Rattle.fv_pool.specs.Lending.{IsTold}
 use Rattle.fv_pool.specs.declared.fault.VolumeFault.{VolumeFault}
 use Rattle.fv_pool.specs.declared.pool.Pool.{Pool}
 use Rattle.fv_volume.specs.declared.state.VolumeState.{VolumeState}
 use Rattle.fv_pool.specs.Calls.{GivesUp, Reads}
+use Rattle.fv_volume.specs.declared.tables.TableAsked.TheVariants.{Active}
+use Rattle.fv_volume.specs.Asking.{TellsActive}
 use Rattle.fv_volume.specs.Calls.{Agrees, Changes, KeepsHead}
 use Rattle.fv_pool.specs.Causes.{of_block}
 use Rattle.fv_volume.specs.Changing.{AltersTable, FitsLedger, KeepsButTable, KeepsTable, RefusedIn}
@@ -32,9 +34,9 @@ use Rattle.fv_volume.specs.OneVolume.{shows, standing_for, table_for, trees_for,
 use Rattle.fv_files.specs.Altering.{AltersTrees}
 use Rattle.fv_pool.proofs.CallCauses.{not_refused}
 use Rattle.fv_volume.proofs.Changed.{failed_standing, failed_volume}
-use Rattle.fv_volume.proofs.OneVolumes.{still_led, still_ready, still_standing, still_volume, still_well}
+use Rattle.fv_volume.proofs.OneVolumes.{still_led, still_ready, still_standing, still_table, still_volume, still_well}
 use Rattle.fv_volume.proofs.ReadyAgain.{ready_again}
-use Rattle.fv_volume.proofs.RightTables.{active_tells}
+use Rattle.fv_volume.proofs.RightTables.{active_tells, still_tells}
 use Rattle.fv_volume.proofs.SharedChanges.{PlacesAltered}
 
 -- a fault of blocks is no refusal
@@ -55,6 +57,11 @@ onok_with P (Err e) a says = tt
 pub ifok_with : {T E A : Type 0} (P : T → Type 0) (r : Result T E) → A → IfOk r (λ x. A → P x) → IfOk r P
 ifok_with P (Ok x) a says = says a
 ifok_with P (Err e) a says = tt
+
+-- what holds, whatever was answered
+pub onerr_so : {T E : Type 0} (P : Type 0) (r : Result T E) → P → OnErr r P
+onerr_so P (Ok x) is = tt
+onerr_so P (Err e) is = is
 
 -- a map that stays
 pub same_maps : (m n : Maps) → n ≡ m → GivesUp m n
@@ -80,6 +87,10 @@ module _ (d e : Disk) (p q : Pool) (reads : Reads d p e q) (x y : VolumeState) (
     well = λ is. subst (λ (z : VolumeState). IsStoredWell e q z) (sym same) (still_well d e p q reads x is);
     room = subst (λ (z : VolumeState). pending_of z.files ≤ pending_of x.files + 14) (sym same) (omega arith);
   }
+
+  -- and told as before
+  pub refused_told : table_for e q y ≡ table_for d p x
+  refused_told = ap (λ (z : VolumeState). table_for e q z) same ∙ ap (λ (t : Standing). table_told t) (still_table d e p q reads x)
 
   pub refused_head : (r : Result Unit VolumeFault) (fault : VolumeFault) → r ≡ Err fault → KeepsHead x y r
   refused_head r fault is = subst (λ (z : VolumeState). KeepsHead x z r) (sym same) (subst (KeepsHead x x) (sym is) (record {
@@ -164,6 +175,10 @@ module _ (d e f : Disk) (p q r : Pool) (first : Reads d p e q) (x v y : VolumeSt
     failed = refl;
     refused = λ why none. absurd (not_refused b why none);
   }))
+
+  -- where the disk tells its table it tells the same one
+  pub failed_told : TellsActive d p x → table_for f r y ≡ table_for d p x
+  failed_told tells = ap (λ (t : Standing). table_told t) (still_table e f q r its_alters.reads y) ∙ its_alters.failed (still_tells d e p q first x Active tells) ∙ ap (λ (t : Standing). table_told t) (still_table d e p q first x)
 
   module _ (is : IsStanding d p x) where
     now_standing : IsStanding e q x

@@ -1,6 +1,6 @@
 //! Changes of the files of a volume: writing a block of a file, and making a file.
 
-ghost use Rattle.std.specs.Prelude.{◌≡◌, ◌≤◌, ◌<◌, ◌+◌, ◌^◌, ℕ, List, true, IfOk, IfErr, OnOk};
+ghost use Rattle.std.specs.Prelude.{◌≡◌, ◌≤◌, ◌<◌, ◌+◌, ◌^◌, ℕ, List, true, IfOk, IfErr, OnOk, OnErr};
 ghost use Rattle.fv_codec.specs.Blocks.{most_cells};
 ghost use Rattle.fv_model.specs.Numbers.{most_changes};
 ghost use Rattle.fv_model.specs.Tables.{new};
@@ -42,7 +42,8 @@ impl VolumeState {
     ///
     /// `Refused` as the machine refuses `put`, in this order: the index passes 2,097,151; no file has the name; the volume has
     /// counted 2^62 changes; it would use more than its size; all volumes would commit more than the aggregate's capacity.
-    /// `DiskFault`, `Damaged` and `Memory` as `length`. After each of them the volume stands for what it stood for.
+    /// `DiskFault`, `Damaged` and `Memory` as `length`. After each of them the volume stands for what it stood for, and where the disk
+    /// tells its content as there, whatever that stands for, its active table is told as before.
     ///
     /// Costs what `length` does, then a block for each node over the cell and for the file's inode block with the nodes over it,
     /// as far as they aren't in memory. `docs/MACHINE.md` has the command, and `docs/SPACE.md` what it is charged for.
@@ -64,6 +65,8 @@ impl VolumeState {
             (volume_for (D.shown disk.old) pool.old self.old) (volume_for (D.shown disk.new) pool.new self.new) result }
         ensures standing { IsStanding (D.shown disk.old) pool.old self.old → IsStanding (D.shown disk.new) pool.new self.new }
         ensures table { IsStanding (D.shown disk.old) pool.old self.old → KeepsTable (D.shown disk.old) pool.old self.old (D.shown disk.new) pool.new self.new }
+        ensures told { TellsActive (D.shown disk.old) pool.old self.old
+            → OnErr result (table_for (D.shown disk.new) pool.new self.new ≡ table_for (D.shown disk.old) pool.old self.old) }
         ensures ready { IsReady (D.shown disk.new) pool.new self.new }
         ensures map { self.new.map ≡ self.old.map }
         ensures numbers { self.new.numbers ≡ self.old.numbers }
@@ -162,7 +165,7 @@ impl VolumeState {
     /// `Refused` as the machine refuses `new`, in this order: the reserve passes 2,097,152; a file has the name; there is a reserve
     /// and the volume isn't of kind `file`; the table has 262,144 files, or the volume has counted 2^62 changes; it would use more
     /// than its size; all volumes would commit more than the aggregate's capacity. The other errors as `put`. After each of them
-    /// the volume stands for what it stood for.
+    /// the volume stands for what it stood for, and its active table is told as before, as after `put`.
     ///
     /// Costs what `length` does, then a block for the file's inode block and for each node over it, as far as they aren't in memory,
     /// and where the numbers aren't in memory a block for each inode block and each node over them. `docs/MACHINE.md` has the command.
@@ -184,6 +187,8 @@ impl VolumeState {
             (volume_for (D.shown disk.old) pool.old self.old) (volume_for (D.shown disk.new) pool.new self.new) result }
         ensures standing { IsStanding (D.shown disk.old) pool.old self.old → IsStanding (D.shown disk.new) pool.new self.new }
         ensures table { IsStanding (D.shown disk.old) pool.old self.old → KeepsTable (D.shown disk.old) pool.old self.old (D.shown disk.new) pool.new self.new }
+        ensures told { TellsActive (D.shown disk.old) pool.old self.old
+            → OnErr result (table_for (D.shown disk.new) pool.new self.new ≡ table_for (D.shown disk.old) pool.old self.old) }
         ensures ready { IsReady (D.shown disk.new) pool.new self.new }
         ensures map { self.new.map ≡ self.old.map }
         ensures head { KeepsHead self.old self.new result }

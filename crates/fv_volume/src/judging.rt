@@ -1,6 +1,6 @@
 //! The commands that change the files of a volume: whether one is accepted, and making it.
 
-ghost use Rattle.std.specs.Prelude.{◌≡◌, ◌≤◌, ◌-◌, ◌^◌, min, true};
+ghost use Rattle.std.specs.Prelude.{◌≡◌, ◌≤◌, ◌-◌, ◌^◌, min, true, OnErr};
 ghost use Rattle.fv_model.specs.Machines.{Machine};
 ghost use Rattle.fv_pool.specs.Calls.{CallCause, Reads};
 ghost use Rattle.fv_volume.specs.Asking.{TellsActive};
@@ -8,7 +8,7 @@ ghost use Rattle.fv_volume.specs.Calls.{Agrees, Changes, HasWithin, KeepsHead};
 ghost use Rattle.fv_volume.specs.Changing.{IsChangeOf, KeepsTable, keeps_numbers};
 ghost use Rattle.fv_pool.specs.Lending.{lent_for};
 ghost use Rattle.fv_pool.specs.Tables.{pending_of};
-ghost use Rattle.fv_volume.specs.OneVolume.{home_in, standing_for, volume_for, IsReady, IsStanding};
+ghost use Rattle.fv_volume.specs.OneVolume.{home_in, standing_for, table_for, volume_for, IsReady, IsStanding};
 
 use crate::changing::{judge_new, judge_put};
 use crate::removing::{judge_cut, judge_removal};
@@ -96,6 +96,8 @@ impl VolumeState {
             (volume_for (D.shown disk.old) pool.old self.old) (volume_for (D.shown disk.new) pool.new self.new) result }
         ensures standing { IsStanding (D.shown disk.old) pool.old self.old → IsStanding (D.shown disk.new) pool.new self.new }
         ensures table { IsStanding (D.shown disk.old) pool.old self.old → KeepsTable (D.shown disk.old) pool.old self.old (D.shown disk.new) pool.new self.new }
+        ensures told { TellsActive (D.shown disk.old) pool.old self.old
+            → OnErr result (table_for (D.shown disk.new) pool.new self.new ≡ table_for (D.shown disk.old) pool.old self.old) }
         ensures ready { IsReady (D.shown disk.new) pool.new self.new }
         ensures numbers { keeps_numbers command.now ≡ true → self.new.numbers ≡ self.old.numbers }
         ensures head { KeepsHead self.old self.new result }

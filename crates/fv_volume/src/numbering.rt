@@ -26,8 +26,8 @@ use std::alloc::Global;
 
 impl VolumeState {
     /// Reads the numbers of all files by their names into memory, where they aren't there. From then on no call looks through the inode
-    /// blocks for a name or for a free number, until memory lacks for the numbers of a file that is made or removed. Nothing else of the
-    /// volume changes, and of the pool nothing but its cache.
+    /// blocks for a name or for a free number, until a file is made or removed: memory can lack for its number then, and no clause says that it
+    /// does where they are gone. Nothing else of the volume changes, and of the pool nothing but its cache.
     ///
     /// # Errors
     ///

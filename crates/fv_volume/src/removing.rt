@@ -1,6 +1,6 @@
 //! Removals of blocks and of files of a volume.
 
-ghost use Rattle.std.specs.Prelude.{◌≡◌, ◌≤◌, ◌<◌, ◌+◌, ◌^◌, pos, ◌+ℤ◌, ◌≤ℤ◌, IfOk, IfErr, IfSome, OnOk};
+ghost use Rattle.std.specs.Prelude.{◌≡◌, ◌≤◌, ◌<◌, ◌+◌, ◌^◌, pos, ◌+ℤ◌, ◌≤ℤ◌, IfOk, IfErr, IfSome, OnOk, OnErr};
 ghost use Rattle.fv_tree.specs.Taking.{AreBelow};
 ghost use Rattle.fv_charge.specs.Changes.{CanChange};
 ghost use Rattle.fv_model.specs.Numbers.{most_changes};
@@ -13,7 +13,7 @@ ghost use Rattle.fv_volume.specs.Asking.{TellsActive};
 ghost use Rattle.fv_volume.specs.Calls.{Changes, HasBeside, HasWithin, KeepsHead};
 ghost use Rattle.fv_volume.specs.Changing.{AcceptsCut, AcceptsRemoval, AltersTable, CutsWithin, FitsLedger, IsDeltaBy, KeepsTable, RefusedIn};
 ghost use Rattle.fv_pool.specs.Lending.{lent_for};
-ghost use Rattle.fv_volume.specs.OneVolume.{greatest_charge, home_in, standing_for, volume_for, IsReady, IsStanding};
+ghost use Rattle.fv_volume.specs.OneVolume.{greatest_charge, home_in, standing_for, table_for, volume_for, IsReady, IsStanding};
 
 use crate::active::change_table;
 use crate::admitting::{MOST_CHANGES, Removing, admit_change};
@@ -66,6 +66,8 @@ impl VolumeState {
             → IfErr result (RefusedIn (HasBeside self.old.name (volume_for (D.shown disk.old) pool.old self.old) others pool.old.found.blocks) (Cut self.old.name file.now length)) }
         ensures standing { IsStanding (D.shown disk.old) pool.old self.old → IsStanding (D.shown disk.new) pool.new self.new }
         ensures table { IsStanding (D.shown disk.old) pool.old self.old → KeepsTable (D.shown disk.old) pool.old self.old (D.shown disk.new) pool.new self.new }
+        ensures told { TellsActive (D.shown disk.old) pool.old self.old
+            → OnErr result (table_for (D.shown disk.new) pool.new self.new ≡ table_for (D.shown disk.old) pool.old self.old) }
         ensures ready { IsReady (D.shown disk.new) pool.new self.new }
         ensures numbers { self.new.numbers ≡ self.old.numbers }
         ensures head { KeepsHead self.old self.new result }
@@ -110,6 +112,8 @@ impl VolumeState {
             → IfErr result (RefusedIn (HasBeside self.old.name (volume_for (D.shown disk.old) pool.old self.old) others pool.old.found.blocks) (Remove self.old.name file.now)) }
         ensures standing { IsStanding (D.shown disk.old) pool.old self.old → IsStanding (D.shown disk.new) pool.new self.new }
         ensures table { IsStanding (D.shown disk.old) pool.old self.old → KeepsTable (D.shown disk.old) pool.old self.old (D.shown disk.new) pool.new self.new }
+        ensures told { TellsActive (D.shown disk.old) pool.old self.old
+            → OnErr result (table_for (D.shown disk.new) pool.new self.new ≡ table_for (D.shown disk.old) pool.old self.old) }
         ensures ready { IsReady (D.shown disk.new) pool.new self.new }
         ensures head { KeepsHead self.old self.new result }
         ensures reads { Reads (D.shown disk.old) pool.old (D.shown disk.new) pool.new }

@@ -28,6 +28,9 @@ range_stays l m w kept range = subst (λ (x : Limits). IsInRange x w) (sym kept)
 pub all_visits : (v : Visit) (l m : Limits) (ws : List Visit) → m ≡ l → All (λ w. IsUnder v w × IsInRange l w) ws → All (λ w. IsVisit w × IsInRange m w) ws
 all_visits v l m ws kept under = λ k d low. ((under k d low).0.is, range_stays l m (get_or ws k d) kept (under k d low).1)
 
+pub tracks_as : (g : Ground) (before : Lines) (done : List Step) (s t : State) (x y : Lines) → t ≡ s → y ≡ x → Tracks g before done s x → Tracks g before done t y
+tracks_as g before done s t x y state lines tracks = subst (λ ls. Tracks g before done t ls) (sym lines) (subst (λ r. Tracks g before done r x) (sym state) tracks)
+
 -- each pointer below another one is lower, where those of files are lower than those of the inode file
 pub falls : (of_inodes inside : Bool) (v w : Visit) → inside ≡ (of_inodes && not (v.level == 0)) → ((v.level == 0) && not of_inodes) ≡ false → IsUnder v w
     → cond inside 4 0 + w.level < cond of_inodes 4 0 + v.level
@@ -81,6 +84,14 @@ module _ (g : Ground) (of_inodes : Bool) (v : Visit) (done : List Step) where
       ap (λ ws. along ws (done ++ (here ∷ []))) are
       ∙ each_map (λ (w : Visit). going_from g (of_inodes && not (v.level == 0)) (item_of w) w.block) (λ (c : Item). visit_of (c, x.pvbn)) (pointers_under (item_of v) x) (done ++ (here ∷ []))
       ∙ sym (goes_below x some goes.2 goes.1 ∙ by_test x false test)
+
+  -- nothing stands below a data block
+  pub going_data : v.pointer.stamp ≢ 0 → StepsTo here (Some []) → done ++ (here ∷ []) ≡ all
+  going_data some goes = so ((v.level == 0) && not of_inodes) refl
+    where
+      so : (t : Bool) → ((v.level == 0) && not of_inodes) ≡ t → done ++ (here ∷ []) ≡ all
+      so true test = going_cell [] some goes test
+      so false test = going_block [] some goes test
 
   along_more : (vs : List Visit) (n : ℕ) (d : Visit) (from : List Step) → n < length vs
       → along (take (n + 1) vs) from

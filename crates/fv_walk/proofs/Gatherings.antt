@@ -69,6 +69,10 @@ module _ (P : Visit → Item → Type 0) where
   kept_more visits n d read ss is ts js low holds keeps before =
       kept visits n read ss is ts js (λ v. subst (λ w. OfRead P w read) (get_or_default visits n d v low) holds) keeps before
 
+  -- under other names
+  pub kept_as : (visits : List Visit) (n : ℕ) (ss ts : List (Option ℕ)) (is js : List Item) → ts ≡ ss → js ≡ is → Each P n visits ss is → Each P n visits ts js
+  kept_as visits n ss ts is js slots items each = subst (λ us. Each P n visits us js) (sym slots) (subst (Each P n visits ss) (sym items) each)
+
   pub all_kept : (n : ℕ) (visits : List Visit) (slots : List (Option ℕ)) (items : List Item) → n ≡ length visits → Each P n visits slots items → Each P (length visits) visits slots items
   all_kept n visits slots items all each = subst (λ (k : ℕ). Each P k visits slots items) all each
 

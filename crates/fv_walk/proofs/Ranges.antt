@@ -1,5 +1,7 @@
 -- The positions under a position are in range.
-use Rattle.std.proofs.Common.{◌≡◌, ◌≢◌, ℕ, zero, suc, ◌+◌, ◌*◌, ◌-◌, ◌^◌, ◌<◌, ◌≤◌, Bool, true, false, refl, arith}
+use Rattle.std.proofs.Common.{◌≡◌, ◌≢◌, ℕ, zero, suc, ◌+◌, ◌*◌, ◌-◌, ◌^◌, ◌<◌, ◌≤◌, Bool, true, false, refl, ap, ◌∙◌, arith}
+use Rattle.std.specs.Prelude.{not, ◌==◌}
+use Rattle.std.proofs.Math.Bool.{or-true}
 use Rattle.fv_codec.specs.declared.pointer.Pointer.{Pointer}
 use Rattle.fv_codec.specs.declared.inode.InodeRecord.{InodeRecord}
 use Rattle.fv_codec.specs.Blocks.{IsInodeRecord, is_used}
@@ -7,7 +9,7 @@ use Rattle.fv_codec.specs.Fields.{up_to}
 use Rattle.fv_image.specs.Views.{Rooted}
 use Rattle.fv_faults.specs.Walks.{child_of, file_root}
 use Rattle.fv_walk.specs.declared.visit.Visit.{Visit}
-use Rattle.fv_walk.specs.Visits.{IsVisit, IsUnder, visit_of, item_of, root_visit}
+use Rattle.fv_walk.specs.Visits.{IsVisit, IsUnder, visit_of, item_of, leads_on, root_visit}
 
 -- the ranges of a level that a node stands over are ranges of that level
 child_fits : (level place slot : ℕ) → level ≤ 3 → level ≢ 0 → place < 128 ^ (3 - level) → slot < 128 → 128 * place + slot < 128 ^ (3 - (level - 1))
@@ -53,3 +55,7 @@ root_is_under v number block f cell is =
 
 pub root_is_visit : (r : Rooted) (label : ℕ) → r.levels ≤ 3 → IsVisit (root_visit r label)
 root_is_visit r label low = record { level = low; place = first_fits r.levels low }
+
+-- the root of an inode file is a node or an inode block
+pub root_leads : (r : Rooted) (label : ℕ) (v : Visit) → v ≡ root_visit r label → leads_on v ≡ true
+root_leads r label v is = ap leads_on is ∙ or-true (not (r.levels == 0))

@@ -1,8 +1,8 @@
 -- What is seen along a walk.
-use Rattle.std.proofs.Common.{◌≡◌, ◌≢◌, ℕ, ◌+◌, ◌<◌, Bool, true, false, List, [], ◌∷◌, ◌++◌, length, get_or, take, refl, sym, ap, ◌∙◌}
+use Rattle.std.proofs.Common.{◌≡◌, ◌≢◌, ℕ, ◌+◌, ◌<◌, Bool, true, false, List, [], ◌∷◌, ◌++◌, length, get_or, take, refl, sym, ap, subst, ◌∙◌}
 use Rattle.std.specs.Prelude.{Option, Some, None, not, ◌&&◌, ◌||◌, map, flat_map, ◌==◌, if◌then◌else◌}
-use Rattle.std.specs.Option.{option_map, option_map_or}
-use Rattle.std.proofs.lemmas.List.{append-nil, take_more}
+use Rattle.std.specs.Option.{is_some, option_map, option_map_or}
+use Rattle.std.proofs.lemmas.List.{append-nil, map-append, take_more}
 use Rattle.std.proofs.lemmas.List.Folds.{flat_map-map}
 use Rattle.std.proofs.lemmas.Grind.{flat_map-append}
 use Rattle.fv_codec.specs.Blocks.{greatest_word, node_at, inodes_at}
@@ -20,6 +20,7 @@ use Rattle.fv_walk.specs.Visits.{item_of, spot_of, visit_of, leads_on}
 use Rattle.fv_walk.specs.Sights.{Sight, node_in, inodes_in, below_of, spelled, pointers_in, sight_of}
 use Rattle.fv_walk.specs.Meetings.{met_from, under_met}
 use Rattle.fv_walk.proofs.Spelled.{spelled_pointers}
+use Rattle.fv_walk.proofs.Blocks.{no_pointers}
 use Rattle.fv_walk.proofs.Meetings.{met_none, met_one}
 
 -- ---- where a VVBN is found
@@ -48,6 +49,15 @@ found_nowhere g e is = so (place g.view g.slot e.pointer.vvbn) refl is
 
 pub found_is : (g : Ground) (e : Item) (f : Found) (x : Placed) → Some f ≡ found_at g e.pointer.vvbn → place_at g e ≡ Some x → f ≡ found_of x
 found_is g e f x is there = ap (λ (o : Option Found). option_map_or (λ (y : Found). y) o f) (is ∙ ap (option_map found_of) there)
+
+-- by a test whether there is a place
+pub lacks_place : (g : Ground) (e : Item) (at : Option Found) → at ≡ found_at g e.pointer.vvbn → is_some at ≡ false → place_at g e ≡ None
+lacks_place g e None is none = found_nowhere g e is
+lacks_place g e (Some f) is none = absurd cc
+
+pub has_place : (g : Ground) (e : Item) (at : Option Found) → at ≡ found_at g e.pointer.vvbn → is_some at ≡ true → (x : Placed) × (place_at g e ≡ Some x)
+has_place g e None is some = absurd cc
+has_place g e (Some f) is some = let there = found_there g e f is in (there.x, there.is)
 
 -- ---- what stands there
 
@@ -111,6 +121,18 @@ module _ (g : Ground) (of_inodes : Bool) (v : Visit) where
       ∙ ap (λ at. spot_of v ∷ option_map_or (under_met g of_inodes (item_of v)) at []) is
       ∙ ap (λ (b : Bool). spot_of v ∷ (if b then [] else flat_map (λ c. met_from g (of_inodes && not (v.level == 0)) c x.pvbn) (pointers_under (item_of v) x))) test)
 
+  -- nothing is met below a data block
+  pub met_data : v.pointer.stamp ≢ 0 → leads_on v ≡ false → spot_of v ∷ [] ≡ met_from g of_inodes (item_of v) v.block
+  met_data some quiet = so (place_at g (item_of v)) refl
+    where
+      by : (x : Placed) → place_at g (item_of v) ≡ Some x → (t : Bool) → ((v.level == 0) && not of_inodes) ≡ t → spot_of v ∷ [] ≡ met_from g of_inodes (item_of v) v.block
+      by x is true test = met_cell x some is test
+      by x is false test = met_block x [] some is test (sym (ap (visits_in x.pvbn) (no_pointers v x quiet)))
+
+      so : (at : Option Placed) → place_at g (item_of v) ≡ at → spot_of v ∷ [] ≡ met_from g of_inodes (item_of v) v.block
+      so None is = met_nowhere some is
+      so (Some x) is = by x is ((v.level == 0) && not of_inodes) refl
+
   -- one pointer more
   pub along_more : (vs : List Visit) (k : ℕ) (d : Visit) (inside : Bool) → k < length vs → inside ≡ (of_inodes && not (v.level == 0))
       → (spot_of v ∷ met_along (take k vs)) ++ met_from g inside (item_of (get_or vs k d)) (get_or vs k d).block ≡ spot_of v ∷ met_along (take (k + 1) vs)
@@ -119,6 +141,21 @@ module _ (g : Ground) (of_inodes : Bool) (v : Visit) where
       ∙ ap (λ ss. spot_of v ∷ (met_along (take k vs) ++ ss)) (sym (append-nil (met_from g (of_inodes && not (v.level == 0)) (item_of (get_or vs k d)) (get_or vs k d).block)))
       ∙ ap (λ ss. spot_of v ∷ ss) (sym (flat_map-append (λ (w : Visit). met_from g (of_inodes && not (v.level == 0)) (item_of w) w.block) (take k vs) (get_or vs k d ∷ [])))
       ∙ ap (λ ws. spot_of v ∷ met_along ws) (sym (take_more vs k d low))
+
+  -- one pointer more that a visitor is shown, in the same volume
+  pub sees_more : {X : Type 0} (sees : X → List Sight → X → Type 0) (sees_on : (old mid new : X) (first second : List Sight) → sees old first mid → sees mid second new → sees old (first ++ second) new)
+      (vs : List Visit) (k : ℕ) (d : Visit) (inside : Bool) (old mid new : X) (h : Ground) → h ≡ g → k < length vs → inside ≡ (of_inodes && not (v.level == 0))
+      → sees old (map (sight_of g) (spot_of v ∷ met_along (take k vs))) mid
+      → sees mid (map (sight_of h) (met_from h inside (item_of (get_or vs k d)) (get_or vs k d).block)) new
+      → sees old (map (sight_of g) (spot_of v ∷ met_along (take (k + 1) vs))) new
+  sees_more sees sees_on vs k d inside old mid new h same low is before after =
+      let w : Visit = get_or vs k d in
+      let first : List Spot = spot_of v ∷ met_along (take k vs) in
+      let second : List Spot = met_from g inside (item_of w) w.block in
+      subst (λ (ss : List Spot). sees old (map (sight_of g) ss) new) (along_more vs k d inside low is)
+      (subst (λ (xs : List Sight). sees old xs new) (sym (map-append (sight_of g) first second))
+      (sees_on old mid new (map (sight_of g) first) (map (sight_of g) second) before
+      (subst (λ (j : Ground). sees mid (map (sight_of j) (met_from j inside (item_of w) w.block)) new) same after)))
 
   -- the pointers that stand below are those of the block there
   pub under_block : (x : Placed) (f : Found) (below : Below) (vs : List Visit) → place_at g (item_of v) ≡ Some x → f ≡ found_of x

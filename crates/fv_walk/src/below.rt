@@ -1,12 +1,12 @@
 //! What stands in the block to which a pointer leads.
 
-ghost use Rattle.std.specs.Prelude.{◌≡◌, ◌≢◌, IfOk};
+ghost use Rattle.std.specs.Prelude.{◌≡◌, ◌≢◌, true, IfOk};
 ghost use Rattle.fv_disk.specs.Shown.{HasCause};
 ghost use Rattle.fv_codec.specs.Blocks.{inodes_at, node_at};
 ghost use Rattle.fv_faults.specs.Met.{place_at};
 ghost use Rattle.fv_walk.specs.Sources.{found_at};
 ghost use Rattle.fv_walk.specs.declared.visit.Visit.{Visit};
-ghost use Rattle.fv_walk.specs.Visits.{item_of};
+ghost use Rattle.fv_walk.specs.Visits.{item_of, leads_on};
 ghost use Rattle.fv_walk.specs.Sights.{IsBelow, below_of, inodes_in, node_in, spelled};
 
 use crate::source::{Found, Source};
@@ -25,13 +25,14 @@ pub enum Below {
     Inodes(InodeBlock),
 }
 
-/// Reads what stands in the block to which a pointer leads, where it is found. Data blocks aren't read. Costs at most one block.
-#[tactic(auto, using(crate::proofs::Seeing::below_nowhere, crate::proofs::Seeing::below_data, crate::proofs::Seeing::below_block))]
+/// Reads what stands in the node or the inode block to which a pointer leads, where it is found. Costs at most one block.
+#[tactic(auto, using(crate::proofs::Seeing::below_nowhere, crate::proofs::Seeing::below_block))]
 pub(crate) fn read_below<S: Source>(
     source: &mut S,
     visit: &Visit,
     at: Option<Found>,
 ) -> Result<Below, Failed>
+    requires leads { leads_on visit.now ≡ true }
     requires found { S.fits source.old → at ≡ found_at (S.volume source.old) visit.now.pointer.vvbn }
     ensures below { S.fits source.old → IfOk result (λ below. below ≡ below_of (item_of visit.now) (place_at (S.volume source.old) (item_of visit.now))) }
     ensures range { IfOk result (IsBelow visit.now) }
@@ -41,9 +42,6 @@ pub(crate) fn read_below<S: Source>(
     let Some(found) = at else {
         return Ok(Below::Nothing);
     };
-    if !visit.leads_on() {
-        return Ok(Below::Nothing);
-    }
     let mut block = ZERO;
     source.read(found.pvbn, &mut block)?;
     Ok(spell(visit, &block))

@@ -46,7 +46,7 @@ fn node_children(
     ensures are { IfOk result (λ all. all.items ≡ map (λ e. visit_of (e, block)) (map (child_of (item_of visit.now)) (enumerate_from 0 pointers.now))) }
     ensures under { IfOk result (λ all. All (IsUnder visit.now) all.items) }
 {
-    let mut all = Vec::new(alloc);
+    let mut all = Vec::with_capacity(alloc, 128)?;
     for slot in 0..128usize {
         all.push(child(visit, slot, pointers[slot], block))?;
     }

@@ -1,11 +1,12 @@
 //! Blocks that are read and judged together.
 
-ghost use Rattle.std.specs.Prelude.{◌≡◌, ◌<◌, ℕ, Option, Some, length, map, slice_index_or, IfOk, IfSome, OnOk};
+ghost use Rattle.std.specs.Prelude.{◌≡◌, ◌<◌, ℕ, List, Option, Some, None, true, length, map, slice_index_or, IfOk, IfSome, OnOk};
 ghost use Rattle.std.specs.List.{All};
 ghost use Rattle.fv_disk.specs.Shown.{HasCause};
 ghost use Rattle.fv_image.specs.Views.{Placed};
 ghost use Rattle.fv_faults.specs.Walks.{Ground};
 ghost use Rattle.fv_faults.specs.Met.{place_at};
+ghost use Rattle.fv_scan.specs.declared.item.Item.{Item};
 ghost use Rattle.fv_scan.specs.Judging.{judgement};
 ghost use Rattle.fv_walk.specs.declared.visit.Visit.{Visit};
 ghost use Rattle.fv_walk.specs.Blocks.{IsInRange};
@@ -13,7 +14,7 @@ ghost use Rattle.fv_walk.specs.Causes.{HasWalkCause};
 ghost use Rattle.fv_walk.specs.Gathering.{AreBlocks, AtSlot, IsBlockOf, IsGathered, IsKindOf, IsWithin, Kept, OfRead};
 ghost use Rattle.fv_walk.specs.Limiting.{IsReady};
 ghost use Rattle.fv_walk.specs.Looks.{IsJudged, IsLooked};
-ghost use Rattle.fv_walk.specs.Visits.{IsVisit, item_of};
+ghost use Rattle.fv_walk.specs.Visits.{IsVisit, item_of, leads_on};
 
 use crate::fault::WalkFault;
 use crate::look::{Looked, read_item};
@@ -78,8 +79,12 @@ pub(crate) fn gather<S: Source>(
     let mut slots = Vec::new(state.alloc);
     let mut items = Vec::new(state.alloc);
     for visit in visits {
-        let read = read_ahead(source, state, visit)?;
-        keep(&mut slots, &mut items, read)?;
+        if state.wants(visit) {
+            let read = read_ahead(source, visit)?;
+            keep(&mut slots, &mut items, read)?;
+        } else {
+            pass_over(&mut slots)?;
+        }
     }
     let judged = judge_all(state.alloc, &items)?;
     Ok(Gathered {
@@ -110,23 +115,23 @@ fn keep(
     }
 }
 
-/// Reads the block to which a pointer leads, where a walk wants it and it is found.
-fn read_ahead<S: Source>(
-    source: &mut S,
-    state: &State,
-    visit: &Visit,
-) -> Result<Option<Item>, Failed>
-    requires ready { IsReady state.now }
+/// Marks that nothing was read for one pointer more.
+fn pass_over(slots: &mut Vec<Option<usize>>) -> Result<(), AllocError>
+    ensures { OnOk result ((items : List Item) → Kept None slots.old.items items slots.new.items items) }
+{
+    slots.push(None)?;
+    Ok(())
+}
+
+/// Reads the block to which a pointer leads, where it is found.
+fn read_ahead<S: Source>(source: &mut S, visit: &Visit) -> Result<Option<Item>, Failed>
     requires visit { IsVisit visit.now }
-    requires range { IsInRange state.now.limits visit.now }
+    requires leads { leads_on visit.now ≡ true }
     ensures kind { IfOk result (OfRead IsKindOf visit.now) }
     ensures block { S.fits source.old → IfOk result (OfRead (IsBlockOf (S.volume source.old)) visit.now) }
     ensures reads { S.reads source.old source.new }
     ensures cause { HasCause (S.faults source.old) (S.faults source.new) result }
 {
-    if !state.wants(visit) {
-        return Ok(None);
-    }
     let Some(found) = source.find(visit.pointer.vvbn) else {
         return Ok(None);
     };

@@ -1,17 +1,18 @@
 //! The walk with its stops.
 
-ghost use Rattle.std.specs.Prelude.{◌≡◌, ◌≢◌, ◌<◌, ◌≤◌, ◌++◌, ◌∷◌, ◌^◌, [], List, flat_map, length, IfOk, IfSome, OnOk};
+ghost use Rattle.std.specs.Prelude.{◌≡◌, ◌≢◌, ◌<◌, ◌≤◌, ◌++◌, ◌∷◌, ◌^◌, [], Bool, List, true, false, flat_map, length, IfOk, IfSome, OnOk};
 ghost use Rattle.std.specs.List.{All};
 ghost use Rattle.std.specs.Option.{option_map};
 ghost use Rattle.fv_faults.specs.declared.lines.Lines.{Lines};
 ghost use Rattle.fv_faults.specs.Adding.{Adds};
+ghost use Rattle.fv_faults.specs.Lines.{line};
 ghost use Rattle.fv_faults.specs.Walks.{Step, step, steps};
 ghost use Rattle.fv_walk.specs.Blocks.{IsInRange};
 ghost use Rattle.fv_walk.specs.Causes.{HasWalkCause};
 ghost use Rattle.fv_walk.specs.Goings.{Reaches, StepsTo, Tracks, going_from};
 ghost use Rattle.fv_walk.specs.Looks.{IsAhead, IsJudged};
 ghost use Rattle.fv_walk.specs.Limiting.{IsLimits, IsLimitsOf, IsReady};
-ghost use Rattle.fv_walk.specs.Visits.{IsUnder, IsVisit, item_of, rooted};
+ghost use Rattle.fv_walk.specs.Visits.{IsUnder, IsVisit, item_of, leads_on, rooted};
 
 use crate::block::note_block;
 use crate::fault::WalkFault;
@@ -23,7 +24,7 @@ use crate::state::State;
 use crate::visit::{Table, Visit};
 use fv_bits::BitMap;
 use fv_faults::{Fault, Lines};
-use std::alloc::Global;
+use std::alloc::{AllocError, Global};
 
 /// Walks along the pointers of a table, whose root stands in the label at a place, notes the lines of rules 1, 2, 4 and 5
 /// (`docs/FORMAT.md`) that its blocks and pointers have, and answers which VVBNs the root has reached.
@@ -60,7 +61,7 @@ pub fn walk_with_stops<S: Source>(
     Ok(state.reach)
 }
 
-/// Walks from a pointer on, whose block may have been read ahead, in the tree of an inode file or of another file.
+/// Walks from a pointer to a node or an inode block on, which may have been read ahead, in the tree of an inode file or of another file.
 fn stop_from<S: Source>(
     source: &mut S,
     state: &mut State,
@@ -70,6 +71,7 @@ fn stop_from<S: Source>(
     of_inodes: bool,
 ) -> Result<(), WalkFault>
     requires visit { IsVisit visit.now }
+    requires leads { leads_on visit.now ≡ true }
     requires range { IsInRange state.old.limits visit.now }
     requires ready { IsReady state.old }
     requires ahead { IfSome ahead (IsJudged visit.now) }
@@ -95,13 +97,63 @@ fn stop_from<S: Source>(
     let visits = children.as_slice();
     let gathered = gather(source, &*state, visits)?;
     for slot in 0..visits.len() {
-        let next = gathered.at(slot);
-        stop_from(source, state, lines, &visits[slot], next, inside)?;
+        if visits[slot].leads_on() {
+            let next = gathered.at(slot);
+            stop_from(source, state, lines, &visits[slot], next, inside)?;
+        } else {
+            step_to_data(&*source, state, lines, &visits[slot])?;
+        }
     }
     Ok(())
 }
 
-/// Makes a step along a pointer that isn't a hole, notes its lines, and answers the pointers below it where the walk goes on.
+/// Makes a step along a pointer to a data block, unless it is a hole, and notes its line.
+fn step_to_data<S: Source>(
+    source: &S,
+    state: &mut State,
+    lines: &mut Lines,
+    visit: &Visit,
+) -> Result<(), AllocError>
+    requires data { leads_on visit.now ≡ false }
+    requires range { IsInRange state.old.limits visit.now }
+    requires ready { IsReady state.old }
+    ensures tracks { OnOk result (S.fits source.now → IsLimitsOf (S.volume source.now) state.old.limits
+        → (of_inodes : Bool) → (before : Lines) → (done : List Step) → Tracks (S.volume source.now) before done state.old lines.old
+        → Tracks (S.volume source.now) before
+        (going_from (S.volume source.now) of_inodes (item_of visit.now) visit.now.block done) state.new lines.new) }
+    ensures limits { state.new.limits ≡ state.old.limits }
+    ensures ready { IsReady state.new }
+{
+    if visit.pointer.stamp == 0 {
+        return Ok(());
+    }
+    let vvbn = visit.pointer.vvbn as u32;
+    if state.reach.get(vvbn) {
+        note_reach(lines, visit.block, 2)?;
+        return Ok(());
+    }
+    state.reach.set(vvbn);
+    let at = source.find(visit.pointer.vvbn);
+    if at.is_none() {
+        note_reach(lines, visit.block, 0)?;
+        return Ok(());
+    }
+    Ok(())
+}
+
+/// Notes the line of rule 5 of a pointer in a block: `found` is 2 where its VVBN was reached before, and 0 where that is a hole.
+fn note_reach(lines: &mut Lines, block: u64, found: u64) -> Result<(), AllocError>
+    ensures { OnOk result (Adds (line 5 block 1 found ∷ []) lines.old lines.new) }
+{
+    lines.note(Fault {
+        rule: 5,
+        block,
+        want: 1,
+        found,
+    })
+}
+
+/// Makes a step along a pointer to a node or an inode block, notes its lines, and answers the pointers below it where the walk goes on.
 fn take_step<S: Source>(
     source: &mut S,
     state: &mut State,
@@ -110,6 +162,7 @@ fn take_step<S: Source>(
     ahead: Option<Looked>,
 ) -> Result<Option<Vec<Visit>>, WalkFault>
     requires visit { IsVisit visit.now }
+    requires leads { leads_on visit.now ≡ true }
     requires some { visit.now.pointer.stamp ≢ 0 }
     requires range { visit.now.pointer.vvbn < state.old.limits.span }
     requires ready { IsReady state.old }
@@ -130,27 +183,14 @@ fn take_step<S: Source>(
 {
     let vvbn = visit.pointer.vvbn as u32;
     if state.reach.get(vvbn) {
-        lines.note(Fault {
-            rule: 5,
-            block: visit.block,
-            want: 1,
-            found: 2,
-        })?;
+        note_reach(lines, visit.block, 2)?;
         return Ok(None);
     }
     state.reach.set(vvbn);
     let Some(found) = source.find(visit.pointer.vvbn) else {
-        lines.note(Fault {
-            rule: 5,
-            block: visit.block,
-            want: 1,
-            found: 0,
-        })?;
+        note_reach(lines, visit.block, 0)?;
         return Ok(None);
     };
-    if !visit.leads_on() {
-        return Ok(Some(Vec::new(state.alloc)));
-    }
     let looked = look_unless(source, visit, &found, ahead)?;
     let children = note_block(
         state.alloc,

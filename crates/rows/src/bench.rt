@@ -15,6 +15,8 @@ pub struct Bench {
     pub host: MemHost,
     /// The disk before the last run.
     pub before: MemHost,
+    /// The disk that was kept, for this case and those behind it.
+    pub kept: Kept,
     /// The blocks of the plain machine; 0 where it isn't known.
     pub blocks: u64,
     /// The lines that lead to the plain machine.
@@ -26,6 +28,14 @@ pub struct Bench {
     pub run: Run,
     /// The states of the last run, where it has walks.
     pub course: Course,
+}
+
+/// A disk, with the blocks of the plain machine for which it stands and the lines that lead there.
+#[derive(Drop)]
+pub struct Kept {
+    pub host: MemHost,
+    pub blocks: u64,
+    pub lines: Vec<u8>,
 }
 
 #[derive(Clone, Copy)]
@@ -49,6 +59,8 @@ pub struct Run {
     pub status: u64,
     /// For how many first lines the disk stands then, where not for all of a run that ends with 0.
     pub stands: Option<u64>,
+    /// Whether a check of the disk then finds faults, as where a row has changed what no later point writes.
+    pub unsound: bool,
     /// The script that is asked of a disk to see for what it stands.
     pub looks: Vec<u8>,
 }
@@ -73,6 +85,7 @@ pub fn new_run(alloc: Global, program: Program) -> Run {
         plain: false,
         status: 0,
         stands: None,
+        unsound: false,
         looks: Vec::new(alloc),
     }
 }
@@ -85,6 +98,11 @@ pub fn new_bench(alloc: Global) -> Bench {
         goes_on: false,
         host: new_host(alloc),
         before: new_host(alloc),
+        kept: Kept {
+            host: new_host(alloc),
+            blocks: 0,
+            lines: Vec::new(alloc),
+        },
         blocks: 0,
         lines: Vec::new(alloc),
         runs_on: false,

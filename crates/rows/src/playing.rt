@@ -5,7 +5,7 @@ use crate::bench::{Bench, Program, clear, new_run};
 use crate::cause::{Cause, because};
 use crate::course::{course_of, order_of};
 use crate::lines::{add_word, first_difference, lines_in, number, split_lines};
-use crate::summary::plain_summary;
+use crate::summary::{plain_summary, plain_verdict};
 use fv_run::Order;
 use std::alloc::AllocError;
 
@@ -29,6 +29,23 @@ pub fn aggregate(bench: &mut Bench, blocks: &str) -> Result<(), Cause> {
 pub fn image(bench: &mut Bench, blocks: &str) -> Result<(), Cause> {
     clear(bench);
     bench.blocks = number(blocks)?;
+    Ok(())
+}
+
+/// The disk is kept, with the plain machine for which it stands.
+pub fn keep(bench: &mut Bench) -> Result<(), Cause> {
+    bench.kept.host = settled(&bench.host)?;
+    bench.kept.blocks = bench.blocks;
+    bench.kept.lines = Vec::from_slice(bench.alloc, bench.lines.as_slice())?;
+    Ok(())
+}
+
+/// The disk becomes the one that was kept.
+pub fn take_kept(bench: &mut Bench) -> Result<(), Cause> {
+    clear(bench);
+    bench.host = settled(&bench.kept.host)?;
+    bench.blocks = bench.kept.blocks;
+    add_lines(&mut bench.lines, bench.kept.lines.as_slice())?;
     Ok(())
 }
 
@@ -138,7 +155,11 @@ fn settle(bench: &mut Bench) -> Result<(), AllocError> {
                 }
             }
         }
-        // A check changes nothing.
+        // A disk with faults stands for no machine.
+        Some(Order::Check) if bench.run.status != 0 => {
+            bench.blocks = 0;
+            Ok(())
+        }
         Some(Order::Check) | None => Ok(()),
     }
 }
@@ -152,8 +173,27 @@ fn judge_disk(bench: &Bench) -> Result<(), Cause> {
     let wanted = plain_replies(bench.alloc, bench.blocks, bench.lines.as_slice(), asks)?;
     let look = look_at(bench.alloc, &mut settled(&bench.host)?, asks)?;
     if look.as_slice() == wanted.as_slice() {
-        Ok(())
+        judge_soundness(bench)
     } else {
         Err(because("the disk stands for other lines", 0, 0))
+    }
+}
+
+/// Whether a check of the disk counts the volumes of the plain machine and what they are charged for; or finds faults, where the row says so.
+fn judge_soundness(bench: &Bench) -> Result<(), Cause> {
+    let mut run = new_run(bench.alloc, Program::Flexvol);
+    add_word(bench.alloc, &mut run.words, "check")?;
+    let mut host = settled(&bench.host)?;
+    let status = start(bench.alloc, &run, &mut host)?;
+    let wanted = plain_verdict(bench)?;
+    let as_wanted = if bench.run.unsound {
+        status == 1
+    } else {
+        status == 0 && host.given() == wanted.as_slice()
+    };
+    if as_wanted {
+        Ok(())
+    } else {
+        Err(because("a check says otherwise", status, 0))
     }
 }

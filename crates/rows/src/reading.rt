@@ -8,7 +8,7 @@ use crate::delayed::{are_delayed, are_free};
 use crate::drawn::play_drawn;
 use crate::failing::try_failing;
 use crate::lines::{add_line, line_of, number, read_spread};
-use crate::playing::{aggregate, begin_run, begin_walks, end_run, image};
+use crate::playing::{aggregate, begin_run, begin_walks, end_run, image, keep, take_kept};
 use crate::walking::{pointed, stopped};
 
 /// Does what a line of a file says: nothing for a remark, and else what each line says for which it stands.
@@ -67,6 +67,7 @@ fn read_wanted(run: &mut Run, word: &str, rest: &str) -> Result<bool, Cause> {
         "limit" => run.program = Program::Script(number(rest)?),
         "status" => run.status = number(rest)?,
         "stands" => run.stands = Some(number(rest)?),
+        "unsound" => run.unsound = true,
         _ => return Ok(false),
     }
     Ok(true)
@@ -80,6 +81,8 @@ fn read_step(bench: &mut Bench, word: &str, rest: &str) -> Result<(), Cause> {
         "aggregate" => aggregate(bench, rest),
         "drawn" => play_drawn(bench, rest),
         "image" => image(bench, rest),
+        "keep" => keep(bench),
+        "kept" => take_kept(bench),
         "after" => add_line(&mut bench.lines, rest),
         "lay" => lay(bench.alloc, &mut bench.host, rest),
         "zero" => zero(&mut bench.host, rest),

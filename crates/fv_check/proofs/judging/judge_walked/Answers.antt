@@ -1,4 +1,4 @@
-use Rattle.std.proofs.Common.{◌≡◌, ◌≤◌, [], sym, subst, arith}
+use Rattle.std.proofs.Common.{◌≡◌, [], sym, subst}
 use Rattle.std.specs.Prelude.{IsTrue}
 use Rattle.fv_disk.specs.Shown.{Image}
 use Rattle.fv_disk.proofs.Reading.{reads_whole}
@@ -10,20 +10,22 @@ use Rattle.fv_faults.specs.FourthPass.{fourth_pass}
 use Rattle.fv_faults.specs.ThirdPass.{third_pass}
 use Rattle.fv_faults.proofs.Adding.{none_added}
 use Rattle.fv_first_pass.specs.declared.verdict.Verdict.TheVariants.{Valid, Faults}
-use Rattle.fv_fourth_pass.specs.Silent.{IsSilent}
+use Rattle.fv_fourth_pass.specs.Silent.{IsSilentOf}
 use Rattle.fv_check.proofs.Passed.{found_here, found_last, found_later, found_none, none_noted}
 use Rattle.fv_check.proofs.judging.judge_walked.Goals as goal
 
 pub returns-then-has_lines-clause-says : goal.returns-then-has_lines-clause-says
 returns-then-has_lines-clause-says g c = λ tells walked.
-    let t = root_found c.args.root.now in
+    let x = c.args.survey.now in
+    let t = root_found x.root.now in
     let y : Layout = layout_at t (g.D.Disk.shown c.args.disk.now).reads in
     found_here y.view c.args.lines c.in_ok-third.third (third_pass y) (fourth_pass (root_place t.slot) y) (c.in_ok-third.ensures.adds tells walked) c.requires.clean
     c.has_lines.ensures.ordered (c.has_lines.ensures.any.0 c.if-has_lines.true)
 
 pub returns-then-has_lines-2-clause-says : goal.returns-then-has_lines-2-clause-says
 returns-then-has_lines-2-clause-says g c = λ tells walked.
-    let t = root_found c.args.root.now in
+    let x = c.args.survey.now in
+    let t = root_found x.root.now in
     let i : Image = (g.D.Disk.shown c.args.disk.now).reads in
     let mid = g.D.Disk.shown c.pass_three.new.disk in
     let y : Layout = layout_at t i in
@@ -31,16 +33,17 @@ returns-then-has_lines-2-clause-says g c = λ tells walked.
     let tells_mid : IsTrue mid.tells = rw c.in_ok-third.ensures.read.only_reads.stays.tells tells in
     let adds = c.in_ok-third.ensures.adds tells walked in
     let none : c.in_ok-third.third.lines.keys ≡ [] = none_noted _ _ c.has_lines.ensures.any c.if-has_lines.false in
-    let silent : IsSilent t i c.args.known.now c.args.reached.now = record { walked = walked; third = none_added (third_pass y) c.args.lines c.in_ok-third.third adds none } in
+    let silent : IsSilentOf x i = record { walked = walked; third = none_added (third_pass y) c.args.lines c.in_ok-third.third adds none } in
     found_later y.view c.args.lines c.in_ok-third.third (third_pass y) (fourth_pass (root_place t.slot) y) adds none (Faults c.in_ok-fourth.fourth)
     (found_last y.view c.in_ok-third.third c.in_ok-fourth.fourth (fourth_pass (root_place t.slot) y)
     (subst (λ (j : Image). Adds (fourth_pass (root_place t.slot) (layout_at t j)) c.in_ok-third.third c.in_ok-fourth.fourth) same
-    (c.in_ok-fourth.ensures.adds tells_mid (subst (λ (j : Image). IsSilent t j c.args.known.now c.args.reached.now) (sym same) silent)))
+    (c.in_ok-fourth.ensures.adds tells_mid (subst (IsSilentOf x) (sym same) silent)))
     none c.has_lines-2.ensures.ordered (c.has_lines-2.ensures.any.0 c.if-has_lines-2.true))
 
 pub returns-clause-says : goal.returns-clause-says
 returns-clause-says g c = λ tells walked.
-    let t = root_found c.args.root.now in
+    let x = c.args.survey.now in
+    let t = root_found x.root.now in
     let disk = g.D.Disk.shown c.args.disk.now in
     let i : Image = disk.reads in
     let mid = g.D.Disk.shown c.pass_three.new.disk in
@@ -49,12 +52,10 @@ returns-clause-says g c = λ tells walked.
     let tells_mid : IsTrue mid.tells = rw c.in_ok-third.ensures.read.only_reads.stays.tells tells in
     let adds = c.in_ok-third.ensures.adds tells walked in
     let none : c.in_ok-third.third.lines.keys ≡ [] = none_noted _ _ c.has_lines.ensures.any c.if-has_lines.false in
-    let silent : IsSilent t i c.args.known.now c.args.reached.now = record { walked = walked; third = none_added (third_pass y) c.args.lines c.in_ok-third.third adds none } in
-    let least = c.requires.size.size.least in
-    let size : 1 ≤ t.blocks = omega (arith, least) in
+    let silent : IsSilentOf x i = record { walked = walked; third = none_added (third_pass y) c.args.lines c.in_ok-third.third adds none } in
     found_later y.view c.args.lines c.in_ok-third.third (third_pass y) (fourth_pass (root_place t.slot) y) adds none (Valid c.in_ok-totals.totals.volumes c.in_ok-totals.totals.charged)
     (found_none y.view c.in_ok-third.third c.in_ok-fourth.fourth (fourth_pass (root_place t.slot) y)
     (subst (λ (j : Image). Adds (fourth_pass (root_place t.slot) (layout_at t j)) c.in_ok-third.third c.in_ok-fourth.fourth) same
-    (c.in_ok-fourth.ensures.adds tells_mid (subst (λ (j : Image). IsSilent t j c.args.known.now c.args.reached.now) (sym same) silent)))
+    (c.in_ok-fourth.ensures.adds tells_mid (subst (IsSilentOf x) (sym same) silent)))
     (none_noted _ _ c.has_lines-2.ensures.any c.if-has_lines-2.false) _ _
-    (c.in_ok-totals.ensures t i (reads_whole disk (g.met.D.Disk.laws c.args.disk.now) tells) size silent))
+    (c.in_ok-totals.ensures i (reads_whole disk (g.met.D.Disk.laws c.args.disk.now) tells) silent))

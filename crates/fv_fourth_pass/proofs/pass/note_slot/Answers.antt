@@ -12,23 +12,28 @@ use Rattle.fv_fourth_pass.specs.Noted.{volume_lines}
 use Rattle.fv_fourth_pass.proofs.Summing.{longer, no_space, some_space, still_within, sums_next}
 use Rattle.fv_fourth_pass.proofs.pass.note_slot.Goals as goal
 
-pub returns-in_default-clause-adds : goal.returns-in_default-clause-adds
-returns-in_default-clause-adds g c = λ tells silent.
-    let t = root_found c.args.root.now in
-    let i = (g.D.Disk.shown c.args.disk.now).reads in
-    let none : label_of (get_or c.args.known.now.labels.items c.args.slot None) ≡ None = search rules in
-    subst (λ ls. Adds ls c.args.lines c.args.lines)
-    (sym (none_said t i c.args.known.now silent.walked.passed c.args.slot c.requires.slot (volume_lines (layout_at t i).view) none))
-    (adds_none c.args.lines c.args.lines refl)
+pub returns-in_default-clause-passes : goal.returns-in_default-clause-passes
+returns-in_default-clause-passes g c = record {
+  adds = λ tells silent.
+      let x = c.args.survey.now in
+      let t = root_found x.root.now in
+      let i = (g.D.Disk.shown c.args.disk.now).reads in
+      let none : label_of (get_or x.known.now.labels.items c.args.slot None) ≡ None = search rules in
+      subst (λ ls. Adds ls c.args.lines c.args.lines)
+      (sym (none_said t i x.known.now silent.walked.passed c.args.slot c.requires.slot (volume_lines (layout_at t i).view) none))
+      (adds_none c.args.lines c.args.lines refl);
+  read = search rules;
+}
 
 pub returns-in_default-clause-sums : goal.returns-in_default-clause-sums
 returns-in_default-clause-sums g c = λ tells silent are.
-    let t = root_found c.args.root.now in
+    let x = c.args.survey.now in
+    let t = root_found x.root.now in
     let i = (g.D.Disk.shown c.args.disk.now).reads in
     let w = (layout_at t i).view in
-    let none : label_of (get_or c.args.known.now.labels.items c.args.slot None) ≡ None = search rules in
+    let none : label_of (get_or x.known.now.labels.items c.args.slot None) ≡ None = search rules in
     sums_next c.args.sums.now c.add_space.new.sums _ c.args.slot c.requires.at c.in_ok-add_space.ensures.uses c.in_ok-add_space.ensures.own c.in_ok-add_space.ensures.delayed w are
-    (no_space w c.args.slot _ (head_is t i c.args.known.now silent.walked.passed c.args.slot c.requires.slot ∙ no_head (get_or c.args.known.now.labels.items c.args.slot None) none) refl refl)
+    (no_space w c.args.slot _ (head_is t i x.known.now silent.walked.passed c.args.slot c.requires.slot ∙ no_head (get_or x.known.now.labels.items c.args.slot None) none) refl refl)
 
 pub returns-in_default-clause-at : goal.returns-in_default-clause-at
 returns-in_default-clause-at g c = longer c.args.sums.now c.add_space.new.sums _ c.args.slot c.requires.at c.in_ok-add_space.ensures.uses c.in_ok-add_space.ensures.own c.in_ok-add_space.ensures.delayed
@@ -38,27 +43,32 @@ returns-in_default-clause-within g c =
     still_within c.args.sums.now c.add_space.new.sums _ c.args.slot c.requires.at c.in_ok-add_space.ensures.uses c.in_ok-add_space.ensures.own c.in_ok-add_space.ensures.delayed
     c.requires.within (search rules)
 
-pub returns-clause-adds : goal.returns-clause-adds
-returns-clause-adds g c = λ tells silent.
-    let t = root_found c.args.root.now in
-    let i = (g.D.Disk.shown c.args.disk.now).reads in
-    let read : label_of (get_or c.args.known.now.labels.items c.args.slot None) ≡ Some c.in-Some.label.now = search rules in
-    let is = label_known (get_or c.args.known.now.labels.items c.args.slot None) c.in-Some.label.now read in
-    subst (λ ls. Adds ls c.args.lines c.in_ok-noted.noted.lines)
-    (sym (some_said t i c.args.known.now silent.walked.passed c.args.slot c.requires.slot (volume_lines (layout_at t i).view) c.in-Some.label.now is))
-    (c.in_ok-noted.ensures.adds tells (record { silent = silent; label = is }))
+pub returns-clause-passes : goal.returns-clause-passes
+returns-clause-passes g c = record {
+  adds = λ tells silent.
+      let x = c.args.survey.now in
+      let t = root_found x.root.now in
+      let i = (g.D.Disk.shown c.args.disk.now).reads in
+      let read : label_of (get_or x.known.now.labels.items c.args.slot None) ≡ Some c.in-Some.label.now = search rules in
+      let is = label_known (get_or x.known.now.labels.items c.args.slot None) c.in-Some.label.now read in
+      subst (λ ls. Adds ls c.args.lines c.in_ok-noted.noted.lines)
+      (sym (some_said t i x.known.now silent.walked.passed c.args.slot c.requires.slot (volume_lines (layout_at t i).view) c.in-Some.label.now is))
+      (c.in_ok-noted.ensures.adds tells (record { silent = silent; label = is }));
+  read = record { only_reads = c.in_ok-noted.ensures.read.only_reads; cause = c.in_ok-noted.ensures.read.cause };
+}
 
 pub returns-clause-sums : goal.returns-clause-sums
 returns-clause-sums g c = λ tells silent are.
-    let t = root_found c.args.root.now in
+    let x = c.args.survey.now in
+    let t = root_found x.root.now in
     let i = (g.D.Disk.shown c.args.disk.now).reads in
     let w = (layout_at t i).view in
     let s = c.args.slot in
     let l = c.in-Some.label.now in
-    let read : label_of (get_or c.args.known.now.labels.items s None) ≡ Some l = search rules in
-    let is = label_known (get_or c.args.known.now.labels.items s None) l read in
+    let read : label_of (get_or x.known.now.labels.items s None) ≡ Some l = search rules in
+    let is = label_known (get_or x.known.now.labels.items s None) l read in
     sums_next c.args.sums.now c.add_space-2.new.sums c.in_ok-noted.noted.space s c.requires.at c.in_ok-add_space-2.ensures.uses c.in_ok-add_space-2.ensures.own c.in_ok-add_space-2.ensures.delayed w are
-    (some_space w s c.in_ok-noted.noted.space (head_of l) (head_there t i c.args.known.now silent.walked.passed s c.requires.slot l is)
+    (some_space w s c.in_ok-noted.noted.space (head_of l) (head_there t i x.known.now silent.walked.passed s c.requires.slot l is)
     (c.in_ok-noted.ensures.space tells (record { silent = silent; label = is })))
 
 pub returns-clause-at : goal.returns-clause-at

@@ -1,18 +1,17 @@
-use Rattle.std.proofs.Common.{rules, ◌≤◌, ◌≡◌, ◌++◌, ℕ, List, map, get_or, arith, sym, subst}
+use Rattle.std.proofs.Common.{rules, ◌≤◌, ◌≡◌, ℕ, List, map, arith, sym, subst}
 use Rattle.std.specs.Prelude.{IsTrue}
 use Rattle.fv_disk.specs.Shown.{Image}
 use Rattle.fv_disk.proofs.Reading.{reads_whole}
 use Rattle.fv_image.specs.Held.{layout_at}
 use Rattle.fv_image.specs.Seen.{roots_of}
-use Rattle.fv_image.specs.Views.{View, head_of}
+use Rattle.fv_image.specs.Views.{head_of}
 use Rattle.fv_root.specs.Finding.{root_found}
 use Rattle.fv_faults.specs.Adding.{Adds}
-use Rattle.fv_faults.specs.FourthPass.{place_lines, use_lines}
-use Rattle.fv_second_pass.specs.Told.{ground_at}
+use Rattle.fv_faults.specs.FourthPass.{use_lines}
+use Rattle.fv_third_pass.specs.Surveys.{label_place, layout_of}
 use Rattle.fv_third_pass.specs.Volumes.{root_of}
 use Rattle.fv_fourth_pass.specs.Filled.{HasFilled}
-use Rattle.fv_fourth_pass.specs.Noted.{hinted_roots}
-use Rattle.fv_fourth_pass.specs.Silent.{AreSetsOf, IsSilentLabel, IsSilentVolume, left_of}
+use Rattle.fv_fourth_pass.specs.Silent.{AreSetsOf, IsSilentAt, left_of}
 use Rattle.fv_fourth_pass.specs.Summed.{IsSpace}
 use Rattle.fv_fourth_pass.proofs.Sets.{base_fits, has_filled, has_sets, roots_wide}
 use Rattle.fv_fourth_pass.proofs.Slots.{volume_added}
@@ -22,31 +21,33 @@ use Rattle.fv_fourth_pass.proofs.pass.note_volume.Goals.{After-drop-roots-2}
 
 -- the sets are those of the volume
 sets_are : (g : given.Over) (c : After-drop-roots-2 g) → IsTrue (g.D.Disk.shown c.args.disk.now).tells
-    → IsSilentLabel (root_found c.args.root.now) (g.D.Disk.shown c.args.disk.now).reads c.args.known.now c.args.reached.now c.args.slot c.args.label.now
-    → AreSetsOf c.args.reached.now c.args.slot c.args.label.now c.in_ok-sets.sets.held c.in_ok-sets.sets.base (left_of c.args.label.now c.in_ok-sets.sets.base)
+    → IsSilentAt c.args.survey.now (g.D.Disk.shown c.args.disk.now).reads c.args.slot c.args.label.now
+    → AreSetsOf c.args.survey.now.reached.now c.args.slot c.args.label.now c.in_ok-sets.sets.held c.in_ok-sets.sets.base (left_of c.args.label.now c.in_ok-sets.sets.base)
 unfolding Rattle.fv_image.specs.Views.head_of
 sets_are g c tells is =
-    let t = root_found c.args.root.now in
+    let x = c.args.survey.now in
+    let t = root_found x.root.now in
     let disk = g.D.Disk.shown c.args.disk.now in
     let long = reads_whole disk (g.met.D.Disk.laws c.args.disk.now) tells in
-    let least = c.requires.size.size.least in
+    let least = c.requires.range.root.size.least in
     let size : 1 ≤ t.blocks = omega (arith, least) in
     let are : map root_of c.deref.result.now ≡ roots_of (head_of c.args.label.now) = search rules in
     c.in_ok-sets.ensures.are are
-    (roots_wide t disk.reads long size c.args.known.now c.args.reached.now is.silent.walked c.args.slot c.requires.slot c.args.label.now is.label)
-    (base_fits t disk.reads long size c.args.known.now c.args.reached.now is.silent.walked c.args.slot c.requires.slot c.args.label.now is.label)
+    (roots_wide t disk.reads long size x.known.now x.reached.now is.silent.walked c.args.slot c.requires.slot c.args.label.now is.label)
+    (base_fits t disk.reads long size x.known.now x.reached.now is.silent.walked c.args.slot c.requires.slot c.args.label.now is.label)
 
 -- what it takes
 space_is : (g : given.Over) (c : After-drop-roots-2 g) → IsTrue (g.D.Disk.shown c.args.disk.now).tells
-    → IsSilentLabel (root_found c.args.root.now) (g.D.Disk.shown c.args.disk.now).reads c.args.known.now c.args.reached.now c.args.slot c.args.label.now
-    → IsSpace (layout_at (root_found c.args.root.now) (g.D.Disk.shown c.args.disk.now).reads).view c.args.slot (head_of c.args.label.now) c.count_space-space.result
+    → IsSilentAt c.args.survey.now (g.D.Disk.shown c.args.disk.now).reads c.args.slot c.args.label.now
+    → IsSpace (layout_of c.args.survey.now (g.D.Disk.shown c.args.disk.now).reads).view c.args.slot (head_of c.args.label.now) c.count_space-space.result
 unfolding Rattle.fv_image.specs.Views.head_of
 space_is g c tells is =
-    let t = root_found c.args.root.now in
+    let x = c.args.survey.now in
+    let t = root_found x.root.now in
     let disk = g.D.Disk.shown c.args.disk.now in
     let i = disk.reads in
     let long = reads_whole disk (g.met.D.Disk.laws c.args.disk.now) tells in
-    let least = c.requires.size.size.least in
+    let least = c.requires.range.root.size.least in
     let size : 1 ≤ t.blocks = omega (arith, least) in
     let s = c.args.slot in
     let low = c.requires.slot in
@@ -57,9 +58,9 @@ space_is g c tells is =
     let own = sets_are g c tells is in
     let roots : map root_of c.deref-2.result.now ≡ roots_of h = search rules in
     c.count_space-space.ensures.exact w s
-    (has_sets t i long size c.args.known.now c.args.reached.now is.silent.walked s low l is.label sets.held sets.base (left_of l sets.base) own is.silent.third)
+    (has_sets t i long size x.known.now x.reached.now is.silent.walked s low l is.label sets.held sets.base (left_of l sets.base) own is.silent.third)
     (subst (λ (row : List ℕ). HasFilled w s h sets.held row) (sym c.row_of.ensures)
-    (has_filled t i long size c.args.known.now c.args.reached.now is.silent.walked s low l is.label sets.held sets.base (left_of l sets.base) own is.silent.third))
+    (has_filled t i long size x.known.now x.reached.now is.silent.walked s low l is.label sets.held sets.base (left_of l sets.base) own is.silent.third))
     (c.in_ok-walked.ensures.exact tells (record { silent = is.silent; label = is.label; roots = roots; sets = own }))
 
 pub returns-clause-space : goal.returns-clause-space
@@ -68,13 +69,14 @@ returns-clause-space g c = λ tells is. space_is g c tells is
 pub returns-clause-adds : goal.returns-clause-adds
 unfolding Rattle.fv_image.specs.Views.head_of
 returns-clause-adds g c = λ tells is.
-    let t = root_found c.args.root.now in
+    let x = c.args.survey.now in
+    let t = root_found x.root.now in
     let i : Image = (g.D.Disk.shown c.args.disk.now).reads in
     let s = c.args.slot in
     let l = c.args.label.now in
     let w = (layout_at t i).view in
     let h = head_of l in
-    let at = get_or c.args.root.now.root.labels s 0 in
+    let at = label_place x s in
     let sets = c.in_ok-sets.sets in
     let rs = c.deref-2.result.now in
     let noted = c.in_ok-walked.walked.lines in

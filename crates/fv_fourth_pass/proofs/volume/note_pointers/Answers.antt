@@ -1,4 +1,4 @@
-use Rattle.std.proofs.Common.{◌≡◌, Bool, List, sym, subst}
+use Rattle.std.proofs.Common.{Bool, List, sym, subst}
 use Rattle.std.specs.Prelude.{Option}
 use Rattle.fv_image.specs.Views.{head_of}
 use Rattle.fv_faults.specs.Walks.{Ground}

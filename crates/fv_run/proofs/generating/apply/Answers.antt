@@ -10,6 +10,7 @@ use Rattle.fv_run.specs.Built.{built}
 use Rattle.fv_run.specs.Answering.{Applies}
 use Rattle.fv_run.proofs.Applied.{applied, cp_reads_none, unapplied}
 use Rattle.fv_aggregate.proofs.Damages.{as_read}
+use Rattle.fv_run.proofs.Courses.{command_over}
 use Rattle.fv_run.proofs.generating.apply.Goals as goal
 
 pub returns-in_err-apply_into : goal.returns-in_err-apply_into
@@ -23,4 +24,4 @@ pub returns : goal.returns
 returns g c =
     let done = c.in_ok-apply_into.ensures in
     applied _ _ (Says c.args.command.now) c.args.command.now _ _ refl c.requires _ (λ other few. (done.calm other few).stays.reads) done.goes done.asks done.files done.goes_for done.reply (λ tells last m stands cp. (done.point tells last m stands cp).stands) (λ cp. ((done.plain (cp_reads_none c.args.command.now cp)).pointed cp).pending)
-    (λ files asks. as_read _ _ _ _ ((done.on_files files).asked asks))
+    (λ files asks. as_read _ _ _ _ ((done.on_files files).asked asks)) (command_over g.H.Disk.shown _ _ _ _ _ _ _ _ done)

@@ -1,25 +1,22 @@
 use Rattle.std.proofs.Common.{◌≡◌, ◌<◌, ◌++◌, ◌∷◌, [], ℕ, Bool, true, false, List, length, refl, sym, ap, subst, ◌∙◌, arith}
-use Rattle.std.specs.Prelude.{Vec, map, flat_map}
+use Rattle.std.specs.Prelude.{Vec, flat_map}
 use Rattle.std.specs.Option.{option_map}
 use Rattle.std.specs.declared.alloc.Global.{Global}
 use Rattle.fv_bits.specs.Members.{is_member}
-use Rattle.fv_tables.specs.Reached.{Item}
 use Rattle.fv_faults.specs.declared.fault.Fault.{Fault}
 use Rattle.fv_faults.specs.Lines.{line}
 use Rattle.fv_faults.specs.Adding.{Adds}
 use Rattle.fv_codec.specs.declared.inode.InodeRecord.{InodeRecord}
-use Rattle.fv_faults.specs.Walks.{Ground, met_in, pointers_under}
-use Rattle.fv_faults.proofs.Adding.{adds_none}
+use Rattle.fv_faults.specs.Walks.{Ground, met_in}
 use Rattle.fv_walk.specs.declared.state.State.{State}
 use Rattle.fv_walk.specs.declared.visit.Visit.{Visit}
-use Rattle.fv_walk.specs.Visits.{item_of, leads_on, visit_of}
+use Rattle.fv_walk.specs.Visits.{item_of}
 use Rattle.fv_walk.specs.Blocks.{files_in}
 use Rattle.fv_walk.specs.Naming.{IsNames}
-use Rattle.fv_walk.proofs.Naming.{nothing_names}
 use Rattle.fv_walk.proofs.Seeing.{found_there, found_nowhere}
-use Rattle.fv_walk.proofs.Blocks.{block_of, same_files, no_files, no_lines, no_pointers}
+use Rattle.fv_walk.proofs.Blocks.{block_of, same_files}
 use Rattle.fv_walk.proofs.Stepping.{steps_of}
-use Rattle.fv_walk.proofs.Steps.{at_is, item_is, again_lines, hole_lines, lines_of_block, ends_with, tracks_again, tracks_hole, tracks_block, same_grows, set_grows}
+use Rattle.fv_walk.proofs.Steps.{again_lines, hole_lines, ends_with, tracks_again, tracks_hole, tracks_block, same_grows, set_grows}
 use Rattle.fv_walk.proofs.stops.take_step.Goals as goal
 
 pub overflow_cast-vvbn : goal.overflow_cast-vvbn
@@ -32,7 +29,7 @@ returns-then-get-clause-tracks g c = λ fits of ahead before done t.
     let s : State = c.args.state.now in
     let low : v.pointer.vvbn < volume.span = let same = of.span in let less = c.requires.range in omega (arith, same, less) in
     let has : is_member s.reach v.pointer.vvbn ≡ true = sym c.get.ensures ∙ c.if-get.true in
-    tracks_again volume (item_of v) v.block done before s s c.args.lines.now c.note.new.self t (sym (t.reach v.pointer.vvbn low) ∙ has) (λ w _. same_grows s.reach v.pointer.vvbn w has) c.in_ok-note.ensures.adds refl
+    tracks_again volume (item_of v) v.block done before s s c.args.lines.now c.note_reach.new.lines t (sym (t.reach v.pointer.vvbn low) ∙ has) (λ w _. same_grows s.reach v.pointer.vvbn w has) c.in_ok-note_reach.ensures refl
 
 pub returns-then-get-clause-steps_to : goal.returns-then-get-clause-steps_to
 returns-then-get-clause-steps_to g c = λ fits of ahead before done t.
@@ -51,9 +48,9 @@ returns-in_default-clause-tracks g c = λ fits of ahead before done t.
     let inside : v.pointer.vvbn < length s.reach = let bits = c.requires.ready.bits in let less = c.requires.range in omega (arith, bits, less) in
     let hasnt : is_member s.reach v.pointer.vvbn ≡ false = sym c.get.ensures ∙ c.if-get.false in
     let new : State = record { alloc = s.alloc; limits = s.limits; reach = c.set.new.self; names = s.names } in
-    tracks_hole volume (item_of v) v.block done before s new c.args.lines.now c.note-in_default.new.self t (sym (t.reach v.pointer.vvbn low) ∙ hasnt)
+    tracks_hole volume (item_of v) v.block done before s new c.args.lines.now c.note_reach-in_default.new.lines t (sym (t.reach v.pointer.vvbn low) ∙ hasnt)
     (found_nowhere volume (item_of v) (sym c.in_default.is ∙ c.find.ensures fits))
-    (λ w _. ap (λ (r : List Bool). is_member r w) c.set.ensures ∙ set_grows s.reach v.pointer.vvbn w inside) c.in_ok-note-2.ensures.adds refl
+    (λ w _. ap (λ (r : List Bool). is_member r w) c.set.ensures ∙ set_grows s.reach v.pointer.vvbn w inside) c.in_ok-note_reach-2.ensures refl
 
 pub returns-in_default-clause-steps_to : goal.returns-in_default-clause-steps_to
 returns-in_default-clause-steps_to g c = λ fits of ahead before done t.
@@ -63,38 +60,6 @@ returns-in_default-clause-steps_to g c = λ fits of ahead before done t.
     let hasnt : is_member c.args.state.now.reach v.pointer.vvbn ≡ false = sym c.get.ensures ∙ c.if-get.false in
     ends_with volume (item_of v) v.block done (line 5 v.block 1 0 ∷ [])
     (hole_lines volume (item_of v) v.block done (sym (t.reach v.pointer.vvbn low) ∙ hasnt) (found_nowhere volume (item_of v) (sym c.in_default.is ∙ c.find.ensures fits))) (λ same. cc)
-
-pub returns-then-not-leads_on-clause-tracks : goal.returns-then-not-leads_on-clause-tracks
-returns-then-not-leads_on-clause-tracks g c = λ fits of ahead before done t.
-    let volume : Ground = g.S.Source.volume c.args.source.now in
-    let v : Visit = c.args.visit.now in
-    let s : State = c.args.state.now in
-    let low : v.pointer.vvbn < volume.span = let same = of.span in let less = c.requires.range in omega (arith, same, less) in
-    let inside : v.pointer.vvbn < length s.reach = let bits = c.requires.ready.bits in let less = c.requires.range in omega (arith, bits, less) in
-    let hasnt : is_member s.reach v.pointer.vvbn ≡ false = sym c.get.ensures ∙ c.if-get.false in
-    let new : State = record { alloc = s.alloc; limits = s.limits; reach = c.set.new.self; names = s.names } in
-    let there = found_there volume (item_of v) c.in-Some.found (sym c.in-Some.is ∙ c.find.ensures fits) in
-    let quiet : leads_on v ≡ false = sym c.leads_on.ensures ∙ c.if-not-leads_on.true in
-    let met : List (ℕ × InodeRecord) = flat_map met_in done in
-    tracks_block volume (item_of v) v.block done before s new c.args.lines.now c.args.lines.now t there.x (sym (t.reach v.pointer.vvbn low) ∙ hasnt) there.is
-    (λ w _. ap (λ (r : List Bool). is_member r w) c.set.ensures ∙ set_grows s.reach v.pointer.vvbn w inside)
-    (subst (λ (ls : List Fault). Adds ls c.args.lines.now c.args.lines.now) (sym (no_lines v there.x quiet volume.view.blocks volume.span met)) (adds_none c.args.lines.now c.args.lines.now refl))
-    (subst (λ (fs : List (ℕ × InodeRecord)). IsNames (met ++ fs) s.names) (sym (no_files v there.x quiet)) (nothing_names met s.names t.names))
-
-pub returns-then-not-leads_on-clause-steps_to : goal.returns-then-not-leads_on-clause-steps_to
-returns-then-not-leads_on-clause-steps_to g c = λ fits of ahead before done t.
-    let volume : Ground = g.S.Source.volume c.args.source.now in
-    let v : Visit = c.args.visit.now in
-    let low : v.pointer.vvbn < volume.span = let same = of.span in let less = c.requires.range in omega (arith, same, less) in
-    let hasnt : is_member c.args.state.now.reach v.pointer.vvbn ≡ false = sym c.get.ensures ∙ c.if-get.false in
-    let there = found_there volume (item_of v) c.in-Some.found (sym c.in-Some.is ∙ c.find.ensures fits) in
-    let quiet : leads_on v ≡ false = sym c.leads_on.ensures ∙ c.if-not-leads_on.true in (
-      there.x,
-      at_is volume (item_of v) v.block done ∙ there.is,
-      lines_of_block volume (item_of v) v.block done there.x (sym (t.reach v.pointer.vvbn low) ∙ hasnt) there.is ∙ no_lines v there.x quiet volume.view.blocks volume.span (flat_map met_in done),
-      c.new.ensures.items
-          ∙ sym (ap (map (λ (e : Item). visit_of (e, there.x.pvbn))) (ap (λ e. pointers_under e there.x) (item_is volume (item_of v) v.block done) ∙ no_pointers v there.x quiet)),
-    )
 
 pub returns-clause-tracks : goal.returns-clause-tracks
 returns-clause-tracks g c = λ fits of ahead before done t.

@@ -3,8 +3,12 @@ use Rattle.fv_faults.specs.Walks.{Ground}
 use Rattle.fv_walk.specs.declared.limits.Limits.{Limits}
 use Rattle.fv_walk.specs.Limiting.{IsLimitsOf}
 use Rattle.fv_walk.specs.Visits.{rooted}
+use Rattle.fv_walk.proofs.Ranges.{root_leads}
 use Rattle.fv_walk.proofs.Starting.{root_range, tracks_none, tracks_root}
 use Rattle.fv_walk.proofs.stops.walk_with_stops.Goals as goal
+
+pub stop_from-requires-clause-leads : goal.stop_from-requires-clause-leads
+stop_from-requires-clause-leads g c = root_leads (rooted c.args.table.now) c.args.label c.root-root.result c.root-root.ensures.visit
 
 pub stop_from-requires-clause-range : goal.stop_from-requires-clause-range
 stop_from-requires-clause-range g c =

@@ -34,6 +34,7 @@ pub returns-clause-looks : goal.returns-clause-looks
 returns-clause-looks g c = looks_lent (g.D.Disk.shown c.args.disk.now) (g.D.Disk.shown c.ask_state-asked.new.disk) (g.met.D.Disk.laws c.args.disk.now) _ _ c.self.view_is c.self.invariant.0 c.requires.fresh c.requires.stands
     c.args.command.now c.args.slot c.volume_at-state.result.now c.volume_at-state.ensures.state c.requires.asked c.ask_state-asked.new.pool c.ask_state-asked.new.state c.ask_state-asked.ensures.same c.args.steps.now
     c.ask_state-asked.new.steps (answer c.ask_state-asked.new.into c.ask_state-asked.result) c.ask_state-asked.ensures.asks c.replied.new.self (answer c.replied.new.into c.replied.result) c.replied.ensures
+    (λ none. (c.ask_state-asked.ensures.lost c.requires.asked.near none).answer)
 
 pub returns-clause-known : goal.returns-clause-known
 returns-clause-known g c = λ tells. known_lent (g.D.Disk.shown c.args.disk.now) (g.D.Disk.shown c.ask_state-asked.new.disk) (g.met.D.Disk.laws c.args.disk.now) _ _ c.self.view_is c.self.invariant.0 c.requires.fresh c.requires.stands

@@ -1,18 +1,20 @@
-use Rattle.std.proofs.Common.{◌≡◌, Some, true≢false, sym, ◌∙◌}
+use Rattle.std.proofs.Common.{◌≡◌, ℕ, None, Some, true≢false, sym, subst, ◌∙◌}
 use Rattle.fv_aggregate.specs.Answers.{answer}
-use Rattle.fv_aggregate.specs.Commands.{changed_by}
+use Rattle.fv_aggregate.specs.Commands.{AsksTable, file_room, changed_by}
+use Rattle.fv_aggregate.specs.Looking.{Looks, Makes}
 use Rattle.fv_aggregate.proofs.Aimed.{suits_as}
 use Rattle.fv_aggregate.proofs.Asked.{asked_at}
 use Rattle.fv_aggregate.proofs.Carried.{aimed_at}
 use Rattle.fv_aggregate.proofs.Changing.{change_of_volume}
 use Rattle.fv_aggregate.proofs.Lost.{lacking, of_lacking}
+use Rattle.fv_aggregate.proofs.Rooms.{slot_there}
 use Rattle.fv_aggregate.proofs.Serving.{knows_on, look_applied, loses_named, make_applied, not_none, snap_applied}
 use Rattle.fv_aggregate.proofs.SnapApplied.{snap_aimed_at}
 use Rattle.fv_aggregate.proofs.Unmade.{unmade_named}
 use Rattle.fv_aggregate.proofs.session.Session.carry.Goals as goal
 
 pub look_at-requires-clause-asked : goal.look_at-requires-clause-asked
-look_at-requires-clause-asked g c = asked_at c.args.self.now.volumes c.args.aim.slot c.requires.aimed.name c.args.command.now c.requires.aimed.within c.requires.aimed.named.named (suits_as _ _ _ _ _ c.in-Look.is c.requires.aimed)
+look_at-requires-clause-asked g c = asked_at c.args.self.now.volumes c.args.aim.slot c.requires.aimed.name c.args.command.now c.requires.aimed.within c.requires.aimed.near c.requires.aimed.named.named (suits_as _ _ _ _ _ c.in-Look.is c.requires.aimed)
 
 pub change_at-requires-clause-aimed : goal.change_at-requires-clause-aimed
 change_at-requires-clause-aimed g c = aimed_at c.args.self.now.volumes c.args.aim.slot c.requires.aimed.name c.args.command.now c.requires.aimed.within c.requires.aimed.named.named (suits_as _ _ _ _ _ c.in-Change.is c.requires.aimed)
@@ -25,7 +27,7 @@ returns-in-Look g c =
     let s = c.args.self.now in let slot = c.args.aim.slot in let command = c.args.command.now in let aimed = c.requires.aimed in
     let did = c.look_at.ensures in
     look_applied command aimed.name (suits_as _ _ _ _ _ c.in-Look.is aimed) (g.D.Disk.shown c.args.disk.now) c.args.disk.now s c.args.steps.now (g.D.Disk.shown c.look_at.new.disk) c.look_at.new.disk c.look_at.new.self c.look_at.new.steps (answer c.look_at.new.into c.look_at.result)
-    c.requires.fresh did.looks (record {
+    c.requires.fresh (subst (λ (k : ℕ). Looks k (g.D.Disk.shown c.args.disk.now) s command (g.D.Disk.shown c.look_at.new.disk) c.look_at.new.self (answer c.look_at.new.into c.look_at.result)) (sym (slot_there s.volumes slot aimed.name aimed.named aimed.within)) did.looks) (record {
       range = λ far. absurd (true≢false (sym aimed.near ∙ far));
       missing = λ near none. not_none _ s.volumes slot aimed.name aimed.within aimed.named none;
       lost = λ near lacks. of_lacking s.volumes slot aimed.name command aimed.named lacks _ (did.lost near);
@@ -42,7 +44,7 @@ returns-in-Change g c =
     let did = c.change_at.ensures in
     let change : changed_by command ≡ Some aimed.name = suits_as _ _ _ _ _ c.in-Change.is aimed in
     make_applied command aimed.name change (g.D.Disk.shown c.args.disk.now) c.args.disk.now s (g.D.Disk.shown c.change_at.new.disk) c.change_at.new.disk c.change_at.new.self c.args.steps.now (answer c.change_at.new.into c.change_at.result)
-    c.requires.fresh did.makes did.roomy
+    c.requires.fresh (subst (λ (k : ℕ). Makes file_room (AsksTable k None) (g.D.Disk.shown c.args.disk.now) s command (g.D.Disk.shown c.change_at.new.disk) c.change_at.new.self (answer c.change_at.new.into c.change_at.result)) (sym (slot_there s.volumes slot aimed.name aimed.named aimed.within)) did.makes) did.roomy
     (λ low. unmade_named (g.D.Disk.shown c.args.disk.now) s slot aimed.name (g.D.Disk.shown c.change_at.new.disk) c.change_at.new.self aimed.within aimed.named (answer c.change_at.new.into c.change_at.result) (did.unmade low))
     (record {
       range = λ far. absurd (true≢false (sym aimed.near ∙ far));

@@ -12,7 +12,7 @@ use Rattle.fv_aggregate.proofs.session.Session.change_at.Goals as goal
 
 pub returns-in_err-read_numbers-clause-makes : goal.returns-in_err-read_numbers-clause-makes
 returns-in_err-read_numbers-clause-makes g c =
-    make_unnumbered (g.D.Disk.shown c.args.disk.now) c.args.self.now c.args.command.now (g.D.Disk.shown c.read_numbers.new.disk) c.read_numbers.new.self c.in_err-read_numbers.field-0.0
+    make_unnumbered c.args.slot (g.D.Disk.shown c.args.disk.now) c.args.self.now c.args.command.now (g.D.Disk.shown c.read_numbers.new.disk) c.read_numbers.new.self c.in_err-read_numbers.field-0.0
     c.in_err-read_numbers.ensures.numbered (answer c.args.into.now c.from_residual.result) (fails c.args.into.now c.from_residual.result c.in_err-read_numbers.field-0.0 (search rules))
 
 pub decide-requires-clause-aimed : goal.decide-requires-clause-aimed
@@ -32,7 +32,7 @@ returns-in_err-read_numbers-clause-roomy g c =
 
 pub returns-clause-roomy : goal.returns-clause-roomy
 returns-clause-roomy g c =
-    roomy_numbered (g.D.Disk.shown c.args.disk.now) c.args.self.now c.args.command.now (g.D.Disk.shown c.read_numbers.new.disk) c.read_numbers.new.self c.in_ok-read_numbers.ensures.numbered
+    roomy_numbered c.args.slot (g.D.Disk.shown c.args.disk.now) c.args.self.now c.args.command.now (g.D.Disk.shown c.read_numbers.new.disk) c.read_numbers.new.self c.in_ok-read_numbers.ensures.numbered
     file_room (g.D.Disk.shown c.decide.new.disk) (answer c.decide.new.into c.decide.result) c.decide.ensures.roomy
 
 pub returns-in_err-read_numbers-clause-unmade : goal.returns-in_err-read_numbers-clause-unmade

@@ -7,6 +7,7 @@ use Rattle.fv_model.specs.Replies.{Allows}
 use Rattle.fv_model.specs.declared.answers.Reply.TheVariants.{Refused}
 use Rattle.fv_model.specs.declared.commands.Command.TheVariants.{VolCreate}
 use Rattle.fv_volumes.specs.Creating.{Admits, Refuses}
+use Rattle.fv_aggregate.specs.Commands.{AsksNothing}
 use Rattle.fv_aggregate.specs.Answers.{answer}
 use Rattle.fv_aggregate.specs.declared.session.Session.{Session}
 use Rattle.fv_aggregate.specs.Calls.{Runs}
@@ -19,7 +20,7 @@ use Rattle.fv_aggregate.proofs.session.Session.create.Goals as goal
 
 pub returns-in-Ok-clause-runs : goal.returns-in-Ok-clause-runs
 returns-in-Ok-clause-runs g c =
-    subst (λ (k : ℕ). Runs k (λ m. next m (VolCreate c.args.name.now c.args.size c.args.kind)) (g.D.Disk.shown c.args.disk.now) c.args.self.now (g.D.Disk.shown c.make.new.disk) c.make.new.self (answer c.make.new.into c.make.result))
+    subst (λ (k : ℕ). Runs k AsksNothing (λ m. next m (VolCreate c.args.name.now c.args.size c.args.kind)) (g.D.Disk.shown c.args.disk.now) c.args.self.now (g.D.Disk.shown c.make.new.disk) c.make.new.self (answer c.make.new.into c.make.result))
     (ap overhead c.in-Ok.ensures.admitted.span_is) c.make.ensures.runs
 
 pub returns-in-Ok-clause-reply : goal.returns-in-Ok-clause-reply
@@ -36,7 +37,7 @@ returns-in-Err-clause-runs g c =
     let long = ap (λ (s : Session). length s.volumes) (sym c.self.view_is) ∙ (c.self.invariant.0 (subst (λ (s : Session). IsNone s.failed) (sym c.self.view_is) c.requires.fresh)).housed.long in
     let r = c.in-Err.refusal in
     let why = subst (λ (s : Session). Refuses s.volumes s.pool.found.blocks c.args.name.now c.args.size c.args.kind r) c.self.view_is c.in-Err.ensures.why in
-    subst (λ (z : Reply). Runs (overhead (span_of c.args.size 0 0)) (λ m. next m (VolCreate c.args.name.now c.args.size c.args.kind)) d s d s (Ok z)) (sym c.refuse.ensures) (record {
+    subst (λ (z : Reply). Runs (overhead (span_of c.args.size 0 0)) AsksNothing (λ m. next m (VolCreate c.args.name.now c.args.size c.args.kind)) d s d s (Ok z)) (sym c.refuse.ensures) (record {
       goes = rests_done (Refused r) (overhead (span_of c.args.size 0 0)) d s c.requires.fresh c.requires.stands;
       asks = rests_asks (overhead (span_of c.args.size 0 0)) d s;
       damage = tt;

@@ -13,8 +13,8 @@ use Rattle.fv_aggregate.proofs.session.Session.look_at.Goals as goal
 
 pub returns-in_err-read_numbers-clause-looks : goal.returns-in_err-read_numbers-clause-looks
 returns-in_err-read_numbers-clause-looks g c =
-    look_unnumbered (g.D.Disk.shown c.args.disk.now) c.args.self.now c.args.command.now (g.D.Disk.shown c.read_numbers.new.disk) c.read_numbers.new.self c.in_err-read_numbers.field-0.0
-    c.in_err-read_numbers.ensures.numbered (answer c.args.into.now c.from_residual.result) (fails c.args.into.now c.from_residual.result c.in_err-read_numbers.field-0.0 (search rules))
+    look_unnumbered c.args.slot (g.D.Disk.shown c.args.disk.now) c.args.self.now c.args.command.now (g.D.Disk.shown c.read_numbers.new.disk) c.read_numbers.new.self c.in_err-read_numbers.field-0.0
+    c.in_err-read_numbers.ensures.numbered (let of = c.requires.asked in let finds : finds_file c.args.command.now ≡ true = sym c.finds.ensures ∙ c.if-not-finds.false in finds_active c.args.command.now of.state.name of.asks finds) (answer c.args.into.now c.from_residual.result) (fails c.args.into.now c.from_residual.result c.in_err-read_numbers.field-0.0 (search rules))
 
 pub ask-requires-2-clause-asked : goal.ask-requires-2-clause-asked
 ask-requires-2-clause-asked g c =

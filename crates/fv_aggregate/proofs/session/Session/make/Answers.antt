@@ -1,4 +1,4 @@
-use Rattle.std.proofs.Common.{◌≡◌, ◌≤◌, ◌+◌, ◌*◌, ℕ, rules, Ok, Err, refl, sym, ap, subst, ◌∙◌, arith}
+use Rattle.std.proofs.Common.{◌≡◌, ◌≤◌, ◌<◌, ◌+◌, ◌*◌, ℕ, rules, Ok, Err, refl, sym, ap, subst, ◌∙◌, arith}
 use Rattle.std.specs.Prelude.{IsNone, IsTrue, Result}
 use Rattle.fv_model.specs.declared.answers.Reply.{Reply}
 use Rattle.fv_model.specs.declared.answers.Reply.TheVariants.{Done}
@@ -6,6 +6,7 @@ use Rattle.fv_model.specs.declared.commands.Command.TheVariants.{VolCreate}
 use Rattle.fv_model.specs.Machines.{capacity}
 use Rattle.fv_model.specs.Refusals.{next}
 use Rattle.fv_model.specs.Space.{commits, overhead}
+use Rattle.fv_aggregate.specs.Commands.{AsksNothing}
 use Rattle.fv_aggregate.specs.declared.fault.Fault.TheVariants.{Memory}
 use Rattle.fv_aggregate.specs.declared.session.Session.{Session}
 use Rattle.fv_aggregate.specs.declared.fault.Fault.{Fault}
@@ -13,6 +14,7 @@ use Rattle.fv_aggregate.specs.Answers.{answer}
 use Rattle.fv_aggregate.specs.Calls.{KeepsHolding, MakesNoHoles, Runs}
 use Rattle.fv_aggregate.proofs.Answered.{fails}
 use Rattle.fv_aggregate.proofs.Added.{added_asks, added_for, added_goes, made_files, made_map, room_for, unmade_for, wanting_for, wanting_goes}
+use Rattle.fv_aggregate.proofs.Applied.{own_room}
 use Rattle.fv_aggregate.proofs.Applying.{rests_as, same_map}
 use Rattle.fv_aggregate.proofs.Calls.{fails_alike}
 use Rattle.fv_aggregate.proofs.Holes.{added_entries, kept_entries, no_holes}
@@ -29,9 +31,9 @@ returns-in_err-make_room-clause-runs g c =
     let made = c.in_err-make_room.ensures.runs in
     let failed : answer c.args.into.now c.from_residual.result ≡ Err f = fails c.args.into.now c.from_residual.result f (search rules) in
     let room : c.from-room.result ≡ overhead c.args.admitted.span = search rules in
-    subst (λ (k : ℕ). Runs {T = Reply} k (λ m. next m (VolCreate c.args.name.now c.args.size c.args.kind)) old s mid n (answer c.args.into.now c.from_residual.result)) room
-    (subst (λ (r : Result Reply Fault). Runs c.from-room.result (λ m. next m (VolCreate c.args.name.now c.args.size c.args.kind)) old s mid n r) (sym failed) (record {
-      goes = fails_alike f c.from-room.result old s mid n made.goes;
+    subst (λ (k : ℕ). Runs {T = Reply} k AsksNothing (λ m. next m (VolCreate c.args.name.now c.args.size c.args.kind)) old s mid n (answer c.args.into.now c.from_residual.result)) room
+    (subst (λ (r : Result Reply Fault). Runs c.from-room.result AsksNothing (λ m. next m (VolCreate c.args.name.now c.args.size c.args.kind)) old s mid n r) (sym failed) (record {
+      goes = fails_alike f c.from-room.result AsksNothing old s mid n made.goes;
       asks = made.asks;
       damage = made.damage;
       goes_for = λ tells last m stands. unmade_for old s mid n c.args.name.now c.args.size c.args.kind c.from-room.result last m f (made.goes_for tells last m stands);
@@ -43,6 +45,11 @@ returns-in_err-make_room-clause-holding g c =
     let failed : answer c.args.into.now c.from_residual.result ≡ Err c.in_err-make_room.field-0.0 = fails c.args.into.now c.from_residual.result c.in_err-make_room.field-0.0 (search rules) in
     subst (λ (r : Result Reply Fault). KeepsHolding (g.D.Disk.shown c.args.disk.now) c.args.self.now c.make_room.new.self r) (sym failed) (record { files = λ tells none. tt; same = λ tells same. tt })
 
+pub make_room-requires-clause-some : goal.make_room-requires-clause-some
+make_room-requires-clause-some g c =
+    let room : c.from-room.result ≡ overhead c.args.admitted.span = search rules in
+    subst (λ (k : ℕ). 0 < k) (sym room) (own_room c.args.admitted.span)
+
 pub add-requires-clause-admitted : goal.add-requires-clause-admitted
 add-requires-clause-admitted g c = c.in_ok-make_room.ensures.admits c.args.name.now c.args.size c.args.kind c.args.admitted.slot c.args.admitted.span c.requires.admitted
 
@@ -52,9 +59,9 @@ returns-in_err-add-clause-runs g c =
     let n = c.make_room.new.self in let made = c.in_ok-make_room.ensures.runs in
     let failed : answer c.args.into.now c.from_residual-in_err-add.result ≡ Err Memory = fails c.args.into.now c.from_residual-in_err-add.result Memory (search rules) in
     let room : c.from-room.result ≡ overhead c.args.admitted.span = search rules in
-    subst (λ (k : ℕ). Runs {T = Reply} k (λ m. next m (VolCreate c.args.name.now c.args.size c.args.kind)) old s mid c.add.new.self (answer c.args.into.now c.from_residual-in_err-add.result)) room
-    (subst (λ (r : Result Reply Fault). Runs c.from-room.result (λ m. next m (VolCreate c.args.name.now c.args.size c.args.kind)) old s mid c.add.new.self r) (sym failed)
-    (subst (λ (k : Session). Runs {T = Reply} c.from-room.result (λ m. next m (VolCreate c.args.name.now c.args.size c.args.kind)) old s mid k (Err Memory)) (sym c.in_err-add.ensures.same) (record {
+    subst (λ (k : ℕ). Runs {T = Reply} k AsksNothing (λ m. next m (VolCreate c.args.name.now c.args.size c.args.kind)) old s mid c.add.new.self (answer c.args.into.now c.from_residual-in_err-add.result)) room
+    (subst (λ (r : Result Reply Fault). Runs c.from-room.result AsksNothing (λ m. next m (VolCreate c.args.name.now c.args.size c.args.kind)) old s mid c.add.new.self r) (sym failed)
+    (subst (λ (k : Session). Runs {T = Reply} c.from-room.result AsksNothing (λ m. next m (VolCreate c.args.name.now c.args.size c.args.kind)) old s mid k (Err Memory)) (sym c.in_err-add.ensures.same) (record {
       goes = wanting_goes old s mid n c.args.name.now c.args.size c.args.kind c.from-room.result made.goes (λ low. rests_as g.D.Disk.shown c.args.disk.now c.make_room.new.disk (c.make_room.ensures.calm low).0);
       asks = made.asks;
       damage = tt;
@@ -72,8 +79,8 @@ returns-clause-runs g c =
     let old = g.D.Disk.shown c.args.disk.now in let mid = g.D.Disk.shown c.make_room.new.disk in let s = c.args.self.now in
     let n = c.make_room.new.self in let made = c.in_ok-make_room.ensures in let runs = made.runs in let added = c.in_ok-add.ensures.added in
     let room : c.from-room.result ≡ overhead c.args.admitted.span = search rules in
-    subst (λ (r : Reply). Runs (overhead c.args.admitted.span) (λ m. next m (VolCreate c.args.name.now c.args.size c.args.kind)) old s mid c.add.new.self (Ok r)) (sym c.done.ensures)
-    (subst (λ (k : ℕ). Runs k (λ m. next m (VolCreate c.args.name.now c.args.size c.args.kind)) old s mid c.add.new.self (Ok Done)) room (record {
+    subst (λ (r : Reply). Runs (overhead c.args.admitted.span) AsksNothing (λ m. next m (VolCreate c.args.name.now c.args.size c.args.kind)) old s mid c.add.new.self (Ok r)) (sym c.done.ensures)
+    (subst (λ (k : ℕ). Runs k AsksNothing (λ m. next m (VolCreate c.args.name.now c.args.size c.args.kind)) old s mid c.add.new.self (Ok Done)) room (record {
       goes = added_goes old s mid n c.args.name.now c.args.size c.args.kind c.from-room.result runs.goes made.pending made.few c.add.new.self added c.in_ok-add.ensures.pending;
       asks = added_asks old s mid n c.args.name.now c.args.size c.args.kind c.from-room.result runs.goes runs.asks made.few c.add.new.self added c.in_ok-add.ensures.pending;
       damage = tt;

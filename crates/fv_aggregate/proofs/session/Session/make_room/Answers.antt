@@ -1,7 +1,9 @@
 use Rattle.std.proofs.Common.{arith, refl}
+use Rattle.fv_aggregate.specs.Commands.{AsksNothing}
 use Rattle.fv_aggregate.proofs.Applied.{rests_for}
 use Rattle.fv_aggregate.proofs.Applying.{pointed_files, pointed_same}
 use Rattle.fv_aggregate.proofs.Calls.{asks_within, goes_more, rests_asks, rests_done}
+use Rattle.fv_aggregate.proofs.Holes.{passes_limit}
 use Rattle.fv_aggregate.proofs.session.Session.make_room.Goals as goal
 
 pub returns-then-has_room-clause-runs : goal.returns-then-has_room-clause-runs
@@ -20,7 +22,7 @@ pub returns-else-has_room-clause-runs : goal.returns-else-has_room-clause-runs
 returns-else-has_room-clause-runs g c =
     let runs = c.point.ensures in
     record {
-      goes = goes_more c.args.room (g.D.Disk.shown c.args.disk.now) c.args.self.now (g.D.Disk.shown c.point.new.disk) c.point.new.self c.point.result runs.goes;
+      goes = goes_more AsksNothing c.args.room (g.D.Disk.shown c.args.disk.now) c.args.self.now (g.D.Disk.shown c.point.new.disk) c.point.new.self c.point.result (c.requires.some, passes_limit c.args.self.now.pending c.args.room _ c.has_room.ensures c.if-has_room.false) runs.goes;
       asks = asks_within 0 c.args.room (omega arith) (g.D.Disk.shown c.args.disk.now) c.args.self.now (g.D.Disk.shown c.point.new.disk) c.point.new.self runs.asks;
       damage = runs.damage;
       goes_for = runs.goes_for;

@@ -1,6 +1,7 @@
 use Rattle.std.proofs.Common.{◌≡◌, rules, Result, Ok, Err, sym, subst}
 use Rattle.fv_model.specs.declared.answers.Reply.{Reply}
 use Rattle.fv_model.specs.declared.answers.Reply.TheVariants.{Done}
+use Rattle.fv_aggregate.specs.Commands.{AsksPoint}
 use Rattle.fv_aggregate.specs.declared.fault.Fault.{Fault}
 use Rattle.fv_aggregate.specs.Answers.{answer}
 use Rattle.fv_aggregate.specs.Calls.{Runs}
@@ -14,8 +15,8 @@ returns-in_err-point-clause-runs g c =
     let old = g.D.Disk.shown c.args.disk.now in let new = g.D.Disk.shown c.point.new.disk in let s = c.args.self.now in
     let n = c.point.new.self in let f = c.in_err-point.field-0.0 in let did = c.in_err-point.ensures in
     let failed : answer c.args.into.now c.from_residual.result ≡ Err f = fails c.args.into.now c.from_residual.result f (search rules) in
-    subst (λ (r : Result Reply Fault). Runs 0 (λ m. m) old s new n r) (sym failed) (record {
-      goes = fails_alike f 0 old s new n did.goes;
+    subst (λ (r : Result Reply Fault). Runs 0 AsksPoint (λ m. m) old s new n r) (sym failed) (record {
+      goes = fails_alike f 0 AsksPoint old s new n did.goes;
       asks = did.asks;
       damage = did.damage;
       goes_for = λ tells last m stands. fails_for f old last m m new n (did.goes_for tells last m stands);
@@ -32,8 +33,8 @@ returns-in_err-point-clause-points g c =
 pub returns-clause-runs : goal.returns-clause-runs
 returns-clause-runs g c =
     let old = g.D.Disk.shown c.args.disk.now in let new = g.D.Disk.shown c.point.new.disk in let did = c.in_ok-point.ensures in
-    subst (λ (z : Reply). Runs 0 (λ m. m) old c.args.self.now new c.point.new.self (Ok z)) (sym c.done.ensures) (record {
-      goes = replies_done Done 0 old c.args.self.now new c.point.new.self did.goes;
+    subst (λ (z : Reply). Runs 0 AsksPoint (λ m. m) old c.args.self.now new c.point.new.self (Ok z)) (sym c.done.ensures) (record {
+      goes = replies_done Done 0 AsksPoint old c.args.self.now new c.point.new.self did.goes;
       asks = did.asks;
       damage = tt;
       goes_for = λ tells last m stands. replies_for Done old last m m new c.point.new.self (did.goes_for tells last m stands);

@@ -6,11 +6,11 @@ use Rattle.fv_charge.specs.declared.ledger.Ledger.{Ledger}
 use Rattle.fv_volume.specs.declared.state.VolumeState.{VolumeState}
 use Rattle.fv_volume.specs.Calls.{HasWithin}
 use Rattle.fv_pool.specs.Causes.{of_block}
-use Rattle.fv_volume.specs.OneVolume.{standing_for, volume_for}
+use Rattle.fv_volume.specs.OneVolume.{volume_for}
 use Rattle.fv_volume.specs.declared.tables.TableAsked.TheVariants.{Active}
 use Rattle.fv_volume.proofs.RightTables.{known_after}
 use Rattle.fv_volume.proofs.CallCauses.{failed_change_cause}
-use Rattle.fv_volume.proofs.Calling.{counted_all, counted_table, kept_numbers, left_fits, left_table, left_ledger, left_more, failed_changes, no_refusal, failed_head, left_ready, refused_changes, refused_head, done_head, done_ready, parts_of, Parts, if_err_is, refused_standing, refused_table, failed_stands}
+use Rattle.fv_volume.proofs.Calling.{failed_told, onerr_so, refused_told, counted_all, counted_table, kept_numbers, left_fits, left_table, left_ledger, left_more, failed_changes, no_refusal, failed_head, left_ready, refused_changes, refused_head, done_head, done_ready, parts_of, Parts, if_err_is, refused_standing, refused_table, failed_stands}
 use Rattle.fv_volume.specs.Changing.{IsDeltaBy}
 use Rattle.fv_volume.proofs.JudgedCut.{each_fits, removal_fits}
 use Rattle.fv_volume.proofs.MadeCut.{cut_is, cut_stands}
@@ -75,3 +75,9 @@ returns-in_err-count-clause-numbers g c = kept_numbers c.args.self.now c.judge_c
 
 pub returns-clause-numbers : goal.returns-clause-numbers
 returns-clause-numbers g c = ap (λ (z : VolumeState). z.numbers) c.count_change.ensures.others ∙ kept_numbers c.args.self.now c.judge_cut.new.volume c.cut_blocks.new.volume c.judge_cut.ensures.same c.in_ok-count.ensures.alters.same
+
+pub returns-in_err-removing-clause-told : goal.returns-in_err-removing-clause-told
+returns-in_err-removing-clause-told g c = λ tells. onerr_so _ c.from_residual.result (refused_told (g.D.Disk.shown c.args.disk.now) (g.D.Disk.shown c.judge_cut.new.disk) c.args.pool.now c.judge_cut.new.pool c.judge_cut.ensures.reads c.args.self.now c.judge_cut.new.volume c.judge_cut.ensures.same)
+
+pub returns-in_err-count-clause-told : goal.returns-in_err-count-clause-told
+returns-in_err-count-clause-told g c = λ tells. onerr_so _ c.from_residual-in_err-count.result (failed_told (g.D.Disk.shown c.args.disk.now) (g.D.Disk.shown c.judge_cut.new.disk) (g.D.Disk.shown c.cut_blocks.new.disk) c.args.pool.now c.judge_cut.new.pool c.cut_blocks.new.pool c.judge_cut.ensures.reads c.args.self.now c.judge_cut.new.volume c.cut_blocks.new.volume c.judge_cut.ensures.same c.in_err-count.field-0.0 c.in_err-count.ensures.alters tells)

@@ -7,7 +7,7 @@ use Rattle.fv_volume.specs.OneVolume.{volume_for}
 use Rattle.fv_volume.specs.declared.tables.TableAsked.TheVariants.{Active}
 use Rattle.fv_volume.proofs.RightTables.{known_after}
 use Rattle.fv_volume.proofs.CallCauses.{failed_change_cause}
-use Rattle.fv_volume.proofs.Calling.{counted_table, left_table, left_fits, failed_changes, failed_head, refused_changes, refused_head, done_head, done_ready, Parts, parts_of, refused_standing, refused_table, failed_stands, left_ready}
+use Rattle.fv_volume.proofs.Calling.{failed_told, onerr_so, refused_told, counted_table, left_table, left_fits, failed_changes, failed_head, refused_changes, refused_head, done_head, done_ready, Parts, parts_of, refused_standing, refused_table, failed_stands, left_ready}
 use Rattle.fv_volume.proofs.MadeNew.{new_is, new_stands}
 use Rattle.fv_volume.proofs.state.VolumeState.new_file.Given as given
 use Rattle.fv_volume.proofs.state.VolumeState.new_file.Goals as goal
@@ -63,3 +63,9 @@ returns-clause-head g c = done_head (g.D.Disk.shown c.args.disk.now) (g.D.Disk.s
 
 pub create_file-requires-clause-free : goal.create_file-requires-clause-free
 create_file-requires-clause-free g c = known_after (g.D.Disk.shown c.args.disk.now) (g.D.Disk.shown c.judge_new.new.disk) c.args.pool.now c.judge_new.new.pool c.judge_new.ensures.reads c.args.self.now Active c.judge_new.new.volume c.judge_new.ensures.same (λ (s : Standing). IsLeastFree s.inode c.in_ok-making.making.number) c.in_ok-making.ensures.free
+
+pub returns-in_err-making-clause-told : goal.returns-in_err-making-clause-told
+returns-in_err-making-clause-told g c = λ tells. onerr_so _ c.from_residual.result (refused_told (g.D.Disk.shown c.args.disk.now) (g.D.Disk.shown c.judge_new.new.disk) c.args.pool.now c.judge_new.new.pool c.judge_new.ensures.reads c.args.self.now c.judge_new.new.volume c.judge_new.ensures.same)
+
+pub returns-in_err-create_file-clause-told : goal.returns-in_err-create_file-clause-told
+returns-in_err-create_file-clause-told g c = λ tells. onerr_so _ c.from_residual-in_err-create_file.result (failed_told (g.D.Disk.shown c.args.disk.now) (g.D.Disk.shown c.judge_new.new.disk) (g.D.Disk.shown c.create_file.new.disk) c.args.pool.now c.judge_new.new.pool c.create_file.new.pool c.judge_new.ensures.reads c.args.self.now c.judge_new.new.volume c.create_file.new.volume c.judge_new.ensures.same c.in_err-create_file.field-0.0 c.in_err-create_file.ensures.alters tells)

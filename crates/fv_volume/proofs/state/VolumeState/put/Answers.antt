@@ -4,11 +4,11 @@ use Rattle.fv_files.specs.Tables.{IsInfoOf}
 use Rattle.fv_model.specs.declared.commands.Command.TheVariants.{Put}
 use Rattle.fv_volume.specs.declared.state.VolumeState.{VolumeState}
 use Rattle.fv_volume.specs.Calls.{HasBeside}
-use Rattle.fv_volume.specs.OneVolume.{standing_for, volume_for}
+use Rattle.fv_volume.specs.OneVolume.{volume_for}
 use Rattle.fv_volume.specs.declared.tables.TableAsked.TheVariants.{Active}
 use Rattle.fv_volume.proofs.RightTables.{known_after}
 use Rattle.fv_volume.proofs.CallCauses.{failed_change_cause}
-use Rattle.fv_volume.proofs.Calling.{counted_all, counted_table, kept_numbers, left_table, left_fits, failed_changes, failed_head, refused_changes, refused_head, done_head, done_ready, Parts, parts_of, refused_standing, refused_table, failed_stands, left_ready}
+use Rattle.fv_volume.proofs.Calling.{failed_told, onerr_so, refused_told, counted_all, counted_table, kept_numbers, left_table, left_fits, failed_changes, failed_head, refused_changes, refused_head, done_head, done_ready, Parts, parts_of, refused_standing, refused_table, failed_stands, left_ready}
 use Rattle.fv_volume.proofs.MadePut.{put_is, put_stands}
 use Rattle.fv_volume.proofs.state.VolumeState.put.Given as given
 use Rattle.fv_volume.proofs.state.VolumeState.put.Goals as goal
@@ -70,3 +70,9 @@ returns-in_err-write_block-clause-numbers g c = kept_numbers c.args.self.now c.j
 
 pub returns-clause-numbers : goal.returns-clause-numbers
 returns-clause-numbers g c = ap (λ (z : VolumeState). z.numbers) c.count_change.ensures.others ∙ kept_numbers c.args.self.now c.judge_put.new.volume c.write_block.new.volume c.judge_put.ensures.same c.in_ok-write_block.ensures.alters.same
+
+pub returns-in_err-admission-clause-told : goal.returns-in_err-admission-clause-told
+returns-in_err-admission-clause-told g c = λ tells. onerr_so _ c.from_residual.result (refused_told (g.D.Disk.shown c.args.disk.now) (g.D.Disk.shown c.judge_put.new.disk) c.args.pool.now c.judge_put.new.pool c.judge_put.ensures.reads c.args.self.now c.judge_put.new.volume c.judge_put.ensures.same)
+
+pub returns-in_err-write_block-clause-told : goal.returns-in_err-write_block-clause-told
+returns-in_err-write_block-clause-told g c = λ tells. onerr_so _ c.from_residual-in_err-write_block.result (failed_told (g.D.Disk.shown c.args.disk.now) (g.D.Disk.shown c.judge_put.new.disk) (g.D.Disk.shown c.write_block.new.disk) c.args.pool.now c.judge_put.new.pool c.write_block.new.pool c.judge_put.ensures.reads c.args.self.now c.judge_put.new.volume c.write_block.new.volume c.judge_put.ensures.same c.in_err-write_block.field-0.0 c.in_err-write_block.ensures.alters tells)

@@ -5,11 +5,11 @@ use Rattle.fv_model.specs.declared.commands.Command.TheVariants.{Remove}
 use Rattle.fv_charge.specs.declared.ledger.Ledger.{Ledger}
 use Rattle.fv_volume.specs.Calls.{HasWithin}
 use Rattle.fv_pool.specs.Causes.{of_block}
-use Rattle.fv_volume.specs.OneVolume.{standing_for, volume_for}
+use Rattle.fv_volume.specs.OneVolume.{volume_for}
 use Rattle.fv_volume.specs.declared.tables.TableAsked.TheVariants.{Active}
 use Rattle.fv_volume.proofs.RightTables.{known_after}
 use Rattle.fv_volume.proofs.CallCauses.{failed_change_cause}
-use Rattle.fv_volume.proofs.Calling.{counted_table, left_fits, left_table, left_ledger, left_more, failed_changes, no_refusal, failed_head, left_ready, refused_changes, refused_head, done_head, done_ready, parts_of, Parts, if_err_is, refused_standing, refused_table, failed_stands}
+use Rattle.fv_volume.proofs.Calling.{failed_told, onerr_so, refused_told, counted_table, left_fits, left_table, left_ledger, left_more, failed_changes, no_refusal, failed_head, left_ready, refused_changes, refused_head, done_head, done_ready, parts_of, Parts, if_err_is, refused_standing, refused_table, failed_stands}
 use Rattle.fv_volume.specs.Changing.{IsDeltaBy}
 use Rattle.fv_volume.proofs.JudgedCut.{each_fits, removal_fits}
 use Rattle.fv_volume.proofs.MadeRemoval.{rm_is, rm_stands}
@@ -68,3 +68,9 @@ returns-clause-head g c = let parts : Parts {T = ℕ} (g.D.Disk.shown c.args.dis
 
 pub drop_file-requires-clause-there : goal.drop_file-requires-clause-there
 drop_file-requires-clause-there g c = known_after (g.D.Disk.shown c.args.disk.now) (g.D.Disk.shown c.judge_removal.new.disk) c.args.pool.now c.judge_removal.new.pool c.judge_removal.ensures.reads c.args.self.now Active c.judge_removal.new.volume c.judge_removal.ensures.same (λ (s : Standing). IsInfoOf s.inode c.in_ok-removing.removing.info) c.in_ok-removing.ensures.found
+
+pub returns-in_err-removing-clause-told : goal.returns-in_err-removing-clause-told
+returns-in_err-removing-clause-told g c = λ tells. onerr_so _ c.from_residual.result (refused_told (g.D.Disk.shown c.args.disk.now) (g.D.Disk.shown c.judge_removal.new.disk) c.args.pool.now c.judge_removal.new.pool c.judge_removal.ensures.reads c.args.self.now c.judge_removal.new.volume c.judge_removal.ensures.same)
+
+pub returns-in_err-count-clause-told : goal.returns-in_err-count-clause-told
+returns-in_err-count-clause-told g c = λ tells. onerr_so _ c.from_residual-in_err-count.result (failed_told (g.D.Disk.shown c.args.disk.now) (g.D.Disk.shown c.judge_removal.new.disk) (g.D.Disk.shown c.drop_file.new.disk) c.args.pool.now c.judge_removal.new.pool c.drop_file.new.pool c.judge_removal.ensures.reads c.args.self.now c.judge_removal.new.volume c.drop_file.new.volume c.judge_removal.ensures.same c.in_err-count.field-0.0 c.in_err-count.ensures.alters tells)

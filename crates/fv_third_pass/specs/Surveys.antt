@@ -1,0 +1,49 @@
+-- What a pass makes of an aggregate, by what the first two passes learnt of it.
+use Rattle.std.specs.Prelude.{ℕ, List, get_or, Result, IsTrue, IfOk}
+use Rattle.fv_disk.specs.Shown.{Image, Shown}
+use Rattle.fv_codec.specs.declared.label.Label.{Label}
+use Rattle.fv_image.specs.Held.{Layout, layout_at}
+use Rattle.fv_root.specs.Finding.{IsInRange, root_found}
+use Rattle.fv_faults.specs.declared.fault.Fault.{Fault}
+use Rattle.fv_faults.specs.declared.lines.Lines.{Lines}
+use Rattle.fv_faults.specs.Adding.{Adds}
+use Rattle.fv_faults.specs.Walks.{Ground}
+use Rattle.fv_first_pass.specs.declared.fault.CheckFault.{CheckFault}
+use Rattle.fv_first_pass.specs.Causes.{HasRead}
+use Rattle.fv_second_pass.specs.Told.{IsKnown, IsLabelled, ground_at}
+use Rattle.fv_third_pass.specs.declared.survey.Survey.{Survey}
+use Rattle.fv_third_pass.specs.Volumes.{IsWalked, IsWalkedLabel}
+
+-- Whatever the disk tells, the numbers of the root and of the labels are in range.
+pub record HasRange (x : Survey) : Type 0 where
+  pub root : IsInRange x.root.now
+  pub labels : IsKnown x.known.now
+
+-- the aggregate that an image has under the root
+abbrev pub layout_of : Survey → Image → Layout
+layout_of x i = layout_at (root_found x.root.now) i
+
+-- the place of the label of a slot
+abbrev pub label_place : Survey → ℕ → ℕ
+label_place x s = get_or x.root.now.root.labels s 0
+
+-- the volume of a slot with this label, as walks have it
+abbrev pub ground_of : Survey → Image → ℕ → Label → Ground
+ground_of x i s l = ground_at (root_found x.root.now) i s l.span
+
+-- The first pass found nothing in an image, what it read is of that, and the volume of a slot has this label.
+abbrev pub IsLabelledAt : Survey → Image → ℕ → Label → Type 0
+IsLabelledAt x i s l = IsLabelled (root_found x.root.now) i x.known.now s l
+
+-- what was learnt is of an image, in which the first two passes found nothing
+abbrev pub IsSurveyOf : Survey → Image → Type 0
+IsSurveyOf x i = IsWalked (root_found x.root.now) i x.known.now x.reached.now
+
+-- and the volume of a slot has this label
+abbrev pub IsSurveyAt : Survey → Image → ℕ → Label → Type 0
+IsSurveyAt x i s l = IsWalkedLabel (root_found x.root.now) i x.known.now x.reached.now s l
+
+-- A pass notes its lines, beside those that it is given, where what was learnt is of the disk's image; and it only reads.
+pub record Passes (old new : Shown) (IsLearnt : Image → Type 0) (said : Image → List Fault) (lines : Lines) (result : Result Lines CheckFault) : Type 0 where
+  pub adds : IsTrue old.tells → IfOk result (λ noted. IsLearnt old.reads → Adds (said old.reads) lines noted)
+  pub read : HasRead old new result
