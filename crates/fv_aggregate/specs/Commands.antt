@@ -97,6 +97,10 @@ abbrev pub removes_volume : Command → Bool
 removes_volume (VolDestroy volume) = true
 removes_volume command = false
 
+-- whether a command that reads no file may read leaves of containers: it removes a volume, or places what changed of a volume's files
+abbrev pub reads_leaves : Command → Bool
+reads_leaves command = removes_volume command || places_files command
+
 -- the volume that a command asks for files
 abbrev pub volume_asked : Command → Option (List ℕ)
 volume_asked (Get volume snapshot file index) = Some volume
@@ -104,7 +108,7 @@ volume_asked (Len volume snapshot file) = Some volume
 volume_asked (Ls volume snapshot) = Some volume
 volume_asked command = None
 
--- the commands that are built and read blocks of files; each other one reaches the disk by a consistency point alone
+-- the commands that are built and read blocks of files; each other one reaches the disk by a consistency point, or to read leaves of containers
 unfoldable pub reads_files : Command → Bool
 reads_files command = is_some (changed_by command) || is_some (volume_asked command)
 

@@ -1,4 +1,5 @@
--- What is damaged where a call of a session answers so: blocks are lacking, files couldn't be placed, or a table isn't as it has to be.
+-- What is damaged where a call of a session answers so: blocks are lacking, files couldn't be placed, a table isn't as it has to be, or a leaf of a
+-- container isn't there.
 use Rattle.std.specs.Prelude.{◌≡◌, ◌<◌, ◌+◌, ◌⊎◌, ℕ, IsTrue, IsNone, IsSome, Some}
 use Rattle.fv_disk.specs.Shown.{Shown}
 use Rattle.fv_disk.specs.DiskCalls.{OnlyReads}
@@ -8,7 +9,7 @@ use Rattle.fv_aggmap.specs.Space.{free_blocks}
 use Rattle.fv_container.specs.Chains.{container_at}
 use Rattle.fv_pool.specs.declared.fault.VolumeFault.TheVariants as volume
 use Rattle.fv_pool.specs.declared.pool.Pool.{Pool}
-use Rattle.fv_pool.specs.BlocksOver.{LeavesPool}
+use Rattle.fv_pool.specs.BlocksOver.{LacksLeaf, LeavesPool, LoadsPool}
 use Rattle.fv_pool.specs.Calls.{GivesUp, TableFails}
 use Rattle.fv_pool.specs.Lending.{lent_for}
 use Rattle.fv_volume.specs.declared.state.VolumeState.{VolumeState}
@@ -28,7 +29,7 @@ use Rattle.fv_aggregate.specs.Standing.{taken_since}
 -- ---- at a point
 
 -- Fewer blocks are free in the session's map than a consistency point of it asks for, with the files in their places; and so it is in the
--- image, beside the blocks that were placed. Without a file in memory the session is as it was.
+-- image, beside the blocks that were placed. Without a file in memory the session is as it was, but for leaves that came into memory.
 pub record LacksBlocks (before : Shown) (old new : Session) (at want found : ℕ) : Type 0 where
   pub fresh : IsNone old.failed
   pub place : at ≡ root_place old.pool.found.slot
@@ -36,23 +37,32 @@ pub record LacksBlocks (before : Shown) (old new : Session) (at want found : ℕ
   pub free : found ≡ free_blocks new.pool.map
   pub short : found < want
   pub image : IsTrue before.tells → (room : ℕ) → AsksWithin before old room → IsShort before.reads room (taken_since new.pool.map) at want found
-  pub same : HaveNoFiles old.volumes → new ≡ old
+  pub same : HaveNoFiles old.volumes → LoadsPool before old.pool new.pool × (new ≡ record old { pool = new.pool })
 
--- The files of a volume of the session couldn't be placed, since no number of the volume was free, or no block. What the volumes share was `mid` then:
--- the files of the slots before it were placed, its own entries stayed, and where none of those slots has files in memory all did.
+-- The files of a volume of the session couldn't be placed, since no number of the volume was free, or no block, or a leaf of its container isn't there.
+-- What the volumes share was `mid` then, over the disk `now`, of which blocks were read: the files of the slots before it were placed, its own entries
+-- stayed, and where none of those slots has files in memory all did.
 pub record HasFilesToPlace (disk : Shown) (session : Session) (at want found : ℕ) : Type 0 where
   pub fresh : IsNone session.failed
   pub files : HaveNoFiles session.volumes → ⊥
   pub slot : ℕ
   pub state : VolumeState
   pub there : state_at session.volumes slot ≡ Some state
+  pub now : Shown
+  pub reads : now.reads ≡ disk.reads
+  pub tells : now.tells ≡ disk.tells
   pub mid : Pool
   pub root : mid.found ≡ session.pool.found
   pub committed : mid.map.committed ≡ session.pool.map.committed
   pub placed : PlacesEntries session.pool.map session.pool.containers mid.containers
   pub entries : container_at mid.containers slot ≡ container_at session.pool.containers slot
   pub first : ((s : ℕ) → s < slot → HasNoFiles (state_at session.volumes s)) → mid ≡ session.pool
-  pub fails : MayFail disk mid (Some state) (volume.Damaged at want found)
+  pub fails : MayFail now mid (Some state) (volume.Damaged at want found)
+
+-- A leaf of the container of a volume doesn't stand where that has it; at a point so once the files have their places.
+pub record HasLostLeaf (disk : Shown) (session new : Session) (at want found : ℕ) : Type 0 where
+  pub fresh : IsNone session.failed
+  pub leaf : LacksLeaf disk new.pool.containers at want found
 
 -- ---- in a table
 
@@ -76,9 +86,9 @@ pub record HasBadTable (disk : Shown) (session new : Session) (at want found : �
 
 -- ---- in a call
 
--- Blocks are lacking, files couldn't be placed, or a table isn't as it has to be.
+-- Blocks are lacking, files couldn't be placed, a leaf isn't there, or a table isn't as it has to be.
 abbrev pub HasDamageIn : Shown → Session → Session → ℕ → ℕ → ℕ → Type 0
-HasDamageIn disk session new at want found = LacksBlocks disk session new at want found ⊎ (HasFilesToPlace disk session at want found ⊎ HasBadTable disk session new at want found)
+HasDamageIn disk session new at want found = LacksBlocks disk session new at want found ⊎ (HasFilesToPlace disk session at want found ⊎ (HasLostLeaf disk session new at want found ⊎ HasBadTable disk session new at want found))
 
 -- a session of which blocks were read for a command on the volume of a slot
 pub record HasReadFor (old session : Session) : Type 0 where

@@ -1,11 +1,11 @@
 -- The files of volumes are placed slot by slot.
-use Rattle.std.proofs.Common.{◌≡◌, ◌≢◌, ℕ, ◌<◌, ◌≤◌, ◌+◌, Bool, List, length, Some, None, is_some, true≢false, false, ⊎_elim, inl, inr, ◌⊎◌, sym, ap, subst, ◌∙◌, arith, Option, refl, get_or-set_other}
+use Rattle.std.proofs.Common.{◌≡◌, ◌≢◌, ℕ, ◌<◌, ◌≤◌, ◌+◌, Bool, List, length, Some, None, Result, Ok, Err, is_some, true≢false, false, ⊎_elim, inl, inr, ◌⊎◌, sym, ap, subst, ◌∙◌, arith, Option, refl, get_or-set_other}
 use Rattle.std.specs.Prelude.{cond, sum_by, IfSome}
 use Rattle.std.specs.Option.{option_map}
 use Rattle.std.specs.FinMap as fin
 use Rattle.std.proofs.lemmas.Bool.{cases_eq}
 use Rattle.std.proofs.lemmas.List.Sums.{sum_by-set}
-use Rattle.fv_disk.specs.Shown.{Image, Shown}
+use Rattle.fv_disk.specs.Shown.{Image, Rose, Shown}
 use Rattle.fv_bits.specs.Members.{is_member}
 use Rattle.fv_model.specs.Spelling.{name_cmp}
 use Rattle.fv_model.specs.Machines.{Machine, capacity}
@@ -18,11 +18,14 @@ use Rattle.fv_aggmap.specs.Space.{Space}
 use Rattle.fv_root.specs.declared.find.Found.{Found}
 use Rattle.fv_root.specs.Finding.{IsInRange, root_found}
 use Rattle.fv_root.specs.Commits.{IsFoundOn}
-use Rattle.fv_container.specs.Chains.{Slots, container_at, own_entry}
+use Rattle.fv_container.specs.Chains.{Slots, TellsEntries, container_at, own_entry}
+use Rattle.fv_container.proofs.Changing.{maps_same}
 use Rattle.fv_container.specs.Mapped.{Mapped}
 use Rattle.fv_volmap.specs.Slots.{active_of}
 use Rattle.fv_pool.specs.declared.pool.Pool.{Pool}
 use Rattle.fv_volume.specs.declared.state.VolumeState.{VolumeState}
+use Rattle.fv_pool.specs.BlocksOver.{LoadsPool}
+use Rattle.fv_pool.specs.Causes.{IsNoDamage}
 use Rattle.fv_pool.specs.Lending.{IsNewEntry}
 use Rattle.fv_volume.specs.OneVolume.{IsReady}
 use Rattle.fv_pool.specs.Placing.{KeepsUnused}
@@ -37,11 +40,12 @@ use Rattle.fv_volume.proofs.Spending.{spent_one}
 use Rattle.fv_volumes.proofs.Staying.{only_itself}
 use Rattle.fv_cp.specs.Held.{machine_held, named_held, IsHeld, IsHeldIn}
 use Rattle.fv_cp.specs.Lent.{asked_all, asked_by, asked_of, blocks_asked, maps_waiting, waiting_by, FitTogether}
+use Rattle.fv_volume.specs.Held.{HasPlaceCause}
 use Rattle.fv_cp.specs.Placing.{pending_by, pending_files, HasNumbers, HaveNoFiles, HaveRoom, HaveSpent, IsPlacedAs, AreButPlaced, ArePlaced, AreReady, but_placed, FailsToPlace, HasNoFiles, HasWholeMap, IsReadyIn, IsSlotPlaced, IsSpareEntry, MayFail, LeavesUnused, PlacesEntries, PlacesSlot, RestsPlaced}
 use Rattle.fv_disk.proofs.Resting.{reads_then}
 use Rattle.fv_store.specs.Held.{StandsOn}
 use Rattle.fv_pool.specs.declared.fault.VolumeFault.{VolumeFault}
-use Rattle.fv_pool.specs.declared.fault.VolumeFault.TheVariants.{Memory}
+use Rattle.fv_pool.specs.declared.fault.VolumeFault.TheVariants.{Refused, DiskFault, Damaged, Memory}
 
 -- ---- one volume: the session is what it was between points
 
@@ -78,7 +82,7 @@ module _ (disk after : Shown) (pool left : Pool) (states stay : States) (x y : V
       own : Placed x.slot
       own = ⊎_elim
           (λ (same : own_entry (container_at left.containers x.slot) v ≡ own_entry (container_at pool.containers x.slot) v). inl same)
-          (λ (new : IsNewEntry pool.map pool.containers left.containers x.slot v). inr (record { entry = new.entry; stands = new.stands; lies = new.takes.lies; spare = new.takes.spare }))
+          (λ (new : IsNewEntry (TellsEntries disk pool.containers) pool.map pool.containers left.containers x.slot v). inr (record { entry = new.entry; stands = new.stands; lies = new.takes.lies; spare = new.takes.spare }))
           (placed.goes.goes.goes.entries v)
 
   -- a volume without files in memory stays
@@ -185,7 +189,7 @@ pub record HasPassed (disk : Shown) (pool : Pool) (states : States) (count : ℕ
   -- and so are their volumes
   pub waits : (s : ℕ) → count ≤ s → state_at stay s ≡ state_at states s
   -- without files in memory nothing is placed
-  pub first : ((s : ℕ) → s < count → HasNoFiles (state_at states s)) → (left ≡ pool) × (stay ≡ states)
+  pub first : ((s : ℕ) → s < count → HasNoFiles (state_at states s)) → (left ≡ pool) × ((stay ≡ states) × (after ≡ disk))
   pub done : (s : ℕ) → s < count → HasNoFiles (state_at stay s)
   pub whole : (s : ℕ) → s < count → HasWholeMap (state_at stay s)
 
@@ -194,16 +198,20 @@ unused_none : (containers : Slots) (s : ℕ) (o : Option VolumeState) → IfSome
 unused_none containers s None = tt
 unused_none containers s (Some y) = λ v out. refl
 
+-- nothing came into memory
+loads_none : (disk : Shown) (pool : Pool) → LoadsPool disk pool pool
+loads_none disk pool = record { map = refl; kept = refl; found = refl; containers = maps_same disk pool.containers }
+
 pub passed_none : (disk : Shown) (pool : Pool) (states : States) → FitTogether pool states → AreReady disk pool states → StandsOn disk pool.store.pairs → HasPassed disk pool states 0 disk pool states
 passed_none disk pool states fit ready stands = record {
   come = record {
-    placed = record { held = λ before held. held; machine = λ before held. refl; fit = fit; found = refl; committed = refl; cores = λ s. refl; asked = refl; all = refl; waiting = refl; spent = λ before held room. record { fewer = omega arith; numbers = room.numbers; blocks = omega arith }; others = λ s. refl; entries = λ s v. inl refl; unused = λ before held s. unused_none pool.containers s (state_at states s); rest = λ s none. (refl, refl); only_reads = only_itself disk; idle = λ none. (refl, refl) };
+    placed = record { held = λ before held. held; machine = λ before held. refl; fit = fit; found = refl; committed = refl; cores = λ s. refl; asked = refl; all = refl; waiting = refl; spent = λ before held room. record { fewer = omega arith; numbers = room.numbers; blocks = omega arith }; others = λ s. refl; entries = λ s v. inl refl; unused = λ before held s. unused_none pool.containers s (state_at states s); rest = λ s none. (refl, refl); only_reads = only_itself disk; idle = λ none. (loads_none disk pool, refl) };
     ready = ready;
     stands = stands;
   };
   ahead = λ s past. refl;
   waits = λ s past. refl;
-  first = λ none. (refl, refl);
+  first = λ none. (refl, (refl, refl));
   done = λ s low. absurd (omega (arith, low));
   whole = λ s low. absurd (omega (arith, low));
 }
@@ -216,14 +224,14 @@ module _ (disk : Shown) (pool : Pool) (states : States) (mid : Shown) (held : Po
   room_now : HaveSpent pool states held between → HaveRoom pool states → HaveRoom held between
   room_now spent room = record { numbers = spent.numbers; blocks = (let first = room.blocks in omega (arith, first, spent.blocks)) }
 
-  -- with it a slot fails for want of memory alone
-  pub enough_more : (before : Machine) → IsHeld disk pool states before → HaveRoom pool states → (e : VolumeFault) → MayFail mid held (state_at between slot) e → e ≡ Memory
+  -- with it no slot answers damage
+  pub enough_more : (before : Machine) → IsHeld disk pool states before → HaveRoom pool states → (e : VolumeFault) → MayFail mid held (state_at between slot) e → IsNoDamage e
   enough_more before was room e fails = by (state_at between slot) refl fails
     where
       spent : HaveSpent pool states held between
       spent = come.placed.spent before was room
 
-      by : (o : Option VolumeState) → state_at between slot ≡ o → MayFail mid held o e → e ≡ Memory
+      by : (o : Option VolumeState) → state_at between slot ≡ o → MayFail mid held o e → IsNoDamage e
       by None none fails = absurd fails
       by (Some x) there fails =
           let now : HaveRoom held between = room_now spent room in
@@ -297,7 +305,7 @@ module _ (disk : Shown) (pool : Pool) (states : States) (mid : Shown) (held : Po
               let first = come.placed.idle none in
               let files : HasNoFiles (state_at between slot) = subst (λ (xs : States). HasNoFiles (state_at xs slot)) (sym first.1) (none slot) in
               let second = one.idle_still mid after held left between stay x did.now here now come.placed.fit.housed did.placed (subst HasNoFiles there files) in
-              (second.0 ∙ first.0, second.1 ∙ first.1);
+              (subst (LoadsPool disk pool) (sym second.0) first.0, second.1 ∙ first.1);
         };
         ready = one.ready_still mid after held left between stay x did.now here now come.placed.fit.housed did.placed come.ready;
         stands = did.placed.ready.lent.stands;
@@ -308,12 +316,12 @@ module _ (disk : Shown) (pool : Pool) (states : States) (mid : Shown) (held : Po
   without e f g = subst (λ (d : Shown). HasCome disk pool states d left stay) (sym e) (subst (λ (p : Pool). HasCome disk pool states mid p stay) (sym f)
       (subst (λ (xs : States). HasCome disk pool states mid held xs) (sym g) come))
 
-  pub come_more : container_at held.containers slot ≡ container_at pool.containers slot → PlacesSlot mid held between slot (state_at between slot) after left stay → (state_at between slot ≡ None → after ≡ mid) → (state_at between slot ≡ None → (left ≡ held) × (stay ≡ between))
+  pub come_more : container_at held.containers slot ≡ container_at pool.containers slot → PlacesSlot mid held between slot (state_at between slot) after left stay → (state_at between slot ≡ None → (left ≡ held) × ((stay ≡ between) × (after ≡ mid)))
       → HasCome disk pool states after left stay
-  come_more first did same idle = by (state_at between slot) refl did
+  come_more first did idle = by (state_at between slot) refl did
     where
       by : (o : Option VolumeState) → state_at between slot ≡ o → PlacesSlot mid held between slot o after left stay → HasCome disk pool states after left stay
-      by None none did = let all = idle none in without (same none) all.0 all.1
+      by None none did = let all = idle none in without all.1.1 all.0 all.1.0
       by (Some x) there did = with_volume first x there did
 
   other_slot : (s : ℕ) → s ≢ slot → PlacesSlot mid held between slot (state_at between slot) after left stay → (state_at between slot ≡ None → stay ≡ between) → state_at stay s ≡ state_at between s
@@ -334,30 +342,31 @@ module _ (disk : Shown) (pool : Pool) (states : States) (mid : Shown) (held : Po
           did.placed.goes.goes.goes.others s (λ same. differ (same ∙ ready.slot))
 
   -- a slot without files in memory leaves all
-  idle_more : HasNoFiles (state_at between slot) → PlacesSlot mid held between slot (state_at between slot) after left stay → (state_at between slot ≡ None → (left ≡ held) × (stay ≡ between)) → (left ≡ held) × (stay ≡ between)
+  idle_more : HasNoFiles (state_at between slot) → PlacesSlot mid held between slot (state_at between slot) after left stay → (state_at between slot ≡ None → (left ≡ held) × ((stay ≡ between) × (after ≡ mid))) → (left ≡ held) × ((stay ≡ between) × (after ≡ mid))
   idle_more none did idle = by (state_at between slot) refl did none
     where
-      by : (o : Option VolumeState) → state_at between slot ≡ o → PlacesSlot mid held between slot o after left stay → HasNoFiles o → (left ≡ held) × (stay ≡ between)
+      by : (o : Option VolumeState) → state_at between slot ≡ o → PlacesSlot mid held between slot o after left stay → HasNoFiles o → (left ≡ held) × ((stay ≡ between) × (after ≡ mid))
       by None at did none = idle at
       by (Some x) at did none =
           let ready : IsReadyIn mid held slot x = subst (λ (o : Option VolumeState). IfSome o (IsReadyIn mid held slot)) at (come.ready slot) in
           let here : state_at between x.slot ≡ Some x = ap (state_at between) ready.slot ∙ at in
           let now : stay ≡ with_state between x.slot (Some did.now) = did.row ∙ ap (λ (s : ℕ). with_state between s (Some did.now)) (sym ready.slot) in
-          one.idle_still mid after held left between stay x did.now here now come.placed.fit.housed did.placed none
+          let all = one.idle_still mid after held left between stay x did.now here now come.placed.fit.housed did.placed none in
+          (all.0, (all.1, (did.placed.idle none).2))
 
   pub passed_more : ((s : ℕ) → slot ≤ s → container_at held.containers s ≡ container_at pool.containers s) → ((s : ℕ) → slot ≤ s → state_at between s ≡ state_at states s)
-      → (((s : ℕ) → s < slot → HasNoFiles (state_at states s)) → (held ≡ pool) × (between ≡ states)) → ((s : ℕ) → s < slot → HasNoFiles (state_at between s)) → ((s : ℕ) → s < slot → HasWholeMap (state_at between s))
+      → (((s : ℕ) → s < slot → HasNoFiles (state_at states s)) → (held ≡ pool) × ((between ≡ states) × (mid ≡ disk))) → ((s : ℕ) → s < slot → HasNoFiles (state_at between s)) → ((s : ℕ) → s < slot → HasWholeMap (state_at between s))
       → HasNoFiles (state_at stay slot) → HasWholeMap (state_at stay slot)
-      → PlacesSlot mid held between slot (state_at between slot) after left stay → (state_at between slot ≡ None → after ≡ mid) → (state_at between slot ≡ None → (left ≡ held) × (stay ≡ between))
+      → PlacesSlot mid held between slot (state_at between slot) after left stay → (state_at between slot ≡ None → (left ≡ held) × ((stay ≡ between) × (after ≡ mid)))
       → HasPassed disk pool states (slot + 1) after left stay
-  passed_more ahead waits first done whole none long did same idle = record {
-    come = come_more (ahead slot (omega arith)) did same idle;
+  passed_more ahead waits first done whole none long did idle = record {
+    come = come_more (ahead slot (omega arith)) did idle;
     ahead = λ s past. other_container s (λ e. absurd (omega (arith, past, e))) did (λ e. (idle e).0) ∙ ahead s (omega (arith, past));
-    waits = λ s past. other_slot s (λ e. absurd (omega (arith, past, e))) did (λ e. (idle e).1) ∙ waits s (omega (arith, past));
+    waits = λ s past. other_slot s (λ e. absurd (omega (arith, past, e))) did (λ e. (idle e).1.0) ∙ waits s (omega (arith, past));
     first = λ none.
         let before = first (λ s low. none s (omega (arith, low))) in
         let now = idle_more (subst HasNoFiles (sym (waits slot (omega arith))) (none slot (omega arith))) did idle in
-        (now.0 ∙ before.0, now.1 ∙ before.1);
+        (now.0 ∙ before.0, (now.1.0 ∙ before.1.0, now.1.1 ∙ before.1.1));
     done = λ s low. also HasNoFiles done none s low;
     whole = λ s low. also HasWholeMap whole long s low;
   }
@@ -365,21 +374,31 @@ module _ (disk : Shown) (pool : Pool) (states : States) (mid : Shown) (held : Po
       also : (P : Option VolumeState → Type 0) → ((s : ℕ) → s < slot → P (state_at between s)) → P (state_at stay slot) → (s : ℕ) → s < slot + 1 → P (state_at stay s)
       also P before here s low = ⊎_elim
           (λ (e : s ≡ slot). subst (λ (n : ℕ). P (state_at stay n)) (sym e) here)
-          (λ (differ : s ≢ slot). subst P (sym (other_slot s differ did (λ e. (idle e).1))) (before s (omega (arith, low, differ))))
+          (λ (differ : s ≢ slot). subst P (sym (other_slot s differ did (λ e. (idle e).1.0))) (before s (omega (arith, low, differ))))
           (cases_eq s slot)
 
 -- ---- where a slot fails
 
-pub lacks_place : (disk : Shown) (pool : Pool) (states : States) (held : Pool) (between : States) → ArePlaced disk pool states disk held between → (slot : ℕ) → container_at held.containers slot ≡ container_at pool.containers slot
-    → state_at between slot ≡ state_at states slot → (((s : ℕ) → s < slot → HasNoFiles (state_at states s)) → (held ≡ pool) × (between ≡ states)) → (e : VolumeFault) → MayFail disk held (state_at between slot) e → FailsToPlace disk pool states e
-lacks_place disk pool states held between placed slot same waits first e fails = by (state_at between slot) refl fails
+pub lacks_place : (disk : Shown) (pool : Pool) (states : States) (now : Shown) (held : Pool) (between : States) → ArePlaced disk pool states now held between → (slot : ℕ) → container_at held.containers slot ≡ container_at pool.containers slot
+    → state_at between slot ≡ state_at states slot → (((s : ℕ) → s < slot → HasNoFiles (state_at states s)) → (held ≡ pool) × ((between ≡ states) × (now ≡ disk))) → (e : VolumeFault) → MayFail now held (state_at between slot) e → FailsToPlace disk pool states e
+lacks_place disk pool states now held between placed slot same waits first e fails = by (state_at between slot) refl fails
   where
-    by : (o : Option VolumeState) → state_at between slot ≡ o → MayFail disk held o e → FailsToPlace disk pool states e
+    by : (o : Option VolumeState) → state_at between slot ≡ o → MayFail now held o e → FailsToPlace disk pool states e
     by None there fails = absurd fails
-    by (Some x) there fails = record { mid = held; between = between; placed = placed; slot = slot; entries = same; state = x; there = there; own = sym waits ∙ there; first = first; fails = fails }
+    by (Some x) there fails = record { now = now; mid = held; between = between; placed = placed; slot = slot; entries = same; state = x; there = there; own = sym waits ∙ there; first = first; fails = fails }
 
 -- it does so with files in memory alone
 pub files_there : (disk : Shown) (pool : Pool) (states : States) (e : VolumeFault) → FailsToPlace disk pool states e → HaveNoFiles states → ⊥
 files_there disk pool states e lacks none =
     let still : state_at states lacks.slot ≡ Some lacks.state = ap (λ (xs : States). state_at xs lacks.slot) (sym (lacks.placed.idle none).1) ∙ lacks.there in
     true≢false (sym lacks.fails.0 ∙ ap is_some (subst HasNoFiles still (none lacks.slot)))
+
+-- ---- the count of faults
+
+-- What placing tells of the count of faults, where it stayed before.
+pub cause_on : (old mid new : Shown) (r : Result Unit VolumeFault) → mid.faults ≡ old.faults → HasPlaceCause mid new r → HasPlaceCause old new r
+cause_on old mid new (Ok done) same cause = cause ∙ same
+cause_on old mid new (Err (Refused x)) same cause = absurd cause
+cause_on old mid new (Err DiskFault) same cause = subst (λ (n : ℕ). Rose n new.faults) same cause
+cause_on old mid new (Err (Damaged at want found)) same cause = cause ∙ same
+cause_on old mid new (Err Memory) same cause = cause ∙ same

@@ -5,12 +5,16 @@
 mod asking;
 mod fault;
 mod full;
+mod known;
 mod placing;
 mod planning;
 mod point;
+mod preparing;
 mod reclaiming;
 
 pub use fault::CpFault;
 pub use full::full_point;
 pub use placing::flush;
+pub use planning::Plan;
 pub use point::consistency_point;
+pub use preparing::prepare;

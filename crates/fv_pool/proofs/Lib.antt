@@ -1,5 +1,6 @@
 mod Writing
 mod Lent
+mod Setting
 pub mod Holding
 pub mod Shows
 mod PlaceShown
