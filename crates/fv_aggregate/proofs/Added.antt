@@ -31,6 +31,7 @@ use Rattle.fv_aggregate.specs.Asking.{AsksWithin}
 use Rattle.fv_aggregate.specs.Calls.{Goes, GoesFor, KeepsAsking}
 use Rattle.fv_aggregate.specs.Commands.{AsksNothing, is_refusal}
 use Rattle.fv_aggregate.specs.Standing.{clear_blocks, unwritten, IsWithoutFiles, StandsFor, StandsReady}
+use Rattle.fv_aggregate.proofs.Roots.{keeps_earlier}
 use Rattle.fv_aggregate.proofs.Applied.{rests_for}
 use Rattle.fv_aggregate.proofs.Standing.{earlier_moments, known_still}
 use Rattle.fv_aggregate.proofs.Admitting.{accepted_held, refused_held, room_held}
@@ -143,7 +144,12 @@ module _ (before : Shown) (old : Session) (mid : Shown) (session : Session) (nam
   added_goes goes less few new added pending = record {
     ends = goes.ends;
     stands = λ fresh. stands_added session name size kind room new added mid (goes.stands goes.done.goes_on);
-    done = record { was = goes.done.was; goes_on = subst IsNone (sym added.failed) goes.done.goes_on; counts = goes.done.counts };
+    done = record {
+      was = goes.done.was;
+      goes_on = subst IsNone (sym added.failed) goes.done.goes_on;
+      counts = goes.done.counts;
+      root = λ tells. keeps_earlier old session new (goes.done.root tells) (ap (λ (p : Pool). p.found) added.holes);
+    };
     fault = tt;
     pending = omega (arith, pending, less);
   }

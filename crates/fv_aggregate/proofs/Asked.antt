@@ -111,7 +111,7 @@ module _ (d e : Shown) (laws : IsDisk d) (s : Session) (q : Pool) (reads : Reads
   -- an answer that the machine has in each machine that the session may stand for
   pub looks_done : (reply : Reply) → e.faults ≡ d.faults → ((last m : Machine) → StandsFor d s last m → Allows m c reply) → Looks slot d s c e (left d e s q reads) (Ok reply)
   looks_done reply calm allowed = record {
-    goes = goes_done d e laws s (left d e s q reads) 0 reads.only_reads fresh fresh still reply calm (omega arith);
+    goes = goes_done d e laws s (left d e s q reads) 0 reads.only_reads fresh fresh still reply calm (omega arith) (λ tells. reads.leaves.found);
     asks = asks_read d e s q reads;
     goes_for = λ tells last m is. goes_for_done d e laws s (left d e s q reads) 0 reads.only_reads fresh fresh still reply last m m is (for_left last m is);
     reply = λ tells last m is. allowed last m is;

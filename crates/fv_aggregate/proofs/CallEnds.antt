@@ -1,6 +1,6 @@
 -- How a call of a session ends that only read the disk, whatever it changed in memory, and one that goes on from another.
 use Rattle.std.proofs.Common.{◌≡◌, ◌<◌, ◌≤◌, ◌+◌, ◌⊎◌, ℕ, List, Option, Some, None, Result, Ok, Err, refl, sym, ap, subst, ◌∙◌, inl, inr, ⊎_elim, arith}
-use Rattle.std.specs.Prelude.{IsNone}
+use Rattle.std.specs.Prelude.{IsNone, IsTrue, OnOk}
 use Rattle.fv_disk.specs.Shown.{Image, Shown, IsDisk, Rose}
 use Rattle.fv_disk.specs.Crash.{Leaves}
 use Rattle.fv_disk.specs.DiskCalls.{OnlyReads}
@@ -11,11 +11,12 @@ use Rattle.fv_image.specs.WholeMachine.{machine_of}
 use Rattle.fv_aggregate.specs.declared.fault.Fault.{Fault}
 use Rattle.fv_aggregate.specs.declared.fault.Fault.TheVariants.{DiskFault, Damaged, Memory, Failed}
 use Rattle.fv_aggregate.specs.declared.session.Session.{Session}
-use Rattle.fv_aggregate.specs.Calls.{Goes, GoesFor, HasDamage, HasFault, IsNoDamage, SameCounts}
+use Rattle.fv_aggregate.specs.Calls.{Goes, GoesFor, HasDamage, HasFault, IsNoDamage, KeepsRoot, SameCounts}
 use Rattle.fv_aggregate.specs.Causes.{KeepsEnds}
 use Rattle.fv_aggregate.specs.Commands.{dirty_limit, Asked}
 use Rattle.fv_aggregate.specs.Standing.{OneOf, StandsAfter, StandsFor, StandsReady}
 use Rattle.fv_aggregate.proofs.Damages.{damage_more}
+use Rattle.fv_aggregate.proofs.Roots.{keeps_later}
 use Rattle.fv_aggregate.proofs.Standing.{earlier_moments, rests_for_last, stands_for_last, stays_for}
 
 -- ---- the disk was only read
@@ -24,11 +25,11 @@ module _ (d e : Shown) (laws : IsDisk d) (s left : Session) (room : ℕ) (reads 
   ends : KeepsEnds d e
   ends = record { tells = reads.stays.tells; given = reads.given; ends = reads.ends }
 
-  pub goes_done : {T : Type 0} {asked : Asked} (x : T) → e.faults ≡ d.faults → left.pending ≤ s.pending + room → Goes room asked d s e left (Ok x)
-  goes_done x calm few = record {
+  pub goes_done : {T : Type 0} {asked : Asked} (x : T) → e.faults ≡ d.faults → left.pending ≤ s.pending + room → (IsTrue d.tells → left.pool.found ≡ s.pool.found) → Goes room asked d s e left (Ok x)
+  goes_done x calm few same = record {
     ends = ends;
     stands = λ none. stands;
-    done = record { was = fresh; goes_on = still; counts = record { faults = calm; write_faults = reads.write_faults } };
+    done = record { was = fresh; goes_on = still; counts = record { faults = calm; write_faults = reads.write_faults }; root = λ tells. inl (same tells) };
     fault = tt;
     pending = few;
   }
@@ -172,16 +173,25 @@ module _ {T : Type 0} {earlier : Asked} (x : T) (first second : ℕ) (d : Shown)
   ends_on : (g : Shown) → KeepsEnds e g → KeepsEnds d g
   ends_on g ends = record { tells = ends.tells ∙ goes.ends.tells; given = ends.given ∙ goes.ends.given; ends = ends.ends ∙ goes.ends.ends }
 
+  -- at most one point was made in both
+  abbrev pub KeepsRootBoth : {U : Type 0} → Session → Result U Fault → Type 0
+  KeepsRootBoth new r = OnOk r (IsTrue d.tells → KeepsRoot s new)
+
+  -- none in the first
+  root_later : {U : Type 0} (part : Asked) (g : Shown) (new : Session) (r : Result U Fault) → n.pool.found ≡ s.pool.found → Goes second part e n g new r → KeepsRootBoth new r
+  root_later part g new (Ok y) same next = λ tells. keeps_later s n new same (next.done.root (subst IsTrue (sym goes.ends.tells) tells))
+  root_later part g new (Err f) same next = tt
+
   -- A call that comes after one that added nothing.
-  goes_both : {U : Type 0} (part asked : Asked) (g : Shown) (new : Session) (r : Result U Fault) → (CanWrite e n g → CanWrite d s g) → DamagesBoth part asked g new r → Goes second part e n g new r → Goes second asked d s g new r
-  goes_both part asked g new (Ok y) written damage next = record {
+  goes_both : {U : Type 0} (part asked : Asked) (g : Shown) (new : Session) (r : Result U Fault) → (CanWrite e n g → CanWrite d s g) → DamagesBoth part asked g new r → KeepsRootBoth new r → Goes second part e n g new r → Goes second asked d s g new r
+  goes_both part asked g new (Ok y) written damage root next = record {
     ends = ends_on g next.ends;
     stands = next.stands;
-    done = record { was = goes.done.was; goes_on = next.done.goes_on; counts = counts_on g next.done.counts };
+    done = record { was = goes.done.was; goes_on = next.done.goes_on; counts = counts_on g next.done.counts; root = root };
     fault = tt;
     pending = omega (arith, less, next.pending);
   }
-  goes_both part asked g new (Err f) written damage next = record {
+  goes_both part asked g new (Err f) written damage root next = record {
     ends = ends_on g next.ends;
     stands = next.stands;
     done = tt;
@@ -190,12 +200,12 @@ module _ {T : Type 0} {earlier : Asked} (x : T) (first second : ℕ) (d : Shown)
   }
 
   -- so it is with room that passes the dirty limit
-  pub goes_after : {U : Type 0} (part asked : Asked) (g : Shown) (new : Session) (r : Result U Fault) → dirty_limit < s.pending + second → DamagesBoth part asked g new r → Goes second part e n g new r → Goes second asked d s g new r
-  goes_after part asked g new r past damage next = goes_both part asked g new r (λ _. inr past) damage next
+  pub goes_after : {U : Type 0} (part asked : Asked) (g : Shown) (new : Session) (r : Result U Fault) → dirty_limit < s.pending + second → DamagesBoth part asked g new r → KeepsRootBoth new r → Goes second part e n g new r → Goes second asked d s g new r
+  goes_after part asked g new r past damage root next = goes_both part asked g new r (λ _. inr past) damage root next
 
   -- and after one that only read
-  pub goes_on_read : {U : Type 0} (part asked : Asked) (g : Shown) (new : Session) (r : Result U Fault) → OnlyReads d e → n.pending ≡ s.pending → DamagesBoth part asked g new r → Goes second part e n g new r → Goes second asked d s g new r
-  goes_on_read part asked g new r reads same damage next = goes_both part asked g new r (λ w. ⊎_elim (λ (read : OnlyReads e g). inl (reads_then d e g reads read)) (λ past. inr (omega (arith, past, same))) w) damage next
+  pub goes_on_read : {U : Type 0} (part asked : Asked) (g : Shown) (new : Session) (r : Result U Fault) → OnlyReads d e → n.pending ≡ s.pending → n.pool.found ≡ s.pool.found → DamagesBoth part asked g new r → Goes second part e n g new r → Goes second asked d s g new r
+  goes_on_read part asked g new r reads same found damage next = goes_both part asked g new r (λ w. ⊎_elim (λ (read : OnlyReads e g). inl (reads_then d e g reads read)) (λ past. inr (omega (arith, past, same))) w) damage (root_later part g new r found next) next
 
 -- ---- for the machines that the session stands for
 

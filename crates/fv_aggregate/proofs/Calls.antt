@@ -31,7 +31,7 @@ pub rests_done : {T : Type 0} {asked : Asked} (x : T) (room : ℕ) (disk : Shown
 rests_done x room disk session fresh stands = record {
   ends = same_ends disk;
   stands = λ none. stands;
-  done = record { was = fresh; goes_on = fresh; counts = same_counts disk };
+  done = record { was = fresh; goes_on = fresh; counts = same_counts disk; root = λ tells. inl refl };
   fault = tt;
   pending = omega arith;
 }

@@ -53,7 +53,7 @@ module _ (d e : Shown) (laws : IsDisk d) (s : Session) (q : Pool) (c : Command) 
 
   pub judged_by : (r : Result Unit VolumeFault) → JudgesState d s.pool x (beside s.volumes slot) c e q r → (new : Session) (result : Result Reply Fault) → Replied e (done_as r) now new result → HasJudged slot d s c e new result
   judged_by (Ok u) did new result is = as_told (HasJudged slot d s c e) new now result (Ok Done) is.1 is.0 (record {
-    goes = goes_done d e laws s now 0 did.reads.only_reads fresh fresh (stands_read d e s q did.reads stands) Done did.cause (omega arith);
+    goes = goes_done d e laws s now 0 did.reads.only_reads fresh fresh (stands_read d e s q did.reads stands) Done did.cause (omega arith) (λ tells. did.reads.leaves.found);
     goes_for = λ tells last m is. goes_for_done d e laws s now 0 did.reads.only_reads fresh fresh (stands_read d e s q did.reads stands) Done last m m is (stands_for_read d e s q did.reads last m is);
     judges = λ tells last m is. ap (λ (k : Machine). refusal k c) (sym is.machine) ∙ did.agrees (its last m is).stands _ (has_within d s.pool s.volumes long last is.held slot x there);
     only_reads = did.reads.only_reads;
@@ -61,7 +61,7 @@ module _ (d e : Shown) (laws : IsDisk d) (s : Session) (q : Pool) (c : Command) 
     read = was_read d e s q did.reads;
   })
   judged_by (Err (volume.Refused r)) did new result is = as_told (HasJudged slot d s c e) new now result (Ok (Refused r)) is.1 is.0 (record {
-    goes = goes_done d e laws s now 0 did.reads.only_reads fresh fresh (stands_read d e s q did.reads stands) (Refused r) did.cause (omega arith);
+    goes = goes_done d e laws s now 0 did.reads.only_reads fresh fresh (stands_read d e s q did.reads stands) (Refused r) did.cause (omega arith) (λ tells. did.reads.leaves.found);
     goes_for = λ tells last m is. goes_for_done d e laws s now 0 did.reads.only_reads fresh fresh (stands_read d e s q did.reads stands) (Refused r) last m m is (stands_for_read d e s q did.reads last m is);
     judges = λ tells last m is. ap (λ (k : Machine). refusal k c) (sym is.machine) ∙ did.agrees (its last m is).stands _ (has_within d s.pool s.volumes long last is.held slot x there);
     only_reads = did.reads.only_reads;
@@ -137,7 +137,7 @@ module _ (d e : Shown) (laws : IsDisk d) (s : Session) (q : Pool) (c : Command) 
 
     pub makes_by : (r : Result Unit VolumeFault) → ChangesState d s.pool x (beside s.volumes slot) c e q y r → (new : Session) (result : Result Reply Fault) → Replied e (done_as r) after new result → Makes file_room (AsksTable slot None) d s c e new result
     makes_by (Ok u) did new result is = as_told (Makes file_room (AsksTable slot None) d s c e) new after result (Ok Done) is.1 is.0 (record {
-      goes = goes_done d e laws s after 16 did.reads.only_reads fresh fresh (stand (Ok u) did) Done did.cause few_added;
+      goes = goes_done d e laws s after 16 did.reads.only_reads fresh fresh (stand (Ok u) did) Done did.cause few_added (λ tells. did.reads.leaves.found);
       goes_for = λ tells last m is. goes_for_done d e laws s after 16 did.reads.only_reads fresh fresh (stand (Ok u) did) Done last m (next m c) is (for_done u did last m is);
       reply = λ tells last m is. change_allows x.name c change m (is_accepted u did last m is);
       refused = λ tells last m is refused. absurd (true≢false (sym refused));
@@ -146,7 +146,7 @@ module _ (d e : Shown) (laws : IsDisk d) (s : Session) (q : Pool) (c : Command) 
       entries = λ low. kept_entries s after did.reads.leaves.containers;
     })
     makes_by (Err (volume.Refused r)) did new result is = as_told (Makes file_room (AsksTable slot None) d s c e) new now result (Ok (Refused r)) (is.1 ∙ as_read (did.head.refused r refl)) is.0 (record {
-      goes = goes_done d e laws s now 16 did.reads.only_reads fresh fresh (stands_read d e s q did.reads stands) (Refused r) did.cause (omega arith);
+      goes = goes_done d e laws s now 16 did.reads.only_reads fresh fresh (stands_read d e s q did.reads stands) (Refused r) did.cause (omega arith) (λ tells. did.reads.leaves.found);
       goes_for = λ tells last m is. subst (λ (n : Machine). GoesFor d last m n e now (Ok (Refused r))) (sym (refused_next m c r (is_refused r did last m is)))
           (goes_for_done d e laws s now 16 did.reads.only_reads fresh fresh (stands_read d e s q did.reads stands) (Refused r) last m m is (stands_for_read d e s q did.reads last m is));
       reply = λ tells last m is. refused_allows m c r (is_refused r did last m is);
@@ -228,7 +228,7 @@ module _ (d e : Shown) (laws : IsDisk d) (v s : Session) (same : v ≡ s) (fit :
 -- what the machine refuses is refused at once
 pub refused_at_once : {asked : Asked} (d : Shown) → IsDisk d → (s : Session) → IsNone s.failed → StandsReady d s → (c : Command) (r : Refusal) → ((last m : Machine) → StandsFor d s last m → refusal m c ≡ Some r) → Makes file_room asked d s c d s (Ok (Refused r))
 refused_at_once d laws s fresh stands c r why = record {
-  goes = goes_done d d laws s s 16 (reads_itself d) fresh fresh stands (Refused r) refl (omega arith);
+  goes = goes_done d d laws s s 16 (reads_itself d) fresh fresh stands (Refused r) refl (omega arith) (λ tells. refl);
   goes_for = λ tells last m is. subst (λ (n : Machine). GoesFor d last m n d s (Ok (Refused r))) (sym (refused_next m c r (why last m is)))
       (goes_for_done d d laws s s 16 (reads_itself d) fresh fresh stands (Refused r) last m m is is);
   reply = λ tells last m is. refused_allows m c r (why last m is);

@@ -84,7 +84,7 @@ module _ (d e : Shown) (tells : e.tells ≡ d.tells) (reads : e.reads ≡ d.read
           (subst (λ (k : Shown). TableFails (TellsAsked k p x finds.table) (standing_of k p x finds.table) (lent_for p x.map k 0 (home_in x) 0) k.faults (block.Damaged at want found)) like_is finds.fails));
     }
 
-    may_after : (at want found : ℕ) → MayFail d p (Some x) (volume.Damaged at want found) → MayFail e p (Some x) (volume.Damaged at want found)
+    pub may_after : (at want found : ℕ) → MayFail d p (Some x) (volume.Damaged at want found) → MayFail e p (Some x) (volume.Damaged at want found)
     may_after at want found may = subst (λ (k : Shown). MayFail k p (Some x) (volume.Damaged at want found)) like_is may
 
   module _ (s : Session) (at want found : ℕ) where
@@ -95,22 +95,6 @@ module _ (d e : Shown) (tells : e.tells ≡ d.tells) (reads : e.reads ≡ d.read
     lacks_after new lacks =
         let now = subst (λ (k : Shown). LacksBlocks k s new at want found) like_is lacks in
         record { fresh = lacks.fresh; place = lacks.place; asked = lacks.asked; free = lacks.free; short = lacks.short; image = λ told room asks. now.image told room (asks_like room asks); same = lacks.same }
-
-    pub files_after : HasFilesToPlace d s at want found → HasFilesToPlace e s at want found
-    files_after is = record {
-      fresh = is.fresh;
-      files = is.files;
-      slot = is.slot;
-      state = is.state;
-      there = is.there;
-      mid = is.mid;
-      root = is.root;
-      committed = is.committed;
-      placed = is.placed;
-      entries = is.entries;
-      first = is.first;
-      fails = may_after is.mid is.state at want found is.fails;
-    }
 
 -- ---- in a session
 
@@ -171,6 +155,9 @@ nothing_table slot snapshot e = cc
 nothing_point : AsksNothing ≡ AsksPoint → ⊥
 nothing_point e = cc
 
+point_placing : (slot : ℕ) → AsksPoint ≡ AsksPlacing slot → ⊥
+point_placing slot e = cc
+
 nothing_placing : (slot : ℕ) → AsksNothing ≡ AsksPlacing slot → ⊥
 nothing_placing slot e = cc
 
@@ -189,7 +176,7 @@ module _ (asked : Asked) (least room : ℕ) (le : least ≤ room) where
 
   in_more : (d : Shown) (s new : Session) (at want found : ℕ) → HasDamageIn least asked d s new at want found → HasDamageIn room asked d s new at want found
   in_more d s new at want found (inl lacks) = inl (point_more s lacks.0, lacks.1)
-  in_more d s new at want found (inr (inl placed)) = inr (inl (record { files = placed.files; comes = place_more s placed.files.slot placed.comes }))
+  in_more d s new at want found (inr (inl placed)) = inr (inl (record { files = placed.files; comes = place_more s placed.files.slot placed.comes; before = placed.before }))
   in_more d s new at want found (inr (inr bad)) = inr (inr bad)
 
   pub damage_more : (before : Shown) (old : Session) (after : Shown) (new : Session) (at want found : ℕ) → HasDamage least asked before old after new at want found → HasDamage room asked before old after new at want found
@@ -197,23 +184,23 @@ module _ (asked : Asked) (least room : ℕ) (le : least ≤ room) where
   damage_more before old after new at want found (inl (reads, inr later)) = inl (reads, inr (record { session = later.session; read = later.read; damage = in_more after later.session new at want found later.damage }))
   damage_more before old after new at want found (inr (past, behind)) = inr (passes_more old.pending past, behind)
 
--- a call that asks for no table is part of one that comes to a point where this does
-module _ (part asked : Asked) (least room : ℕ) (old : Session) (none : (slot : ℕ) (snapshot : Option (List ℕ)) → part ≡ AsksTable slot snapshot → ⊥) (point : ComesToPoint least part old → ComesToPoint room asked old)
+-- a call that asks for no table, nor to place the files of a volume by itself, is part of one that comes to a point where this does
+module _ (part asked : Asked) (least room : ℕ) (old : Session) (none : (slot : ℕ) (snapshot : Option (List ℕ)) → part ≡ AsksTable slot snapshot → ⊥) (never : (slot : ℕ) → part ≡ AsksPlacing slot → ⊥) (point : ComesToPoint least part old → ComesToPoint room asked old)
     (place : (slot : ℕ) → ComesToPlace least part old slot → ComesToPlace room asked old slot) where
   damage_part : (before after : Shown) (new : Session) (at want found : ℕ) → HasDamage least part before old after new at want found → HasDamage room asked before old after new at want found
   damage_part before after new at want found (inl (reads, inl (inl lacks))) = inl (reads, inl (inl (point lacks.0, lacks.1)))
-  damage_part before after new at want found (inl (reads, inl (inr (inl placed)))) = inl (reads, inl (inr (inl (record { files = placed.files; comes = place placed.files.slot placed.comes }))))
+  damage_part before after new at want found (inl (reads, inl (inr (inl placed)))) = inl (reads, inl (inr (inl (record { files = placed.files; comes = place placed.files.slot placed.comes; before = λ other. placed.before (never placed.files.slot) }))))
   damage_part before after new at want found (inl (reads, inl (inr (inr bad)))) = absurd (none bad.slot bad.snapshot bad.asks)
   damage_part before after new at want found (inl (reads, inr later)) = absurd (none later.read.slot later.read.snapshot later.read.asks)
   damage_part before after new at want found (inr (past, behind)) = absurd (none behind.read.slot behind.read.snapshot behind.read.asks)
 
 -- a point that makes room for a call
 pub damage_point : (asked : Asked) (room : ℕ) (old : Session) → PassesLimit old.pending room → (before after : Shown) (new : Session) (at want found : ℕ) → HasDamage 0 AsksPoint before old after new at want found → HasDamage room asked before old after new at want found
-damage_point asked room old past before after new at want found is = damage_part AsksPoint asked 0 room old point_table (λ comes. inr past) (λ slot comes. inr (inr past)) before after new at want found is
+damage_point asked room old past before after new at want found is = damage_part AsksPoint asked 0 room old point_table point_placing (λ comes. inr past) (λ slot comes. inr (inr past)) before after new at want found is
 
 -- room that is made for a call, whatever this asks for
 pub damage_room : (asked : Asked) (room : ℕ) (old : Session) (before after : Shown) (new : Session) (at want found : ℕ) → HasDamage room AsksNothing before old after new at want found → HasDamage room asked before old after new at want found
-damage_room asked room old before after new at want found is = damage_part AsksNothing asked room room old nothing_table comes_still places_still before after new at want found is
+damage_room asked room old before after new at want found is = damage_part AsksNothing asked room room old nothing_table nothing_placing comes_still places_still before after new at want found is
   where
     comes_still : ComesToPoint room AsksNothing old → ComesToPoint room asked old
     comes_still (inl is) = absurd (nothing_point is)
@@ -266,7 +253,7 @@ module _ (d : Shown) (s : Session) (fresh : IsNone s.failed) (slot : ℕ) (snaps
       session = n;
       read = read_for;
       pointed = p;
-      left = record { pending = left.pending; files = λ told. left.files (subst IsTrue tells told); same = λ told. left.same (subst IsTrue tells told); cores = left.cores; admits = left.admits; none = left.none; blocks = left.blocks };
+      left = record { next = left.next; pending = left.pending; files = λ told. left.files (subst IsTrue tells told); same = λ told. left.same (subst IsTrue tells told); cores = left.cores; admits = left.admits; none = left.none; blocks = left.blocks };
       bad = bad;
     },
   )

@@ -6,6 +6,7 @@ pub mod Rooms
 mod Asking
 pub mod Damages
 mod Calls
+pub mod Roots
 mod Standing
 mod Lent
 mod PointEnds

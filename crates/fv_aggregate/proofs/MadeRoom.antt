@@ -93,6 +93,7 @@ entries_still want first mid e k same is = subst (λ (i : Image). ReclaimsEntrie
 
 pointed_read : (want : ℕ) (first mid : Session) (e k : Shown) (m : Machine) → OnlyReads e k → StandsReady e mid → HasPointed want first e mid m → HasPointed want first k mid m
 pointed_read want first mid e k m reads stands is = record {
+  next = is.next;
   stands = stands_for_read e k mid mid.pool all_read m m is.stands;
   room = subst (λ (i : Image). LeavesRoom (view_at (root_found mid.pool.found) i) want) (sym reads.stays.reads) is.room;
   entries = entries_still want first mid e k reads.stays.reads is.entries;

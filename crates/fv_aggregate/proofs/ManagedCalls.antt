@@ -26,7 +26,7 @@ module _ (disk : Shown) (old : Session) (c : Command) (new : Session) (reply : R
   managed_goes room fresh stands = record {
     ends = same_ends disk;
     stands = λ none. over.stands stands;
-    done = record { was = fresh; goes_on = subst IsNone (sym over.failed) fresh; counts = same_counts disk };
+    done = record { was = fresh; goes_on = subst IsNone (sym over.failed) fresh; counts = same_counts disk; root = λ tells. inl over.found };
     fault = tt;
     pending = (let same = over.pending in omega (arith, same));
   }

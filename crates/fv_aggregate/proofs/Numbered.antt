@@ -121,7 +121,7 @@ module _ (d : Shown) (s : Session) (c : Command) (fresh : IsNone s.failed) (slot
 
   pub look_numbered : Looks slot e n c g new r → Looks slot d s c g new r
   look_numbered looks = record {
-    goes = goes_on_read u 0 0 d s e n read.goes none_added (AsksTable slot (snapshot_asked c)) (AsksTable slot (snapshot_asked c)) g new r read.only_reads same_pending (λ at want found is. damage_read d s fresh slot (snapshot_asked c) there e n read.read 0 g new at want found) looks.goes;
+    goes = goes_on_read u 0 0 d s e n read.goes none_added (AsksTable slot (snapshot_asked c)) (AsksTable slot (snapshot_asked c)) g new r read.only_reads same_pending read.read.pool.found (λ at want found is. damage_read d s fresh slot (snapshot_asked c) there e n read.read 0 g new at want found) looks.goes;
     asks = asks_then looks.asks;
     goes_for = for_then (λ m. m) looks.goes_for;
     reply = holds_then (λ m. IfOk r (Allows m c)) looks.reply;
@@ -133,7 +133,7 @@ module _ (d : Shown) (s : Session) (c : Command) (fresh : IsNone s.failed) (slot
 
   pub make_numbered : Makes file_room (AsksTable slot None) e n c g new r → Makes file_room (AsksTable slot None) d s c g new r
   make_numbered makes = record {
-    goes = goes_on_read u 0 16 d s e n read.goes none_added (AsksTable slot None) (AsksTable slot None) g new r read.only_reads same_pending (λ at want found is. damage_read d s fresh slot None there e n read.read 16 g new at want found) makes.goes;
+    goes = goes_on_read u 0 16 d s e n read.goes none_added (AsksTable slot None) (AsksTable slot None) g new r read.only_reads same_pending read.read.pool.found (λ at want found is. damage_read d s fresh slot None there e n read.read 16 g new at want found) makes.goes;
     goes_for = for_then (λ m. next m c) makes.goes_for;
     reply = holds_then (λ m. IfOk r (Allows m c)) makes.reply;
     refused = λ tells last m is. let first = read.goes_for tells last m is in refused_both r (makes.refused (told tells) first.done.point m first.done.stands);

@@ -188,7 +188,7 @@ module _ (d e : Shown) (laws : IsDisk d) (s : Session) (q : Pool) (slot : ℕ) (
 
   pub numbered_done : (u : Unit {0}) → NumbersState d s.pool x e q y (Ok u) → HasNumbered slot d s e now (Ok u)
   numbered_done u did = record {
-    goes = goes_done d e laws s now 0 did.reads.only_reads fresh fresh (stand (Ok u) did) u did.cause (omega arith);
+    goes = goes_done d e laws s now 0 did.reads.only_reads fresh fresh (stand (Ok u) did) u did.cause (omega arith) (λ tells. did.reads.leaves.found);
     asks = asks_it (Ok u) did;
     goes_for = λ tells last m is. goes_for_done d e laws s now 0 did.reads.only_reads fresh fresh (stand (Ok u) did) u last m m is (for_it (Ok u) did last m is);
     only_reads = did.reads.only_reads;

@@ -30,7 +30,7 @@ use Rattle.fv_cp.specs.Held.{machine_held, IsHeld}
 use Rattle.fv_cp.specs.Known.{AreKnown}
 use Rattle.fv_cp.specs.Lent.{blocks_asked, maps_waiting, HaveNoneWaiting, IsLentAt}
 use Rattle.fv_cp.specs.Placing.{pending_files, core_of, FailsToPlace, HaveNoFiles, KeepCores}
-use Rattle.fv_cp.specs.Points.{LacksRoom}
+use Rattle.fv_cp.specs.Points.{IsNextRoot, LacksRoom}
 use Rattle.fv_cp.proofs.Flushing.{files_there}
 use Rattle.fv_cp.specs.Settling.{GoesOnWhole, HaveFullRoom, IsHeldPoint, IsStill, OldOrHeld, StillHeld, WholeCounts, WholeFails}
 use Rattle.fv_disk.specs.declared.fault.BlockFault.TheVariants as block
@@ -50,8 +50,8 @@ use Rattle.fv_aggregate.specs.declared.session.Session.{Session}
 use Rattle.fv_aggregate.specs.declared.fault.Fault.TheVariants.{DiskFault, Damaged, Memory}
 use Rattle.fv_aggregate.specs.Adding.{HasRoom, IsPointed, StillAdmits}
 use Rattle.fv_aggregate.specs.Commands.{AsksPoint}
-use Rattle.fv_aggregate.specs.Calls.{Goes, GoesFor, HasFilesToPlace, IsForWant, KeepsAsking}
-use Rattle.fv_aggregate.proofs.Damages.{files_after, lacks_after}
+use Rattle.fv_aggregate.specs.Calls.{Goes, GoesFor, HasFilesToPlace, IsForWant, KeepsAsking, LacksBlocks}
+use Rattle.fv_aggregate.proofs.Damages.{lacks_after, may_after}
 use Rattle.fv_aggregate.specs.Standing.{clear_blocks, overheads_in, taken_since, unwritten, OneOf, StandsFor, StandsReady}
 use Rattle.fv_aggregate.proofs.Asking.{asked_unchanged, asks_more, asks_still, short_is}
 use Rattle.fv_aggregate.proofs.Clear.{clear_is_free, clear_stays, free_and_placed, none_held, none_placed}
@@ -117,8 +117,8 @@ pub both : (o : Option ℕ) (n : ℕ) → IsNone o → o ≡ Some n → ⊥
 both o n none some = cc
 
 pub point_done : (before : Shown) (old : Session) (after : Shown) (new : Session) → IsNone old.failed → IsNone new.failed → new.pending ≡ 0 → WholeCounts before after (Ok tt) → (pool : Pool) (states : States)
-    → GoesOnWhole before pool states after new.pool new.volumes → Goes {T = Unit {0}} 0 AsksPoint before old after new (Ok tt)
-point_done before old after new was now none counts pool states goes = record {
+    → pool ≡ old.pool → GoesOnWhole before pool states after new.pool new.volumes → Goes {T = Unit {0}} 0 AsksPoint before old after new (Ok tt)
+point_done before old after new was now none counts pool states same goes = record {
   ends = record { tells = counts.tells; given = counts.given; ends = counts.ends };
   stands = λ fresh. record {
     stands = record {
@@ -128,7 +128,12 @@ point_done before old after new was now none counts pool states goes = record {
     };
     ready = goes.ready;
   };
-  done = record { was = was; goes_on = now; counts = record { faults = counts.cause.0; write_faults = counts.cause.1 } };
+  done = record {
+    was = was;
+    goes_on = now;
+    counts = record { faults = counts.cause.0; write_faults = counts.cause.1 };
+    root = λ tells. inr (subst (λ (p : Pool). IsNextRoot p.found new.pool.found) same goes.next);
+  };
   fault = tt;
   pending = omega (arith, none);
 }
@@ -157,6 +162,11 @@ filed_as disk session at want found fresh fails = record {
   committed = fails.placed.committed;
   placed = fails.placed.entries;
   entries = fails.entries;
+  between = fails.between;
+  ahead = fails.ahead;
+  others = fails.placed.others;
+  rest = fails.placed.rest;
+  done = inl fails.done;
   first = λ none. (fails.first none).0;
   fails = fails.fails;
 }
@@ -204,23 +214,27 @@ module _ (before : Shown) (old : Session) (after : Shown) (new : Session) (has :
   pub still_asks : KeepsAsking 0 before old after new
   still_asks = λ tells kept asks fresh. asks_more after new kept 0 (asks_still before after old new kept reads still.placed.found still.placed.asked pending_same asks)
 
-  -- it lacks blocks, or a place for a file
+  -- it lacks blocks
+  wants_blocks : (at want found : ℕ) → IsNone old.failed → StandsReady before old → LacksRoom new.pool new.volumes (block.Damaged at want found) → LacksBlocks before old new at want found
+  wants_blocks at want found was stands lacks =
+      let place : at ≡ root_place old.pool.found.slot = lacks.0 ∙ ap (λ (f : Found). root_place f.slot) still.placed.found in
+      let asked : want ≡ blocks_asked old.volumes = lacks.1.0 ∙ still.placed.asked in
+      record {
+        fresh = was;
+        place = place;
+        asked = asked;
+        free = lacks.1.1.0;
+        short = lacks.1.1.1;
+        image = λ tells room asks. short_is before old new.pool room at want found tells stands asks still.placed.committed place asked lacks.1.1.0 lacks.1.1.1;
+        same = λ none. let idle = still.placed.idle none in parts ∙ (λ j. record old { pool = idle.0 j; volumes = idle.1 j });
+      }
+
+  -- or a place for a file
   pub still_wants : (at want found : ℕ) → IsNone old.failed → StandsReady before old → WholeFails before old.pool old.volumes new.pool new.volumes (cp.Damaged at want found) → IsForWant before old after new (Damaged at want found)
   still_wants at want found was stands fails = (
     reads,
     ⊎_elim
-        (λ (lacks : LacksRoom new.pool new.volumes (block.Damaged at want found)).
-        let place : at ≡ root_place old.pool.found.slot = lacks.0 ∙ ap (λ (f : Found). root_place f.slot) still.placed.found in
-        let asked : want ≡ blocks_asked old.volumes = lacks.1.0 ∙ still.placed.asked in
-        inl (record {
-          fresh = was;
-          place = place;
-          asked = asked;
-          free = lacks.1.1.0;
-          short = lacks.1.1.1;
-          image = λ tells room asks. short_is before old new.pool room at want found tells stands asks still.placed.committed place asked lacks.1.1.0 lacks.1.1.1;
-          same = λ none. let idle = still.placed.idle none in parts ∙ (λ j. record old { pool = idle.0 j; volumes = idle.1 j });
-        }))
+        (λ (lacks : LacksRoom new.pool new.volumes (block.Damaged at want found)). inl (wants_blocks at want found was stands lacks))
         (λ (lacks : FailsToPlace before old.pool old.volumes (cp.Damaged at want found)). inr (filed_as before old at want found was lacks))
         fails,
   )
@@ -234,8 +248,34 @@ module _ (before : Shown) (old : Session) (after : Shown) (new : Session) (has :
     fault = record {
       reason = inl (
         reads,
-        inl (⊎_elim (λ lacks. inl (inl refl, lacks_after before after reads.stays.tells reads.stays.reads counts.cause.0 old at want found new lacks))
-            (λ lacks. inr (inl (record { files = files_after before after reads.stays.tells reads.stays.reads counts.cause.0 old at want found lacks; comes = inr (inl refl) }))) (still_wants at want found was stands fails).1),
+        inl (⊎_elim
+            (λ (lacks : LacksRoom new.pool new.volumes (block.Damaged at want found)).
+            inl (inl refl, lacks_after before after reads.stays.tells reads.stays.reads counts.cause.0 old at want found new (wants_blocks at want found was stands lacks)))
+            (λ (lacks : FailsToPlace before old.pool old.volumes (cp.Damaged at want found)).
+            inr (inl (record {
+              files = record {
+                fresh = was;
+                files = files_there before old.pool old.volumes (cp.Damaged at want found) lacks;
+                slot = lacks.slot;
+                state = lacks.state;
+                there = lacks.own;
+                mid = lacks.mid;
+                root = lacks.placed.found;
+                committed = lacks.placed.committed;
+                placed = lacks.placed.entries;
+                entries = lacks.entries;
+                between = lacks.between;
+                ahead = lacks.ahead;
+                others = lacks.placed.others;
+                rest = lacks.placed.rest;
+                done = inl lacks.done;
+                first = λ none. (lacks.first none).0;
+                fails = may_after before after reads.stays.tells reads.stays.reads counts.cause.0 lacks.mid lacks.state at want found lacks.fails;
+              };
+              comes = inr (inl refl);
+              before = λ other. lacks.done;
+            })))
+            fails),
       );
       counts = record { faults = counts.cause.0; write_faults = counts.cause.1 };
       session = subst IsNone (sym failed_same) was;
@@ -321,6 +361,7 @@ pub pointed_left : (before : Shown) (old : Session) (after : Shown) (new : Sessi
 pointed_left before old after new pool states none same_pool same_states long goes =
     let cores : KeepCores old.volumes new.volumes = subst (λ (xs : States). KeepCores xs new.volumes) same_states goes.cores in
     record {
+      next = subst (λ (p : Pool). IsNextRoot p.found new.pool.found) same_pool goes.next;
       pending = none;
       files = λ tells. record { none = goes.none; taken = none_held new.pool.map (goes.loaded tells).same };
       same = λ tells. (goes.loaded tells).same;

@@ -1,6 +1,6 @@
 -- A command that changes a file, with the point that its room asks for: it is judged, room is made, and it is carried out.
 use Rattle.std.proofs.Common.{◌≡◌, ◌<◌, ◌≤◌, ◌+◌, ℕ, List, [], Option, Some, None, Result, Ok, Err, true≢false, refl, sym, ap, subst, ◌∙◌, arith}
-use Rattle.std.specs.Prelude.{IfErr, IfOk, IsNone, IsSome, IsTrue}
+use Rattle.std.specs.Prelude.{IfErr, IfOk, IsNone, IsSome, IsTrue, OnOk}
 use Rattle.std.specs.Option.{option_map}
 use Rattle.fv_disk.specs.Shown.{Shown}
 use Rattle.fv_model.specs.declared.answers.Refusal.{Refusal}
@@ -18,12 +18,13 @@ use Rattle.fv_aggregate.specs.declared.fault.Fault.{Fault}
 use Rattle.fv_aggregate.specs.declared.fault.Fault.TheVariants.{Damaged}
 use Rattle.fv_aggregate.specs.declared.session.Session.{Session}
 use Rattle.fv_aggregate.specs.Adding.{IsPointed}
-use Rattle.fv_aggregate.specs.Calls.{Goes, GoesFor, WasRead}
+use Rattle.fv_aggregate.specs.Calls.{Goes, GoesFor, KeepsRoot, WasRead}
 use Rattle.fv_aggregate.specs.Commands.{AsksNothing, AsksTable, dirty_limit, file_room, is_refusal}
 use Rattle.fv_aggregate.specs.Looking.{refusal_in, HasJudged, IsChangeAt, IsTableFault, Makes}
 use Rattle.fv_aggregate.specs.Standing.{StandsFor}
 use Rattle.fv_aggregate.proofs.Holes.{never_within}
 use Rattle.fv_aggregate.proofs.Damages.{damage_behind, damage_read, damage_room}
+use Rattle.fv_aggregate.proofs.Roots.{found_read, keeps_earlier, keeps_later}
 use Rattle.fv_aggregate.proofs.CallEnds.{fails_early, goes_after, goes_for_after, replies_wider}
 use Rattle.fv_aggregate.proofs.Changing.{change_done, judged_accepted}
 use Rattle.fv_aggregate.proofs.Missing.{refused_allows, refused_next}
@@ -63,7 +64,7 @@ module _ (d : Shown) (s : Session) (c : Command) (past : dirty_limit < s.pending
   pub room_failed : (f : Fault) → Goes {T = Unit {0}} 16 AsksNothing e n g p (Err f) → (IsTrue e.tells → (last m : Machine) → StandsFor e n last m → GoesFor {T = Unit {0}} e last m m g p (Err f)) → Makes file_room (AsksTable slot None) d s c g p (Err f)
   room_failed f goes goes_for = record {
     goes = goes_after reply 16 16 d s e n (replies_wider reply reply 16 d s e n judged.goes) none_added AsksNothing (AsksTable slot None) g p (Err f) past
-        (λ at want found is damage. damage_read d s fresh slot None there e n judged.read 16 g p at want found (damage_room (AsksTable slot None) 16 n e g p at want found damage)) (fails_as goes);
+        (λ at want found is damage. damage_read d s fresh slot None there e n judged.read 16 g p at want found (damage_room (AsksTable slot None) 16 n e g p at want found damage)) tt (fails_as goes);
     goes_for = λ tells last m is.
         let first = judged.goes_for tells last m is in
         fails_early d last m (next m c) g p f (goes_for_after reply d e g n p last m m first judged.goes.ends.given (Err f) (goes_for (told tells) first.done.point m first.done.stands));
@@ -80,7 +81,7 @@ module _ (d : Shown) (s : Session) (c : Command) (past : dirty_limit < s.pending
   module _ (name : List ℕ) (change : IsChangeOf name c) (other : refusal_in reply ≡ None) (u : Unit {0}) (goes : Goes 16 AsksNothing e n g p (Ok u)) (less : p.pending ≤ n.pending)
       (goes_for : IsTrue e.tells → (last m : Machine) → StandsFor e n last m → GoesFor e last m m g p (Ok u)) (h : Shown) (new : Session) where
     both : Goes 16 AsksNothing d s g p (Ok u)
-    both = goes_after reply 16 16 d s e n (replies_wider reply reply 16 d s e n judged.goes) none_added AsksNothing AsksNothing g p (Ok u) past (λ at want found is. absurd (done_fails at want found is)) goes
+    both = goes_after reply 16 16 d s e n (replies_wider reply reply 16 d s e n judged.goes) none_added AsksNothing AsksNothing g p (Ok u) past (λ at want found is. absurd (done_fails at want found is)) (λ tells. keeps_later s n p judged.read.pool.found (goes.done.root (told tells))) goes
       where
         done_fails : (at want found : ℕ) → ◌≡◌ {A = Result (Unit {0}) Fault} (Ok u) (Err (Damaged at want found)) → ⊥
         done_fails at want found is = cc
@@ -98,10 +99,16 @@ module _ (d : Shown) (s : Session) (c : Command) (past : dirty_limit < s.pending
     not_refused m accepted (Err f) allowed = tt
     not_refused m accepted (Ok y) allowed = λ refused. absurd (true≢false (sym refused ∙ ap is_refusal (change_done name c change m y accepted allowed)))
 
+    -- the point was the only one
+    root_made : IsPointed e n p → (result : Result Reply Fault) → Makes file_room (AsksTable slot None) g p c h new result → OnOk result (IsTrue d.tells → KeepsRoot s new)
+    root_made left (Err f) makes = tt
+    root_made left (Ok y) makes = λ tells.
+        keeps_earlier s p new (both.done.root tells) (found_read g h p new (makes.calm (let none = left.pending in omega (arith, none))) (told_then tells) (both.stands both.done.goes_on) (makes.goes.stands makes.goes.done.goes_on))
+
     pub made_after : IsPointed e n p → (result : Result Reply Fault) → IfErr result (IsTableFault (AsksTable slot None) h p new) → Makes file_room (AsksTable slot None) g p c h new result → Makes file_room (AsksTable slot None) d s c h new result
     made_after left result bad makes = record {
       goes = goes_after u 16 16 d s g p both (omega (arith, less, none_added)) (AsksTable slot None) (AsksTable slot None) h new result past
-          (λ at want found is damage. damage_behind d s fresh slot None there e n judged.read 16 h new at want found (omega arith, past) (makes.goes.ends.tells ∙ goes.ends.tells) p left (subst (λ (r : Result Reply Fault). IfErr r (IsTableFault (AsksTable slot None) h p new)) is bad)) makes.goes;
+          (λ at want found is damage. damage_behind d s fresh slot None there e n judged.read 16 h new at want found (omega arith, past) (makes.goes.ends.tells ∙ goes.ends.tells) p left (subst (λ (r : Result Reply Fault). IfErr r (IsTableFault (AsksTable slot None) h p new)) is bad)) (root_made left result makes) makes.goes;
       goes_for = λ tells last m is.
           let first = both_for tells last m is in
           goes_for_after u d g h p new last m (next m c) first both.ends.given result (makes.goes_for (told_then tells) first.done.point m first.done.stands);

@@ -177,10 +177,16 @@ module _ {D : Type 0} (d : Shown) (disk : D) (laws : IsDisk d) (s : Session) (fr
             committed = refl;
             placed = (passed_none d s.pool s.volumes fit stands.ready stands.stands.cache).come.placed.entries;
             entries = refl;
+            between = s.volumes;
+            ahead = λ k behind. (refl, refl);
+            others = λ k. refl;
+            rest = λ k none. (refl, refl);
+            done = inr (refl, refl);
             first = λ none. refl;
             fails = may;
           };
           comes = inl asks;
+          before = λ other. absurd (other asks);
         })
         (λ last m is.
         let full = has_full_room d s last m is in
@@ -203,7 +209,7 @@ module _ {D : Type 0} (d : Shown) (disk : D) (laws : IsDisk d) (s : Session) (fr
         (λ last m is. snapped_for d s q slot x did.done.mid y there slot_is fit did.done.placed step ready room (map_blocks x.span) waits pending enough (held_at q y (did.held (held last m is))) last m (SnapCreate x.name name) is (agreed last m is) (becomes last m is))
         (λ last m is. made_allows m x.name name (agreed last m is))
         (files_stay q did.done.mid y did.done.placed (ap (λ (z : VolumeState). z.files) did.done.now ∙ did.done.none) room)
-        (⊎_elim (λ none. absurd (true≢false none)) (λ without. ap (λ (p : Pool). p.map) (pool_stays q did.done.mid y did.done.placed without)))
+        (⊎_elim (λ none. absurd (true≢false none)) (λ without. ap (λ (p : Pool). p.map) (pool_stays q did.done.mid y did.done.placed without))) stands
       where
         step : IsStepped did.done.mid y
         step = snapped_step d s.pool x q name y did.done tells.waits
@@ -260,7 +266,7 @@ module _ {D : Type 0} (d : Shown) (disk : D) (laws : IsDisk d) (s : Session) (fr
         (λ last m is. snapped_for d s q slot x did.done.mid y there slot_is fit did.done.placed step ready room 0 waits pending (inl (refl, nothing)) (held_at q y (did.held (held last m is))) last m (SnapDelete x.name name) is (agreed last m is) (becomes last m is))
         (λ last m is. removed_allows m x.name name (agreed last m is))
         (files_stay q did.done.mid y did.done.placed (ap (λ (z : VolumeState). z.files) did.done.now ∙ did.done.none) room)
-        (⊎_elim (λ none. absurd (true≢false none)) (λ without. ap (λ (p : Pool). p.map) (pool_stays q did.done.mid y did.done.placed without)))
+        (⊎_elim (λ none. absurd (true≢false none)) (λ without. ap (λ (p : Pool). p.map) (pool_stays q did.done.mid y did.done.placed without))) stands
       where
         step : IsStepped did.done.mid y
         step = unsnapped_step d s.pool x q name y did.done
@@ -304,7 +310,7 @@ module _ {D : Type 0} (d : Shown) (disk : D) (laws : IsDisk d) (s : Session) (fr
         (λ last m is. stepped_for d s slot x y there slot_is long step ready room 0 waits pending (inl (refl, nothing)) (held_at s.pool y (did.held (held last m is))) last m (SnapRestore x.name name) is (agreed last m is) (becomes last m is))
         (λ last m is. turned_allows m x.name name (agreed last m is))
         (λ without. record { none = none_with s.volumes slot y inside none without.none; taken = without.taken })
-        (λ which. refl)
+        (λ which. refl) stands
       where
         none : y.files ≡ None
         none = ap (λ (z : VolumeState). z.files) did.done.now

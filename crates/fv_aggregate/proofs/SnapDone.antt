@@ -23,6 +23,7 @@ use Rattle.fv_aggregate.proofs.Holes.{kept_entries}
 use Rattle.fv_aggregate.proofs.Applying.{same_map}
 use Rattle.fv_aggregate.proofs.CallEnds.{goes_damaged, goes_done, goes_for_done, goes_for_fault, goes_wanting}
 use Rattle.fv_aggregate.proofs.Calls.{reads_itself}
+use Rattle.fv_aggregate.proofs.Roots.{found_stands}
 use Rattle.fv_aggregate.proofs.Missing.{refused_allows, refused_next}
 
 -- A command for which there is room was carried out. Without a file in memory memory alone can lack, and a snapshot that was accepted is made.
@@ -40,7 +41,7 @@ pub refused_snapped : {D : Type 0} (d : Shown) (disk : D) (laws : IsDisk d) (s :
     → HasSnapped d disk s c d disk s (Ok (Refused r))
 refused_snapped d disk laws s fresh stands c r why = record {
   makes = record {
-    goes = goes_done d d laws s s (room_by s.volumes c) (reads_itself d) fresh fresh stands (Refused r) refl (omega arith);
+    goes = goes_done d d laws s s (room_by s.volumes c) (reads_itself d) fresh fresh stands (Refused r) refl (omega arith) (λ tells. refl);
     goes_for = λ tells last m is. subst (λ (n : Machine). GoesFor d last m n d s (Ok (Refused r))) (sym (refused_next m c r (why last m is)))
         (goes_for_done d d laws s s (room_by s.volumes c) (reads_itself d) fresh fresh stands (Refused r) last m m is is);
     reply = λ tells last m is. refused_allows m c r (why last m is);
@@ -65,11 +66,11 @@ module _ {D : Type 0} (d : Shown) (disk : D) (laws : IsDisk d) (s : Session) (fr
 
   module _ (after : Session) (still : IsNone after.failed) (stands : StandsReady d after) (few : after.pending ≤ s.pending + room_by s.volumes c) (numbers : KeepsNumbersBut (MayLose c s.volumes) s.volumes after.volumes) (entries : KeepsEntries s after) where
     pub carried_done : ((last m : Machine) → StandsFor d s last m → StandsFor d after last (next m c)) → ((last m : Machine) → StandsFor d s last m → Allows m c Done) → (IsWithoutFiles s → IsWithoutFiles after)
-        → ((places_files c ≡ false) ⊎ IsWithoutFiles s → after.pool.map ≡ s.pool.map) → IsCarried d disk s c room after (Ok Done)
-    carried_done for allowed files map = record {
+        → ((places_files c ≡ false) ⊎ IsWithoutFiles s → after.pool.map ≡ s.pool.map) → StandsReady d s → IsCarried d disk s c room after (Ok Done)
+    carried_done for allowed files map stood = record {
       snapped = record {
         makes = record {
-          goes = goes_done d d laws s after (room_by s.volumes c) (reads_itself d) fresh still stands Done refl few;
+          goes = goes_done d d laws s after (room_by s.volumes c) (reads_itself d) fresh still stands Done refl few (λ tells. found_stands d s after tells stood stands);
           goes_for = λ tells last m is. goes_for_done d d laws s after (room_by s.volumes c) (reads_itself d) fresh still stands Done last m (next m c) is (for last m is);
           reply = λ tells last m is. allowed last m is;
           refused = λ tells last m is refused. absurd (true≢false (sym refused));

@@ -1,6 +1,6 @@
 -- A command on snapshots with the point that its room asks for: it is judged, room is made, and it is carried out.
 use Rattle.std.proofs.Common.{◌≡◌, ◌≢◌, ◌<◌, ◌≤◌, ◌+◌, ◌-◌, ℕ, true, false, List, [], ◌∷◌, length, map, Option, Some, None, Result, Ok, Err, inl, inr, true≢false, refl, sym, ap, subst, ◌∙◌, arith}
-use Rattle.std.specs.Prelude.{IfErr, IfOk, IsNone, IsTrue}
+use Rattle.std.specs.Prelude.{IfErr, IfOk, IsNone, IsTrue, OnOk}
 use Rattle.std.specs.Option.{option_map}
 use Rattle.fv_disk.specs.Shown.{Shown}
 use Rattle.fv_model.specs.declared.answers.Refusal.{Refusal}
@@ -29,7 +29,7 @@ use Rattle.fv_aggregate.specs.declared.fault.Fault.{Fault}
 use Rattle.fv_aggregate.specs.declared.fault.Fault.TheVariants.{Damaged, Memory}
 use Rattle.fv_aggregate.specs.declared.session.Session.{Session}
 use Rattle.fv_aggregate.specs.Adding.{IsPointed}
-use Rattle.fv_aggregate.specs.Calls.{Goes, GoesFor, HasDamage, IsForWant, IsWithinLimit}
+use Rattle.fv_aggregate.specs.Calls.{Goes, GoesFor, HasDamage, IsForWant, IsWithinLimit, KeepsRoot}
 use Rattle.fv_aggregate.specs.Commands.{asked_by, AsksNothing, dirty_limit, is_refusal, loses_numbers, places_files, room_by, snapped_by}
 use Rattle.fv_aggregate.specs.Known.{KeepsNumbers}
 use Rattle.fv_aggregate.specs.Looking.{HasSnapped, IsSnapAimed}
@@ -40,6 +40,7 @@ use Rattle.fv_aggregate.proofs.Calls.{goes_as}
 use Rattle.fv_aggregate.proofs.Changed.{beside, has_within, mine}
 use Rattle.fv_aggregate.proofs.Commits.{commits_kept, commits_still}
 use Rattle.fv_aggregate.proofs.Damages.{damage_room}
+use Rattle.fv_aggregate.proofs.Roots.{found_stands, keeps_earlier}
 use Rattle.fv_aggregate.proofs.Keeping.{keeps_but}
 use Rattle.fv_aggregate.proofs.SnapCommands.{aimed_room, snap_cases}
 use Rattle.fv_aggregate.proofs.SnapDone.{IsCarried}
@@ -233,10 +234,15 @@ module _ {D : Type 0} (d : Shown) (disk : D) (s : Session) (c : Command) (room :
         none : (name : List ℕ) → ◌≡◌ {A = Option (List ℕ)} None (Some name) → ⊥
         none name e = cc
 
+    -- the point was the only one
+    root_carried : (r : Result Reply Fault) → Goes (room_by n.volumes c) (asked_by n.volumes c) e n e new r → OnOk r (IsTrue d.tells → KeepsRoot s new)
+    root_carried (Ok y) next = λ tells. keeps_earlier s n new (goes.done.root tells) (found_stands e n new (told tells) (goes.stands goes.done.goes_on) (next.stands next.done.goes_on))
+    root_carried (Err f) next = tt
+
     pub snap_roomy : HasSnapped d disk s c e mid new result
     snap_roomy = record {
       makes = record {
-        goes = goes_after u room (room_by s.volumes c) d s e n goes less (asked_by n.volumes c) (asked_by s.volumes c) e new result (omega (arith, past, exact)) (λ at want found is damage. absurd (wants_none at want found (subst (λ (r : Result Reply Fault). IfErr r (λ f. f ≡ Memory)) is (carried.placed pointed.none)))) (subst (λ (k : ℕ). Goes k (asked_by n.volumes c) e n e new result) still carried.snapped.makes.goes);
+        goes = goes_after u room (room_by s.volumes c) d s e n goes less (asked_by n.volumes c) (asked_by s.volumes c) e new result (omega (arith, past, exact)) (λ at want found is damage. absurd (wants_none at want found (subst (λ (r : Result Reply Fault). IfErr r (λ f. f ≡ Memory)) is (carried.placed pointed.none)))) (root_carried result carried.snapped.makes.goes) (subst (λ (k : ℕ). Goes k (asked_by n.volumes c) e n e new result) still carried.snapped.makes.goes);
         goes_for = λ tells last m is.
             let first = goes_for tells last m is in
             goes_for_after u d e e n new last m (next m c) first goes.ends.given result (carried.snapped.makes.goes_for (told tells) first.done.point m first.done.stands);

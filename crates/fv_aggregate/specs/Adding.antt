@@ -12,6 +12,7 @@ use Rattle.fv_volume.specs.States.{state_at}
 use Rattle.fv_volume.specs.Files.{IsLabelled}
 use Rattle.fv_cp.specs.Lent.{FitTogether, blocks_asked, maps_waiting}
 use Rattle.fv_cp.specs.Placing.{pending_files, HaveNoFiles, KeepCores}
+use Rattle.fv_cp.specs.Points.{IsNextRoot}
 use Rattle.fv_aggregate.specs.declared.session.Session.{Session}
 use Rattle.fv_aggregate.specs.Standing.{clear_blocks, overheads_in, IsWithoutFiles}
 
@@ -23,9 +24,11 @@ HasRoom disk session room = overheads (view_at (root_found session.pool.found) d
 abbrev pub StillAdmits : Session → Session → Type 0
 StillAdmits old new = (name : List ℕ) (size : ℕ) (kind : Kind) (slot span : ℕ) → Admits old.volumes old.pool.found.blocks name size kind slot span → Admits new.volumes new.pool.found.blocks name size kind slot span
 
--- What a consistency point that was done leaves of a session, also over an image that stands for no machine: nothing is pending, no file is in
--- memory, the next root would hold what the new one does, and of the volumes stays what placing and points keep.
+-- What a consistency point that was done leaves of a session, also over an image that stands for no machine: another root counts, nothing is
+-- pending, no file is in memory, the next root would hold what the new one does, and of the volumes stays what placing and points keep.
 pub record IsPointed (before : Shown) (old new : Session) : Type 0 where
+  -- the point was made: the root that counts is the one after that of before
+  pub next : IsNextRoot old.pool.found new.pool.found
   pub pending : new.pending ≡ 0
   pub files : IsTrue before.tells → IsWithoutFiles new
   pub same : IsTrue before.tells → new.pool.map.next ≡ new.pool.map.committed

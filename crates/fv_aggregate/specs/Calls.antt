@@ -16,6 +16,7 @@ use Rattle.fv_volume.specs.Slots.{HasName, NoneHasName}
 use Rattle.fv_volume.specs.Snaps.{names_kept}
 use Rattle.fv_volume.specs.States.{States, state_at}
 use Rattle.fv_cp.specs.Placing.{HaveNoFiles, IsSpareEntry, PlacesEntries}
+use Rattle.fv_cp.specs.Points.{IsNextRoot}
 use Rattle.fv_aggregate.specs.declared.fault.Fault.{Fault}
 use Rattle.fv_aggregate.specs.declared.fault.Fault.TheVariants.{DiskFault, Damaged, Memory, Failed}
 use Rattle.fv_aggregate.specs.declared.session.Session.{Session}
@@ -79,11 +80,16 @@ IsNoDamage fault = Unit {0}
 
 -- ---- calls
 
+-- at most one consistency point was made: the root that counts is that of before, or the one after it
+abbrev pub KeepsRoot : Session → Session → Type 0
+KeepsRoot old new = (new.pool.found ≡ old.pool.found) ⊎ IsNextRoot old.pool.found new.pool.found
+
 -- a call was done
 pub record IsDone (before : Shown) (old : Session) (after : Shown) (new : Session) : Type 0 where
   pub was : IsNone old.failed
   pub goes_on : IsNone new.failed
   pub counts : SameCounts before after
+  pub root : IsTrue before.tells → KeepsRoot old new
 
 -- What a call does that may add `room` blocks, and asks for this, whatever the disk tells. So many it counts at most as pending, whether it
 -- was done or not.

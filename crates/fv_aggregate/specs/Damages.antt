@@ -1,5 +1,5 @@
 -- What is damaged where a call of a session answers so: blocks are lacking, files couldn't be placed, or a table isn't as it has to be.
-use Rattle.std.specs.Prelude.{◌≡◌, ◌<◌, ◌+◌, ◌⊎◌, ℕ, IsTrue, IsNone, IsSome, List, Option, Some}
+use Rattle.std.specs.Prelude.{◌≡◌, ◌≢◌, ◌<◌, ◌≤◌, ◌+◌, ◌⊎◌, ℕ, IsTrue, IsNone, IsSome, List, Option, Some}
 use Rattle.fv_disk.specs.Shown.{Shown}
 use Rattle.fv_disk.specs.DiskCalls.{OnlyReads}
 use Rattle.fv_disk.specs.declared.fault.BlockFault.TheVariants as block
@@ -15,9 +15,9 @@ use Rattle.fv_volume.specs.declared.state.VolumeState.{VolumeState}
 use Rattle.fv_volume.specs.declared.tables.TableAsked.{TableAsked}
 use Rattle.fv_volume.specs.Asking.{standing_of, table_named, TellsAsked}
 use Rattle.fv_volume.specs.OneVolume.{home_in}
-use Rattle.fv_volume.specs.States.{state_at}
+use Rattle.fv_volume.specs.States.{States, state_at}
 use Rattle.fv_cp.specs.Lent.{blocks_asked}
-use Rattle.fv_cp.specs.Placing.{HasNoFiles, HaveNoFiles, MayFail, PlacesEntries}
+use Rattle.fv_cp.specs.Placing.{AreButPlaced, HaveNoFiles, HaveNoneBefore, MayFail, PlacesEntries, RestsPlaced}
 use Rattle.fv_aggregate.specs.declared.session.Session.{Session}
 use Rattle.fv_aggregate.specs.Adding.{IsPointed}
 use Rattle.fv_aggregate.specs.Asking.{AsksWithin, IsShort}
@@ -38,8 +38,9 @@ pub record LacksBlocks (before : Shown) (old new : Session) (at want found : ℕ
   pub image : IsTrue before.tells → (room : ℕ) → AsksWithin before old room → IsShort before.reads room (taken_since new.pool.map) at want found
   pub same : HaveNoFiles old.volumes → new ≡ old
 
--- The files of a volume of the session couldn't be placed, since no number of the volume was free, or no block. What the volumes share was `mid` then:
--- the files of the slots before it were placed, its own entries stayed, and where none of those slots has files in memory all did.
+-- The files of a volume of the session couldn't be placed, since no number of the volume was free, or no block. What the volumes share was `mid` then,
+-- and the volumes were `between`: this one and each behind it as before, with their containers, and those before it too, but for the placing of their
+-- files, none of which is in memory any more; or nothing was placed before. Where none of those slots has files in memory all stayed.
 pub record HasFilesToPlace (disk : Shown) (session : Session) (at want found : ℕ) : Type 0 where
   pub fresh : IsNone session.failed
   pub files : HaveNoFiles session.volumes → ⊥
@@ -51,7 +52,12 @@ pub record HasFilesToPlace (disk : Shown) (session : Session) (at want found : �
   pub committed : mid.map.committed ≡ session.pool.map.committed
   pub placed : PlacesEntries session.pool.map session.pool.containers mid.containers
   pub entries : container_at mid.containers slot ≡ container_at session.pool.containers slot
-  pub first : ((s : ℕ) → s < slot → HasNoFiles (state_at session.volumes s)) → mid ≡ session.pool
+  pub between : States
+  pub ahead : (s : ℕ) → slot ≤ s → (state_at between s ≡ state_at session.volumes s) × (container_at mid.containers s ≡ container_at session.pool.containers s)
+  pub others : AreButPlaced session.volumes between
+  pub rest : RestsPlaced session.pool session.volumes mid between
+  pub done : HaveNoneBefore between slot ⊎ ((mid ≡ session.pool) × (between ≡ session.volumes))
+  pub first : HaveNoneBefore session.volumes slot → mid ≡ session.pool
   pub fails : MayFail disk mid (Some state) (volume.Damaged at want found)
 
 -- ---- in a table
@@ -90,10 +96,12 @@ ComesToPoint room asked session = (asked ≡ AsksPoint) ⊎ PassesLimit session.
 abbrev pub ComesToPlace : ℕ → Asked → Session → ℕ → Type 0
 ComesToPlace room asked session slot = (asked ≡ AsksPlacing slot) ⊎ ComesToPoint room asked session
 
--- a call that places files found those of a volume that couldn't be placed
+-- A call that places files found those of a volume that couldn't be placed. But where it places this volume by itself, those of the slots before it
+-- were placed.
 pub record HasUnplaced (room : ℕ) (asked : Asked) (disk : Shown) (session : Session) (at want found : ℕ) : Type 0 where
   pub files : HasFilesToPlace disk session at want found
   pub comes : ComesToPlace room asked session files.slot
+  pub before : asked ≢ AsksPlacing files.slot → HaveNoneBefore files.between files.slot
 
 -- Blocks are lacking for a point, or files couldn't be placed, where a call that may add `room` blocks comes to that; or the table that it
 -- asks for isn't as it has to be.

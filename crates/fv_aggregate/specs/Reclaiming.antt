@@ -24,7 +24,7 @@ use Rattle.fv_cp.specs.Choosing.{CountsMissing, regions_chosen, LeavesRoom}
 use Rattle.fv_cp.specs.Settling.{OldOrHeld}
 use Rattle.fv_disk.specs.Crash.{Leaves}
 use Rattle.fv_cp.specs.Placing.{HaveNoFiles, AreButPlaced, LeavesUnused, PlacesEntries, RestsPlaced}
-use Rattle.fv_cp.specs.Points.{is_due}
+use Rattle.fv_cp.specs.Points.{is_due, IsNextRoot}
 use Rattle.fv_aggregate.specs.declared.fault.Fault.{Fault}
 use Rattle.fv_aggregate.specs.declared.fault.Fault.TheVariants.{Memory}
 use Rattle.fv_aggregate.specs.declared.session.Session.{Session}
@@ -71,9 +71,10 @@ pub record ReclaimsEntries (want : ℕ) (old : Session) (after : Shown) (new : S
   pub others : (s v : ℕ) (x : VolumeState) (map : Mapped) → s < slot_count → state_at between s ≡ Some x → container_at mid.containers s ≡ Some map → writes_map (regions_chosen mid between want) s x v ≡ false
       → entry_shown after new s v ≡ shown_as after (if goes_with x.map map (has_region (regions_chosen mid between want) s) v then None else entry_under map v)
 
--- What a point leaves that was done in a session that stood for a machine: it stands for that, and so does the image. The space rule holds, with
--- the room that was wanted where the commits leave that.
+-- What a point leaves that was done in a session that stood for a machine: another root counts, the session stands for that machine, and so does the
+-- image. The space rule holds, with the room that was wanted where the commits leave that.
 pub record HasPointed (want : ℕ) (old : Session) (after : Shown) (new : Session) (m : Machine) : Type 0 where
+  pub next : IsNextRoot old.pool.found new.pool.found
   pub stands : StandsFor after new m m
   pub room : LeavesRoom (view_at (root_found new.pool.found) after.reads) want
   pub entries : ReclaimsEntries want old after new

@@ -192,7 +192,8 @@ impl Session {
         }
     }
 
-    /// Makes the session's machine that of the image: afterwards the disk is settled, and a crash leaves this machine.
+    /// Makes the session's machine that of the image: afterwards the disk is settled, and a crash leaves this machine. Also without changes another
+    /// root counts then, one generation on.
     ///
     /// # Errors
     /// As of `apply`: what fails, what a session does then, and what stays.

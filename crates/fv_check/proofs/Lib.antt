@@ -3,3 +3,5 @@ mod Passed
 mod Counting
 mod Damaged
 mod Answered
+mod Lent
+mod Caching

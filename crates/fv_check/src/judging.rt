@@ -16,6 +16,7 @@ ghost use Rattle.fv_second_pass.specs.Told.{IsKnown, IsPassed};
 ghost use Rattle.fv_third_pass.specs.Surveys.{HasRange, IsSurveyOf, layout_of};
 ghost use Rattle.fv_check.specs.Judged.{IsJudged};
 
+use crate::cached::Cached;
 use crate::totals::count_totals;
 use fv_disk::Disk;
 use fv_faults::Lines;
@@ -23,8 +24,12 @@ use fv_first_pass::{CheckFault, Known, Verdict, note_roots, pass_one};
 use fv_fourth_pass::pass_four;
 use fv_root::{Found, RootFault, find_root};
 use fv_second_pass::pass_two;
+use fv_store::Store;
 use fv_third_pass::{Survey, pass_three};
 use std::alloc::Global;
+
+/// How many blocks the passes after the first hold at once, 64 MB of them. Memory is taken as blocks come.
+const HELD_BLOCKS: usize = 16_384;
 
 /// Whether there is a line. Lines stand in their order.
 fn has_lines(lines: &Lines) -> bool
@@ -78,7 +83,7 @@ fn judge_walked<D: Disk>(
 }
 
 /// Makes the passes after the first, by what that one read.
-fn judge_read<D: Disk>(
+fn judge_known<D: Disk>(
     alloc: Global,
     disk: &mut D,
     root: &Found,
@@ -108,6 +113,56 @@ fn judge_read<D: Disk>(
     judge_walked(alloc, disk, &survey, second)
 }
 
+/// Makes these passes through a cache, which stands over the same disk afterwards.
+#[tactic(auto, using(crate::proofs::Lent::same_loan, crate::proofs::Lent::read_back))]
+fn judge_held<D: Disk>(
+    alloc: Global,
+    cached: &mut Cached<'_, '_, D>,
+    root: &Found,
+    known: &Known,
+    lines: Lines,
+) -> Result<Verdict, CheckFault>
+    requires size { IsInRange root.now }
+    requires known { IsKnown known.now }
+    requires clean { lines.lines.keys ≡ [] }
+    ensures same { cached.new.disk.ghost_name ≡ cached.old.disk.ghost_name }
+    ensures says { IsTrue (D.shown cached.old.disk.now).tells
+        → IsPassed (root_found root.now) (D.shown cached.old.disk.now).reads known.now
+        → IfOk result (IsJudged (layout_at (root_found root.now) (D.shown cached.old.disk.now).reads).view
+        (or_next (second_pass (layout_at (root_found root.now) (D.shown cached.old.disk.now).reads))
+        (or_next (third_pass (layout_at (root_found root.now) (D.shown cached.old.disk.now).reads))
+        (fourth_pass (root_place root.now.slot) (layout_at (root_found root.now) (D.shown cached.old.disk.now).reads))))) }
+    ensures read { HasRead (D.shown cached.old.disk.now) (D.shown cached.new.disk.now) result }
+{
+    judge_known(alloc, cached, root, known, lines)
+}
+
+/// Makes these passes over a disk: each reads a block of it only where it isn't among the last so many that they read.
+fn judge_read<D: Disk>(
+    alloc: Global,
+    disk: &mut D,
+    root: &Found,
+    known: &Known,
+    lines: Lines,
+) -> Result<Verdict, CheckFault>
+    requires size { IsInRange root.now }
+    requires known { IsKnown known.now }
+    requires clean { lines.lines.keys ≡ [] }
+    ensures says { IsTrue (D.shown disk.old).tells → IsPassed (root_found root.now) (D.shown disk.old).reads known.now
+        → IfOk result (IsJudged (layout_at (root_found root.now) (D.shown disk.old).reads).view
+        (or_next (second_pass (layout_at (root_found root.now) (D.shown disk.old).reads))
+        (or_next (third_pass (layout_at (root_found root.now) (D.shown disk.old).reads))
+        (fourth_pass (root_place root.now.slot) (layout_at (root_found root.now) (D.shown disk.old).reads))))) }
+    ensures read { HasRead (D.shown disk.old) (D.shown disk.new) result }
+{
+    let mut store = Store::new(alloc, HELD_BLOCKS)?;
+    let mut cached = Cached {
+        disk,
+        store: &mut store,
+    };
+    judge_held(alloc, &mut cached, root, known, lines)
+}
+
 /// Makes the passes over the aggregate with this root.
 fn judge<D: Disk>(alloc: Global, disk: &mut D, root: &Found) -> Result<Verdict, CheckFault>
     requires { IsInRange root.now }
@@ -128,9 +183,11 @@ fn judge<D: Disk>(alloc: Global, disk: &mut D, root: &Found) -> Result<Verdict, 
 /// blocks; else `Faults` with its fault lines (`docs/FORMAT.md`), one at least, in their order.
 ///
 /// `NotAggregate` comes exactly where block 0 is no superblock or neither gate is open, `DiskFault` only where a read failed in this call,
-/// `Memory` where memory was refused. It writes nothing and opens no session. It reads each label and each node of a container once or
-/// twice, each block of the maps, and three times the nodes and inode blocks that a root leads to; no data block. It takes four bytes for
-/// each entry, a bit for each VVBN of each root, and for one volume at a time what the third pass met of each pointer.
+/// `Memory` where memory was refused. It writes nothing and opens no session. No block is read more than three times as long as what the
+/// passes after the first read fits in 16,384 blocks: the nodes and inode blocks of all roots, the maps, and the inner nodes of
+/// containers; past that, a node or an inode block may be read three times for each root that leads to it. No data block is read. It takes
+/// four bytes for each entry, a bit for each VVBN of each root, for one volume at a time what the third pass met of each pointer, and
+/// those 16,384 blocks as they come.
 pub fn check<D: Disk>(alloc: Global, disk: &mut D) -> Result<Verdict, CheckFault>
     ensures { Checks (D.shown disk.old) (D.shown disk.new) result }
 {

@@ -54,7 +54,7 @@ use Rattle.fv_volumes.proofs.Viewed.{entry_of}
 use Rattle.fv_volumes.proofs.Waiting.{none_waits}
 use Rattle.fv_cp.specs.Course.{HasCome, IsOnCourse, as_lent, found_with, label_lent, renewed, IsCourse, StaysFrom}
 use Rattle.fv_cp.specs.Lent.{FitTogether, IsLent, IsLentAt}
-use Rattle.fv_cp.specs.Points.{GoesOn, IsNew, IsOld, IsPoint, IsSwitched, LeavesEntries, OldOrLent, is_due, machine_lent}
+use Rattle.fv_cp.specs.Points.{GoesOn, IsNew, IsNextRoot, IsOld, IsPoint, IsSwitched, LeavesEntries, OldOrLent, is_due, machine_lent}
 use Rattle.fv_cp.specs.Choosing.{CountsMissing, LeavesRoom, has_slot, holding_with, holdings, lacking, marked_as, marked_at, regions_chosen}
 use Rattle.fv_cp.specs.Known.{AreKnown}
 use Rattle.fv_cp.proofs.Known.{known_left, known_same}
@@ -99,6 +99,7 @@ module _ (regions : ℕ → ℕ → Bool) (disk : Shown) (pool : Pool) (states :
         → (IsTrue mid.tells → IsCommitted mid left.found (root_with pool labels) left.map.next new) → StandsOn new last.store.pairs → length stay ≡ 64 → GoesOn disk pool given new last stay
     goes_on given marks marked committed stands long = record {
       stands = stands;
+      next = subst (λ (x : Found). IsNextRoot pool.found x) (sym found_last) (record { slot = refl; generation = refl });
       found = λ tells. subst (λ (x : Found). IsFoundOn new x) (sym switched.found) (done tells).stands;
       loaded = λ tells. map_now mid left.found (root_with pool labels) left.map.next new (done tells) last.found last.map switched.found switched.map switched.size;
       fit = record {

@@ -37,7 +37,7 @@ use Rattle.fv_volume.proofs.Spending.{spent_one}
 use Rattle.fv_volumes.proofs.Staying.{only_itself}
 use Rattle.fv_cp.specs.Held.{machine_held, named_held, IsHeld, IsHeldIn}
 use Rattle.fv_cp.specs.Lent.{asked_all, asked_by, asked_of, blocks_asked, maps_waiting, waiting_by, FitTogether}
-use Rattle.fv_cp.specs.Placing.{pending_by, pending_files, HasNumbers, HaveNoFiles, HaveRoom, HaveSpent, IsPlacedAs, AreButPlaced, ArePlaced, AreReady, but_placed, FailsToPlace, HasNoFiles, HasWholeMap, IsReadyIn, IsSlotPlaced, IsSpareEntry, MayFail, LeavesUnused, PlacesEntries, PlacesSlot, RestsPlaced}
+use Rattle.fv_cp.specs.Placing.{pending_by, pending_files, HasNumbers, HaveNoFiles, HaveRoom, HaveSpent, IsPlacedAs, AreButPlaced, ArePlaced, AreReady, but_placed, FailsToPlace, HasNoFiles, HasWholeMap, HaveNoneBefore, IsReadyIn, IsSlotPlaced, IsSpareEntry, MayFail, LeavesUnused, PlacesEntries, PlacesSlot, RestsPlaced}
 use Rattle.fv_disk.proofs.Resting.{reads_then}
 use Rattle.fv_store.specs.Held.{StandsOn}
 use Rattle.fv_pool.specs.declared.fault.VolumeFault.{VolumeFault}
@@ -370,13 +370,26 @@ module _ (disk : Shown) (pool : Pool) (states : States) (mid : Shown) (held : Po
 
 -- ---- where a slot fails
 
-pub lacks_place : (disk : Shown) (pool : Pool) (states : States) (held : Pool) (between : States) → ArePlaced disk pool states disk held between → (slot : ℕ) → container_at held.containers slot ≡ container_at pool.containers slot
-    → state_at between slot ≡ state_at states slot → (((s : ℕ) → s < slot → HasNoFiles (state_at states s)) → (held ≡ pool) × (between ≡ states)) → (e : VolumeFault) → MayFail disk held (state_at between slot) e → FailsToPlace disk pool states e
-lacks_place disk pool states held between placed slot same waits first e fails = by (state_at between slot) refl fails
+pub lacks_place : (disk : Shown) (pool : Pool) (states : States) (held : Pool) (between : States) → ArePlaced disk pool states disk held between → (slot : ℕ) → ((s : ℕ) → slot ≤ s → container_at held.containers s ≡ container_at pool.containers s)
+    → ((s : ℕ) → slot ≤ s → state_at between s ≡ state_at states s) → (HaveNoneBefore states slot → (held ≡ pool) × (between ≡ states)) → HaveNoneBefore between slot → (e : VolumeFault) → MayFail disk held (state_at between slot) e → FailsToPlace disk pool states e
+lacks_place disk pool states held between placed slot ahead waits first done e fails = by (state_at between slot) refl fails
   where
     by : (o : Option VolumeState) → state_at between slot ≡ o → MayFail disk held o e → FailsToPlace disk pool states e
     by None there fails = absurd fails
-    by (Some x) there fails = record { mid = held; between = between; placed = placed; slot = slot; entries = same; state = x; there = there; own = sym waits ∙ there; first = first; fails = fails }
+    by (Some x) there fails = record {
+      mid = held;
+      between = between;
+      placed = placed;
+      slot = slot;
+      entries = ahead slot (omega arith);
+      state = x;
+      there = there;
+      own = sym (waits slot (omega arith)) ∙ there;
+      done = done;
+      ahead = λ s behind. (waits s behind, ahead s behind);
+      first = first;
+      fails = fails;
+    }
 
 -- it does so with files in memory alone
 pub files_there : (disk : Shown) (pool : Pool) (states : States) (e : VolumeFault) → FailsToPlace disk pool states e → HaveNoFiles states → ⊥

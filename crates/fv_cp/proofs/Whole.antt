@@ -32,7 +32,7 @@ use Rattle.fv_volumes.proofs.HeldSettled.{core_parent, ready_of, settled_core, s
 use Rattle.fv_cp.specs.Held.{machine_held, IsHeld}
 use Rattle.fv_cp.specs.Lent.{FitTogether, IsLent}
 use Rattle.fv_cp.specs.Placing.{core_of, ArePlaced, AreReady, FailsToPlace, HasNoFiles, HasWholeMap, HaveNoFiles, HaveRoom, IsPlaceFault, IsReadyIn}
-use Rattle.fv_cp.specs.Points.{machine_lent, Counts, GoesOn, IsCalm, IsNew, IsOld, IsPoint, LacksRoom, LeavesAll, LeavesContainers, OldOrLent}
+use Rattle.fv_cp.specs.Points.{machine_lent, Counts, GoesOn, IsCalm, IsNew, IsNextRoot, IsOld, IsPoint, LacksRoom, LeavesAll, LeavesContainers, OldOrLent}
 use Rattle.fv_cp.specs.Settling.{GoesOnWhole, HasWholeCause, HaveFullRoom, IsHeldPoint, IsNoDamage, IsStill, OldOrHeld, StillHeld, WholeCounts, WholeFails}
 use Rattle.fv_volumes.specs.Housed.{settled_as}
 use Rattle.fv_volume.specs.Trees.{active_in, no_trees}
@@ -140,6 +140,7 @@ module _ (disk : Shown) (pool : Pool) (states : States) (mid : Shown) (held : Po
       pub goes_whole : GoesOnWhole disk pool states new left stay
       goes_whole = record {
         stands = goes.stands;
+        next = subst (λ (f : Found). IsNextRoot f left.found) placed.found goes.next;
         found = λ told. goes.found (subst IsTrue (sym placed.only_reads.stays.tells) told);
         loaded = λ told. goes.loaded (subst IsTrue (sym placed.only_reads.stays.tells) told);
         fit = goes.fit;

@@ -115,8 +115,13 @@ pub record ArePlaced (disk : Shown) (pool : Pool) (states : States) (after : Sho
 
 -- ---- why it isn't done
 
+-- no slot before one has files in memory
+abbrev pub HaveNoneBefore : States → ℕ → Type 0
+HaveNoneBefore states slot = (s : ℕ) → s < slot → HasNoFiles (state_at states s)
+
 -- The files of the volume of a slot weren't placed, once those of the slots before it were: `mid` is the pool then, and `between` are the volumes.
--- The volume and its container are as they were, and where none of those slots has files in memory all is.
+-- No slot before it has files in memory then. The volume, each one behind it and their containers are as they were, and where none of those slots
+-- has files in memory all is.
 pub record FailsToPlace (disk : Shown) (pool : Pool) (states : States) (e : VolumeFault) : Type 0 where
   pub mid : Pool
   pub between : States
@@ -126,5 +131,7 @@ pub record FailsToPlace (disk : Shown) (pool : Pool) (states : States) (e : Volu
   pub state : VolumeState
   pub there : state_at between slot ≡ Some state
   pub own : state_at states slot ≡ Some state
-  pub first : ((s : ℕ) → s < slot → HasNoFiles (state_at states s)) → (mid ≡ pool) × (between ≡ states)
+  pub done : HaveNoneBefore between slot
+  pub ahead : (s : ℕ) → slot ≤ s → (state_at between s ≡ state_at states s) × (container_at mid.containers s ≡ container_at pool.containers s)
+  pub first : HaveNoneBefore states slot → (mid ≡ pool) × (between ≡ states)
   pub fails : MayFail disk mid (Some state) e

@@ -1,5 +1,5 @@
 -- What a consistency point does, and why it isn't done.
-use Rattle.std.specs.Prelude.{◌≡◌, ◌<◌, ◌≤◌, ◌||◌, ◌⊎◌, ℕ, Bool, List, Some, None, Result, IfSome, IsTrue, true, false, if◌then◌else◌}
+use Rattle.std.specs.Prelude.{◌≡◌, ◌<◌, ◌≤◌, ◌+◌, ◌%◌, ◌^◌, ◌||◌, ◌⊎◌, ℕ, Bool, List, Some, None, Result, IfSome, IsTrue, true, false, if◌then◌else◌}
 use Rattle.std.specs.Option.{option_map}
 use Rattle.std.specs.FinMap as fin
 use Rattle.fv_disk.specs.Shown.{Image, Shown, IsSettled}
@@ -14,7 +14,8 @@ use Rattle.fv_image.specs.NewerRoot.{root_of}
 use Rattle.fv_image.specs.Volumes.{told}
 use Rattle.fv_image.specs.Held.{label_place, view_at}
 use Rattle.fv_image.specs.WholeMachine.{machine_of}
-use Rattle.fv_root.specs.Finding.{root_found}
+use Rattle.fv_root.specs.declared.find.Found.{Found}
+use Rattle.fv_root.specs.Finding.{other_slot, root_found}
 use Rattle.fv_root.specs.Commits.{IsFoundOn, next_found}
 use Rattle.fv_store.specs.Held.{StandsOn}
 use Rattle.fv_container.specs.Chains.{Slots, container_at, parent_at, slot_count}
@@ -112,10 +113,17 @@ pub record IsSwitched (pool : Pool) (root : Root) (left : Pool) : Type 0 where
   pub map : left.map ≡ record { committed = pool.map.next; next = pool.map.next }
   pub size : blocks_of left.map ≡ pool.found.blocks
 
+-- A root is the next one after another: it stands in the other slot, one generation on. Generations wrap at 2^64.
+pub record IsNextRoot (found next : Found) : Type 0 where
+  pub slot : next.slot ≡ other_slot found.slot
+  pub generation : next.root.generation ≡ (found.root.generation + 1) % 2 ^ 64
+
 -- What a point that was done leaves of any disk, and of any volumes that it was lent: the cache tells what the disk reads, the root and
 -- the map in memory are those of the new root, all fits together as the next point needs it, and parents and the aggregate's size stay.
 pub record GoesOn (old : Shown) (pool : Pool) (states : States) (new : Shown) (left : Pool) (stay : States) : Type 0 where
   pub stands : StandsOn new left.store.pairs
+  -- the point was made: another root counts
+  pub next : IsNextRoot pool.found left.found
   pub found : IsTrue old.tells → IsFoundOn new left.found
   pub loaded : IsTrue old.tells → IsMapLoaded new.reads left.found left.map
   pub fit : FitTogether left stay

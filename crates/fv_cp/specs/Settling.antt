@@ -24,7 +24,7 @@ use Rattle.fv_cp.specs.Choosing.{CountsMissing, LeavesRoom, regions_chosen}
 use Rattle.fv_cp.specs.Known.{AreKnown}
 use Rattle.fv_disk.specs.declared.fault.BlockFault.TheVariants as block
 use Rattle.fv_cp.specs.Placing.{pending_files, AreButPlaced, ArePlaced, AreReady, FailsToPlace, HasNumbers, HaveNoFiles, KeepCores, LeavesUnused, PlacesEntries, RestsPlaced}
-use Rattle.fv_cp.specs.Points.{IsNew, IsOld, LacksRoom, LeavesContainers}
+use Rattle.fv_cp.specs.Points.{IsNew, IsNextRoot, IsOld, LacksRoom, LeavesContainers}
 
 -- an image is of the old side, or of the new one with the machine of the session
 abbrev pub OldOrHeld : Shown → Pool → States → Machine → Image → List ℕ → Type 0
@@ -70,6 +70,8 @@ pub record IsHeldPoint (old : Shown) (pool : Pool) (states : States) (want : ℕ
 -- volume, and of each only that is new which placing and a point change.
 pub record GoesOnWhole (old : Shown) (pool : Pool) (states : States) (new : Shown) (left : Pool) (stay : States) : Type 0 where
   pub stands : StandsOn new left.store.pairs
+  -- the point was made: another root counts
+  pub next : IsNextRoot pool.found left.found
   pub found : IsTrue old.tells → IsFoundOn new left.found
   pub loaded : IsTrue old.tells → IsMapLoaded new.reads left.found left.map
   pub fit : FitTogether left stay

@@ -25,8 +25,8 @@ use fv_volumes::Volumes;
 ///
 /// Where that is right and as many blocks are free as are pending and all volumes ask for, a crash at any moment leaves an image that stands for
 /// the machine of the last point, with each block that the root on the disk holds as it was; or one in which the new root counts and that stands
-/// for the machine of the volumes with their files in memory. After `Ok` it is the latter, on a settled disk. No file is in memory then, and
-/// `delays` is right of the new image. Where no point is done it stays.
+/// for the machine of the volumes with their files in memory. After `Ok` it is the latter, on a settled disk. On any disk another root counts then,
+/// one generation on. No file is in memory then, and `delays` is right of the new image. Where no point is done it stays.
 ///
 /// # Errors
 /// `DiskFault` comes only where a write or a barrier failed in this call; of what is in memory nothing is said then, and of images as above.

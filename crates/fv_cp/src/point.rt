@@ -47,8 +47,8 @@ use fv_volumes::{Volumes, write_volume};
 ///
 /// Where `delays` is right and there is room for the volumes that changed or have a chosen region, a crash at any moment leaves an image that
 /// stands for the machine of before, with each block that the root on the disk holds as it was; or one in which the new root counts and that stands
-/// for the machine of the volumes lent. After `Ok` it is the latter, on a settled disk. Each slot keeps its parent in the chain of containers. It
-/// takes no memory, and reads nothing.
+/// for the machine of the volumes lent. After `Ok` it is the latter, on a settled disk. On any disk another root counts then, in the other slot and
+/// one generation on, also where nothing changed. Each slot keeps its parent in the chain of containers. It takes no memory, and reads nothing.
 ///
 /// # Errors
 /// `Damaged` comes only where fewer blocks are free than the volumes ask for that changed: at the place of the root that

@@ -1,5 +1,5 @@
 -- What is noted of volumes, part by part and slot by slot, is what the fourth pass says.
-use Rattle.std.proofs.Common.{◌≡◌, ℕ, ◌+◌, List, [], ◌∷◌, ◌++◌, map, refl, sym, ap, ◌∙◌, arith}
+use Rattle.std.proofs.Common.{◌≡◌, ℕ, List, [], ◌∷◌, ◌++◌, map, refl, sym, ap, ◌∙◌}
 use Rattle.std.specs.Prelude.{flat_map}
 use Rattle.std.proofs.lemmas.Grind.{flat_map-append}
 use Rattle.std.proofs.lemmas.List.{append_assoc}
@@ -16,9 +16,8 @@ use Rattle.fv_faults.specs.Walks.{Step, steps}
 use Rattle.fv_faults.proofs.Adding.{adds_then}
 use Rattle.fv_third_pass.specs.declared.roots.MapRoot.{MapRoot}
 use Rattle.fv_third_pass.specs.Volumes.{root_of}
-use Rattle.fv_third_pass.proofs.Noting.{range_first, range_next}
 use Rattle.fv_third_pass.proofs.SameLines.{Same, same_adds, same_both, same_is, same_spread, same_then}
-use Rattle.fv_fourth_pass.specs.Noted.{hinted_roots, slot_lines, slots_to, volume_lines}
+use Rattle.fv_fourth_pass.specs.Noted.{hinted_roots, slots_to, volume_lines}
 
 -- ---- one volume
 
@@ -61,16 +60,7 @@ module _ (w : View) (s at : ℕ) (h : Head) where
 
 -- ---- slots
 
-module _ (y : Layout) where
-  pub slots_first : (x : Lines) → Adds (slots_to y 0) x x
-  unfolding slots_to
-  slots_first x = range_first (slot_lines y) 0 x
-
-  pub slots_next : (n : ℕ) (old mid new : Lines) → Adds (slots_to y n) old mid → Adds (slot_lines y n) mid new → Adds (slots_to y (n + 1)) old new
-  unfolding slots_to
-  slots_next n old mid new first one = range_next (slot_lines y) 0 n n old mid new (omega arith) first one
-
-  pub pass_added : (root : ℕ) (old one two new : Lines) → Adds (slots_to y 64) old one → Adds (commit_lines root y.view) one two → Adds (room_lines root y.view) two new → Adds (fourth_pass root y) old new
-  unfolding fourth_pass slots_to slots
-  pass_added root old one two new first second third =
-      adds_then (slots_to y 64) (commit_lines root y.view ++ room_lines root y.view) old one new first (adds_then (commit_lines root y.view) (room_lines root y.view) one two new second third)
+pub pass_added : (y : Layout) (root : ℕ) (old one two new : Lines) → Adds (slots_to y 64) old one → Adds (commit_lines root y.view) one two → Adds (room_lines root y.view) two new → Adds (fourth_pass root y) old new
+unfolding fourth_pass Rattle.fv_third_pass.specs.Volumes.slots_said slots
+pass_added y root old one two new first second third =
+    adds_then (slots_to y 64) (commit_lines root y.view ++ room_lines root y.view) old one new first (adds_then (commit_lines root y.view) (room_lines root y.view) one two new second third)

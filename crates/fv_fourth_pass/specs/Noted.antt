@@ -1,15 +1,14 @@
 -- What the fourth pass says slot by slot.
-use Rattle.std.specs.Prelude.{ℕ, List, [], ◌++◌, flat_map}
-use Rattle.std.specs.List.{range_with_len}
-use Rattle.std.specs.Option.{option_map_or}
+use Rattle.std.specs.Prelude.{ℕ, List, ◌++◌, flat_map}
 use Rattle.fv_image.specs.Views.{Head, View}
-use Rattle.fv_image.specs.Held.{Layout, Lying}
+use Rattle.fv_image.specs.Held.{Layout}
 use Rattle.fv_faults.specs.declared.fault.Fault.{Fault}
 use Rattle.fv_faults.specs.FourthPass.{hint_lines, place_lines, unknown_lines, use_lines}
 use Rattle.fv_faults.specs.SecondPass.{root_steps}
 use Rattle.fv_faults.specs.Walks.{Ground, steps}
 use Rattle.fv_walk.specs.Visits.{rooted}
 use Rattle.fv_third_pass.specs.declared.roots.MapRoot.{MapRoot}
+use Rattle.fv_third_pass.specs.Volumes.{slot_said, slots_said}
 use Rattle.fv_fourth_pass.specs.Hinted.{hinted_lines}
 
 -- what rules 11 and 12 say of the tables of roots
@@ -24,8 +23,8 @@ volume_lines w s label h =
 
 -- of the volume of a slot, if it has one
 abbrev pub slot_lines : Layout → ℕ → List Fault
-slot_lines y s = option_map_or (λ (x : Lying). option_map_or (λ (h : Head). volume_lines y.view s x.place h) (y.view.head s) []) (y.label s) []
+slot_lines y s = slot_said y (volume_lines y.view) s
 
 -- of the first so many slots
-unfoldable pub slots_to : Layout → ℕ → List Fault
-slots_to y n = flat_map (slot_lines y) (range_with_len 0 n)
+abbrev pub slots_to : Layout → ℕ → List Fault
+slots_to y n = slots_said y (volume_lines y.view) n

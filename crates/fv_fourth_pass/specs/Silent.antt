@@ -1,5 +1,5 @@
 -- What the fourth pass takes of the first three: sets of what a volume's roots and its base table reach.
-use Rattle.std.specs.Prelude.{◌≡◌, ◌<◌, ◌≤◌, ℕ, Bool, false, not, ◌&&◌, List, [], get_or, length, map, Option, Some, None, IfSome, Ok, ◌==◌, if◌then◌else◌}
+use Rattle.std.specs.Prelude.{◌≡◌, ◌<◌, ◌≤◌, ℕ, Bool, false, not, ◌&&◌, List, [], ◌++◌, get_or, length, map, Option, Some, None, IfSome, Ok, ◌==◌, if◌then◌else◌}
 use Rattle.std.specs.List.{list_any}
 use Rattle.std.specs.Option.{is_none}
 use Rattle.fv_disk.specs.Shown.{Image}
@@ -10,14 +10,21 @@ use Rattle.fv_image.specs.NewerRoot.{Taken}
 use Rattle.fv_image.specs.Held.{layout_at}
 use Rattle.fv_image.specs.Views.{Rooted, head_of}
 use Rattle.fv_image.specs.Seen.{roots_of}
+use Rattle.fv_image.specs.Volumes.{volume_told}
+use Rattle.fv_model.specs.Space.{need}
+use Rattle.fv_faults.specs.declared.fault.Fault.{Fault}
+use Rattle.fv_faults.specs.FourthPass.{place_lines}
 use Rattle.fv_faults.specs.ThirdPass.{third_pass}
 use Rattle.fv_first_pass.specs.declared.first.Known.{Known}
 use Rattle.fv_second_pass.specs.declared.reached.Reached.{Reached}
 use Rattle.fv_root.specs.Finding.{root_found}
 use Rattle.fv_third_pass.specs.declared.roots.MapRoot.{MapRoot}
 use Rattle.fv_third_pass.specs.declared.survey.Survey.{Survey}
+use Rattle.fv_third_pass.specs.declared.survey.VolumeSurvey.{VolumeSurvey}
+use Rattle.fv_third_pass.specs.Surveys.{volume_in}
 use Rattle.fv_third_pass.specs.Volumes.{IsWalked, base_set, reach_at, root_of}
 use Rattle.fv_fourth_pass.specs.declared.reach_sets.Sets.{Sets}
+use Rattle.fv_fourth_pass.specs.Noted.{hinted_roots}
 use Rattle.fv_fourth_pass.specs.Used.{is_out}
 
 -- one of some roots of a slot's volume reaches a VVBN, by what the second pass told
@@ -79,5 +86,16 @@ IsSilentOf x i = IsSilent (root_found x.root.now) i x.known.now x.reached.now
 abbrev pub IsSilentAt : Survey → Image → ℕ → Label → Type 0
 IsSilentAt x i s l = IsSilentLabel (root_found x.root.now) i x.known.now x.reached.now s l
 
-abbrev pub IsSilentWith : Survey → Image → ℕ → Label → List MapRoot → Sets → Type 0
-IsSilentWith x i s l rs sets = IsSilentVolume (root_found x.root.now) i x.known.now x.reached.now s l rs sets
+-- of a volume, with its sets
+abbrev pub IsSilentWith : VolumeSurvey → Image → Sets → Type 0
+IsSilentWith v i sets = IsSilentVolume (root_found v.survey.now.root.now) i v.survey.now.known.now v.survey.now.reached.now v.slot v.label.now v.roots.now sets
+
+-- ---- one volume, by what they learnt
+
+-- what rules 11 to 13 say of its pointers
+abbrev pub rules_said : VolumeSurvey → Image → List Fault
+rules_said v i = hinted_roots (volume_in v i) v.at v.roots.now ++ place_lines (volume_in v i).view v.slot v.at (head_of v.label.now)
+
+-- what the reserves of its files still need
+abbrev pub need_in : VolumeSurvey → Image → ℕ
+need_in v i = need (volume_told (volume_in v i).view v.slot (head_of v.label.now))

@@ -1,34 +1,28 @@
 //! The fourth pass: slot by slot what is said of a volume, and then of the space of all.
 
-ghost use Rattle.std.specs.Prelude.{◌≡◌, ◌≤◌, ◌<◌, ◌+◌, ◌++◌, ◌^◌, [], IsTrue, get_or, length, map, IfOk, IfSome, None, OnOk};
+ghost use Rattle.std.specs.Prelude.{◌≡◌, ◌<◌, ◌+◌, IsTrue, length, IfOk, OnOk};
 ghost use Rattle.fv_codec.specs.Blocks.{IsLabel};
 ghost use Rattle.fv_image.specs.Layout.{root_place};
-ghost use Rattle.fv_image.specs.Seen.{roots_of};
 ghost use Rattle.fv_image.specs.Views.{head_of};
-ghost use Rattle.fv_image.specs.Volumes.{volume_told};
-ghost use Rattle.fv_model.specs.Space.{need};
 ghost use Rattle.fv_faults.specs.Adding.{Adds};
-ghost use Rattle.fv_faults.specs.FourthPass.{fourth_pass, place_lines};
+ghost use Rattle.fv_faults.specs.FourthPass.{fourth_pass};
 ghost use Rattle.fv_first_pass.specs.Causes.{HasRead};
-ghost use Rattle.fv_third_pass.specs.Surveys.{HasRange, Passes, ground_of, label_place, layout_of};
-ghost use Rattle.fv_third_pass.specs.Volumes.{AreFew, root_of};
-ghost use Rattle.fv_fourth_pass.specs.Noted.{hinted_roots, slot_lines, slots_to, volume_lines};
-ghost use Rattle.fv_fourth_pass.specs.Silent.{IsSilentAt, IsSilentOf, IsSilentWith};
+ghost use Rattle.fv_third_pass.specs.Surveys.{HasRange, Passes, label_place, layout_of};
+ghost use Rattle.fv_fourth_pass.specs.Noted.{slot_lines, slots_to, volume_lines};
+ghost use Rattle.fv_fourth_pass.specs.Silent.{IsSilentAt, IsSilentOf};
 ghost use Rattle.fv_fourth_pass.specs.Summed.{AreSums, AreWithin, IsSpace, IsSpaceAt, IsWithin};
 
-use crate::reach_sets::{Sets, sets_of, shared_by};
+use crate::reach_sets::sets_of;
 use crate::space::{Filled, note_commits, note_room};
 use crate::space_sums::{NOTHING, Sums, VolumeSpace, add_space, count_space};
-use crate::tables::Walked;
 use crate::uses::note_use;
-use crate::volume::note_rules;
+use crate::volume::note_walked;
 use fv_codec::Label;
 use fv_disk::Disk;
 use fv_faults::Lines;
 use fv_first_pass::CheckFault;
 use fv_root::root_place;
-use fv_third_pass::{MapRoot, Survey, label_of, roots_of, row_of};
-use fv_walk::WalkFault;
+use fv_third_pass::{Survey, VolumeSurvey, label_of, roots_of, row_of};
 use std::alloc::Global;
 
 /// What was noted of a volume, and what it takes.
@@ -38,43 +32,6 @@ struct Noted {
     lines: Lines,
     /// What it takes.
     space: VolumeSpace,
-}
-
-/// Notes what rules 11 to 13 say of the volume of a label in a slot, and counts what the reserves of its files still need.
-fn note_walked<D: Disk>(
-    alloc: Global,
-    disk: &mut D,
-    survey: &Survey<'_, '_, '_>,
-    slot: u8,
-    label: &Label,
-    roots: &[MapRoot],
-    sets: &Sets,
-    lines: Lines,
-) -> Result<Walked, CheckFault>
-    requires range { HasRange survey.now }
-    requires slot { slot < 64 }
-    requires label { IsLabel label.now }
-    requires few { AreFew roots.now }
-    requires held { length sets.now.held ≡ label.now.span }
-    requires base { IfSome sets.now.base (λ set. length set ≡ label.now.span) }
-    ensures adds { IsTrue (D.shown disk.old).tells → IfOk result (λ walked.
-        IsSilentWith survey.now (D.shown disk.old).reads slot label.entry.now roots.now sets.now
-        → Adds (hinted_roots (ground_of survey.now (D.shown disk.old).reads slot label.entry.now)
-        (label_place survey.now slot) roots.now
-        ++ place_lines (layout_of survey.now (D.shown disk.old).reads).view slot (label_place survey.now slot)
-        (head_of label.entry.now)) lines walked.lines) }
-    ensures exact { IsTrue (D.shown disk.old).tells → IfOk result (λ walked.
-        IsSilentWith survey.now (D.shown disk.old).reads slot label.entry.now roots.now sets.now
-        → walked.needed ≡ need (volume_told (layout_of survey.now (D.shown disk.old).reads).view slot (head_of label.entry.now))) }
-    ensures most { IfOk result (λ walked. walked.needed ≤ 2 ^ 55) }
-    ensures read { HasRead (D.shown disk.old) (D.shown disk.new) result }
-{
-    let shared = shared_by(alloc, survey.reached, slot, label.span, roots, sets.base())?;
-    match note_rules(alloc, disk, survey, slot, label, roots, sets, shared, lines) {
-        Ok(walked) => Ok(walked),
-        Err(WalkFault::DiskFault) => Err(CheckFault::DiskFault),
-        Err(WalkFault::Memory) => Err(CheckFault::Memory),
-    }
 }
 
 /// Notes what is said of the volume of a label in a slot, and counts what it takes.
@@ -100,13 +57,19 @@ fn note_volume<D: Disk>(
     ensures within { IfOk result (λ noted. IsWithin noted.space) }
     ensures read { HasRead (D.shown disk.old) (D.shown disk.new) result }
 {
-    let roots = roots_of(alloc, label)?;
-    let sets = sets_of(alloc, survey.reached, slot, label, &roots)?;
-    let walked = note_walked(alloc, disk, survey, slot, label, &roots, &sets, lines)?;
+    let owned = roots_of(alloc, label)?;
+    let volume = VolumeSurvey {
+        survey,
+        slot,
+        label,
+        at: u64::from(survey.root.root.labels[usize::from(slot)]),
+        roots: owned.as_slice(),
+    };
+    let sets = sets_of(alloc, survey.reached, slot, label, volume.roots)?;
+    let walked = note_walked(alloc, disk, &volume, &sets, lines)?;
     let space = count_space(label, &sets, row_of(survey.known, slot), walked.needed);
-    let at = u64::from(survey.root.root.labels[usize::from(slot)]);
     let mut noted = walked.lines;
-    note_use(label, space.used, at, &mut noted)?;
+    note_use(label, space.used, volume.at, &mut noted)?;
     Ok(Noted {
         lines: noted,
         space,

@@ -57,7 +57,7 @@ allowed_by false m c reply replies = replies
 allowed_built : (m : Machine) (c : Command) (reply : Reply) → Replies m c reply → AllowsAt m (built (Says c)) reply
 allowed_built m c reply replies = allowed_by (is_built c) m c reply replies
 
-cp_alone : (c : Command) → is_cp (Says c) ≡ true → c ≡ Cp
+pub cp_alone : (c : Command) → is_cp (Says c) ≡ true → c ≡ Cp
 cp_alone (VolCreate v size kind) e = absurd cc
 cp_alone (VolDestroy v) e = absurd cc
 cp_alone (VolResize v size) e = absurd cc
@@ -303,6 +303,7 @@ no_change session line reply host laws ready no_point said allowed stays = recor
     stands = stands_on host session tells ready.stands;
     reply = reply;
     said = said;
+    root = inl refl;
     read = λ asks. as_read_itself session;
     files = λ same none. none;
     calm = λ none. refl;
@@ -384,6 +385,7 @@ module _ (session new_session : Session) (line : Line) (command : Command) (old 
       stands = stands_on new new_session (rw goes.ends.tells tells) (goes.stands goes.done.goes_on);
       reply = reply;
       said = said_by tells;
+      root = goes.done.root tells;
       read = read_by;
       files = λ same none. files tells (changes_none command (same_by same)) none;
       calm = λ none. calm_by calm session.pending (omega arith) none;

@@ -25,6 +25,7 @@ stands_on disk session tells stands = record { found = (stands.stands.found tell
 -- what a point leaves of a session is told of any disk
 pub pointed_on : (disk other : Shown) (session next : Session) → IsTrue disk.tells → IsPointed disk session next → IsPointed other session next
 pointed_on disk other session next tells is = record {
+  next = is.next;
   pending = is.pending;
   files = λ told. is.files tells;
   same = λ told. is.same tells;

@@ -1,5 +1,5 @@
 -- The last consistency point of a run that ended well, as the run has it.
-use Rattle.std.proofs.Common.{◌≡◌, ℕ, List, length, refl, sym, subst, arith}
+use Rattle.std.proofs.Common.{◌≡◌, ◌+◌, ◌∙◌, ℕ, List, length, refl, sym, subst, arith}
 use Rattle.std.specs.Prelude.{Ok, IsTrue}
 use Rattle.fv_disk.specs.Shown.{Image, IsDisk, IsSettled, Shown}
 use Rattle.fv_disk.specs.DiskCalls.{Stays}
@@ -15,13 +15,14 @@ use Rattle.fv_aggregate.specs.Commands.{AsksPoint}
 use Rattle.fv_aggregate.specs.declared.session.Session.{Session}
 use Rattle.fv_aggregate.specs.Calls.{Goes}
 use Rattle.fv_aggregate.specs.Reclaiming.{HasPointed, Points}
-use Rattle.fv_aggregate.specs.Standing.{StandsFor}
+use Rattle.fv_aggregate.specs.Standing.{StandsFor, StandsReady}
 use Rattle.fv_aggregate.proofs.MadeRoom.{entries_still}
 use Rattle.fv_run.specs.Answering.{BeginsFor, HasAnswered, IsAtEnd}
 use Rattle.fv_run.specs.Built.{lines_built}
 use Rattle.fv_run.specs.Running.{still_disk, IsLastFor}
-use Rattle.fv_run.proofs.Courses.{pointed_on}
+use Rattle.fv_run.proofs.Courses.{pointed_on, stands_on}
 use Rattle.fv_run.proofs.LastPoint.{all_lines}
+use Rattle.fv_run.proofs.PointsMade.{cps_more, gone_next, HasMade, points_made}
 use Rattle.fv_run.proofs.Ran.{PointedOpen}
 use Rattle.fv_run.proofs.Sessions.{rests_standing, rests_standing_for, stays_standing_for}
 
@@ -38,6 +39,7 @@ still disk laws tells settled = record {
 
 pointed_still : (want : ℕ) (last next : Session) (point new : Shown) (m : Machine) → Rests point new → HasPointed want last point next m → HasPointed want last new next m
 pointed_still want last next point new m rests is = record {
+  next = is.next;
   stands = rests_standing_for point new next m m rests is.stands;
   room = subst (λ (i : Image). LeavesRoom (view_at (root_found next.pool.found) i) want) (sym rests.stays.reads) is.room;
   entries = entries_still want last next point new rests.stays.reads is.entries;
@@ -70,13 +72,28 @@ module _ (limit : ℕ) (session : Session) (mid : Shown) (last : Session) (end :
       all : count ≡ length L
       all = let within = a.applied.within in let most = all_lines limit session mid last end count at_end tells in omega (arith, within, most)
 
+  made : HasMade L count session.pool.found last.pool.found
+  made = points_made L count mid.reads session end.reads last (at_end.stands.course tells)
+
+  stands_now : StandsReady new next
+  stands_now = rests_standing point new next rests (goes.stands goes.done.goes_on)
+
+  new_tells : IsTrue new.tells
+  new_tells = subst IsTrue (sym (rests.stays.tells ∙ goes.ends.tells)) end_tells
+
   pub pointed_open : PointedOpen session mid new
   pointed_open = record {
     before = end.reads;
     last = last;
     next = next;
+    over = stands_on end last end_tells at_end.stands.ready.stands;
+    points = made.points + 1;
+    least = (let all = all_lines limit session mid last end count at_end tells in let cps = cps_more L (length L) count all in let least = made.least in omega (arith, cps, least));
+    most = (let most = made.most in omega (arith, most));
+    counts = (stands_now.stands.found new_tells).reads;
+    generation = gone_next made.points session.pool.found last.pool.found next.pool.found made.gone points.left.next;
     quiet = λ none. (at_end.stands.counted tells begins).quiet (λ line low. none line);
     left = pointed_on end new last next end_tells points.left;
-    stands = rests_standing point new next rests (goes.stands goes.done.goes_on);
+    stands = stands_now;
     machine = for_machine;
   }

@@ -17,6 +17,7 @@ mod LastPoint
 mod Limits
 mod Lines
 mod Opening
+mod PointsMade
 mod Phrases
 mod Promises
 mod Ran

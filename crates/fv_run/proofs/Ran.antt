@@ -1,5 +1,5 @@
 -- A run of a session that was opened, as one from its beginning.
-use Rattle.std.proofs.Common.{◌≡◌, ◌⊎◌, inl, inr, ⊎_elim, true, false, ℕ, ◌+◌, ◌<◌, ◌≤◌, ◌++◌, List, length, take, sym, ap, subst, ◌∙◌}
+use Rattle.std.proofs.Common.{◌≡◌, ◌⊎◌, inl, inr, ⊎_elim, true, false, ℕ, ◌+◌, ◌%◌, ◌^◌, ◌<◌, ◌≤◌, ◌++◌, List, length, take, sym, ap, subst, ◌∙◌}
 use Rattle.std.specs.Prelude.{Some, None, Result, Ok, Err, IsTrue, IfErr, OnOk}
 use Rattle.fv_disk.specs.Shown.{Ends, Image, Shown, IsDisk, IsSettled, Rose}
 use Rattle.fv_disk.specs.Crash.{Leaves}
@@ -8,6 +8,7 @@ use Rattle.fv_model.specs.declared.commands.Command.{Command}
 use Rattle.fv_model.specs.Machines.{Machine}
 use Rattle.fv_model.specs.Runs.{after, acked, Full, Follows, Line, whole}
 use Rattle.fv_image.specs.WholeMachine.{machine_of}
+use Rattle.fv_root.specs.Finding.{IsFound}
 use Rattle.fv_lines.specs.Counts.{Counts}
 use Rattle.fv_lines.proofs.Counting.{counts_then}
 use Rattle.fv_aggregate.specs.declared.session.Session.{Session}
@@ -22,7 +23,7 @@ use Rattle.fv_run.specs.declared.ending.Fault.TheVariants.{Usage, Unsound, NotAg
 use Rattle.fv_run.specs.Built.{lines_built}
 use Rattle.fv_run.specs.Endings.{IsWholeFault, raised_by}
 use Rattle.fv_run.specs.Promises.{line_at}
-use Rattle.fv_run.specs.Running.{asks_behind, EndsInPoint, HasAnsweredAll, HasChanged, HasFollowed, HasReason, Holds, IsAskedFor, IsAtRest, IsFileDamage, IsHurtBehind, IsLacking, IsLastFor, IsOverLimit, IsPastLimit, KeepsUp, MeetsDamage, most_rooms, rooms_along, IsSessionDamage, Ran, reads_blocks, Survives, SurvivesFrom, AsksNone, IsQuiet}
+use Rattle.fv_run.specs.Running.{asks_behind, cps_behind, EndsInPoint, HasAnsweredAll, HasChanged, HasFollowed, HasReason, Holds, IsAskedFor, IsAtRest, IsFileDamage, IsHurtBehind, IsLacking, IsLastFor, IsOverLimit, IsPastLimit, KeepsUp, MeetsDamage, most_rooms, rooms_along, IsSessionDamage, Ran, reads_blocks, StandsOnImage, Survives, SurvivesFrom, AsksNone, IsQuiet}
 use Rattle.fv_run.specs.Answering.{IsEndOf, Stopped, BeginsFor}
 use Rattle.fv_run.proofs.Admitted.{image_is_admitted}
 use Rattle.fv_run.proofs.KeepingUp.{keeps_up_since}
@@ -46,7 +47,13 @@ pub record PointedOpen (session : Session) (mid new : Shown) : Type 0 where
   pub before : Image
   pub last : Session
   pub next : Session
+  pub over : StandsOnImage before last
   pub quiet : ((line : ℕ) → asks_behind most_rooms (lines_built mid.ends.left) line ≡ false) → before ≡ mid.reads
+  pub points : ℕ
+  pub least : cps_behind (lines_built mid.ends.left) (length (lines_built mid.ends.left)) < points
+  pub most : points ≤ length (lines_built mid.ends.left) + 1
+  pub counts : IsFound new.reads next.pool.found
+  pub generation : next.pool.found.root.generation ≡ (session.pool.found.root.generation + points) % 2 ^ 64
   pub left : IsPointed new last next
   pub stands : StandsReady new next
   pub machine : (m : Machine) → BeginsFor mid session m → IsLastFor m (lines_built mid.ends.left) mid.reads before last new next
@@ -184,6 +191,17 @@ module _ (limit : ℕ) (session : Session) (old mid new : Shown) (laws : IsDisk 
     before = p.before;
     last = p.last;
     next = p.next;
+    over = p.over;
+    points = p.points;
+    least = subst (λ (l : List Line). cps_behind l (length l) < p.points) same p.least;
+    most = subst (λ (l : List Line). p.points ≤ length l + 1) same p.most;
+    on = record {
+      old = session.pool.found;
+      new = p.next.pool.found;
+      counted = subst (λ (i : Image). IsFound i session.pool.found) unwritten.reads (stands.stands.found (mid_told tells)).reads;
+      counts = p.counts;
+      generation = p.generation;
+    };
     quiet = λ none. p.quiet (λ line. ap (λ (l : List Line). asks_behind most_rooms l line) same ∙ none line) ∙ unwritten.reads;
     left = p.left;
     stands = p.stands;

@@ -1,5 +1,5 @@
 -- Running a script on an aggregate: the headline, clause by clause.
-use Rattle.std.specs.Prelude.{◌≡◌, ◌⊎◌, ◌<◌, ◌≤◌, ◌+◌, ◌||◌, ◌&&◌, ℕ, zero, suc, nat_lt, if◌then◌else◌, Bool, true, false, List, [], ◌++◌, ◌≢◌, length, take, get_or, is_some, Some, Contains, IsTrue, Result, Ok, Err, IsErr, IfErr, OnOk}
+use Rattle.std.specs.Prelude.{◌≡◌, ◌⊎◌, ◌<◌, ◌≤◌, ◌+◌, ◌%◌, ◌^◌, ◌||◌, ◌&&◌, ℕ, zero, suc, nat_lt, if◌then◌else◌, Bool, true, false, List, [], ◌++◌, ◌≢◌, length, take, get_or, is_some, Some, Contains, IsTrue, Result, Ok, Err, IsErr, IfErr, OnOk}
 use Rattle.fv_disk.specs.Shown.{Image, Shown, IsSettled, Rose}
 use Rattle.fv_disk.specs.Crash.{Leaves}
 use Rattle.fv_lines.specs.Counts.{Counts}
@@ -9,13 +9,14 @@ use Rattle.fv_model.specs.declared.commands.Command.TheVariants.{Cp}
 use Rattle.fv_model.specs.Machines.{Machine}
 use Rattle.fv_model.specs.Runs.{Line, Says, NoCommand, OutOfRange, after, Full, Follows, is_cp, whole, acked}
 use Rattle.fv_image.specs.WholeMachine.{machine_of}
+use Rattle.fv_root.specs.declared.find.Found.{Found}
 use Rattle.fv_root.specs.Finding.{IsFound, IsNoAggregate}
 use Rattle.fv_volumes.specs.UnderRoot.{IsMapOf}
 use Rattle.fv_aggregate.specs.declared.fault.OpenFault.TheVariants as opening
 use Rattle.fv_aggregate.specs.declared.session.Session.{Session}
 use Rattle.fv_aggregate.specs.Adding.{IsPointed}
 use Rattle.fv_aggregate.specs.Asking.{IsShort}
-use Rattle.fv_aggregate.specs.Calls.{IsPlain, IsUntouched, IsWithinLimit, MakesNoHoles}
+use Rattle.fv_aggregate.specs.Calls.{IsPlain, IsUntouched, IsWithinLimit, KeepsRoot, MakesNoHoles}
 use Rattle.fv_aggregate.specs.Causes.{IsOpenFault, IsUnwritten}
 use Rattle.fv_aggregate.specs.Commands.{asked_by, Asked, AsksNothing, AsksPoint, changes_volume, dirty_limit, most_room, reads_files, room_by, room_of, volume_asked, is_refusal, removes_volume}
 use Rattle.fv_aggregate.specs.Damages.{HasDamageBehind, HasDamageIn, HasDamageLater, PassesLimit}
@@ -156,13 +157,37 @@ pub record IsLastFor (m : Machine) (lines : List Line) (first before : Image) (l
   pub quiet : ((line : ℕ) → line < length lines → asks_behind (rooms_along m lines) lines line ≡ false) → before ≡ first
   pub pointed : HasPointed 0 last new next (after m lines (length lines))
 
+-- A session stands on an image: its root is the one that counts there, and its map is that of the root's area.
+pub record StandsOnImage (i : Image) (session : Session) : Type 0 where
+  pub found : IsFound i session.pool.found
+  pub map : IsMapOf i session.pool.found session.pool.map
+
+-- how many of the first `count` lines are a `cp`
+unfoldable pub cps_behind : List Line → ℕ → ℕ
+cps_behind lines zero = 0
+cps_behind lines (suc count) = cps_behind lines count + (if is_cp (line_at lines count) then 1 else 0)
+
+-- A root counts in an image, so many generations on from the one that counts in another. Generations wrap at 2^64.
+pub record IsPointsOn (points : ℕ) (i j : Image) : Type 0 where
+  pub old : Found
+  pub new : Found
+  pub counted : IsFound i old
+  pub counts : IsFound j new
+  pub generation : new.root.generation ≡ (old.root.generation + points) % 2 ^ 64
+
 -- A run ended in a consistency point: of the session `last`, over the image `before`. It left the session `next`, which stands on the disk, with nothing
--- pending and no file in memory.
+-- pending and no file in memory, and another root counts. So many points were made in all, that one among them: one for each `cp`, and at most
+-- one for each other line.
 pub record EndsInPoint (lines : List Line) (old new : Shown) : Type 0 where
   pub before : Image
   pub last : Session
   pub next : Session
+  pub over : StandsOnImage before last
   pub quiet : ((line : ℕ) → asks_behind most_rooms lines line ≡ false) → before ≡ old.reads
+  pub points : ℕ
+  pub least : cps_behind lines (length lines) < points
+  pub most : points ≤ length lines + 1
+  pub on : IsPointsOn points old.reads new.reads
   pub left : IsPointed new last next
   pub stands : StandsReady new next
   pub machine : (m : Machine) → machine_of old.reads ≡ Some m → IsLastFor m lines old.reads before last new next
@@ -256,11 +281,6 @@ only_asks OutOfRange = false
 
 -- ---- the sessions of a run
 
--- A session stands on an image: its root is the one that counts there, and its map is that of the root's area.
-pub record StandsOnImage (i : Image) (session : Session) : Type 0 where
-  pub found : IsFound i session.pool.found
-  pub map : IsMapOf i session.pool.found session.pool.map
-
 -- A session over the image `i` carried out a command, and left `next` over `j`. Of a command that reads no file this is all that a
 -- session's call says of one. One on files that is refused, with room within the dirty limit, leaves all but the cache and the numbers of
 -- files in memory. With such room no entry of a volume that stays becomes a hole, but at a `cp`.
@@ -281,6 +301,8 @@ pub record UndergoesLine (line : Line) (i : Image) (session : Session) (j : Imag
   pub stands : StandsOnImage j next
   pub reply : Reply
   pub said : UndergoesSaid line i session j next reply
+  -- at most one point was made
+  pub root : KeepsRoot session next
   -- one that only asks for files leaves all but the cache and the numbers of files in memory
   pub read : only_asks line ≡ true → IsAsRead session next
   -- one that changes no volume that stays brings no file into memory
@@ -394,7 +416,8 @@ pub record Ran (limit : ℕ) (old new : Shown) (result : Result Unit Fault) : Ty
   -- Where no write and no barrier failed, the disk is settled, and has the image of the last acknowledged point, or of one that a later line or
   -- the end asked for. So after a fault between lines, or in a line that asks for no point, no further one was made.
   pub at_rest : IsTrue old.tells → (m : Machine) → machine_of old.reads ≡ Some m → ¬ Rose old.write_faults new.write_faults → IsAtRest m (lines_built old.ends.left) result old new
-  -- At Ok a consistency point is behind all lines, whatever they were.
+  -- At Ok a consistency point is behind all lines, whatever they were: another root counts than at the beginning, as many generations on as points
+  -- were made.
   pub pointed : IsTrue old.tells → OnOk result (EndsInPoint (lines_built old.ends.left) old new)
   pub no_damage : IsTrue old.tells → (m : Machine) → machine_of old.reads ≡ Some m → IfErr result IsWholeFault
   -- Its lines are isolated by their homes, and in a volume of kind `volume` the size is guaranteed.

@@ -29,5 +29,6 @@ mod SnapTables
 mod VolumeLaw
 pub mod VolumeParts
 mod BaseParts
+mod WholeVolume
 pub mod ThirdSlots
 mod MapKinds

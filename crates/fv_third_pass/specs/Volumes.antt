@@ -80,11 +80,19 @@ pub record IsWalkedLabel (t : Taken) (i : Image) (known : Known) (reached : Reac
 
 -- ---- slot by slot
 
-abbrev pub slot_lines : Layout → ℕ → List Fault
-slot_lines y s = option_map_or (λ (x : Lying). option_map_or (λ (h : Head). volume_lines y s x.place h) (y.view.head s) []) (y.label s) []
+-- what is said of the volume of a slot, by what is said of a head in a slot, whose label is at a place
+abbrev pub slot_said : Layout → (ℕ → ℕ → Head → List Fault) → ℕ → List Fault
+slot_said y of s = option_map_or (λ (x : Lying). option_map_or (λ (h : Head). of s x.place h) (y.view.head s) []) (y.label s) []
 
-unfoldable pub slots_to : Layout → ℕ → List Fault
-slots_to y n = flat_map (slot_lines y) (range_with_len 0 n)
+-- of the first so many slots
+unfoldable pub slots_said : Layout → (ℕ → ℕ → Head → List Fault) → ℕ → List Fault
+slots_said y of n = flat_map (slot_said y of) (range_with_len 0 n)
+
+abbrev pub slot_lines : Layout → ℕ → List Fault
+slot_lines y s = slot_said y (volume_lines y) s
+
+abbrev pub slots_to : Layout → ℕ → List Fault
+slots_to y n = slots_said y (volume_lines y) n
 
 -- what is said of the maps of roots
 abbrev pub map_lines : View → ℕ → Head → (ℕ × Rooted → List Step) → List (ℕ × Rooted) → List Fault

@@ -33,7 +33,7 @@ pub use map::note_map;
 pub use roots::{MapRoot, roots_of};
 pub use sizes::entry_count;
 pub use span::note_span;
-pub use survey::Survey;
+pub use survey::{Survey, VolumeSurvey};
 pub use tables::note_table;
 pub use third::{label_of, pass_three, row_of};
 pub use twice::note_twice;

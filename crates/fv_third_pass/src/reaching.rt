@@ -7,15 +7,15 @@ ghost use Rattle.fv_faults.specs.ThirdPass.{reach_lines};
 ghost use Rattle.fv_faults.specs.Walks.{Step};
 ghost use Rattle.fv_first_pass.specs.Causes.{HasRead};
 ghost use Rattle.fv_third_pass.specs.Maps.{HasWords};
+ghost use Rattle.fv_third_pass.specs.Surveys.{IsVolumeSurvey};
 ghost use Rattle.fv_third_pass.specs.Volumes.{AreReachIn, IsReachIn, map_lines, reach_at, root_of};
 
-use crate::roots::MapRoot;
+use crate::survey::VolumeSurvey;
 use crate::volume_map::{VolumeMap, note_reach};
 use fv_bits::BitMap;
 use fv_disk::Disk;
 use fv_faults::Lines;
 use fv_first_pass::CheckFault;
-use fv_second_pass::Reached;
 
 /// Notes the lines of rule 6 of the map of a root, by what the root reaches, as the second pass tells it.
 pub(crate) fn note_root_map<D: Disk>(
@@ -40,29 +40,30 @@ pub(crate) fn note_root_map<D: Disk>(
     note_reach(disk, row, map, reach, lines)
 }
 
-/// Notes those of the maps of several roots of the volume of a slot.
+/// Notes those of the maps of all roots of a volume.
 #[tactic(auto, using(fv_disk::proofs::Resting::reads_then))]
 pub(crate) fn note_root_maps<D: Disk>(
     disk: &mut D,
     row: &[u32],
-    reached: &Reached,
-    slot: u8,
-    span: u32,
-    roots: &[MapRoot],
+    volume: &VolumeSurvey<'_>,
     lines: &mut Lines,
 ) -> Result<(), CheckFault>
-    requires { span ≤ 1048576 }
+    requires { IsVolumeSurvey volume.now }
     ensures adds { IsTrue (D.shown disk.old).tells
-        → OnOk result ((w : View) (s : ℕ) (h : Head) (of : ℕ × Rooted → List Step) → h.span ≡ span → HasWords (D.shown disk.old).reads w s row.now
-        → AreReachIn span of (reach_at reached.now slot) (map root_of roots.now) → Adds (map_lines w s h of (map root_of roots.now)) lines.old lines.new) }
+        → OnOk result ((w : View) (s : ℕ) (h : Head) (of : ℕ × Rooted → List Step) → h.span ≡ volume.now.label.now.span
+        → HasWords (D.shown disk.old).reads w s row.now
+        → AreReachIn volume.now.label.now.span of (reach_at volume.now.survey.now.reached.now volume.now.slot) (map root_of volume.now.roots.now)
+        → Adds (map_lines w s h of (map root_of volume.now.roots.now)) lines.old lines.new) }
     ensures read { HasRead (D.shown disk.old) (D.shown disk.new) result }
 {
+    let reached = volume.survey.reached;
+    let roots = volume.roots;
     for k in 0..roots.len() {
         let map = VolumeMap {
-            span,
+            span: volume.label.span,
             slot: roots[k].slot,
         };
-        note_root_map(disk, row, map, reached.of(slot, map.slot), lines)?;
+        note_root_map(disk, row, map, reached.of(volume.slot, map.slot), lines)?;
     }
     Ok(())
 }

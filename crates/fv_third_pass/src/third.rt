@@ -1,33 +1,30 @@
 //! The third pass: held blocks, the aggregate map, and slot by slot what is said of a volume.
 
-ghost use Rattle.std.specs.Prelude.{◌≡◌, ◌≤◌, ◌<◌, ◌++◌, ◌∷◌, [], ℕ, List, IsTrue, Some, Ok, None, flat_map, get_or, length, map, IfOk, IfSome, OnOk};
+ghost use Rattle.std.specs.Prelude.{◌≡◌, ◌<◌, List, IsTrue, Some, Ok, None, get_or, length, IfOk, IfSome};
 ghost use Rattle.std.specs.Option.{option_map};
 ghost use Rattle.fv_codec.specs.Blocks.{IsLabel};
-ghost use Rattle.fv_image.specs.Seen.{roots_of};
 ghost use Rattle.fv_image.specs.Views.{head_of};
 ghost use Rattle.fv_faults.specs.Adding.{Adds};
-ghost use Rattle.fv_faults.specs.SecondPass.{ground};
-ghost use Rattle.fv_faults.specs.ThirdPass.{base_steps, map_kind_lines, span_lines, stamp_lines, third_pass, volume_lines};
-ghost use Rattle.fv_faults.specs.Walks.{steps};
+ghost use Rattle.fv_faults.specs.ThirdPass.{third_pass, volume_lines};
 ghost use Rattle.fv_first_pass.specs.Causes.{HasRead};
 ghost use Rattle.fv_walk.specs.declared.visit.Visit.{Visit};
 ghost use Rattle.fv_second_pass.specs.Told.{IsKnown};
 ghost use Rattle.fv_third_pass.specs.Counted.{label_of, words_of};
-ghost use Rattle.fv_third_pass.specs.Surveys.{HasRange, IsSurveyAt, IsSurveyOf, Passes, label_place, layout_of};
-ghost use Rattle.fv_third_pass.specs.Twinned.{HasSeen, twin_lines, visits};
-ghost use Rattle.fv_third_pass.specs.Volumes.{AreFew, base_said, front_said, own_tables, root_of, shown, slot_lines, slots_to};
+ghost use Rattle.fv_third_pass.specs.Surveys.{HasRange, IsSurveyAt, IsSurveyOf, IsVolumeOf, IsVolumeSurvey, Passes, base_said_in, label_place, layout_of, maps_said};
+ghost use Rattle.fv_third_pass.specs.Twinned.{HasSeen};
+ghost use Rattle.fv_third_pass.specs.Volumes.{slot_lines, slots_to};
 
 use crate::alone::{is_alone, note_alone};
 use crate::bases::count_base_ids;
 use crate::counting::{count_holders, words_in};
 use crate::map::note_map;
 use crate::reaching::note_root_maps;
-use crate::roots::{MapRoot, roots_of};
+use crate::roots::roots_of;
 use crate::span::note_span;
-use crate::survey::Survey;
+use crate::survey::{Survey, VolumeSurvey};
 use crate::twice::note_twice;
 use crate::twins::IdJudge;
-use crate::volume::{snap_table, walk_base, walk_own};
+use crate::volume::{note_own, snap_table, walk_base};
 use crate::volume_map::note_map_kinds;
 use fv_codec::Label;
 use fv_disk::Disk;
@@ -59,85 +56,48 @@ pub fn row_of(known: &Known, slot: u8) -> &[u32]
     words_in(&known.rows, usize::from(slot))
 }
 
-/// Notes what is said of the span and of the maps of the volume of a slot.
+/// Notes what is said of the span and of the maps of a volume.
 fn note_maps<D: Disk>(
     disk: &mut D,
-    survey: &Survey<'_, '_, '_>,
-    slot: u8,
-    label: &Label,
-    roots: &[MapRoot],
-    lines: &mut Lines,
-) -> Result<(), CheckFault>
-    requires range { HasRange survey.now }
-    requires slot { slot < 64 }
-    requires label { IsLabel label.now }
-    requires long { length label.now.snapshots ≡ 24 }
-    ensures adds { IsTrue (D.shown disk.old).tells → OnOk result (IsSurveyAt survey.now (D.shown disk.old).reads slot label.entry.now
-        → map root_of roots.now ≡ roots_of (head_of label.entry.now)
-        → Adds (front_said (layout_of survey.now (D.shown disk.old).reads).view slot (label_place survey.now slot)
-        (head_of label.entry.now)) lines.old lines.new) }
-    ensures read { HasRead (D.shown disk.old) (D.shown disk.new) result }
-{
-    let at = u64::from(survey.root.root.labels[usize::from(slot)]);
-    let row = row_of(survey.known, slot);
-    note_span(lines, label, at, count_base_ids(survey.reached, label))?;
-    note_map_kinds(row, label, at, lines)?;
-    note_root_maps(disk, row, survey.reached, slot, label.span, roots, lines)?;
-    Ok(())
-}
-
-/// Notes what is said of the tables of the roots of the volume of a slot, and of the ids in them.
-fn note_own<D: Disk>(
-    alloc: Global,
-    disk: &mut D,
-    survey: &Survey<'_, '_, '_>,
-    slot: u8,
-    label: &Label,
-    roots: &[MapRoot],
+    volume: &VolumeSurvey<'_>,
     lines: Lines,
-) -> Result<IdJudge, CheckFault>
-    requires range { HasRange survey.now }
-    requires slot { slot < 64 }
-    requires few { AreFew roots.now }
-    ensures seen { IsTrue (D.shown disk.old).tells → IfOk result (λ judge.
-        IsSurveyAt survey.now (D.shown disk.old).reads slot label.entry.now
-        → HasSeen (visits (shown (ground (layout_of survey.now (D.shown disk.old).reads).view slot (head_of label.entry.now))
-        (label_place survey.now slot) roots.now)) judge) }
-    ensures adds { IsTrue (D.shown disk.old).tells → IfOk result (λ judge.
-        IsSurveyAt survey.now (D.shown disk.old).reads slot label.entry.now
-        → map root_of roots.now ≡ roots_of (head_of label.entry.now)
-        → Adds (own_tables (ground (layout_of survey.now (D.shown disk.old).reads).view slot (head_of label.entry.now))
-        (label_place survey.now slot) label.entry.now.now roots.now
-        ++ twin_lines [] (visits (shown (ground (layout_of survey.now (D.shown disk.old).reads).view slot (head_of label.entry.now))
-        (label_place survey.now slot) roots.now))) lines judge.lines) }
-    ensures read { HasRead (D.shown disk.old) (D.shown disk.new) result }
+) -> Result<Lines, CheckFault>
+    requires { IsVolumeSurvey volume.now }
+    ensures { Passes (D.shown disk.old) (D.shown disk.new) (IsVolumeOf volume.now) (maps_said volume.now) lines result }
 {
-    match walk_own(alloc, disk, survey, slot, label, roots, lines) {
-        Ok(judge) => Ok(judge),
-        Err(WalkFault::DiskFault) => Err(CheckFault::DiskFault),
-        Err(WalkFault::Memory) => Err(CheckFault::Memory),
-    }
+    let survey = volume.survey;
+    let label = volume.label;
+    let row = row_of(survey.known, volume.slot);
+    let mut noted = lines;
+    note_span(
+        &mut noted,
+        label,
+        volume.at,
+        count_base_ids(survey.reached, label),
+    )?;
+    note_map_kinds(row, label, volume.at, &mut noted)?;
+    note_root_maps(disk, row, volume, &mut noted)?;
+    Ok(noted)
 }
 
-/// Notes what is said of the base table of the volume of a label, by a judge that saw the volume's own tables.
+/// Notes what is said of the base table of a volume, by a judge that saw the volume's own tables.
 fn note_base<D: Disk>(
     alloc: Global,
     disk: &mut D,
-    survey: &Survey<'_, '_, '_>,
-    label: &Label,
+    volume: &VolumeSurvey<'_>,
     judge: IdJudge,
 ) -> Result<Lines, CheckFault>
-    requires range { HasRange survey.now }
-    requires label { IsLabel label.now }
-    ensures adds { IsTrue (D.shown disk.old).tells → IfOk result (λ lines. (s : ℕ) (done : List Visit) → s < 64
-        → IsSurveyAt survey.now (D.shown disk.old).reads s label.entry.now → HasSeen done judge
-        → Adds (base_said label.entry.now.now done
-        (base_steps (layout_of survey.now (D.shown disk.old).reads) (head_of label.entry.now).base)) judge.lines lines) }
+    requires { IsVolumeSurvey volume.now }
+    ensures adds { IsTrue (D.shown disk.old).tells → IfOk result (λ lines. (done : List Visit) → HasSeen done judge
+        → IsVolumeOf volume.now (D.shown disk.old).reads
+        → Adds (base_said_in volume.now (D.shown disk.old).reads done) judge.lines lines) }
     ensures read { HasRead (D.shown disk.old) (D.shown disk.new) result }
 {
+    let label = volume.label;
     if label.parent == 0 {
         return Ok(judge.lines);
     }
+    let survey = volume.survey;
     let slot = label.parent - 1;
     let Some(parent) = label_of(survey.known, slot) else {
         return Ok(judge.lines);
@@ -169,15 +129,20 @@ fn note_volume<D: Disk>(
         (λ i. volume_lines (layout_of survey.now i) slot (label_place survey.now slot) (head_of label.entry.now)) lines result }
 {
     let owned = roots_of(alloc, label)?;
-    let roots = owned.as_slice();
-    let mut noted = lines;
-    note_maps(disk, survey, slot, label, roots, &mut noted)?;
-    if is_alone(label, roots) {
-        let alone = note_alone(alloc, disk, survey, slot, label, roots, noted)?;
+    let volume = VolumeSurvey {
+        survey,
+        slot,
+        label,
+        at: u64::from(survey.root.root.labels[usize::from(slot)]),
+        roots: owned.as_slice(),
+    };
+    let noted = note_maps(disk, &volume, lines)?;
+    if is_alone(label, volume.roots) {
+        let alone = note_alone(alloc, disk, &volume, noted)?;
         return Ok(alone);
     }
-    let judge = note_own(alloc, disk, survey, slot, label, roots, noted)?;
-    let all = note_base(alloc, disk, survey, label, judge)?;
+    let judge = note_own(alloc, disk, &volume, noted)?;
+    let all = note_base(alloc, disk, &volume, judge)?;
     Ok(all)
 }
 

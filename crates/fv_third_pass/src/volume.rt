@@ -1,6 +1,6 @@
 //! What the third pass says of one volume.
 
-ghost use Rattle.std.specs.Prelude.{◌≡◌, ◌≢◌, ◌≤◌, ◌<◌, ◌++◌, [], List, IsTrue, Some, Ok, None, flat_map, get_or, length, map, IfOk, IfSome, OnOk};
+ghost use Rattle.std.specs.Prelude.{◌≡◌, ◌≤◌, ◌<◌, ◌++◌, List, IsTrue, Some, None, flat_map, length, IfOk, IfSome};
 ghost use Rattle.std.specs.Option.{option_map};
 ghost use Rattle.fv_disk.specs.DiskCalls.{OnlyReads};
 ghost use Rattle.fv_codec.specs.Blocks.{IsLabel};
@@ -10,20 +10,21 @@ ghost use Rattle.fv_faults.specs.Adding.{Adds};
 ghost use Rattle.fv_faults.specs.Met.{IsClean};
 ghost use Rattle.fv_faults.specs.ThirdPass.{stamp_lines};
 ghost use Rattle.fv_faults.specs.Walks.{steps};
+ghost use Rattle.fv_first_pass.specs.Causes.{HasRead};
 ghost use Rattle.fv_walk.specs.declared.visit.Visit.{Visit};
 ghost use Rattle.fv_walk.specs.Causes.{HasWalkCause};
 ghost use Rattle.fv_walk.specs.Visits.{rooted};
-ghost use Rattle.fv_third_pass.specs.Surveys.{HasRange, IsLabelledAt, ground_of, label_place};
-ghost use Rattle.fv_third_pass.specs.Twinned.{HasSeen, twin_lines, visits};
-ghost use Rattle.fv_third_pass.specs.Volumes.{AreClean, AreFew, own_tables, shown, shown_one};
+ghost use Rattle.fv_third_pass.specs.Surveys.{HasRange, IsLabelledAt, IsVolumeOf, IsVolumeSurvey, ground_of, label_place, tables_said, visits_in};
+ghost use Rattle.fv_third_pass.specs.Twinned.{HasSeen, twin_lines};
+ghost use Rattle.fv_third_pass.specs.Volumes.{shown_one};
 
 use crate::ids::{judge_base, judge_own};
-use crate::roots::MapRoot;
-use crate::survey::Survey;
+use crate::survey::{Survey, VolumeSurvey};
 use crate::twins::IdJudge;
 use fv_codec::Label;
 use fv_disk::Disk;
 use fv_faults::Lines;
+use fv_first_pass::CheckFault;
 use fv_second_pass::VolumeSource;
 use fv_walk::{Table, WalkFault};
 use std::alloc::Global;
@@ -49,46 +50,39 @@ pub fn snap_table(parent: &Label, slot: u8) -> Option<Table>
     })
 }
 
-/// Walks along the tables of the roots of the volume of a slot, and notes what is said of them and of the ids in them.
-pub(crate) fn walk_own<D: Disk>(
+/// Notes what is said of the tables of the roots of a volume, and of the ids in them. Walks along each once.
+pub(crate) fn note_own<D: Disk>(
     alloc: Global,
     disk: &mut D,
-    survey: &Survey<'_, '_, '_>,
-    slot: u8,
-    label: &Label,
-    roots: &[MapRoot],
+    volume: &VolumeSurvey<'_>,
     lines: Lines,
-) -> Result<IdJudge, WalkFault>
-    requires range { HasRange survey.now }
-    requires slot { slot < 64 }
-    requires few { AreFew roots.now }
-    ensures seen { IsTrue (D.shown disk.old).tells
-        → IsLabelledAt survey.now (D.shown disk.old).reads slot label.entry.now
-        → IfOk result (HasSeen (visits (shown
-        (ground_of survey.now (D.shown disk.old).reads slot label.entry.now)
-        (label_place survey.now slot) roots.now))) }
-    ensures adds { IsTrue (D.shown disk.old).tells
-        → IsLabelledAt survey.now (D.shown disk.old).reads slot label.entry.now
-        → IfOk result (λ judge.
-        AreClean (ground_of survey.now (D.shown disk.old).reads slot label.entry.now)
-        (label_place survey.now slot) roots.now
-        → Adds (own_tables (ground_of survey.now (D.shown disk.old).reads slot label.entry.now)
-        (label_place survey.now slot) label.entry.now.now roots.now
-        ++ twin_lines [] (visits (shown
-        (ground_of survey.now (D.shown disk.old).reads slot label.entry.now)
-        (label_place survey.now slot) roots.now))) lines judge.lines) }
-    ensures only_reads { OnlyReads (D.shown disk.old) (D.shown disk.new) }
-    ensures cause { HasWalkCause (D.shown disk.old).faults (D.shown disk.new).faults result }
+) -> Result<IdJudge, CheckFault>
+    requires { IsVolumeSurvey volume.now }
+    ensures seen { IsTrue (D.shown disk.old).tells → IfOk result (λ judge.
+        IsVolumeOf volume.now (D.shown disk.old).reads → HasSeen (visits_in volume.now (D.shown disk.old).reads) judge) }
+    ensures adds { IsTrue (D.shown disk.old).tells → IfOk result (λ judge.
+        IsVolumeOf volume.now (D.shown disk.old).reads → Adds (tables_said volume.now (D.shown disk.old).reads) lines judge.lines) }
+    ensures read { HasRead (D.shown disk.old) (D.shown disk.new) result }
 {
-    let at = u64::from(survey.root.root.labels[usize::from(slot)]);
     let mut source = VolumeSource {
         disk,
-        root: survey.root,
-        known: survey.known,
-        slot,
-        span: label.span,
+        root: volume.survey.root,
+        known: volume.survey.known,
+        slot: volume.slot,
+        span: volume.label.span,
     };
-    judge_own(alloc, &mut source, lines, at, roots, label.now)
+    match judge_own(
+        alloc,
+        &mut source,
+        lines,
+        volume.at,
+        volume.roots,
+        volume.label.now,
+    ) {
+        Ok(judge) => Ok(judge),
+        Err(WalkFault::DiskFault) => Err(CheckFault::DiskFault),
+        Err(WalkFault::Memory) => Err(CheckFault::Memory),
+    }
 }
 
 /// Walks along the base table of a volume, which is one of the volume of a slot, its parent, and notes what is said of its ids and stamps.

@@ -37,4 +37,4 @@ returns-in_err-flush_slot-clause-lacks g c =
     let passed = c.loop-slot.invariant in
     let failed : c.from_residual.result ≡ Err c.in_err-flush_slot.field-0.0 = search rules in
     subst (λ (r : Result Unit VolumeFault). IfErr r (FailsToPlace d c.args.pool.now c.args.volumes.now)) (sym failed)
-    (lacks_place d c.args.pool.now c.args.volumes.now c.loop-slot.pool c.loop-slot.volumes passed.come.placed c.loop-slot.slot (passed.ahead c.loop-slot.slot (omega arith)) (passed.waits c.loop-slot.slot (omega arith)) passed.first c.in_err-flush_slot.field-0.0 c.in_err-flush_slot.ensures.fails)
+    (lacks_place d c.args.pool.now c.args.volumes.now c.loop-slot.pool c.loop-slot.volumes passed.come.placed c.loop-slot.slot passed.ahead passed.waits passed.first passed.done c.in_err-flush_slot.field-0.0 c.in_err-flush_slot.ensures.fails)

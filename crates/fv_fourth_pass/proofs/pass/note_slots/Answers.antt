@@ -3,10 +3,10 @@ use Rattle.std.specs.Prelude.{IsTrue}
 use Rattle.fv_disk.specs.Shown.{Image}
 use Rattle.fv_faults.specs.Adding.{Adds}
 use Rattle.fv_third_pass.specs.Surveys.{layout_of}
-use Rattle.fv_fourth_pass.specs.Noted.{slot_lines, slots_to}
+use Rattle.fv_third_pass.proofs.ThirdSlots.{no_slots, slots_more}
+use Rattle.fv_fourth_pass.specs.Noted.{slot_lines, slots_to, volume_lines}
 use Rattle.fv_fourth_pass.specs.Silent.{IsSilentOf}
 use Rattle.fv_fourth_pass.specs.Summed.{AreSums}
-use Rattle.fv_fourth_pass.proofs.Slots.{slots_first, slots_next}
 use Rattle.fv_fourth_pass.proofs.pass.note_slots.Given as given
 use Rattle.fv_fourth_pass.proofs.pass.note_slots.Goals as goal
 
@@ -15,7 +15,8 @@ told g c tells = rw c.loop-slot.invariant.only_reads.stays.tells tells
 
 pub loop-slot-init : goal.loop-slot-init
 loop-slot-init g c = record {
-  adds = λ tells silent. slots_first (layout_of c.args.survey.now (g.D.Disk.shown c.args.disk.now).reads) c.args.lines;
+  adds = λ tells silent.
+      let y = layout_of c.args.survey.now (g.D.Disk.shown c.args.disk.now).reads in no_slots y (volume_lines y.view) c.args.lines;
   sums = λ tells silent are. are;
   at = c.requires.at;
   within = c.requires.within;
@@ -30,7 +31,7 @@ loop-slot-preserved g c =
     let first = c.loop-slot.invariant.only_reads.stays.reads in
     record {
       adds = λ tells silent.
-          slots_next (layout_of x i) c.loop-slot.slot c.args.lines c.loop-slot.noted c.in_ok-noted.noted (c.loop-slot.invariant.adds tells silent)
+          slots_more (layout_of x i) (volume_lines (layout_of x i).view) c.loop-slot.slot c.args.lines c.loop-slot.noted c.in_ok-noted.noted (c.loop-slot.invariant.adds tells silent)
           (subst (λ (j : Image). Adds (slot_lines (layout_of x j) c.loop-slot.slot) c.loop-slot.noted c.in_ok-noted.noted) first
           (c.in_ok-noted.ensures.passes.adds (told g c tells) (subst (IsSilentOf x) (sym first) silent)));
       sums = λ tells silent are.

@@ -10,9 +10,9 @@ use Rattle.fv_third_pass.proofs.reaching.note_root_maps.Given as goal
 
 abbrev pub invariant-loop-k : goal.invariant-loop-k
 invariant-loop-k g l = record {
-  adds : IsTrue (g.D.Disk.shown l.fn.disk).tells → (w : View) (s : ℕ) (h : Head) (of : ℕ × Rooted → List Step) → h.span ≡ l.span
-      → HasWords (g.D.Disk.shown l.fn.disk).reads w s l.row → AreReachIn l.span of (reach_at l.reached l.slot) (map root_of l.roots)
-      → Adds (map_lines w s h of (map root_of (take l.k l.roots))) l.fn.lines l.lines;
+  adds : IsTrue (g.D.Disk.shown l.fn.disk).tells → (w : View) (s : ℕ) (h : Head) (of : ℕ × Rooted → List Step) → h.span ≡ l.volume.label.now.span
+      → HasWords (g.D.Disk.shown l.fn.disk).reads w s l.row → AreReachIn l.volume.label.now.span of (reach_at l.volume.survey.now.reached.now l.volume.slot) (map root_of l.volume.roots.now)
+      → Adds (map_lines w s h of (map root_of (take l.k l.volume.roots.now))) l.fn.lines l.lines;
   only_reads : OnlyReads (g.D.Disk.shown l.fn.disk) (g.D.Disk.shown l.disk);
   faults : (g.D.Disk.shown l.disk).faults ≡ (g.D.Disk.shown l.fn.disk).faults;
 }

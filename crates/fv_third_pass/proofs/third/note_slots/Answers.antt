@@ -2,6 +2,7 @@ use Rattle.std.proofs.Common.{rules, ◌≡◌, subst, sym, arith}
 use Rattle.std.specs.Prelude.{IsTrue}
 use Rattle.fv_disk.specs.Shown.{Image}
 use Rattle.fv_faults.specs.Adding.{Adds}
+use Rattle.fv_faults.specs.ThirdPass.{volume_lines}
 use Rattle.fv_third_pass.specs.Surveys.{IsSurveyOf, layout_of}
 use Rattle.fv_third_pass.specs.Volumes.{slot_lines, slots_to}
 use Rattle.fv_third_pass.proofs.ThirdSlots.{no_slots, slots_more}
@@ -13,7 +14,7 @@ told g c tells = rw c.loop-slot.invariant.only_reads.stays.tells tells
 
 pub loop-slot-init : goal.loop-slot-init
 loop-slot-init g c = record {
-  adds = λ tells walked. no_slots (layout_of c.args.survey.now (g.D.Disk.shown c.args.disk.now).reads) c.args.lines;
+  adds = λ tells walked. let y = layout_of c.args.survey.now (g.D.Disk.shown c.args.disk.now).reads in no_slots y (volume_lines y) c.args.lines;
   only_reads = search rules;
   faults = search rules;
 }
@@ -24,7 +25,8 @@ loop-slot-preserved g c =
     let first = c.loop-slot.invariant.only_reads.stays.reads in
     record {
       adds = λ tells walked.
-          slots_more (layout_of x (g.D.Disk.shown c.args.disk.now).reads) c.loop-slot.slot c.args.lines c.loop-slot.noted c.in_ok-noted.noted (c.loop-slot.invariant.adds tells walked)
+          let y = layout_of x (g.D.Disk.shown c.args.disk.now).reads in
+          slots_more y (volume_lines y) c.loop-slot.slot c.args.lines c.loop-slot.noted c.in_ok-noted.noted (c.loop-slot.invariant.adds tells walked)
           (subst (λ (i : Image). Adds (slot_lines (layout_of x i) c.loop-slot.slot) c.loop-slot.noted c.in_ok-noted.noted) first
           (c.in_ok-noted.ensures.adds (told g c tells) (subst (IsSurveyOf x) (sym first) walked)));
       only_reads = search rules;

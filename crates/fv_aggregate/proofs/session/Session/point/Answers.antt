@@ -3,6 +3,7 @@ use Rattle.std.specs.Prelude.{IsNone}
 use Rattle.fv_disk.specs.Shown.{Rose}
 use Rattle.fv_pool.specs.declared.fault.VolumeFault.TheVariants.{DiskFault}
 use Rattle.fv_volume.specs.States.{States}
+use Rattle.fv_cp.specs.Points.{IsNextRoot}
 use Rattle.fv_cp.specs.Settling.{IsNoDamage, WholeCounts}
 use Rattle.fv_aggregate.specs.declared.fault.Fault.TheVariants as session
 use Rattle.fv_aggregate.specs.declared.session.Session.{Session}
@@ -18,7 +19,7 @@ pub returns-in-Ok-clause-goes : goal.returns-in-Ok-clause-goes
 returns-in-Ok-clause-goes g c =
     let e = c.in-Ok.ensures in
     point_done (g.D.Disk.shown c.args.disk.now) c.args.self.now (g.D.Disk.shown c.full_point.new.disk) _ c.requires.fresh (subst (λ (s : Session). IsNone s.failed) (sym c.self.view_is) c.requires.fresh)
-    refl e.counts c.self.inside.pool c.self.inside.volumes e.goes_on
+    refl e.counts c.self.inside.pool c.self.inside.volumes (ap (λ (s : Session). s.pool) c.self.view_is) e.goes_on
 
 pub returns-in-Ok-clause-asks : goal.returns-in-Ok-clause-asks
 returns-in-Ok-clause-asks g c =
@@ -177,6 +178,7 @@ returns-in-Ok-clause-points g c =
           let point = point_is (g.D.Disk.shown c.args.disk.now) (g.D.Disk.shown c.full_point.new.disk) _ _ c.self.view_is c.args.want c.full_point.new.pool c.full_point.new.volumes c.full_point.new.delays
           (e.point tells) (e.goes_on.loaded tells) last m stands in
           record {
+            next = subst (λ (s : Session). IsNextRoot s.pool.found c.full_point.new.pool.found) c.self.view_is e.goes_on.next;
             stands = stands_pointed (g.D.Disk.shown c.args.disk.now) (g.D.Disk.shown c.full_point.new.disk) _ _ c.self.view_is c.args.want c.full_point.new.pool c.full_point.new.volumes c.full_point.new.delays
                 (e.point tells) (e.goes_on.loaded tells) last m stands e.goes_on.fit.housed.long e.goes_on.none;
             room = point.room;

@@ -12,7 +12,7 @@ use Rattle.fv_faults.proofs.Adding.{none_added}
 use Rattle.fv_third_pass.specs.Volumes.{IsWalked}
 use Rattle.fv_check.specs.Judged.{IsJudged}
 use Rattle.fv_check.proofs.Passed.{found_here, later_on, none_noted}
-use Rattle.fv_check.proofs.judging.judge_read.Goals as goal
+use Rattle.fv_check.proofs.judging.judge_known.Goals as goal
 
 pub returns-then-has_lines-clause-says : goal.returns-then-has_lines-clause-says
 returns-then-has_lines-clause-says g c = λ tells passed.
