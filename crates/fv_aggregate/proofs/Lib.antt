@@ -41,6 +41,7 @@ mod Having
 mod Resized
 mod Ready
 mod Removing
+mod Removed
 mod Replaced
 pub mod MadeRoom
 mod Managed

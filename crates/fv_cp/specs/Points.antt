@@ -3,7 +3,6 @@ use Rattle.std.specs.Prelude.{◌≡◌, ◌<◌, ◌≤◌, ◌+◌, ◌%◌, �
 use Rattle.std.specs.Option.{option_map}
 use Rattle.std.specs.FinMap as fin
 use Rattle.fv_disk.specs.Shown.{Image, Shown, IsSettled}
-use Rattle.fv_disk.specs.DiskCalls.{OnlyReads}
 use Rattle.fv_disk.specs.Faults.{HasBlockCause}
 use Rattle.fv_disk.specs.Sparing.{LeftBefore}
 use Rattle.fv_bits.specs.Members.{is_member}
@@ -26,6 +25,7 @@ use Rattle.fv_delay.specs.Holding.{has_region}
 use Rattle.fv_delay.specs.Reclaims.{goes_with}
 use Rattle.fv_aggmap.specs.Loading.{IsLoaded as IsMapLoaded}
 use Rattle.fv_aggmap.specs.Space.{blocks_of, free_blocks}
+use Rattle.fv_pool.specs.BlocksOver.{LacksLeaf}
 use Rattle.fv_pool.specs.declared.pool.Pool.{Pool}
 use Rattle.fv_volume.specs.declared.state.VolumeState.{VolumeState}
 use Rattle.fv_volume.specs.Stored.{is_map_written, map_entry}
@@ -140,11 +140,11 @@ LacksRoom pool states DiskFault = Unit {0}
 LacksRoom pool states (Damaged at want found) = (at ≡ root_place pool.found.slot) × ((want ≡ blocks_asked states) × ((found ≡ free_blocks pool.map) × (found < want)))
 LacksRoom pool states Memory = ⊥
 
--- a point that lacked room changed nothing
-abbrev pub LeavesAll : Shown → Pool → States → Shown → Pool → States → BlockFault → Type 0
-LeavesAll old pool states new left stay DiskFault = Unit {0}
-LeavesAll old pool states new left stay (Damaged at want found) = OnlyReads old new × ((left ≡ pool) × (stay ≡ states))
-LeavesAll old pool states new left stay Memory = OnlyReads old new × ((left ≡ pool) × (stay ≡ states))
+-- Why a point isn't prepared: that; or a leaf of a container doesn't stand where it has to, or wasn't read; or memory ran out.
+abbrev pub LacksPoint : Shown → Pool → States → BlockFault → Type 0
+LacksPoint disk pool states DiskFault = Unit {0}
+LacksPoint disk pool states (Damaged at want found) = LacksRoom pool states (Damaged at want found) ⊎ LacksLeaf disk pool.containers at want found
+LacksPoint disk pool states Memory = Unit {0}
 
 -- both counts of faults rose where a write or barrier failed, and stay elsewhere
 pub record Counts (old new : Shown) (result : Result (Unit {0}) BlockFault) : Type 0 where
@@ -153,9 +153,3 @@ pub record Counts (old new : Shown) (result : Result (Unit {0}) BlockFault) : Ty
   pub ends : new.ends ≡ old.ends
   pub cause : HasBlockCause old.faults new.faults result
   pub write_cause : HasBlockCause old.write_faults new.write_faults result
-
--- what stays where a fault is answered that isn't one of the disk
-abbrev pub IsCalm : {T : Type 0} → T → T → BlockFault → Type 0
-IsCalm old new DiskFault = Unit {0}
-IsCalm old new (Damaged at want found) = new ≡ old
-IsCalm old new Memory = new ≡ old

@@ -469,7 +469,7 @@ module _ (session new_session : Session) (line : Line) (command : Command) (old 
 
       so : (reads : Bool) → reads_files command ≡ reads → (reads_blocks (built line) ≡ true) ⊎ LacksSpace old session new
       so true e = inl (ap (λ (l : Line). reads_blocks (built l)) says ∙ reads_said command e)
-      so false e = inr (lacks old new session new_session at want found (plain e))
+      so false e = inr (lacks old new session new_session at want found stands (plain e))
 
   pub unapplied : (command ≢ Cp → (room_by session.volumes command ≡ 0) ⊎ (session.pending + room_by session.volumes command ≤ dirty_limit) → new.reads ≡ old.reads) → (fault : SessionFault) → Goes {T = Reply} (room_by session.volumes command) (asked_by session.volumes command) old session new new_session (Err fault)
       → (reads_files command ≡ false → calls.IsForWant old session new new_session fault)

@@ -30,8 +30,8 @@ use Rattle.fv_run.specs.declared.ending.Fault.{Fault}
 use Rattle.fv_run.specs.declared.ending.Fault.TheVariants.{Disk, Memory, Damaged}
 use Rattle.fv_run.specs.Built.{built, lines_built}
 use Rattle.fv_run.specs.Endings.{count_of, IsWholeFault, of_session}
-use Rattle.fv_run.specs.Running.{HasChanged, IsAtRest, IsHurtBehind, IsOverLimit, KeepsUp, MeetsDamage, most_rooms, rooms_along, Survives, IsQuiet}
-use Rattle.fv_run.specs.Answering.{AsksFor, HasAnswered, IsAtEnd, IsEndOf, IsHurtBy, LacksSpace, IsLine, TellsLine, BeginsFor}
+use Rattle.fv_run.specs.Running.{HasChanged, IsAtRest, IsHurtBehind, IsLeafLost, IsOverLimit, KeepsUp, MeetsDamage, most_rooms, rooms_along, Survives, IsQuiet}
+use Rattle.fv_run.specs.Answering.{AsksFor, HasAnswered, IsAtEnd, IsEndOf, IsHurtBy, Lacks, LacksSpace, IsLine, TellsLine, BeginsFor}
 use Rattle.fv_run.proofs.Acked.{acked_all, acked_whole, up_to_take}
 use Rattle.fv_run.proofs.Courses.{undergoes_read}
 use Rattle.fv_run.proofs.Following.{follows_part, follows_whole, full}
@@ -285,11 +285,13 @@ module _ (limit : ℕ) (session : Session) (mid : Shown) (last : Session) (end :
     meets point keeps hurt tells,
     λ within none. ⊎_elim
         (λ (asks : AsksFor (lines_built mid.ends.left) end last).
-        let short = wants (end_told tells) asks.none asks.room asks.asks in
-        inl (record { room = asks.room; asks = asks.line; at = short.0; want = short.1; found = short.2; short = short.3 }))
+        ⊎_elim
+        (λ (short : Lacks asks.room point.reads). inl (record { room = asks.room; asks = asks.line; at = short.0; want = short.1; found = short.2; short = short.3 }))
+        (λ (leaf : IsLeafLost point). inr (inr leaf))
+        (wants (end_told tells) asks.none asks.room asks.asks))
         (λ (changed : HasChanged (lines_built mid.ends.left) count).
         let read = at_end.stands.reads tells in
-        inr (record { output = read.output; given = keeps.given ∙ read.given; line = inr (subst (λ (n : ℕ). HasChanged (lines_built mid.ends.left) n) (sym read.answered) changed) }))
+        inr (inl (record { output = read.output; given = keeps.given ∙ read.given; line = inr (subst (λ (n : ℕ). HasChanged (lines_built mid.ends.left) n) (sym read.answered) changed) })))
         (at_end.stands.asks tells within none),
   )
 
@@ -308,5 +310,5 @@ module _ (limit : ℕ) (session : Session) (mid : Shown) (last : Session) (end :
       (record { tells = goes.ends.tells; source = ap (λ (e : Ends). e.source_faults) goes.ends.ends; sink = ap (λ (e : Ends). e.sink_faults) goes.ends.ends; disk = goes.fault.counts.faults })
       (λ tells before m stands calm. absurd (goes_for tells before m stands).whole)
       (λ tells m stands. let a = answers tells m stands in absurd (goes_for (end_told tells) (after m (lines_built mid.ends.left) a.applied.point) (after m (lines_built mid.ends.left) count) a.applied.stands).whole)
-      (damaged point goes.ends (next, (goes.stands goes.fault.session, hurt_by 0 AsksPoint end last point next at want found goes.fault.reason)) (lacks end point last next at want found wants))
+      (damaged point goes.ends (next, (goes.stands goes.fault.session, hurt_by 0 AsksPoint end last point next at want found goes.fault.reason)) (lacks end point last next at want found (goes.stands goes.fault.session) wants))
   point_failed next point (session_fault.Failed faults) goes goes_for kept wants = absurd (never_failed last.failed faults at_end.stands.ready.unfailed goes.fault.reason)

@@ -24,7 +24,7 @@ use Rattle.fv_aggregate.specs.declared.session.Session.{Session}
 use Rattle.fv_aggregate.specs.declared.fault.Fault.TheVariants as session_fault
 use Rattle.fv_aggregate.specs.Standing.{taken_since, StandsAfter, StandsFor, StandsReady}
 use Rattle.fv_aggregate.specs.Asking.{AsksWithin, IsShort}
-use Rattle.fv_aggregate.specs.Calls.{LacksBlocks, HasFilesToPlace}
+use Rattle.fv_aggregate.specs.Calls.{LacksBlocks, HasFilesToPlace, HasLostLeaf}
 use Rattle.fv_aggregate.specs.Commands.{asked_by, Asked, AsksPoint, room_by}
 use Rattle.fv_aggregate.specs.Damages.{HasDamage}
 use Rattle.fv_aggregate.specs.Reading.{IsAsRead}
@@ -198,11 +198,14 @@ as_read_itself session = record { pool = record { map = refl; containers = refl;
 
 -- ---- points that lack blocks
 
--- where nothing of files waits, a point that lacks blocks lacks them in the image
-pub lacks : (old new : Shown) (session new_session : Session) (at want found : ℕ) → calls.IsForWant old session new new_session (session_fault.Damaged at want found) → LacksSpace old session new
-lacks old new session new_session at want found is tells none room asks = ⊎_elim
+-- where nothing of files waits, a point that lacks blocks lacks them in the image; or a leaf isn't there, for a session that stands on the disk
+pub lacks : (old new : Shown) (session new_session : Session) (at want found : ℕ) → StandsReady new new_session → calls.IsForWant old session new new_session (session_fault.Damaged at want found) → LacksSpace old session new
+lacks old new session new_session at want found stands is tells none room asks = ⊎_elim
     (λ (short : LacksBlocks old session new_session at want found).
-    let same : taken_since new_session.pool.map ≡ 0 = ap (λ (s : Session). taken_since s.pool.map) (short.same none.none) ∙ none_taken session.pool.map none.taken in
-    (at, want, found, subst (λ (i : Image). IsShort i room 0 at want found) (sym is.0.stays.reads) (subst (λ (n : ℕ). IsShort old.reads room n at want found) same (short.image tells room asks))))
+    let same : taken_since new_session.pool.map ≡ 0 = (λ j. taken_since ((short.same none.none).0.map j)) ∙ none_taken session.pool.map none.taken in
+    inl (at, want, found, subst (λ (i : Image). IsShort i room 0 at want found) (sym is.0.stays.reads) (subst (λ (n : ℕ). IsShort old.reads room n at want found) same (short.image tells room asks))))
+    (λ (other : HasFilesToPlace old session at want found ⊎ HasLostLeaf new session new_session at want found). ⊎_elim
     (λ (place : HasFilesToPlace old session at want found). absurd (place.files none.none))
+    (λ (lost : HasLostLeaf new session new_session at want found). inr (record { left = new_session; stands = stands; at = at; want = want; found = found; leaf = lost.leaf }))
+    other)
     is.1

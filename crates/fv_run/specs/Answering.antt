@@ -21,7 +21,7 @@ use Rattle.fv_run.specs.declared.ending.Fault.TheVariants.{Source, Sink, Disk, M
 use Rattle.fv_run.specs.Endings.{IsWholeFault, count_of, raised_by}
 use Rattle.fv_run.specs.Built.{lines_built}
 use Rattle.fv_run.specs.Promises.{line_at}
-use Rattle.fv_run.specs.Running.{asked_in, asks_behind, asks_point, changes_volumes, HasChanged, Holds, IsOverLimit, IsHurt, IsPastLimit, IsRoomIn, IsSessionDamage, KeepsUp, MeetsDamage, most_rooms, only_asks, reads_blocks, room_in, rooms_along, Survives, left_by, pending_behind, IsQuiet, UndergoesLine, UndergoesLines}
+use Rattle.fv_run.specs.Running.{asked_in, asks_behind, asks_point, changes_volumes, HasChanged, Holds, IsOverLimit, IsHurt, IsLeafLost, IsPastLimit, IsRoomIn, IsSessionDamage, KeepsUp, MeetsDamage, most_rooms, only_asks, reads_blocks, room_in, rooms_along, Survives, left_by, pending_behind, IsQuiet, UndergoesLine, UndergoesLines}
 
 -- ---- lines and their replies
 
@@ -43,9 +43,9 @@ pub record TellsLine (old : Shown) (bytes : List ℕ) (new : Shown) (result : Re
 abbrev pub Lacks : ℕ → Image → Type 0
 Lacks room i = (at want found : ℕ) × IsShort i room 0 at want found
 
--- a consistency point lacks blocks, where nothing of files waits for it
+-- a consistency point lacks blocks, where nothing of files waits for it, or a leaf of a container
 abbrev pub LacksSpace : Shown → Session → Shown → Type 0
-LacksSpace old session new = IsTrue old.tells → IsWithoutFiles session → (room : ℕ) → AsksWithin old session room → Lacks room new.reads
+LacksSpace old session new = IsTrue old.tells → IsWithoutFiles session → (room : ℕ) → AsksWithin old session room → Lacks room new.reads ⊎ IsLeafLost new
 
 -- a call of a session that asks for this met damage, and left it standing
 abbrev pub IsHurtBy : ℕ → Asked → Session → Shown → Type 0

@@ -11,6 +11,7 @@ use Rattle.fv_model.specs.Runs.{Line, Says, NoCommand, OutOfRange, after, Full, 
 use Rattle.fv_image.specs.WholeMachine.{machine_of}
 use Rattle.fv_root.specs.declared.find.Found.{Found}
 use Rattle.fv_root.specs.Finding.{IsFound, IsNoAggregate}
+use Rattle.fv_pool.specs.BlocksOver.{LacksLeaf}
 use Rattle.fv_volumes.specs.UnderRoot.{IsMapOf}
 use Rattle.fv_aggregate.specs.declared.fault.OpenFault.TheVariants as opening
 use Rattle.fv_aggregate.specs.declared.session.Session.{Session}
@@ -269,9 +270,18 @@ pub record IsFileDamage (lines : List Line) (old end : Shown) : Type 0 where
   pub given : end.given ≡ old.given ++ output
   pub line : (reads_blocks (line_at lines (whole output)) ≡ true) ⊎ HasChanged lines (whole output)
 
--- what a session is damaged by: at the end a point lacks blocks, or its lines came to what volumes hold
+-- A leaf of the container of a volume isn't there: a session that stands on the disk has it at `at`, where the disk has another block.
+pub record IsLeafLost (end : Shown) : Type 0 where
+  pub left : Session
+  pub stands : StandsReady end left
+  pub at : ℕ
+  pub want : ℕ
+  pub found : ℕ
+  pub leaf : LacksLeaf end left.pool.containers at want found
+
+-- what a session is damaged by: at the end a point lacks blocks, or its lines came to what volumes hold, or to a leaf that isn't there
 abbrev pub IsSessionDamage : List Line → Shown → Shown → Type 0
-IsSessionDamage lines old end = IsLacking lines end.reads ⊎ IsFileDamage lines old end
+IsSessionDamage lines old end = IsLacking lines end.reads ⊎ (IsFileDamage lines old end ⊎ IsLeafLost end)
 
 -- whether a line only asks for files, which leaves the session but for its cache and the numbers of files in memory
 abbrev pub only_asks : Line → Bool
@@ -318,8 +328,8 @@ UndergoesLines lines zero i first j session = (session ≡ first) × (j ≡ i)
 UndergoesLines lines (suc count) i first j session = (mid : Session) × (k : Image) × UndergoesLines lines count i first k mid × UndergoesLine (line_at lines count) k mid j session
 
 -- A call of a session that may add `room` blocks, and asks for this, met damage, by what the disk shows at the end, and left the session
--- so: blocks are lacking, or the files of a volume couldn't be placed, where the call comes to a point or to placing; or the table that it
--- asks for isn't as it has to be, with room that passes the dirty limit also behind a point.
+-- so: blocks are lacking, or the files of a volume couldn't be placed, where the call comes to a point or to placing; or a leaf of a container
+-- isn't there, where it comes to that; or the table that it asks for isn't as it has to be, with room that passes the dirty limit also behind a point.
 pub record IsHurt (room : ℕ) (asked : Asked) (session : Session) (end : Shown) (left : Session) : Type 0 where
   pub at : ℕ
   pub want : ℕ

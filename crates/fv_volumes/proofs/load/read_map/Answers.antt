@@ -15,7 +15,7 @@ loop-slot-init g c =
       stands = did.stands;
       map = did.takes.span ∙ ap (λ (m : Volume). m.span) c.in_ok-map.ensures.empty;
       used = used_first c.args.snapshots.now c.args.span (map_blocks c.args.span) new some (subst (λ (m : Volume). TakesSlot m 0 (map_blocks c.args.span) new) c.in_ok-map.ensures.empty did.takes);
-      read = λ tells. read_first i c.args.container.now c.args.span new (did.read tells (subst (HasReadSlot i c.args.container.now c.args.span 0 0) (sym c.in_ok-map.ensures.empty) (empty_read i c.args.container.now c.args.span)));
+      read = λ tells opened. read_first i c.args.container.now.map c.args.span new (did.read tells opened (subst (HasReadSlot i c.args.container.now.map c.args.span 0 0) (sym c.in_ok-map.ensures.empty) (empty_read i c.args.container.now.map c.args.span)));
       only_reads = did.only_reads;
       calm = did.cause;
     }

@@ -99,14 +99,14 @@ returns-in-Err-Damaged-clause-goes g c =
     let e = c.in-Err-Damaged in
     point_lacks (g.D.Disk.shown c.args.disk.now) c.args.self.now (g.D.Disk.shown c.full_point.new.disk) _
     (stayed (g.D.Disk.shown c.args.disk.now) _ c.args.self.now c.self.view_is (g.D.Disk.shown c.full_point.new.disk) c.full_point.new.pool c.full_point.new.volumes c.full_point.new.delays e.ensures.delays _ _ e.field-0-is e.ensures.still (λ is. is))
-    e.at e.want e.found c.requires.fresh c.requires.stands (rw e.field-0-is at e.ensures.counts) (fails_as (g.D.Disk.shown c.args.disk.now) _ _ c.self.view_is c.full_point.new.pool c.full_point.new.volumes _ _ e.field-0-is e.ensures.fails)
+    e.at e.want e.found c.requires.fresh c.requires.stands (rw e.field-0-is at e.ensures.counts) (fails_as (g.D.Disk.shown c.args.disk.now) _ _ c.self.view_is (g.D.Disk.shown c.full_point.new.disk) c.full_point.new.pool c.full_point.new.volumes _ _ e.field-0-is e.ensures.fails)
 
 pub returns-in-Err-Damaged-clause-damage : goal.returns-in-Err-Damaged-clause-damage
 returns-in-Err-Damaged-clause-damage g c =
     let e = c.in-Err-Damaged in
     still_wants (g.D.Disk.shown c.args.disk.now) c.args.self.now (g.D.Disk.shown c.full_point.new.disk) _
     (stayed (g.D.Disk.shown c.args.disk.now) _ c.args.self.now c.self.view_is (g.D.Disk.shown c.full_point.new.disk) c.full_point.new.pool c.full_point.new.volumes c.full_point.new.delays e.ensures.delays _ _ e.field-0-is e.ensures.still (λ is. is))
-    e.at e.want e.found c.requires.fresh c.requires.stands (fails_as (g.D.Disk.shown c.args.disk.now) _ _ c.self.view_is c.full_point.new.pool c.full_point.new.volumes _ _ e.field-0-is e.ensures.fails)
+    e.at e.want e.found c.requires.fresh c.requires.stands (fails_as (g.D.Disk.shown c.args.disk.now) _ _ c.self.view_is (g.D.Disk.shown c.full_point.new.disk) c.full_point.new.pool c.full_point.new.volumes _ _ e.field-0-is e.ensures.fails)
 
 pub returns-in-Err-Damaged-clause-asks : goal.returns-in-Err-Damaged-clause-asks
 returns-in-Err-Damaged-clause-asks g c = let e = c.in-Err-Damaged in
@@ -163,17 +163,10 @@ returns-in-Err-Memory-clause-numbers g c = λ fresh.
     let e = c.in-Err-Memory in
     keeps_core c.args.self.now.volumes c.full_point.new.volumes (stayed (g.D.Disk.shown c.args.disk.now) _ c.args.self.now c.self.view_is (g.D.Disk.shown c.full_point.new.disk) c.full_point.new.pool c.full_point.new.volumes c.full_point.new.delays e.ensures.delays _ _ e.field-0-is e.ensures.still (λ is. is)).still.placed.cores
 
-disk_memory : session.DiskFault ≢ session.Memory
-disk_memory is = cc
-
-damage_memory : (at want found : ℕ) → session.Damaged at want found ≢ session.Memory
-damage_memory at want found is = cc
-
 pub returns-in-Ok-clause-points : goal.returns-in-Ok-clause-points
 returns-in-Ok-clause-points g c =
     let e = c.in-Ok.ensures in
     record {
-      memory = λ none. tt;
       point = λ tells last m stands.
           let point = point_is (g.D.Disk.shown c.args.disk.now) (g.D.Disk.shown c.full_point.new.disk) _ _ c.self.view_is c.args.want c.full_point.new.pool c.full_point.new.volumes c.full_point.new.delays
           (e.point tells) (e.goes_on.loaded tells) last m stands in
@@ -195,7 +188,6 @@ returns-in-Ok-clause-points g c =
 
 pub returns-in-Err-DiskFault-clause-points : goal.returns-in-Err-DiskFault-clause-points
 returns-in-Err-DiskFault-clause-points g c = record {
-  memory = λ none. disk_memory;
   point = λ tells last m stands. tt;
   left = tt;
   sides = λ tells. point_sides (g.D.Disk.shown c.args.disk.now) (g.D.Disk.shown c.full_point.new.disk) _ _ c.self.view_is (c.in-Err-DiskFault.ensures.any_moment tells);
@@ -203,7 +195,6 @@ returns-in-Err-DiskFault-clause-points g c = record {
 
 pub returns-in-Err-Damaged-clause-points : goal.returns-in-Err-Damaged-clause-points
 returns-in-Err-Damaged-clause-points g c = record {
-  memory = λ none. damage_memory c.in-Err-Damaged.at c.in-Err-Damaged.want c.in-Err-Damaged.found;
   point = λ tells last m stands. tt;
   left = tt;
   sides = λ tells. point_sides (g.D.Disk.shown c.args.disk.now) (g.D.Disk.shown c.full_point.new.disk) _ _ c.self.view_is (c.in-Err-Damaged.ensures.any_moment tells);
@@ -211,7 +202,6 @@ returns-in-Err-Damaged-clause-points g c = record {
 
 pub returns-in-Err-Memory-clause-points : goal.returns-in-Err-Memory-clause-points
 returns-in-Err-Memory-clause-points g c = record {
-  memory = λ none. absurd (fails_as (g.D.Disk.shown c.args.disk.now) _ _ c.self.view_is c.full_point.new.pool c.full_point.new.volumes _ _ c.in-Err-Memory.field-0-is c.in-Err-Memory.ensures.fails none);
   point = λ tells last m stands. tt;
   left = tt;
   sides = λ tells. point_sides (g.D.Disk.shown c.args.disk.now) (g.D.Disk.shown c.full_point.new.disk) _ _ c.self.view_is (c.in-Err-Memory.ensures.any_moment tells);
