@@ -8,13 +8,11 @@ ghost use Rattle.fv_root.specs.Finding.{IsDamaged, IsInRange, root_found};
 ghost use Rattle.fv_faults.specs.Faults.{passes};
 ghost use Rattle.fv_faults.specs.FourthPass.{fourth_pass};
 ghost use Rattle.fv_faults.specs.Lines.{fault_cmp, or_next};
-ghost use Rattle.fv_faults.specs.SecondPass.{second_pass};
 ghost use Rattle.fv_faults.specs.ThirdPass.{third_pass};
 ghost use Rattle.fv_first_pass.specs.Causes.{HasRead};
 ghost use Rattle.fv_first_pass.specs.Verdicts.{Checks, IsVerdict};
-ghost use Rattle.fv_second_pass.specs.Told.{IsKnown, IsPassed};
 ghost use Rattle.fv_third_pass.specs.Surveys.{HasRange, IsSurveyOf, layout_of};
-ghost use Rattle.fv_check.specs.Judged.{IsJudged};
+ghost use Rattle.fv_check.specs.Judged.{BeginsPasses, IsJudged, JudgesKnown};
 
 use crate::cached::Cached;
 use crate::totals::count_totals;
@@ -90,14 +88,8 @@ fn judge_known<D: Disk>(
     known: &Known,
     lines: Lines,
 ) -> Result<Verdict, CheckFault>
-    requires size { IsInRange root.now }
-    requires known { IsKnown known.now }
-    requires clean { lines.lines.keys ≡ [] }
-    ensures says { IsTrue (D.shown disk.old).tells → IsPassed (root_found root.now) (D.shown disk.old).reads known.now
-        → IfOk result (IsJudged (layout_at (root_found root.now) (D.shown disk.old).reads).view
-        (or_next (second_pass (layout_at (root_found root.now) (D.shown disk.old).reads))
-        (or_next (third_pass (layout_at (root_found root.now) (D.shown disk.old).reads))
-        (fourth_pass (root_place root.now.slot) (layout_at (root_found root.now) (D.shown disk.old).reads))))) }
+    requires { BeginsPasses root.now known.now lines }
+    ensures says { JudgesKnown (D.shown disk.old) root.now known.now result }
     ensures read { HasRead (D.shown disk.old) (D.shown disk.new) result }
 {
     let mut second = lines;
@@ -122,16 +114,9 @@ fn judge_held<D: Disk>(
     known: &Known,
     lines: Lines,
 ) -> Result<Verdict, CheckFault>
-    requires size { IsInRange root.now }
-    requires known { IsKnown known.now }
-    requires clean { lines.lines.keys ≡ [] }
+    requires { BeginsPasses root.now known.now lines }
     ensures same { cached.new.disk.ghost_name ≡ cached.old.disk.ghost_name }
-    ensures says { IsTrue (D.shown cached.old.disk.now).tells
-        → IsPassed (root_found root.now) (D.shown cached.old.disk.now).reads known.now
-        → IfOk result (IsJudged (layout_at (root_found root.now) (D.shown cached.old.disk.now).reads).view
-        (or_next (second_pass (layout_at (root_found root.now) (D.shown cached.old.disk.now).reads))
-        (or_next (third_pass (layout_at (root_found root.now) (D.shown cached.old.disk.now).reads))
-        (fourth_pass (root_place root.now.slot) (layout_at (root_found root.now) (D.shown cached.old.disk.now).reads))))) }
+    ensures says { JudgesKnown (D.shown cached.old.disk.now) root.now known.now result }
     ensures read { HasRead (D.shown cached.old.disk.now) (D.shown cached.new.disk.now) result }
 {
     judge_known(alloc, cached, root, known, lines)
@@ -145,14 +130,8 @@ fn judge_read<D: Disk>(
     known: &Known,
     lines: Lines,
 ) -> Result<Verdict, CheckFault>
-    requires size { IsInRange root.now }
-    requires known { IsKnown known.now }
-    requires clean { lines.lines.keys ≡ [] }
-    ensures says { IsTrue (D.shown disk.old).tells → IsPassed (root_found root.now) (D.shown disk.old).reads known.now
-        → IfOk result (IsJudged (layout_at (root_found root.now) (D.shown disk.old).reads).view
-        (or_next (second_pass (layout_at (root_found root.now) (D.shown disk.old).reads))
-        (or_next (third_pass (layout_at (root_found root.now) (D.shown disk.old).reads))
-        (fourth_pass (root_place root.now.slot) (layout_at (root_found root.now) (D.shown disk.old).reads))))) }
+    requires { BeginsPasses root.now known.now lines }
+    ensures says { JudgesKnown (D.shown disk.old) root.now known.now result }
     ensures read { HasRead (D.shown disk.old) (D.shown disk.new) result }
 {
     let mut store = Store::new(alloc, HELD_BLOCKS)?;

@@ -87,6 +87,20 @@ fn tears(rt: HostRuntime) -> Result<(), Fail> {
     Ok(())
 }
 
+/// Each moment of `fill` and of one further write of block 1 has so many blocks that wait for a barrier.
+#[test]
+fn waiting(rt: HostRuntime) -> Result<(), Fail> {
+    let mut host = begin(rt.alloc(), 0)?;
+    fill(&mut host);
+    put(&mut host, 1, 4);
+    let mut counts = Vec::new(rt.alloc());
+    for moment in 0..host.moments() {
+        counts.push(host.waiting(moment)?)?;
+    }
+    assert!(rt; counts.as_slice() == [0, 1, 2, 0, 1, 2, 2].as_slice());
+    Ok(())
+}
+
 const CALLS: [Call; 5] = [
     Call::Read,
     Call::Write,

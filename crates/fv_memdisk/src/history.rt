@@ -12,6 +12,7 @@ use crate::blocks::Blocks;
 use crate::forgotten::{Forgotten, Place};
 use crate::kept::{Event, Kept};
 use crate::torn::torn;
+use crate::unsettled::find_unsettled;
 use fv_disk::Block;
 use std::alloc::{AllocError, Global};
 
@@ -197,6 +198,15 @@ impl History {
             return 0;
         }
         self.past[self.run + moment - 1].output
+    }
+
+    /// How many blocks wait for a barrier at a moment of this run.
+    pub(crate) fn waiting(&self, moment: usize) -> Result<usize, AllocError>
+        requires { moment ≤ moment_of (story_of self.now) }
+        ensures { IfOk result (λ count. count ≡ length (state_of (story_of self.now) moment).written) }
+    {
+        let found = find_unsettled(self.alloc, &self.past[..self.run + moment])?;
+        Ok(found.written.len())
     }
 
     /// The blocks that a crash leaves at a moment of this run.

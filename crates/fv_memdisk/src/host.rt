@@ -133,6 +133,16 @@ impl MemHost {
         self.history.output_at(moment as usize)
     }
 
+    /// How many blocks were written since the last barrier at a moment, which is below `moments()`. So many of the first ones
+    /// a `Tear::First` tells apart: that of all of them is `Tear::New`. The one error is want of memory. Costs the calls up to
+    /// the moment, each with the logarithm of the number of blocks.
+    pub fn waiting(&self, moment: u64) -> Result<usize, AllocError>
+        requires { moment ≤ (shown_of self.now).moment }
+        ensures { IfOk result (λ count. count ≡ length (state_of (story self.now) moment).written) }
+    {
+        self.history.waiting(moment as usize)
+    }
+
     /// A host whose disk is what a crash leaves at a moment, which is below `moments()`. Its source
     /// and output are empty, and no call fails. Costs the calls up to the moment, each with the
     /// logarithm of the number of blocks and each write with its block.

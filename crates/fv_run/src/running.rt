@@ -15,10 +15,10 @@ use std::alloc::Global;
 use std::marker::Brand;
 use std::sync::ledger::{Blank, Ledger};
 
-/// Runs the script of the host's source on the aggregate of its disk: opens it, applies one line after
-/// another and gives each reply before the next line is applied, makes a consistency point, and gives
-/// `done` with the number of replies. The reply to `cp` and the last line come after the last barrier of
-/// their point. The last point is made whatever the lines were, also where there is none: the generation of the root tells how many were made.
+/// Runs the script of the host's source on the aggregate of its disk: opens it, applies one line after another and gives their replies in
+/// this order, makes a consistency point, and gives `done` with the number of replies. The reply to `cp` and the last line come after the
+/// last barrier of their point. Where all was done a point stands behind all lines, also where there is none, and the generation of the root
+/// has risen by as many as were made.
 ///
 /// The status is 0 where all was done, 2 where block 0 is no superblock or neither gate is open, 3, 4 or 5
 /// where the source, the sink or the disk failed, 6 where memory ran out, 8 where a block isn't as it has to

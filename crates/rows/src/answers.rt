@@ -21,6 +21,16 @@ pub fn image_at(host: &MemHost, moment: u64, tear: Tear) -> Result<MemHost, Allo
     }
 }
 
+/// How many blocks wait for a barrier at a moment; at the last one where there is none of that number.
+pub fn waiting_at(host: &MemHost, moment: u64) -> Result<usize, AllocError> {
+    let last = host.moments().saturating_sub(1);
+    if moment < last {
+        host.waiting(moment)
+    } else {
+        host.waiting(last)
+    }
+}
+
 /// The disk of a host as it reads, under a host of its own.
 pub fn settled(host: &MemHost) -> Result<MemHost, AllocError> {
     image_at(host, u64::MAX, Tear::New)

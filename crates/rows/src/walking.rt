@@ -1,6 +1,6 @@
 //! Runs that are stopped at each moment.
 
-use crate::answers::{given_by, image_at, look_at};
+use crate::answers::{given_by, image_at, look_at, waiting_at};
 use crate::bench::Bench;
 use crate::cause::{Cause, because, unread};
 use crate::delayed::{generation, has_full_region};
@@ -73,8 +73,17 @@ fn tear_of(number: u32) -> Tear {
     }
 }
 
-/// Looks at the images of a moment with so many tears: each stands for a state for which it may stand. Fewer blocks wait for a barrier than
-/// moments went by.
+/// How many tears leave different images where so many blocks wait for a barrier: without any, none does anything; and the first so many
+/// of all of them are `Tear::New`.
+fn tears_of(waiting: usize) -> usize {
+    if waiting == 0 {
+        1
+    } else {
+        waiting.saturating_add(3)
+    }
+}
+
+/// Looks at the images of a moment with so many tears, as long as they leave different ones: each stands for a state for which it may stand.
 pub fn see(
     bench: &Bench,
     host: &MemHost,
@@ -82,8 +91,9 @@ pub fn see(
     tears: u32,
     seen: &mut Vec<bool>,
 ) -> Result<(), Cause> {
+    let apart = tears_of(waiting_at(host, moment)?);
     for number in 0..tears {
-        if number > 3 && u64::from(number) >= moment.saturating_add(3) {
+        if number as usize >= apart {
             return Ok(());
         }
         let state = see_torn(bench, host, moment, number)?;

@@ -24,8 +24,8 @@ returns-then-has_lines-clause-says g c = λ tells.
     (c.in_ok-known.ensures.adds tells) c.new-first.ensures.empty
     c.has_lines.ensures.ordered (c.has_lines.ensures.any.0 c.if-has_lines.true)
 
-pub judge_read-requires-clause-clean : goal.judge_read-requires-clause-clean
-judge_read-requires-clause-clean g c = none_noted _ _ c.has_lines.ensures.any c.if-has_lines.false
+pub judge_read-requires : goal.judge_read-requires
+judge_read-requires g c = record { size = c.requires; is_known = record { labels = c.in_ok-known.ensures.range }; clean = none_noted _ _ c.has_lines.ensures.any c.if-has_lines.false }
 
 pub returns-clause-says : goal.returns-clause-says
 unfolding Rattle.fv_faults.specs.Faults.passes
