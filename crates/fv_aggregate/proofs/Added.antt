@@ -18,7 +18,7 @@ use Rattle.fv_model.specs.Replies.{Allows, AllowsBy, answer}
 use Rattle.fv_image.specs.Held.{view_at}
 use Rattle.fv_image.specs.Views.{overheads}
 use Rattle.fv_root.specs.Finding.{root_found}
-use Rattle.fv_container.specs.Chains.{container_at}
+use Rattle.fv_container.specs.Chains.{paged_at}
 use Rattle.fv_pool.specs.declared.pool.Pool.{Pool}
 use Rattle.fv_store.specs.Held.{StandsOn}
 use Rattle.fv_volumes.specs.Creating.{Admits, IsNew, Refuses, with_holes}
@@ -53,8 +53,8 @@ module _ (session : Session) (name : List ℕ) (size : ℕ) (kind : Kind) (room 
   abbrev pool : Pool
   pool = with_holes session.pool added.slot size
 
-  new_slot : IsNew (state_at new.volumes added.slot) (container_at pool.containers added.slot) name size kind
-  new_slot = subst (λ (p : Pool). IsNew (state_at new.volumes added.slot) (container_at p.containers added.slot) name size kind) added.holes added.new_there
+  new_slot : IsNew (state_at new.volumes added.slot) (paged_at pool.containers added.slot) name size kind
+  new_slot = subst (λ (p : Pool). IsNew (state_at new.volumes added.slot) (paged_at p.containers added.slot) name size kind) added.holes added.new_there
 
   with_session : (disk : Shown) → StandsReady disk (record new { pool = pool }) → StandsReady disk new
   with_session disk = subst (λ (p : Pool). StandsReady disk (record new { pool = p })) (sym added.holes)
@@ -87,8 +87,8 @@ module _ (session : Session) (name : List ℕ) (size : ℕ) (kind : Kind) (room 
         let none : unwritten (record new { pool = pool }) ≡ unwritten session = (let files = added.files in let maps = added.waiting in omega (arith, files, maps)) in
         let over = added.overheads in
         subst (λ (p : Pool). StandsFor disk (record new { pool = p }) last (next m (VolCreate name size kind))) (sym added.holes) (record {
-          held = held_beside disk session.pool session.volumes added.slot name size kind new.volumes added.fit added.free added.made new_slot added.each last stands.held tells cache added.span (added.place, added.admits);
-          machine = machine_beside disk session.pool session.volumes added.slot name size kind new.volumes added.fit added.free added.made new_slot added.each last stands.held tells cache added.span (added.place, added.admits)
+          held = held_beside disk session.pool session.volumes added.slot name size kind new.volumes added.fit added.free added.made new_slot added.each last stands.held added.few tells cache added.span (added.place, added.admits);
+          machine = machine_beside disk session.pool session.volumes added.slot name size kind new.volumes added.fit added.free added.made new_slot added.each last stands.held added.few tells cache added.span (added.place, added.admits)
               ∙ ap (λ (x : Machine). next x (VolCreate name size kind)) stands.machine;
           settled = stands.settled;
           delays = known_still disk.reads disk.reads session.pool.found session.pool.found session.delays new.delays refl refl added.delays stands.delays;

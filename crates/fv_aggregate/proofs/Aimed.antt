@@ -18,7 +18,7 @@ use Rattle.fv_aggregate.specs.declared.fault.Fault.{Fault}
 use Rattle.fv_aggregate.specs.declared.session.Session.{Session}
 use Rattle.fv_aggregate.specs.Aiming.{Aims, AimsAt, IsAimed, IsAimless, IsServed, Suits}
 use Rattle.fv_aggregate.specs.Applying.{HasApplied}
-use Rattle.fv_aggregate.specs.Commands.{slot_named, file_room, has_range, is_built, managed_by, room_by, snapped_by}
+use Rattle.fv_aggregate.specs.Commands.{slot_named, file_room, has_range, is_built, managed_by, removes_volume, room_by, snapped_by}
 use Rattle.fv_aggregate.specs.Managing.{Manages}
 use Rattle.fv_aggregate.specs.Standing.{StandsReady}
 use Rattle.fv_aggregate.proofs.Applied.{managed_or_unbuilt, no_files}
@@ -71,6 +71,11 @@ unbuilt c served is = ⊎_elim (λ some. absurd (whole c served some)) (λ none.
     whole (VolGuarantee v kind) served some = served.not_guarantee v kind refl
     whole (VolStat v) served some = served.not_stat v refl
     whole c served some = true≢false (sym some)
+
+-- it removes no volume
+served_stays : (c : Command) → IsServed c → removes_volume c ≡ false
+served_stays (VolDestroy v) served = absurd (served.not_destroy v refl)
+served_stays c served = refl
 
 manages_none : (s : Session) (c : Command) → IsServed c → Manages s c s (Refused Syntax)
 manages_none s (VolDestroy v) served = absurd (served.not_destroy v refl)
@@ -143,12 +148,12 @@ module _ {D : Type 0} (shown : D → Shown) (at : D) (laws : IsDisk (shown at)) 
         finds = λ finds near slot within named. not_none _ s.volumes slot name within named none;
       })
   refused_none task.Snap name of near none = snap_applied c name of shown at s at s steps (Ok (Refused NoVolume)) fresh
-      (refused_snapped d at laws s fresh stands c NoVolume (snap_refused d s fit.housed.long name c none of)) (λ none. refl) (needs_volume s.volumes name c of none) (refused_roomy (room_by s.volumes c) d s d NoVolume)
+      (refused_snapped d d at at laws (reads_itself d) refl refl s fresh stands c NoVolume (snap_refused d s fit.housed.long name c none of)) (λ none. refl) (needs_volume s.volumes name c of none) (refused_roomy (room_by s.volumes c) d s d NoVolume)
 
   -- a command that is refused before a volume is asked leaves all as it was
   pub refused_applied : IsServed c → (r : Refusal) → Aims s.volumes c (Err r) → Refuses r
   refused_applied served r = ⊎_elim
-      (λ none. subst Refuses (sym none.0) (managed_applied c d laws at s fit fresh stands steps s (Refused Syntax) (inr (unbuilt c served none.1)) (manages_none s c served)
+      (λ none. subst Refuses (sym none.0) (managed_applied c d laws at s fit fresh stands steps s (Refused Syntax) (served_stays c served) (inr (unbuilt c served none.1)) (manages_none s c served)
       (no_files c none.1.asks none.1.changes) none.1.snaps served.not_list served.not_point served.not_names))
       (λ missed. ⊎_elim
       (λ far. subst Refuses (sym far.0) (refused_far missed.task missed.name missed.suits far.1))

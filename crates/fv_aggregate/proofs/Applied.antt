@@ -15,14 +15,15 @@ use Rattle.fv_model.specs.Effects.{change_of}
 use Rattle.fv_model.specs.Refusals.{conditions, next}
 use Rattle.fv_model.specs.Replies.{Allows, answer}
 use Rattle.fv_model.specs.Space.{overhead, span_of}
-use Rattle.fv_cp.specs.Placing.{HaveNoFiles}
+use Rattle.fv_container.proofs.Changing.{maps_same}
 use Rattle.fv_aggregate.specs.declared.fault.Fault.{Fault}
 use Rattle.fv_aggregate.specs.declared.fault.Fault.TheVariants.{Memory}
 use Rattle.fv_aggregate.specs.declared.session.Session.{Session}
-use Rattle.fv_aggregate.specs.Calls.{Goes, GoesFor, IsForWant, IsNoDamage, IsPlain, KeepsAsking}
+use Rattle.fv_aggregate.specs.Calls.{Goes, GoesFor, IsForWant, IsNoDamage, IsPlain, IsUnpointed, KeepsAsking}
 use Rattle.fv_aggregate.specs.Commands.{asked_by, AsksNothing, AsksPoint, Replies, RepliesBy, volume_asked, changed_by, is_built, machine_after, managed_by, reads_files, room_by, room_with, snapped_by}
 use Rattle.fv_aggregate.specs.Standing.{StandsAfter, StandsFor}
 use Rattle.fv_aggregate.specs.Telling.{names_from}
+use Rattle.fv_aggregate.proofs.Calls.{reads_itself}
 use Rattle.fv_aggregate.proofs.Standing.{rests_for_last, stays_for}
 use Rattle.fv_aggregate.proofs.Telling.{names_are}
 
@@ -47,22 +48,27 @@ rests_for_fault e disk session last m after laws no_damage stands = record {
   whole = no_damage;
 }
 
+-- nothing was read
+pub unpointed_itself : (disk : Shown) (session : Session) → IsUnpointed disk session disk session
+unpointed_itself disk session = record { only_reads = reads_itself disk; loads = λ none. (record { map = refl; kept = refl; found = refl; containers = maps_same disk session.pool.containers }, refl) }
+
 -- a fault tells nothing of the command, where it is no such one as is always answered
 pub fault_plain : {D : Type 0} (command : Command) (shown : Shown) (disk : D) (session : Session) (f : Fault) → IsForWant shown session shown session f → (IsNone session.failed → is_built command ≡ false → ⊥)
-    → (command ≡ Cp → HaveNoFiles session.volumes → f ≢ Memory) → (IsNone session.failed → (name : List ℕ) → managed_by command ≡ Some name → ⊥) → (IsNone session.failed → (name : List ℕ) → snapped_by command ≡ Some name → ⊥)
+    → (IsNone session.failed → (name : List ℕ) → managed_by command ≡ Some name → ⊥) → (IsNone session.failed → (name : List ℕ) → snapped_by command ≡ Some name → ⊥)
     → (IsNone session.failed → (name : List ℕ) → command ≡ SnapList name → ⊥) → IsPlain command shown disk session shown disk session (Err f)
-fault_plain command shown disk session f damage built memory whole snap names = record {
+fault_plain command shown disk session f damage built whole snap names = record {
   refused = tt;
-  calm = λ other few. refl;
+  calm = λ other idle few. refl;
   map = λ other stays places few. refl;
-  wanting = λ other places few same. refl;
+  wanting = λ other idle few same. refl;
   damage = damage;
   unbuilt = λ fresh none. absurd (built fresh none);
   listed = λ list. tt;
   untouched = λ list. (refl, refl);
   pointed = λ cp. tt;
-  memory = memory;
-  managed = λ fresh name of. absurd (whole fresh name of);
+  unpointed = λ cp alive. unpointed_itself shown session;
+  managed = λ fresh name of stays. absurd (whole fresh name of);
+  removed = λ fresh name its. absurd (whole fresh name (ap managed_by its));
   snapped = λ fresh name of. absurd (snap fresh name of);
   snapshots = λ fresh name list. absurd (names fresh name list);
 }
@@ -166,22 +172,23 @@ list_no_names X command is name names = absurd (apart (sym is ∙ names))
     apart e = cc
 
 pub list_fails : {D : Type 0} (command : Command) → command ≡ VolList → (shown : Shown) (disk : D) (session : Session) → IsPlain command shown disk session shown disk session (Err Memory)
-list_fails command is shown disk session = fault_plain command shown disk session Memory tt (λ fresh none. list_built _ command is none) (λ cp. list_no_point _ command is cp)
+list_fails command is shown disk session = fault_plain command shown disk session Memory tt (λ fresh none. list_built _ command is none)
     (λ fresh name of. list_no_whole _ command is name of) (λ fresh name of. list_no_snap _ command is name of) (λ fresh name names. list_no_names _ command is name names)
 
 pub list_done : {D : Type 0} (command : Command) → command ≡ VolList → (shown : Shown) (disk : D) (session : Session) (names : List (List ℕ)) → names ≡ names_from session.volumes 0 64 → IsPlain command shown disk session shown disk session (Ok (Names names))
 list_done command is shown disk session names told = record {
   refused = λ refused. (refl, refl);
-  calm = λ other few. refl;
+  calm = λ other idle few. refl;
   map = λ other stays places few. refl;
-  wanting = λ other places few. tt;
+  wanting = λ other idle few. tt;
   damage = tt;
   unbuilt = λ fresh none. list_built _ command is none;
   listed = λ list. ap Names told;
   untouched = λ list. (refl, refl);
   pointed = λ cp. list_no_point _ command is cp;
-  memory = λ cp none. tt;
-  managed = λ fresh name of. list_no_whole _ command is name of;
+  unpointed = λ cp. list_no_point _ command is cp;
+  managed = λ fresh name of stays. list_no_whole _ command is name of;
+  removed = λ fresh name its. list_no_whole _ command is name (ap managed_by its);
   snapped = λ fresh name of. list_no_snap _ command is name of;
   snapshots = λ fresh name names. list_no_names _ command is name names;
 }

@@ -14,7 +14,7 @@ use Rattle.fv_image.proofs.Counts.{none_sum}
 use Rattle.fv_root.specs.declared.find.Found.{Found}
 use Rattle.fv_root.specs.Finding.{root_found}
 use Rattle.fv_aggmap.specs.Space.{free_blocks}
-use Rattle.fv_container.specs.Mapped.{Mapped}
+use Rattle.fv_container.specs.Paged.{Paged}
 use Rattle.fv_pool.specs.declared.pool.Pool.{Pool}
 use Rattle.fv_volume.specs.declared.state.VolumeState.{VolumeState}
 use Rattle.fv_volumes.specs.Creating.{IsMade, IsNew}
@@ -127,7 +127,7 @@ overheads_made states slot name size kind now long free made =
     omega (arith, sum, nothing, ap overhead span)
 
 -- without a file in memory
-pub pending_made : (states : States) (slot : ℕ) (name : List ℕ) (size : ℕ) (kind : Kind) (now : States) (container : Option Mapped) → length states ≡ 64 → IsFirstFree states slot → IsMade states slot name size kind now
+pub pending_made : (states : States) (slot : ℕ) (name : List ℕ) (size : ℕ) (kind : Kind) (now : States) (container : Option Paged) → length states ≡ 64 → IsFirstFree states slot → IsMade states slot name size kind now
     → IsNew (state_at now slot) container name size kind → pending_files now ≡ pending_files states
 pending_made states slot name size kind now container long free made new =
     let inside : slot < length states = omega (arith, long, free.within) in

@@ -31,7 +31,10 @@ use Rattle.fv_charge.specs.Ledgers.{committed}
 use Rattle.fv_container.proofs.Clean.{clean_none}
 use Rattle.fv_container.specs.Mapped.{Mapped, empty_map, entry_under, node_count}
 use Rattle.fv_container.specs.Spelled.{is_at, names}
-use Rattle.fv_container.specs.Chains.{container_at, own_entry, parent_at}
+use Rattle.fv_container.specs.Clean.{IsCleanOn}
+use Rattle.fv_container.specs.Paged.{Paged, empty_paged}
+use Rattle.fv_container.specs.Chains.{AreCleanOn, IsSlots, container_at, map_in, own_entry, paged_at, parent_at}
+use Rattle.fv_cp.proofs.CameIn.{lent_clean}
 use Rattle.fv_store.specs.Held.{StandsOn}
 use Rattle.fv_volmap.specs.Slots.{Volume as MapSlots, active_of}
 use Rattle.fv_pool.specs.declared.pool.Pool.{Pool}
@@ -89,7 +92,7 @@ none_of x n b none = (λ i. is_at b (none i) || (names (empty_map n).tree b || l
 -- ---- what calls need of it
 
 module _ (disk : Shown) (pool : Pool) (states : States) (slot : ℕ) (name : List ℕ) (size : ℕ) (kind : Kind) (new : States) (fit : FitTogether pool states)
-    (free : IsFirstFree states slot) (made : IsMade states slot name size kind new) (is : IsNew (state_at new slot) (container_at (with_holes pool slot size).containers slot) name size kind)
+    (free : IsFirstFree states slot) (made : IsMade states slot name size kind new) (is : IsNew (state_at new slot) (paged_at (with_holes pool slot size).containers slot) name size kind)
     (each : (s : ℕ) → IfSome (state_at new s) (IsLabelled s)) where
   abbrev after : Pool
   after = with_holes pool slot size
@@ -103,8 +106,15 @@ module _ (disk : Shown) (pool : Pool) (states : States) (slot : ℕ) (name : Lis
   elsewhere : (s : ℕ) → s ≢ slot → state_at new s ≡ state_at states s
   elsewhere s ne = ap (λ (xs : States). state_at xs s) made.states ∙ get_or-set_other states slot s (Some made.state) None ne
 
+  paged_elsewhere : (s : ℕ) → s ≢ slot → paged_at after.containers s ≡ paged_at pool.containers s
+  paged_elsewhere s ne = get_or-set_other pool.containers.containers slot s (Some (empty_paged (entry_count (span_of size 0 0)))) None ne
+
+  -- its container has holes
+  holes : container_at after.containers slot ≡ Some (empty_map (entry_count x.span))
+  holes = ap map_in is.holes
+
   container_elsewhere : (s : ℕ) → s ≢ slot → container_at after.containers s ≡ container_at pool.containers s
-  container_elsewhere s ne = get_or-set_other pool.containers.containers slot s (Some (empty_map (entry_count (span_of size 0 0)))) None ne
+  container_elsewhere s ne = ap map_in (paged_elsewhere s ne)
 
   housed : AreHoused after.containers new
   housed = housed_with pool states new slot name size kind made is each fit.housed
@@ -114,7 +124,7 @@ module _ (disk : Shown) (pool : Pool) (states : States) (slot : ℕ) (name : Lis
 
   many : x.map.span ≤ length (entries_in (container_at after.containers x.slot))
   many = subst (λ (n : ℕ). x.map.span ≤ length (entries_in (container_at after.containers n))) (sym here.slot_is)
-      (subst (λ (c : Option Mapped). x.map.span ≤ length (entries_in c)) (sym is.holes)
+      (subst (λ (c : Option Mapped). x.map.span ≤ length (entries_in c)) (sym holes)
       (let count : length (entries_in (Some (empty_map (entry_count x.span)))) ≡ entry_count x.span = length-replicate (entry_count x.span) None in
       let span = here.map in omega (arith, count, span)))
 
@@ -174,7 +184,7 @@ module _ (disk : Shown) (pool : Pool) (states : States) (slot : ℕ) (name : Lis
 
   -- ---- where the session stands for a machine
 
-  module _ (last : Machine) (held : IsHeld disk pool states last) (tells : IsTrue disk.tells) (stands : StandsOn disk pool.store.pairs) (span : ℕ) (admits : (place : ℕ) × Admits states pool.found.blocks name size kind place span) where
+  module _ (last : Machine) (held : IsHeld disk pool states last) (few : IsSlots pool.containers) (tells : IsTrue disk.tells) (stands : StandsOn disk pool.store.pairs) (span : ℕ) (admits : (place : ℕ) × Admits states pool.found.blocks name size kind place span) where
     mine : (s : ℕ) (y : VolumeState) → state_at states s ≡ Some y → IsHeldIn disk pool s y
     mine s y there = one disk pool states fit.housed.long last held s y there
 
@@ -184,6 +194,13 @@ module _ (disk : Shown) (pool : Pool) (states : States) (slot : ℕ) (name : Lis
 
     alone_now : (s : ℕ) (y : VolumeState) → y.slot ≡ s → IsLabelled s y → state_at new s ≡ Some y → parent_at after.containers y.slot ≡ None
     alone_now s y at labelled there = housed.parents y.slot ∙ ap (λ (n : ℕ). parent_in (state_at new n)) at ∙ ap parent_in there ∙ alone_by y.base (form_base (head_in y) labelled.form)
+
+    -- each container is clean on the disk
+    clean_now : AreCleanOn disk.reads after.containers
+    clean_now s = ⊎_elim
+        (λ (at : s ≡ slot). subst (λ (k : ℕ). IfSome (paged_at after.containers k) (IsCleanOn disk.reads)) (sym at) (subst (λ (c : Option Paged). IfSome c (IsCleanOn disk.reads)) (sym is.holes) (clean_none disk.reads (entry_count x.span))))
+        (λ (other : s ≢ slot). subst (λ (c : Option Paged). IfSome c (IsCleanOn disk.reads)) (sym (paged_elsewhere s other)) (lent_clean disk.reads pool.found states pool.containers few fit.housed held.slots s))
+        (cases_eq s slot)
 
     module _ (s : ℕ) (y : VolumeState) (other : s ≢ slot) (there : state_at states s ≡ Some y) where
       was : IsHeldIn disk pool s y
@@ -202,7 +219,7 @@ module _ (disk : Shown) (pool : Pool) (states : States) (slot : ℕ) (name : Lis
       held_old = record {
         slot = was.slot;
         ready = ready_old s y other was.slot was.ready;
-        stands = entries_standing disk disk pool after y (alone_old s y there) still same_own refl refl (λ v e at. refl) (λ v e at. was.stands.told.1.own v e at) was.stands;
+        stands = entries_standing disk disk pool after y (alone_old s y there) still same_own refl refl (λ v e at. refl) (λ v e at. was.stands.told.1.own v e at) clean_now was.stands;
         led = entries_led disk disk pool after y (alone_old s y there) still same_own refl refl (λ v e at. refl) (λ v e at. was.stands.told.1.own v e at) was.led;
         well = entries_well disk disk pool after y (alone_old s y there) still same_own refl refl (λ v e at. refl) (λ v e at. was.stands.told.1.own v e at) was.well;
         wide = was.wide;
@@ -227,7 +244,7 @@ module _ (disk : Shown) (pool : Pool) (states : States) (slot : ℕ) (name : Lis
     held_new = record {
       slot = here.slot_is;
       ready = ready_new stands;
-      stands = made_standing disk after x size kind head_own is.ledger is.files is.numbers (entry_count x.span) tells (ap (container_at after.containers) here.slot_is ∙ is.holes) (alone_now slot x here.slot_is here is.state_is);
+      stands = made_standing disk after x size kind head_own is.ledger is.files is.numbers (entry_count x.span) tells clean_now (ap (container_at after.containers) here.slot_is ∙ holes) (alone_now slot x here.slot_is here is.state_is);
       led = led_new;
       well = made_well disk after x size kind head_own is.ledger is.files;
       wide = subst (λ (h : Head). h.most + 256 ≤ h.span) (sym is.head) (omega arith);
@@ -275,7 +292,7 @@ module _ (disk : Shown) (pool : Pool) (states : States) (slot : ℕ) (name : Lis
 
     -- ---- the blocks
 
-    slot_new : IsLentSlot disk.reads pool.found slot x (empty_map (entry_count x.span))
+    slot_new : IsLentSlot disk.reads pool.found slot x (empty_paged (entry_count x.span))
     slot_new = record {
       label = λ some. absurd (some is.label);
       nodes = λ b named. absurd (both_ways (names (empty_map (entry_count x.span)).tree b) (none_named (node_count (entry_count x.span)) b) named);
@@ -290,18 +307,18 @@ module _ (disk : Shown) (pool : Pool) (states : States) (slot : ℕ) (name : Lis
       unchanged = λ e. absurd (not_changed e);
     }
 
-    pub slots_now : (s : ℕ) → s < 64 → IsLentAt disk.reads pool.found s (state_at new s) (container_at after.containers s)
+    pub slots_now : (s : ℕ) → s < 64 → IsLentAt disk.reads pool.found s (state_at new s) (paged_at after.containers s)
     slots_now s inside = ⊎_elim
-        (λ (here : s ≡ slot). subst (λ (k : ℕ). IsLentAt disk.reads pool.found k (state_at new k) (container_at after.containers k)) (sym here)
-        (subst (λ (o : Option VolumeState). IsLentAt disk.reads pool.found slot o (container_at after.containers slot)) (sym is.state_is)
-        (subst (λ (c : Option Mapped). IsLentAt disk.reads pool.found slot (Some x) c) (sym is.holes) slot_new)))
-        (λ (other : s ≢ slot). subst (λ (o : Option VolumeState). IsLentAt disk.reads pool.found s o (container_at after.containers s)) (sym (elsewhere s other))
-        (subst (λ (c : Option Mapped). IsLentAt disk.reads pool.found s (state_at states s) c) (sym (container_elsewhere s other)) (held.slots s inside)))
+        (λ (here : s ≡ slot). subst (λ (k : ℕ). IsLentAt disk.reads pool.found k (state_at new k) (paged_at after.containers k)) (sym here)
+        (subst (λ (o : Option VolumeState). IsLentAt disk.reads pool.found slot o (paged_at after.containers slot)) (sym is.state_is)
+        (subst (λ (c : Option Paged). IsLentAt disk.reads pool.found slot (Some x) c) (sym is.holes) slot_new)))
+        (λ (other : s ≢ slot). subst (λ (o : Option VolumeState). IsLentAt disk.reads pool.found s o (paged_at after.containers s)) (sym (elsewhere s other))
+        (subst (λ (c : Option Paged). IsLentAt disk.reads pool.found s (state_at states s) c) (sym (paged_elsewhere s other)) (held.slots s inside)))
         (cases_eq s slot)
 
     -- the new volume has no block yet
     none_new : (b : ℕ) → has_block (state_at new slot) (container_at after.containers slot) b ≡ false
-    none_new b = (λ i. has_block (is.state_is i) (is.holes i) b) ∙ none_of x (entry_count x.span) b is.label
+    none_new b = (λ i. has_block (is.state_is i) (holes i) b) ∙ none_of x (entry_count x.span) b is.label
 
     has_as_before : (s b : ℕ) → s ≢ slot → has_block (state_at new s) (container_at after.containers s) b ≡ has_block (state_at states s) (container_at pool.containers s) b
     has_as_before s b other = λ i. has_block (elsewhere s other i) (container_elsewhere s other i) b

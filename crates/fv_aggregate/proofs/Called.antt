@@ -9,8 +9,8 @@ use Rattle.fv_root.specs.declared.find.Found.{Found}
 use Rattle.fv_root.specs.Commits.{IsFoundOn}
 use Rattle.fv_root.specs.Finding.{IsFound, root_found}
 use Rattle.fv_aggmap.specs.Space.{Space}
-use Rattle.fv_container.specs.Chains.{Slots, container_at}
-use Rattle.fv_container.specs.Mapped.{Mapped}
+use Rattle.fv_container.specs.Chains.{Slots, container_at, paged_at}
+use Rattle.fv_container.specs.Paged.{Paged}
 use Rattle.fv_files.specs.declared.numbers.FileNumbers.{FileNumbers}
 use Rattle.fv_pool.specs.declared.pool.Pool.{Pool}
 use Rattle.fv_volume.specs.declared.state.VolumeState.{VolumeState}
@@ -58,7 +58,7 @@ module _ (d e : Shown) (p q : Pool) (reads : Reads d p e q) where
   }
 
   -- Other volumes over the same root are what they have to be, where each is that, and they are laid out so.
-  pub held_over : {were : States} (states : States) (before : Machine) → IsHeld d p were before → ((k : ℕ) → k < 64 → IsLentAt d.reads p.found k (state_at states k) (container_at p.containers k))
+  pub held_over : {were : States} (states : States) (before : Machine) → IsHeld d p were before → ((k : ℕ) → k < 64 → IsLentAt d.reads p.found k (state_at states k) (paged_at p.containers k))
       → AreSpacedIn p.found.blocks p.map.next (state_at states) (container_at p.containers) → AreNamed states → ((k : ℕ) → IfSome (state_at states k) (IsHeldIn e q k)) → sum_of states ≤ capacity p.found.blocks → IsHeld e q states before
   held_over states before held slots spaced names each commits =
       let same = reads.only_reads.stays.reads in
@@ -71,8 +71,8 @@ module _ (d e : Shown) (p q : Pool) (reads : Reads d p e q) where
         tells = subst (λ (f : Found). Tells (layout_at (root_found f) e.reads) before) (sym found) (subst (λ (i : Image). Tells (layout_at (root_found p.found) i) before) (sym same) held.tells);
         keeps = λ c now. subst (λ (f : Found). Keeps (root_found f) e.reads c) (sym found) (subst (λ (i : Image). Keeps (root_found p.found) i c) (sym same) (held.keeps c (reads.only_reads.stays.no_more c now)));
         map = subst (λ (m : Space). IsMapOf e.reads q.found m) (sym reads.leaves.map) (subst (λ (f : Found). IsMapOf e.reads f p.map) (sym found) (subst (λ (i : Image). IsMapOf i p.found p.map) (sym same) held.map));
-        slots = λ k low. subst (λ (c : Slots). IsLentAt e.reads q.found k (state_at states k) (container_at c k)) (sym reads.leaves.containers)
-            (subst (λ (f : Found). IsLentAt e.reads f k (state_at states k) (container_at p.containers k)) (sym found) (subst (λ (i : Image). IsLentAt i p.found k (state_at states k) (container_at p.containers k)) (sym same) (slots k low)));
+        slots = λ k low. subst (λ (c : Slots). IsLentAt e.reads q.found k (state_at states k) (paged_at c k)) (sym reads.leaves.containers)
+            (subst (λ (f : Found). IsLentAt e.reads f k (state_at states k) (paged_at p.containers k)) (sym found) (subst (λ (i : Image). IsLentAt i p.found k (state_at states k) (paged_at p.containers k)) (sym same) (slots k low)));
         spaced = subst (λ (c : Slots). AreSpacedIn q.found.blocks q.map.next (state_at states) (container_at c)) (sym reads.leaves.containers)
             (subst (λ (m : Space). AreSpacedIn q.found.blocks m.next (state_at states) (container_at p.containers)) (sym reads.leaves.map) (subst (λ (f : Found). AreSpacedIn f.blocks p.map.next (state_at states) (container_at p.containers)) (sym found) spaced));
         names = names;
@@ -106,10 +106,10 @@ module _ (d e : Shown) (p q : Pool) (reads : Reads d p e q) where
         by k None is = tt
         by k (Some w) is = held_in_read k w is
 
-    loaded_with : (map : Mapped) (n : Option FileNumbers) → IsLoaded d.reads p.found s (Some x) (Some map) → IsLoaded d.reads p.found s (Some (record x { numbers = n })) (Some map)
+    loaded_with : (map : Paged) (n : Option FileNumbers) → IsLoaded d.reads p.found s (Some x) (Some map) → IsLoaded d.reads p.found s (Some (record x { numbers = n })) (Some map)
     loaded_with map n is = record { head = is.head; tree = is.tree; clean = is.clean; label = is.label; bits = is.bits; changed = is.changed }
 
-    slots_there : (k : ℕ) → k < 64 → IsLentAt d.reads p.found k (state_at stay k) (container_at p.containers k)
+    slots_there : (k : ℕ) → k < 64 → IsLentAt d.reads p.found k (state_at stay k) (paged_at p.containers k)
     slots_there = lent_as states long s x y there d.reads p.found (ap (λ (z : VolumeState). z.label) called.same) span
         (λ map stand. maps_still d.reads p.found x y map map span called.maps.span called.maps.snapshots (ap (λ (z : VolumeState). z.fresh) called.same) (λ v past. refl) stand)
         (λ map loaded un. subst (λ (z : VolumeState). IsLoaded d.reads p.found s (Some z) (Some map)) (sym (called.unchanged un)) (loaded_with map y.numbers (loaded (sym (ap (λ (z : VolumeState). z.changed) (called.unchanged un)) ∙ un))))

@@ -77,7 +77,7 @@ module _ (d e : Shown) (laws : IsDisk d) (s : Session) (q : Pool) (c : Command) 
     read = tt;
   })
   judged_by (Err (volume.Damaged at want found)) did new result b = as_told (HasJudged slot d s c e) new now result (Err (Damaged at want found)) b.1.1.1 (b.1.0 ∙ ap (λ (g : Fault). Err g) b.1.1.0) (record {
-    goes = goes_damaged d e laws s now 0 did.reads.only_reads fresh fresh (stands_read d e s q did.reads stands) at want found (calm_damage _ _ _ e.faults at want found did.cause) (inl (did.reads.only_reads, inl (inr (inr (bad_read d e s fresh slot x there q did.reads (calm_damage _ _ _ e.faults at want found did.cause) None at want found (finds_active d s.pool x e.faults at want found (calm_damage _ _ _ e.faults at want found did.cause) did.cause)))))) (omega arith);
+    goes = goes_damaged d e laws s now 0 did.reads.only_reads fresh fresh (stands_read d e s q did.reads stands) at want found (calm_damage _ _ _ e.faults at want found did.cause) (inl (did.reads.only_reads, inl (inr (inr (inr (bad_read d e s fresh slot x there q did.reads (calm_damage _ _ _ e.faults at want found did.cause) None at want found (finds_active d s.pool x e.faults at want found (calm_damage _ _ _ e.faults at want found did.cause) did.cause))))))) (omega arith);
     goes_for = λ tells last m is. absurd (no_damage d s.pool x (its last m is).stands (its last m is).well 0 e.faults at want found did.cause);
     judges = λ tells last m is. tt;
     only_reads = did.reads.only_reads;
@@ -165,7 +165,7 @@ module _ (d e : Shown) (laws : IsDisk d) (s : Session) (q : Pool) (c : Command) 
       entries = λ low. kept_entries s (record after { failed = new.failed }) did.reads.leaves.containers;
     })
     makes_by (Err (volume.Damaged at want found)) did new result b = as_told (Makes file_room (AsksTable slot None) d s c e) new after result (Err (Damaged at want found)) b.1.1.1 (b.1.0 ∙ ap (λ (g : Fault). Err g) b.1.1.0) (record {
-      goes = goes_damaged d e laws s after 16 did.reads.only_reads fresh fresh (stand (Err (volume.Damaged at want found)) did) at want found (calm_damage _ _ _ e.faults at want found did.cause) (inl (did.reads.only_reads, inl (inr (inr (bad_after at want found did))))) few_added;
+      goes = goes_damaged d e laws s after 16 did.reads.only_reads fresh fresh (stand (Err (volume.Damaged at want found)) did) at want found (calm_damage _ _ _ e.faults at want found did.cause) (inl (did.reads.only_reads, inl (inr (inr (inr (bad_after at want found did)))))) few_added;
       goes_for = λ tells last m is. absurd (no_damage d s.pool x (its last m is).stands (its last m is).well 0 e.faults at want found did.cause);
       reply = λ tells last m is. tt;
       refused = λ tells last m is. tt;

@@ -1,11 +1,12 @@
 -- What is damaged in a call of a session, by the steps that it is made of.
-use Rattle.std.proofs.Common.{◌≡◌, ◌≤◌, ℕ, List, Option, Some, None, Err, inl, inr, refl, sym, ap, subst, ◌∙◌, length, arith, get_or-set_same}
+use Rattle.std.proofs.Common.{◌≡◌, ◌≤◌, ◌⊎◌, ℕ, List, Option, Some, None, Err, inl, inr, refl, sym, ap, subst, ◌∙◌, length, arith, get_or-set_same}
 use Rattle.std.specs.Prelude.{unwrap_or, IsNone, IsSome, IsTrue}
 use Rattle.std.specs.Option.{option_map}
-use Rattle.fv_disk.specs.Shown.{Shown}
+use Rattle.fv_disk.specs.Shown.{Image, Shown}
 use Rattle.fv_disk.specs.declared.fault.BlockFault.TheVariants as block
 use Rattle.fv_disk.proofs.Resting.{reads_then}
 use Rattle.fv_tables.specs.Told.{Standing}
+use Rattle.fv_container.specs.Chains.{AreCleanOn}
 use Rattle.fv_volmap.specs.Slots.{Volume}
 use Rattle.fv_pool.specs.declared.fault.VolumeFault.TheVariants as volume
 use Rattle.fv_pool.specs.declared.pool.Pool.{Pool}
@@ -22,9 +23,9 @@ use Rattle.fv_volume.specs.States.{state_at, with_state}
 use Rattle.fv_volumes.proofs.Told.{is_inside}
 use Rattle.fv_aggregate.specs.declared.session.Session.{Session}
 use Rattle.fv_aggregate.specs.Adding.{IsPointed}
-use Rattle.fv_aggregate.specs.Commands.{Asked, AsksNothing, AsksPlacing, AsksPoint, AsksTable}
+use Rattle.fv_aggregate.specs.Commands.{Asked, AsksLeaves, AsksNothing, AsksPlacing, AsksPoint, AsksTable}
 use Rattle.fv_aggregate.specs.Asking.{AsksWithin}
-use Rattle.fv_aggregate.specs.Damages.{ComesToPlace, ComesToPoint, HasBadTable, HasDamage, HasDamageIn, HasFilesToPlace, HasReadFor, LacksBlocks, PassesLimit}
+use Rattle.fv_aggregate.specs.Damages.{ComesToLeaves, ComesToPlace, ComesToPoint, HasBadTable, HasDamage, HasDamageIn, HasLoaded, HasReadFor, HasUnplaced, LacksBlocks, PassesLimit}
 use Rattle.fv_aggregate.specs.Reading.{IsAsRead, WasRead}
 
 -- ---- a table of a volume
@@ -57,6 +58,23 @@ module _ (d : Shown) (p : Pool) (x : VolumeState) (faults at want found : ℕ) (
 
 -- ---- over a disk that shows as much
 
+-- leaves came into memory
+pub loaded_after : (d e : Shown) → e.tells ≡ d.tells → e.reads ≡ d.reads → (s new : Session) → HasLoaded d s new → HasLoaded e s new
+loaded_after d e tells reads s new was = (
+  record {
+    map = was.0.map;
+    kept = was.0.kept;
+    found = was.0.found;
+    containers = record {
+      maps = was.0.containers.maps;
+      parents = was.0.containers.parents;
+      clean = λ told. subst (λ (i : Image). AreCleanOn i new.pool.containers) (sym reads)
+          (was.0.containers.clean (subst IsTrue tells told.0, subst (λ (i : Image). AreCleanOn i s.pool.containers) reads told.1));
+    };
+  },
+  was.1,
+)
+
 module _ (d e : Shown) (tells : e.tells ≡ d.tells) (reads : e.reads ≡ d.reads) (faults : e.faults ≡ d.faults) where
   abbrev like : Shown
   like = record d { tells = e.tells; reads = e.reads; faults = e.faults }
@@ -84,7 +102,7 @@ module _ (d e : Shown) (tells : e.tells ≡ d.tells) (reads : e.reads ≡ d.read
           (subst (λ (k : Shown). TableFails (TellsAsked k p x finds.table) (standing_of k p x finds.table) (lent_for p x.map k 0 (home_in x) 0) k.faults (block.Damaged at want found)) like_is finds.fails));
     }
 
-    pub may_after : (at want found : ℕ) → MayFail d p (Some x) (volume.Damaged at want found) → MayFail e p (Some x) (volume.Damaged at want found)
+    may_after : (at want found : ℕ) → MayFail d p (Some x) (volume.Damaged at want found) → MayFail e p (Some x) (volume.Damaged at want found)
     may_after at want found may = subst (λ (k : Shown). MayFail k p (Some x) (volume.Damaged at want found)) like_is may
 
   module _ (s : Session) (at want found : ℕ) where
@@ -94,7 +112,33 @@ module _ (d e : Shown) (tells : e.tells ≡ d.tells) (reads : e.reads ≡ d.read
     pub lacks_after : (new : Session) → LacksBlocks d s new at want found → LacksBlocks e s new at want found
     lacks_after new lacks =
         let now = subst (λ (k : Shown). LacksBlocks k s new at want found) like_is lacks in
-        record { fresh = lacks.fresh; place = lacks.place; asked = lacks.asked; free = lacks.free; short = lacks.short; image = λ told room asks. now.image told room (asks_like room asks); same = lacks.same }
+        record { fresh = lacks.fresh; place = lacks.place; asked = lacks.asked; free = lacks.free; short = lacks.short; image = λ told room asks. now.image told room (asks_like room asks); same = λ none. loaded_after d e tells reads s new (lacks.same none) }
+
+    -- the files of a volume couldn't be placed
+    pub unplaced_after : (room : ℕ) (asked : Asked) → HasUnplaced room asked d s at want found → HasUnplaced room asked e s at want found
+    unplaced_after room asked is = record {
+      files = record {
+        fresh = is.files.fresh;
+        files = is.files.files;
+        slot = is.files.slot;
+        state = is.files.state;
+        there = is.files.there;
+        mid = is.files.mid;
+        root = is.files.root;
+        committed = is.files.committed;
+        placed = is.files.placed;
+        entries = is.files.entries;
+        between = is.files.between;
+        ahead = is.files.ahead;
+        others = is.files.others;
+        rest = is.files.rest;
+        done = is.files.done;
+        first = is.files.first;
+        fails = may_after is.files.mid is.files.state at want found is.files.fails;
+      };
+      comes = is.comes;
+      before = is.before;
+    }
 
 -- ---- in a session
 
@@ -161,6 +205,12 @@ point_placing slot e = cc
 nothing_placing : (slot : ℕ) → AsksNothing ≡ AsksPlacing slot → ⊥
 nothing_placing slot e = cc
 
+point_leaves : (slot : ℕ) → AsksPoint ≡ AsksLeaves slot → ⊥
+point_leaves slot e = cc
+
+nothing_leaves : (slot : ℕ) → AsksNothing ≡ AsksLeaves slot → ⊥
+nothing_leaves slot e = cc
+
 -- one that may add more
 module _ (asked : Asked) (least room : ℕ) (le : least ≤ room) where
   passes_more : (pending : ℕ) → PassesLimit pending least → PassesLimit pending room
@@ -174,33 +224,44 @@ module _ (asked : Asked) (least room : ℕ) (le : least ≤ room) where
   place_more s slot (inl is) = inl is
   place_more s slot (inr point) = inr (point_more s point)
 
+  leaves_more : (s : Session) (slot : ℕ) → (asked ≡ AsksLeaves slot) ⊎ ComesToPlace least asked s slot → ComesToLeaves room asked s
+  leaves_more s slot (inl is) = (slot, inl is)
+  leaves_more s slot (inr place) = (slot, inr (place_more s slot place))
+
   in_more : (d : Shown) (s new : Session) (at want found : ℕ) → HasDamageIn least asked d s new at want found → HasDamageIn room asked d s new at want found
   in_more d s new at want found (inl lacks) = inl (point_more s lacks.0, lacks.1)
   in_more d s new at want found (inr (inl placed)) = inr (inl (record { files = placed.files; comes = place_more s placed.files.slot placed.comes; before = placed.before }))
-  in_more d s new at want found (inr (inr bad)) = inr (inr bad)
+  in_more d s new at want found (inr (inr (inl lost))) = inr (inr (inl (leaves_more s lost.0.0 lost.0.1, lost.1)))
+  in_more d s new at want found (inr (inr (inr bad))) = inr (inr (inr bad))
 
   pub damage_more : (before : Shown) (old : Session) (after : Shown) (new : Session) (at want found : ℕ) → HasDamage least asked before old after new at want found → HasDamage room asked before old after new at want found
   damage_more before old after new at want found (inl (reads, inl now)) = inl (reads, inl (in_more after old new at want found now))
   damage_more before old after new at want found (inl (reads, inr later)) = inl (reads, inr (record { session = later.session; read = later.read; damage = in_more after later.session new at want found later.damage }))
   damage_more before old after new at want found (inr (past, behind)) = inr (passes_more old.pending past, behind)
 
--- a call that asks for no table, nor to place the files of a volume by itself, is part of one that comes to a point where this does
-module _ (part asked : Asked) (least room : ℕ) (old : Session) (none : (slot : ℕ) (snapshot : Option (List ℕ)) → part ≡ AsksTable slot snapshot → ⊥) (never : (slot : ℕ) → part ≡ AsksPlacing slot → ⊥) (point : ComesToPoint least part old → ComesToPoint room asked old)
-    (place : (slot : ℕ) → ComesToPlace least part old slot → ComesToPlace room asked old slot) where
+-- A call that asks for no table, nor to place the files of a volume or to read leaves by itself, is part of one that comes to a point where this
+-- does.
+module _ (part asked : Asked) (least room : ℕ) (old : Session) (none : (slot : ℕ) (snapshot : Option (List ℕ)) → part ≡ AsksTable slot snapshot → ⊥) (never : (slot : ℕ) → part ≡ AsksPlacing slot → ⊥) (leafless : (slot : ℕ) → part ≡ AsksLeaves slot → ⊥)
+    (point : ComesToPoint least part old → ComesToPoint room asked old) (place : (slot : ℕ) → ComesToPlace least part old slot → ComesToPlace room asked old slot) where
+  leaves_part : (slot : ℕ) → (part ≡ AsksLeaves slot) ⊎ ComesToPlace least part old slot → ComesToLeaves room asked old
+  leaves_part slot (inl is) = absurd (leafless slot is)
+  leaves_part slot (inr comes) = (slot, inr (place slot comes))
+
   damage_part : (before after : Shown) (new : Session) (at want found : ℕ) → HasDamage least part before old after new at want found → HasDamage room asked before old after new at want found
   damage_part before after new at want found (inl (reads, inl (inl lacks))) = inl (reads, inl (inl (point lacks.0, lacks.1)))
   damage_part before after new at want found (inl (reads, inl (inr (inl placed)))) = inl (reads, inl (inr (inl (record { files = placed.files; comes = place placed.files.slot placed.comes; before = λ other. placed.before (never placed.files.slot) }))))
-  damage_part before after new at want found (inl (reads, inl (inr (inr bad)))) = absurd (none bad.slot bad.snapshot bad.asks)
+  damage_part before after new at want found (inl (reads, inl (inr (inr (inl lost))))) = inl (reads, inl (inr (inr (inl (leaves_part lost.0.0 lost.0.1, lost.1)))))
+  damage_part before after new at want found (inl (reads, inl (inr (inr (inr bad))))) = absurd (none bad.slot bad.snapshot bad.asks)
   damage_part before after new at want found (inl (reads, inr later)) = absurd (none later.read.slot later.read.snapshot later.read.asks)
   damage_part before after new at want found (inr (past, behind)) = absurd (none behind.read.slot behind.read.snapshot behind.read.asks)
 
 -- a point that makes room for a call
 pub damage_point : (asked : Asked) (room : ℕ) (old : Session) → PassesLimit old.pending room → (before after : Shown) (new : Session) (at want found : ℕ) → HasDamage 0 AsksPoint before old after new at want found → HasDamage room asked before old after new at want found
-damage_point asked room old past before after new at want found is = damage_part AsksPoint asked 0 room old point_table point_placing (λ comes. inr past) (λ slot comes. inr (inr past)) before after new at want found is
+damage_point asked room old past before after new at want found is = damage_part AsksPoint asked 0 room old point_table point_placing point_leaves (λ comes. inr past) (λ slot comes. inr (inr past)) before after new at want found is
 
 -- room that is made for a call, whatever this asks for
 pub damage_room : (asked : Asked) (room : ℕ) (old : Session) (before after : Shown) (new : Session) (at want found : ℕ) → HasDamage room AsksNothing before old after new at want found → HasDamage room asked before old after new at want found
-damage_room asked room old before after new at want found is = damage_part AsksNothing asked room room old nothing_table nothing_placing comes_still places_still before after new at want found is
+damage_room asked room old before after new at want found is = damage_part AsksNothing asked room room old nothing_table nothing_placing nothing_leaves comes_still places_still before after new at want found is
   where
     comes_still : ComesToPoint room AsksNothing old → ComesToPoint room asked old
     comes_still (inl is) = absurd (nothing_point is)

@@ -4,7 +4,7 @@ use Rattle.std.specs.Prelude.{IsSome, nat_le}
 use Rattle.std.proofs.lemmas.Bool.Decides.{nat_tests}
 use Rattle.fv_model.specs.declared.commands.Kind.{Kind}
 use Rattle.fv_aggmap.specs.Space.{Space}
-use Rattle.fv_container.specs.Chains.{Slots, container_at, own_entry}
+use Rattle.fv_container.specs.Chains.{Slots, container_at, map_in, own_entry}
 use Rattle.fv_container.specs.Mapped.{Mapped}
 use Rattle.fv_pool.specs.declared.pool.Pool.{Pool}
 use Rattle.fv_volume.specs.declared.state.VolumeState.{VolumeState}
@@ -26,7 +26,7 @@ read_entries old mid new leaves keeps =
 
 -- a volume was added in a free slot
 pub added_entries : (old : Session) (name : List ℕ) (size : ℕ) (kind : Kind) (room : ℕ) (new : Session) → IsAdded old name size kind room new → MakesNoHoles old new
-added_entries old name size kind room new added s there v = inl (ap (λ (c : Option Mapped). own_entry c v) (ap (λ (p : Pool). container_at p.containers s) added.holes ∙ get_or-set_other old.pool.containers.containers added.slot s _ None differ))
+added_entries old name size kind room new added s there v = inl (ap (λ (c : Option Mapped). own_entry c v) (ap (λ (p : Pool). container_at p.containers s) added.holes ∙ ap map_in (get_or-set_other old.pool.containers.containers added.slot s _ None differ)))
   where
     none : (o : Option VolumeState) → o ≡ None → IsSome o → ⊥
     none o is some = true≢false (sym (subst IsSome is some))

@@ -12,6 +12,8 @@ use Rattle.fv_laws.proofs.Changes.{itself}
 use Rattle.fv_model.specs.declared.commands.Kind.{Kind}
 use Rattle.fv_model.specs.Spelling.{is_same_name}
 use Rattle.fv_pool.specs.declared.pool.Pool.{Pool}
+use Rattle.fv_disk.specs.Shown.{Shown}
+use Rattle.fv_pool.specs.declared.fault.VolumeFault.{VolumeFault}
 use Rattle.fv_volumes.specs.Destroying.{Destroys}
 use Rattle.fv_volume.specs.Promising.{promised, PromisesOne}
 use Rattle.fv_pool.specs.declared.fault.VolumeFault.{VolumeFault}
@@ -113,14 +115,14 @@ promised_keeps old c name blocks size kind new (Ok u) long is = let done = is.do
 is_own : (a b : List ℕ) → a ≡ b → is_same_name a b ≡ true
 is_own a b same = subst (λ (n : List ℕ). is_same_name a n ≡ true) same (itself a)
 
-gone_keeps : (old : Session) (v : List ℕ) (new : States) (left : Pool) (r : Result Unit Refusal) → length old.volumes ≡ 64 → Destroys old.volumes old.pool v new left r → KeepsNumbersBut (MayLose (VolDestroy v) old.volumes) old.volumes new
-gone_keeps old v new left (Err r) long is = keeps_but _ old.volumes new (keeps_same old.volumes new is.stays.0)
-gone_keeps old v new left (Ok u) long is = let done = is.done in subst (KeepsNumbersBut (MayLose (VolDestroy v) old.volumes) old.volumes) (sym done.gone.row)
+-- what a removal left
+pub gone_keeps : (disk : Shown) (old : Session) (v : List ℕ) (new : States) (left : Pool) (r : Result Unit VolumeFault) → length old.volumes ≡ 64 → Destroys disk old.volumes old.pool v new left r → KeepsNumbersBut (MayLose (VolDestroy v) old.volumes) old.volumes new
+gone_keeps disk old v new left (Err r) long is = keeps_but _ old.volumes new (keeps_same old.volumes new is.stays.0)
+gone_keeps disk old v new left (Ok u) long is = let done = is.done in subst (KeepsNumbersBut (MayLose (VolDestroy v) old.volumes) old.volumes) (sym done.gone.row)
     (keeps_with (MayLose (VolDestroy v) old.volumes) old.volumes done.slot None (let low = done.within in omega (arith, low, long))
     (λ known stays. stays (v, (refl, ap (λ (o : Option VolumeState). is_named o v) done.there ∙ is_own done.state.name v done.named))))
 
 pub keeps_managed : (old : Session) (c : Command) (new : Session) (reply : Reply) → length old.volumes ≡ 64 → Manages old c new reply → KeepsNumbersBut (MayLose c old.volumes) old.volumes new.volumes
-keeps_managed old (VolDestroy v) new reply long is = gone_keeps old v new.volumes new.pool is.result long is.answers
 keeps_managed old (VolResize v size) new reply long is = keeps_but _ old.volumes new.volumes (promised_keeps old (VolResize v size) v old.pool.found.blocks _ _ new.volumes is.result long is.answers.1)
 keeps_managed old (VolGuarantee v kind) new reply long is = keeps_but _ old.volumes new.volumes (promised_keeps old (VolGuarantee v kind) v old.pool.found.blocks _ _ new.volumes is.result long is.answers.1)
 keeps_managed old c new reply long is = keeps_but _ old.volumes new.volumes (keeps_same old.volumes new.volumes (ap (λ (k : Session). k.volumes) is.0))

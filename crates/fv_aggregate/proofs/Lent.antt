@@ -30,9 +30,10 @@ use Rattle.fv_root.specs.Finding.{root_found}
 use Rattle.fv_aggmap.specs.Loading.{IsLoaded as IsMapLoaded}
 use Rattle.fv_aggmap.specs.Space.{Space}
 use Rattle.fv_container.specs.declared.entry.Entry.{Entry}
-use Rattle.fv_container.specs.Chains.{Slots, container_at, slot_count}
+use Rattle.fv_container.specs.Chains.{Slots, container_at, map_in, paged_at, slot_count}
 use Rattle.fv_container.specs.Mapped.{IsMapped, Mapped, entry_under}
-use Rattle.fv_container.specs.Spelled.{Spelled, is_at, pair_of}
+use Rattle.fv_container.specs.Paged.{Paged}
+use Rattle.fv_container.specs.Spelled.{IsOpened, is_at, pair_of}
 use Rattle.fv_volume.specs.declared.state.VolumeState.{VolumeState}
 use Rattle.fv_volume.specs.Loading.{HaveBits, IsContainerOf, IsLoaded, LoadedTo, label_of}
 use Rattle.fv_volume.specs.Files.{HasOwnSlots}
@@ -41,6 +42,7 @@ use Rattle.fv_volumes.proofs.StandingMaps.{loaded_maps}
 use Rattle.fv_volume.specs.Stored.{AreApartIn, AreSpacedIn, has_block, leads, place_at, place_in}
 use Rattle.fv_volumes.specs.Housed.{HaveReaches, ReachesAll}
 use Rattle.fv_cp.specs.Lent.{IsLentAt}
+use Rattle.fv_volumes.proofs.CleanSlots.{loaded_clean}
 use Rattle.fv_volumes.proofs.LentSlots.{lent_from_loaded}
 use Rattle.fv_volume.proofs.EachRoot.{root_there}
 use Rattle.fv_volume.proofs.KeptSlots.{root_bits, root_few}
@@ -50,7 +52,7 @@ use Rattle.fv_volumes.proofs.SlotBlocks.{HasKinds, at_is, entry_kinds}
 
 -- ---- the blocks of one volume
 
-module _ (t : Taken) (i : Image) (s : ℕ) (l : Label) (x : VolumeState) (map : Mapped) (span : x.span ≡ l.span) (spelled : Spelled i l.container l.height map) (long : length map.entries ≡ entry_count l.span) (kinds : HasKinds map) where
+module _ (t : Taken) (i : Image) (s : ℕ) (l : Label) (x : VolumeState) (map : Mapped) (span : x.span ≡ l.span) (spelled : IsOpened i l.container l.height map) (long : length map.entries ≡ entry_count l.span) (kinds : HasKinds map) where
   entry_is : (v : ℕ) → entry_at i l v ≡ pair_of (entry_under map v)
   entry_is v = ap (λ (n : ℕ). container_entry i l.container l.height n v) (sym long) ∙ spelled.entries v
 
@@ -140,7 +142,7 @@ module _ (i : Image) (found : Found) (m : Machine) (tells : Tells (layout_at (ro
       so false e = refl
 
   holds : (s b : ℕ) → s < 64 → is_held_by y s b ≡ has_block (state_at states s) (container_at containers s) b
-  holds s b inside = loaded_holds found i s (none_at_start s inside) (state_at states s) (container_at containers s) (loaded.each s inside) b
+  holds s b inside = loaded_holds found i s (none_at_start s inside) (state_at states s) (paged_at containers s) (loaded.each s inside) b
 
   pub spaced_opened : (space : Space) → IsMapLoaded i found space → AreSpacedIn found.blocks space.next (state_at states) (container_at containers)
   unfolding layout_at map_bit view_at
@@ -156,29 +158,29 @@ module _ (i : Image) (found : Found) (m : Machine) (tells : Tells (layout_at (ro
       inside : (b : ℕ) → y.bit b ≡ true → b < area_bits y.view.blocks
       inside b set = let low = (and_parts (nat_lt b (area_bits found.blocks)) _ set).0 in grind (arith, nat_tests, low)
 
-  apart_opened : (s : ℕ) → s < 64 → (o : Option VolumeState) (c : Option Mapped) → IsLoaded i found s o c → IfSome o (λ x. IfSome c (AreApartIn x))
+  apart_opened : (s : ℕ) → s < 64 → (o : Option VolumeState) (c : Option Paged) → IsLoaded i found s o c → IfSome o (λ x. IfSome (map_in c) (AreApartIn x))
   apart_opened s inside None c is = tt
   apart_opened s inside (Some x) None is = tt
-  apart_opened s inside (Some x) (Some map) is = so (label_of found i s) refl
+  apart_opened s inside (Some x) (Some paged) is = so (label_of found i s) refl
     where
-      no_tree : (l : Option Label) → l ≡ None → IsContainerOf i l (Some map) → ⊥
+      no_tree : (l : Option Label) → l ≡ None → IsContainerOf i l (Some paged.map) → ⊥
       no_tree None e tree = tree
       no_tree (Some l) e tree = cc
 
-      so : (l : Option Label) → label_of found i s ≡ l → AreApartIn x map
+      so : (l : Option Label) → label_of found i s ≡ l → AreApartIn x paged.map
       so None there = absurd (no_tree (label_of found i s) there is.tree)
       so (Some l) there =
-          let of : Spelled i l.container l.height map × ((length map.entries ≡ entry_count l.span) × IsMapped map) = subst (λ (o : Option Label). IsContainerOf i o (Some map)) there is.tree in
+          let of : IsOpened i l.container l.height paged.map × ((length paged.map.entries ≡ entry_count l.span) × IsMapped paged.map) = subst (λ (o : Option Label). IsContainerOf i o (Some paged.map)) there is.tree in
           let head : head_in x ≡ head_of l = same (head_in x) (head_of l) (is.head ∙ ap (option_map head_of) there) in
-          apart_in t i s l x map (span_of l x head) of.0 of.1.0 (entry_kinds map of.1.1) (different_when_once t i s l there (λ b. spaced_layout.each s b inside)) is.label
+          apart_in t i s l x paged.map (span_of l x head) of.0 of.1.0 (entry_kinds paged.map of.1.1) (different_when_once t i s l there (λ b. spaced_layout.each s b inside)) is.label
           (λ b entry. least s b inside (block_is_held t i s l there b (inr (inr entry))))
         where
           same : (a b : Head) → ◌≡◌ {A = Option Head} (Some a) (Some b) → a ≡ b
           same a b e = cc
 
-  pub slots_opened : ((s : ℕ) → IfSome (state_at states s) HasOwnSlots) → (s : ℕ) → s < 64 → IsLentAt i found s (state_at states s) (container_at containers s)
-  slots_opened kept s inside = lent_from_loaded i found s (state_at states s) (container_at containers s) (loaded.each s inside) (apart_opened s inside (state_at states s) (container_at containers s) (loaded.each s inside))
-      (loaded_maps found i s inside tells.sound (state_at states s) (container_at containers s) (loaded.each s inside) (kept s))
+  pub slots_opened : ((b : ℕ) → length (i b) ≡ 4096) → length containers.containers ≡ slot_count → ((s : ℕ) → IfSome (state_at states s) HasOwnSlots) → (s : ℕ) → s < 64 → IsLentAt i found s (state_at states s) (paged_at containers s)
+  slots_opened whole few kept s inside = lent_from_loaded i found s (state_at states s) (paged_at containers s) (loaded.each s inside) (apart_opened s inside (state_at states s) (paged_at containers s) (loaded.each s inside))
+      (loaded_maps found i s inside tells.sound (state_at states s) (paged_at containers s) (loaded.each s inside) (kept s)) (loaded_clean found i states containers whole tells.sound few loaded s)
 
   pub reach_opened : ((s : ℕ) → IfSome (state_at states s) HasOwnSlots) → ((b : ℕ) → length (i b) ≡ 4096) → HaveReaches (view_at t i) states
   unfolding layout_at view_at

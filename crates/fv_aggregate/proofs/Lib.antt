@@ -10,6 +10,7 @@ pub mod Roots
 mod Standing
 mod Lent
 mod PointEnds
+mod PointFaults
 mod Pointed
 mod HeldMachine
 mod Holes
@@ -41,6 +42,7 @@ mod Having
 mod Resized
 mod Ready
 mod Removing
+mod Removed
 mod Replaced
 pub mod MadeRoom
 mod Managed

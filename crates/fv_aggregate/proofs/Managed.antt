@@ -12,13 +12,13 @@ use Rattle.fv_model.specs.declared.commands.Command.{Command}
 use Rattle.fv_model.specs.declared.commands.Command.TheVariants.{VolDestroy, VolResize, VolGuarantee, VolStat}
 use Rattle.fv_model.specs.declared.commands.Kind.{Kind}
 use Rattle.fv_model.specs.Machines.{Machine}
-use Rattle.fv_model.specs.Effects.{change_of, effect}
+use Rattle.fv_model.specs.Effects.{change_of}
 use Rattle.fv_model.specs.Refusals.{conditions, first_of, next, refusal}
 use Rattle.fv_model.specs.Replies.{answer, is_open, stat_of, Allows}
 use Rattle.fv_model.specs.Volumes.{Volume}
+use Rattle.fv_container.specs.Chains.{TellsEntries}
 use Rattle.fv_pool.specs.declared.pool.Pool.{Pool}
 use Rattle.fv_volume.specs.declared.state.VolumeState.{VolumeState}
-use Rattle.fv_volumes.specs.Destroying.{Destroys}
 use Rattle.fv_volume.specs.OneVolume.{content_for, volume_for}
 use Rattle.fv_volume.specs.Promising.{has_size, refusal_of, told_by, IsPromised, PromisesOne}
 use Rattle.fv_volume.specs.Slots.{is_named, NoneHasName}
@@ -36,12 +36,11 @@ use Rattle.fv_aggregate.proofs.Asked.{answer_allows}
 use Rattle.fv_aggregate.proofs.Having.{can_have_all, contents, has_volumes}
 use Rattle.fv_aggregate.proofs.HeldMachine.{is_there, not_there, one}
 use Rattle.fv_aggregate.proofs.Missing.{refused_allows, refused_next}
-use Rattle.fv_aggregate.proofs.Removing.{asked_without, files_without, stands_for_without, stands_without}
 use Rattle.fv_aggregate.proofs.Resized.{files_promised, stands_for_promised, stands_promised}
 
 -- What is so of a session after a command that reaches no disk, over a disk.
 pub record IsManagedOver (disk : Shown) (old : Session) (c : Command) (new : Session) (reply : Reply) : Type 0 where
-  pub managed : (name : List ℕ) → managed_by c ≡ Some name → IsManaged old c name new reply
+  pub managed : (name : List ℕ) → managed_by c ≡ Some name → IsManaged (TellsEntries disk old.pool.containers) old c name new reply
   pub unbuilt : is_built c ≡ false → reply ≡ Refused Syntax
   pub refused : IsTrue (is_refusal reply) → new ≡ old
   pub stands : StandsReady disk old → StandsReady disk new
@@ -58,11 +57,11 @@ pub record IsManagedOver (disk : Shown) (old : Session) (c : Command) (new : Ses
 
 -- ---- replies
 
-after_built : (m : Machine) (c : Command) → is_built c ≡ true → machine_after m c ≡ next m c
+pub after_built : (m : Machine) (c : Command) → is_built c ≡ true → machine_after m c ≡ next m c
 unfolding machine_after
 after_built m c built = ap (λ (b : Bool). if b then next m c else m) built
 
-replies_built : (m : Machine) (c : Command) (reply : Reply) → is_built c ≡ true → Allows m c reply → Replies m c reply
+pub replies_built : (m : Machine) (c : Command) (reply : Reply) → is_built c ≡ true → Allows m c reply → Replies m c reply
 replies_built m c reply built allowed = subst (λ (b : Bool). RepliesBy b m c reply) (sym built) allowed
 
 refused_done : (r : Refusal) → Refused r ≡ Done → ⊥
@@ -78,10 +77,13 @@ some_same : (a b : List ℕ) → ◌≡◌ {A = Option (List ℕ)} (Some a) (Som
 some_same a b e = cc
 
 module _ (disk : Shown) (session : Session) where
+  abbrev sure : Type 0
+  sure = TellsEntries disk session.pool.containers
+
   -- ---- a session that stays
 
   -- what is said of its reply is enough
-  stays_over : (c : Command) (reply : Reply) → ((name : List ℕ) → managed_by c ≡ Some name → IsManaged session c name session reply) → (is_built c ≡ false → reply ≡ Refused Syntax)
+  stays_over : (c : Command) (reply : Reply) → ((name : List ℕ) → managed_by c ≡ Some name → IsManaged sure session c name session reply) → (is_built c ≡ false → reply ≡ Refused Syntax)
       → (StandsReady disk session → (last m : Machine) → StandsFor disk session last m → StandsFor disk session last (machine_after m c)) → ((last m : Machine) → StandsFor disk session last m → Replies m c reply) → IsManagedOver disk session c session reply
   stays_over c reply managed unbuilt stands_for replies = record {
     managed = managed;
@@ -108,7 +110,7 @@ module _ (disk : Shown) (session : Session) where
       apart v e = cc
 
   -- a command that is refused, as by the machine
-  refused_over : (c : Command) (r : Refusal) → is_built c ≡ true → ((name : List ℕ) → managed_by c ≡ Some name → IsManaged session c name session (Refused r))
+  refused_over : (c : Command) (r : Refusal) → is_built c ≡ true → ((name : List ℕ) → managed_by c ≡ Some name → IsManaged sure session c name session (Refused r))
       → ((last m : Machine) → StandsFor disk session last m → refusal m c ≡ Some r) → IsManagedOver disk session c session (Refused r)
   refused_over c r built managed refused = stays_over c (Refused r) managed (λ isnt. absurd (true≢false (sym built ∙ isnt)))
       (λ there last m stands. subst (λ (k : Machine). StandsFor disk session last k) (sym (after_built m c built ∙ refused_next m c r (refused last m stands))) stands)
@@ -119,7 +121,7 @@ module _ (disk : Shown) (session : Session) where
 
     module _ (c : Command) (name : List ℕ) (size : VolumeState → ℕ) (kind : VolumeState → Kind) (new : States) (built : is_built c ≡ true) (of : managed_by c ≡ Some name) (changes : changes_volume c ≡ true)
         (range : has_range c ≡ has_size c) (no_stat : c ≡ VolStat name → ⊥) (no_removal : c ≡ VolDestroy name → ⊥) (done : (m : Machine) → refusal m c ≡ None → Allows m c Done)
-        (carried : IsPromised session.volumes session.pool.found.blocks c name size kind new → IsCarriedOut session c (record session { volumes = new })) where
+        (carried : IsPromised session.volumes session.pool.found.blocks c name size kind new → IsCarriedOut sure session c (record session { volumes = new })) where
       abbrev now : Session
       now = record session { volumes = new }
 
@@ -130,8 +132,8 @@ module _ (disk : Shown) (session : Session) where
           ∙ did.agrees (contents disk session.pool session.volumes fit.housed.long last stands.held) (machine_held disk session.pool session.volumes)
           (can_have_all disk session.pool session.volumes fit.housed.long last stands.held) (has_volumes disk session.pool session.volumes fit.housed.long last stands.held)
 
-      by_name : (after : Session) (reply : Reply) → IsManaged session c name after reply → (n : List ℕ) → managed_by c ≡ Some n → IsManaged session c n after reply
-      by_name after reply managed n is = subst (λ (k : List ℕ). IsManaged session c k after reply) (some_same name n (sym of ∙ is)) managed
+      by_name : (after : Session) (reply : Reply) → IsManaged sure session c name after reply → (n : List ℕ) → managed_by c ≡ Some n → IsManaged sure session c n after reply
+      by_name after reply managed n is = subst (λ (k : List ℕ). IsManaged sure session c k after reply) (some_same name n (sym of ∙ is)) managed
 
       promise_over : (r : Result Unit Refusal) → PromisesOne session.volumes session.pool.found.blocks c name size kind new r → IsManagedOver disk session c now (told_as r)
       promise_over (Ok u) did = record {
@@ -186,76 +188,14 @@ module _ (disk : Shown) (session : Session) where
     guarantee_over name kind new r = promise_over (VolGuarantee name kind) name (λ x. x.size) (λ x. kind) new refl refl refl refl (λ e. cc) (λ e. cc)
         (λ m. done_allowed m (VolGuarantee name kind) refl refl) (λ done. (refl, done)) r
 
-    -- ---- a removal
-
-    module _ (name : List ℕ) (new : States) (left : Pool) where
-      abbrev removal : Command
-      removal = VolDestroy name
-
-      abbrev after : Session
-      after = record session { volumes = new; pool = left }
-
-      destroyed_as : (r : Result Unit Refusal) → Destroys session.volumes session.pool name new left r → (last m : Machine) → StandsFor disk session last m → refusal m removal ≡ refusal_of r
-      destroyed_as r did last m stands =
-          ap (λ (k : Machine). refusal k removal) (sym stands.machine)
-          ∙ did.agrees (contents disk session.pool session.volumes fit.housed.long last stands.held) session.pool.found.blocks (machine_held disk session.pool session.volumes)
-          (has_volumes disk session.pool session.volumes fit.housed.long last stands.held)
-
-      by_its_name : (after : Session) (reply : Reply) → IsManaged session removal name after reply → (n : List ℕ) → managed_by removal ≡ Some n → IsManaged session removal n after reply
-      by_its_name after reply managed n is = subst (λ (k : List ℕ). IsManaged session removal k after reply) (some_same name n is) managed
-
-      other : removal ≡ VolStat name → ⊥
-      other e = cc
-
-      destroy_over : (r : Result Unit Refusal) → Destroys session.volumes session.pool name new left r → IsManagedOver disk session removal after (told_as r)
-      unfolding is_built answer change_of
-      destroy_over (Ok u) did = record {
-        managed = by_its_name after Done (record {
-          far = λ out. absurd (true≢false out);
-          missing = λ near none. absurd (ok_err u _ (did.missing none));
-          told = λ is. absurd (other is);
-          removed = λ is slot small has. refl;
-          answered = λ other. inl refl;
-          done = λ is. did.done;
-          stays = λ is. absurd (other is);
-          rest = refl;
-        });
-        unbuilt = λ isnt. absurd (true≢false isnt);
-        refused = λ is. absurd (true≢false (sym is));
-        stands = stands_without session fit name new left did.done disk;
-        stands_for = λ there last m stands. subst (λ (k : Machine). StandsFor disk after last k)
-            (sym (after_built m removal refl ∙ ap (λ (o : Option Refusal). cond (is_some o) m (effect m removal)) (destroyed_as (Ok u) did last m stands)))
-            (stands_for_without session fit name new left did.done disk last m stands);
-        replies = λ last m stands. replies_built m removal Done refl (answer_allows m removal Done (destroyed_as (Ok u) did last m stands) refl refl);
-        asked = λ calm. asked_without session fit name new left did.done;
-        files = files_without session fit name new left did.done;
-        map = λ stays. absurd (true≢false stays);
-        containers = λ stays. absurd (true≢false stays);
-        found = did.done.gone.found;
-        pending = refl;
-        failed = refl;
-      }
-      destroy_over (Err r) did = subst (λ (s : States). IsManagedOver disk session removal (record session { volumes = s; pool = left }) (Refused r)) (sym did.stays.0)
-          (subst (λ (p : Pool). IsManagedOver disk session removal (record session { pool = p }) (Refused r)) (sym did.stays.1)
-          (refused_over removal r refl (by_its_name session (Refused r) (record {
-            far = λ out. absurd (true≢false out);
-            missing = λ near none. same_refusal r _ (did.missing none);
-            told = λ is. absurd (other is);
-            removed = λ is slot small has. absurd (ok_err tt r (sym (did.there slot small has)));
-            answered = λ other. inr refl;
-            done = λ is. absurd (refused_done r is);
-            stays = λ is. absurd (other is);
-            rest = refl;
-          })) (destroyed_as (Err r) did)))
-
     -- ---- what is told
 
     module _ (name : List ℕ) where
       abbrev asks : Command
       asks = VolStat name
 
-      by_the_name : (reply : Reply) → IsManaged session asks name session reply → (n : List ℕ) → managed_by asks ≡ Some n → IsManaged session asks n session reply
-      by_the_name reply managed n is = subst (λ (k : List ℕ). IsManaged session asks k session reply) (some_same name n is) managed
+      by_the_name : (reply : Reply) → IsManaged sure session asks name session reply → (n : List ℕ) → managed_by asks ≡ Some n → IsManaged sure session asks n session reply
+      by_the_name reply managed n is = subst (λ (k : List ℕ). IsManaged sure session asks k session reply) (some_same name n is) managed
 
       no_removal : asks ≡ VolDestroy name → ⊥
       no_removal e = cc
@@ -345,14 +285,14 @@ module _ (disk : Shown) (session : Session) where
         → IsManagedOver disk session c (record session { volumes = new.volumes; pool = new.pool }) (told_as r) → IsManagedOver disk session c new reply
     by_volumes c new reply r told rest over = subst (λ (n : Session). IsManagedOver disk session c n reply) (sym rest) (subst (λ (y : Reply). IsManagedOver disk session c (record session { volumes = new.volumes; pool = new.pool }) y) (sym told) over)
 
-    pub manages_over : (c : Command) → (is_some (managed_by c) ≡ true) ⊎ (is_built c ≡ false) → (new : Session) (reply : Reply) → Manages session c new reply → IsManagedOver disk session c new reply
-    manages_over (VolDestroy v) either new reply is = by_volumes (VolDestroy v) new reply is.result is.reply_is is.rest (destroy_over v new.volumes new.pool is.result is.answers)
-    manages_over (VolResize v size) either new reply is = by_volumes (VolResize v size) new reply is.result is.reply_is is.rest
+    pub manages_over : (c : Command) → removes_volume c ≡ false → (is_some (managed_by c) ≡ true) ⊎ (is_built c ≡ false) → (new : Session) (reply : Reply) → Manages session c new reply → IsManagedOver disk session c new reply
+    manages_over (VolDestroy v) stays either new reply is = absurd (true≢false stays)
+    manages_over (VolResize v size) stays either new reply is = by_volumes (VolResize v size) new reply is.result is.reply_is is.rest
         (subst (λ (p : Pool). IsManagedOver disk session (VolResize v size) (record session { volumes = new.volumes; pool = p }) (told_as is.result)) (sym is.answers.0) (resize_over v size new.volumes is.result is.answers.1))
-    manages_over (VolGuarantee v kind) either new reply is = by_volumes (VolGuarantee v kind) new reply is.result is.reply_is is.rest
+    manages_over (VolGuarantee v kind) stays either new reply is = by_volumes (VolGuarantee v kind) new reply is.result is.reply_is is.rest
         (subst (λ (p : Pool). IsManagedOver disk session (VolGuarantee v kind) (record session { volumes = new.volumes; pool = p }) (told_as is.result)) (sym is.answers.0) (guarantee_over v kind new.volumes is.result is.answers.1))
-    manages_over (VolStat v) either new reply is = ⊎_elim
+    manages_over (VolStat v) stays either new reply is = ⊎_elim
         (λ (none : NoneHasName session.volumes v × (reply ≡ Refused NoVolume)). left_as (VolStat v) new reply (Refused NoVolume) is.0 none.1 (stat_missing v none.0))
         (λ (told : IsTold session v reply). left_as (VolStat v) new reply reply is.0 refl (stat_told v reply told))
         is.1
-    manages_over c either new reply is = others _ refl either new reply is
+    manages_over c stays either new reply is = others _ refl either new reply is

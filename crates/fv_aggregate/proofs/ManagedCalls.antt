@@ -1,5 +1,5 @@
 -- A command on a whole volume as `apply` has it: it reaches no disk, and the session's last point stays.
-use Rattle.std.proofs.Common.{◌≡◌, ◌≢◌, ℕ, List, Some, None, Ok, false, inl, refl, sym, ap, subst, ◌∙◌, arith}
+use Rattle.std.proofs.Common.{◌≡◌, ◌≢◌, ℕ, List, Some, None, Ok, false, true≢false, inl, refl, sym, ap, subst, ◌∙◌, arith}
 use Rattle.std.specs.Prelude.{IsNone}
 use Rattle.fv_disk.specs.Shown.{IsDisk, Shown}
 use Rattle.fv_model.specs.declared.answers.Reply.{Reply}
@@ -12,7 +12,7 @@ use Rattle.fv_root.specs.declared.find.Found.{Found}
 use Rattle.fv_root.specs.Finding.{root_found}
 use Rattle.fv_aggregate.specs.declared.session.Session.{Session}
 use Rattle.fv_aggregate.specs.Calls.{Goes, GoesFor, IsPlain, KeepsAsking}
-use Rattle.fv_aggregate.specs.Commands.{Asked, changes_volume, machine_after, snapped_by}
+use Rattle.fv_aggregate.specs.Commands.{Asked, changes_volume, machine_after, removes_volume, snapped_by}
 use Rattle.fv_aggregate.specs.Standing.{StandsFor, StandsReady}
 use Rattle.fv_aggregate.proofs.Calls.{same_counts, same_ends}
 use Rattle.fv_aggregate.proofs.Managed.{IsManagedOver}
@@ -46,19 +46,20 @@ module _ (disk : Shown) (old : Session) (c : Command) (new : Session) (reply : R
     whole = tt;
   }
 
-  pub managed_plain : {D : Type 0} (at : D) → c ≢ VolList → c ≢ Cp → ((name : List ℕ) → c ≢ SnapList name) → snapped_by c ≡ None → IsPlain c disk at old disk at new (Ok reply)
-  managed_plain at no_list no_point no_names no_snap = record {
+  pub managed_plain : {D : Type 0} (at : D) → removes_volume c ≡ false → c ≢ VolList → c ≢ Cp → ((name : List ℕ) → c ≢ SnapList name) → snapped_by c ≡ None → IsPlain c disk at old disk at new (Ok reply)
+  managed_plain at stays no_list no_point no_names no_snap = record {
     refused = λ refused. (refl, over.refused refused);
-    calm = λ other few. refl;
-    map = λ other stays places few. over.map stays;
-    wanting = λ other places few. tt;
+    calm = λ other idle few. refl;
+    map = λ other kept places few. over.map kept;
+    wanting = λ other idle few. tt;
     damage = tt;
     unbuilt = λ fresh none. ap Ok (over.unbuilt none);
     listed = λ list. absurd (no_list list);
     untouched = λ list. absurd (no_list list);
     pointed = λ cp. absurd (no_point cp);
-    memory = λ cp. absurd (no_point cp);
-    managed = λ fresh name of. record { reply = reply; is = refl; managed = over.managed name of };
+    unpointed = λ cp. absurd (no_point cp);
+    removed = λ fresh name its. absurd (true≢false (sym (ap removes_volume its) ∙ stays));
+    managed = λ fresh name of kept. record { reply = reply; is = refl; managed = over.managed name of };
     snapped = λ fresh name of. absurd (some_none name (sym of ∙ no_snap));
     snapshots = λ fresh name is. absurd (no_names name is);
   }

@@ -117,7 +117,7 @@ lent_opened disk session m settled whole opened machine =
       tells = tells;
       keeps = λ c now. subst (λ (i : Image). Keeps t disk.reads i) (sym (settled_image disk c settled now)) (record { root = opened.found.root; layout = refl });
       map = record { len = opened.map.len; bits = opened.map.bits };
-      slots = slots_opened disk.reads found m tells session.volumes session.pool.containers opened.slots own;
+      slots = slots_opened disk.reads found m tells session.volumes session.pool.containers opened.slots whole opened.few own;
       spaced = spaced_opened disk.reads found m tells session.volumes session.pool.containers opened.slots session.pool.map opened.map;
       states = opened.states m tells;
       built = subst (λ (w : View). is_built w ≡ true) (sym alike) tells.built;

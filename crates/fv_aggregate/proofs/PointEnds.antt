@@ -24,14 +24,15 @@ use Rattle.fv_root.specs.Finding.{IsFound, root_found}
 use Rattle.fv_aggmap.specs.Loading.{IsLoaded as IsMapLoaded}
 use Rattle.fv_aggmap.specs.Space.{free_blocks}
 use Rattle.fv_aggmap.proofs.Room.{room_when_loaded, room_when_sound}
-use Rattle.fv_container.specs.Chains.{container_at}
-use Rattle.fv_container.specs.Mapped.{Mapped}
+use Rattle.fv_container.specs.Chains.{paged_at}
+use Rattle.fv_container.specs.Paged.{Paged}
 use Rattle.fv_cp.specs.Held.{machine_held, IsHeld}
 use Rattle.fv_cp.specs.Known.{AreKnown}
 use Rattle.fv_cp.specs.Lent.{blocks_asked, maps_waiting, HaveNoneWaiting, IsLentAt}
+use Rattle.fv_pool.specs.BlocksOver.{LacksLeaf}
 use Rattle.fv_cp.specs.Placing.{pending_files, core_of, FailsToPlace, HaveNoFiles, KeepCores}
 use Rattle.fv_cp.specs.Points.{IsNextRoot, LacksRoom}
-use Rattle.fv_cp.proofs.Flushing.{files_there}
+use Rattle.fv_cp.proofs.Flushing.{files_there, may_on}
 use Rattle.fv_cp.specs.Settling.{GoesOnWhole, HaveFullRoom, IsHeldPoint, IsStill, OldOrHeld, StillHeld, WholeCounts, WholeFails}
 use Rattle.fv_disk.specs.declared.fault.BlockFault.TheVariants as block
 use Rattle.fv_volmap.specs.Slots.{stored_count}
@@ -47,11 +48,11 @@ use Rattle.fv_volume.specs.States.{States, state_at, view_over}
 use Rattle.fv_volumes.proofs.FreeNumbers.{has_numbers}
 use Rattle.fv_volumes.proofs.StillLoaded.{none_loaded}
 use Rattle.fv_aggregate.specs.declared.session.Session.{Session}
-use Rattle.fv_aggregate.specs.declared.fault.Fault.TheVariants.{DiskFault, Damaged, Memory}
+use Rattle.fv_aggregate.specs.declared.fault.Fault.TheVariants.{Damaged, Memory}
 use Rattle.fv_aggregate.specs.Adding.{HasRoom, IsPointed, StillAdmits}
 use Rattle.fv_aggregate.specs.Commands.{AsksPoint}
-use Rattle.fv_aggregate.specs.Calls.{Goes, GoesFor, HasFilesToPlace, IsForWant, KeepsAsking, LacksBlocks}
-use Rattle.fv_aggregate.proofs.Damages.{lacks_after, may_after}
+use Rattle.fv_aggregate.specs.Calls.{Goes, HasFilesToPlace, HasLostLeaf, IsForWant, IsUnpointed, KeepsAsking, LacksBlocks}
+use Rattle.fv_aggregate.proofs.Damages.{lacks_after, loaded_after}
 use Rattle.fv_aggregate.specs.Standing.{clear_blocks, overheads_in, taken_since, unwritten, OneOf, StandsFor, StandsReady}
 use Rattle.fv_aggregate.proofs.Asking.{asked_unchanged, asks_more, asks_still, short_is}
 use Rattle.fv_aggregate.proofs.Clear.{clear_is_free, clear_stays, free_and_placed, none_held, none_placed}
@@ -63,8 +64,8 @@ use Rattle.fv_aggregate.proofs.Sums.{all_within, none_pending, none_waiting, one
 pub still_as : (old : Shown) (pool : Pool) (states : States) (new : Shown) (left : Pool) (stay : States) (said fault : VolumeFault) → said ≡ fault → IsStill old pool states new left stay said → IsStill old pool states new left stay fault
 still_as old pool states new left stay said fault is still = subst (IsStill old pool states new left stay) is still
 
-pub fails_as : (d : Shown) (was session : Session) → was ≡ session → (left : Pool) (stay : States) (said fault : VolumeFault) → said ≡ fault → WholeFails d was.pool was.volumes left stay said → WholeFails d session.pool session.volumes left stay fault
-fails_as d was session same left stay said fault is fails = subst (λ (s : Session). WholeFails d s.pool s.volumes left stay fault) same (subst (WholeFails d was.pool was.volumes left stay) is fails)
+pub fails_as : (d : Shown) (was session : Session) → was ≡ session → (after : Shown) (left : Pool) (stay : States) (said fault : VolumeFault) → said ≡ fault → WholeFails d was.pool was.volumes after left stay said → WholeFails d session.pool session.volumes after left stay fault
+fails_as d was session same after left stay said fault is fails = subst (λ (s : Session). WholeFails d s.pool s.volumes after left stay fault) same (subst (WholeFails d was.pool was.volumes after left stay) is fails)
 
 -- A session after it: some files may have been placed, and its other parts stayed.
 pub record HasStayed (before : Shown) (old : Session) (after : Shown) (new : Session) : Type 0 where
@@ -142,18 +143,11 @@ point_done before old after new was now none counts pool states same goes = reco
 pub done_asks : (before : Shown) (old : Session) (after : Shown) (new : Session) (pool : Pool) (states : States) → new.pending ≡ 0 → GoesOnWhole before pool states after new.pool new.volumes → KeepsAsking 0 before old after new
 done_asks before old after new pool states none goes = λ tells kept asks fresh. record { asked = omega (arith, asked_unchanged new.volumes goes.fit.housed.long goes.unchanged); pending = omega (arith, none) }
 
-pub failed_asks : (before : Shown) (old : Session) (after : Shown) (new : Session) (faults : ℕ) → new.failed ≡ Some faults → KeepsAsking 0 before old after new
-failed_asks before old after new faults failed = λ tells kept asks fresh. absurd (both new.failed faults fresh failed)
-
--- after a failed write the session has failed, so it needn't stand for anything
-pub point_failed_for : (before : Shown) (last m : Machine) (after : Shown) (new : Session) → Leaves before after (λ c g. OneOf last m m c × (g ≡ before.given)) → new.failed ≡ Some after.faults → GoesFor {T = Unit {0}} before last m m after new (Err DiskFault)
-point_failed_for before last m after new moments failed = record { any_moment = moments; done = tt; still = λ fresh. absurd (both new.failed after.faults fresh failed); whole = tt }
-
 -- the files of a volume couldn't be placed
-pub filed_as : (disk : Shown) (session : Session) (at want found : ℕ) → IsNone session.failed → FailsToPlace disk session.pool session.volumes (cp.Damaged at want found) → HasFilesToPlace disk session at want found
-filed_as disk session at want found fresh fails = record {
+pub filed_as : (disk : Shown) (session : Session) (after : Shown) → OnlyReads disk after → (at want found : ℕ) → IsNone session.failed → FailsToPlace disk session.pool session.volumes after (cp.Damaged at want found) → HasFilesToPlace disk session at want found
+filed_as disk session after reads at want found fresh fails = record {
   fresh = fresh;
-  files = files_there disk session.pool session.volumes (cp.Damaged at want found) fails;
+  files = files_there disk session.pool session.volumes after (cp.Damaged at want found) fails;
   slot = fails.slot;
   state = fails.state;
   there = fails.own;
@@ -168,7 +162,7 @@ filed_as disk session at want found fresh fails = record {
   rest = fails.placed.rest;
   done = inl fails.done;
   first = λ none. (fails.first none).0;
-  fails = fails.fails;
+  fails = may_on after disk fails.mid (Some fails.state) (cp.Damaged at want found) (sym reads.stays.tells) (sym reads.stays.reads) fails.fails;
 }
 
 -- A point that came to no end, but by no fault of the disk: some files may have been placed.
@@ -191,7 +185,7 @@ module _ (before : Shown) (old : Session) (after : Shown) (new : Session) (has :
   failed_same : new.failed ≡ old.failed
   failed_same = ap (λ (s : Session). s.failed) parts
 
-  still_stands : StandsReady before old → StandsReady after new
+  pub still_stands : StandsReady before old → StandsReady after new
   still_stands stands = record {
     stands = record {
       found = λ tells.
@@ -214,6 +208,10 @@ module _ (before : Shown) (old : Session) (after : Shown) (new : Session) (has :
   pub still_asks : KeepsAsking 0 before old after new
   still_asks = λ tells kept asks fresh. asks_more after new kept 0 (asks_still before after old new kept reads still.placed.found still.placed.asked pending_same asks)
 
+  -- it only read, and without a file in memory only leaves came into memory
+  pub still_unpointed : IsUnpointed before old after new
+  still_unpointed = record { only_reads = reads; loads = λ none. let idle = still.placed.idle none in (idle.0, parts ∙ (λ j. record old { pool = new.pool; volumes = idle.1 j })) }
+
   -- it lacks blocks
   wants_blocks : (at want found : ℕ) → IsNone old.failed → StandsReady before old → LacksRoom new.pool new.volumes (block.Damaged at want found) → LacksBlocks before old new at want found
   wants_blocks at want found was stands lacks =
@@ -226,20 +224,26 @@ module _ (before : Shown) (old : Session) (after : Shown) (new : Session) (has :
         free = lacks.1.1.0;
         short = lacks.1.1.1;
         image = λ tells room asks. short_is before old new.pool room at want found tells stands asks still.placed.committed place asked lacks.1.1.0 lacks.1.1.1;
-        same = λ none. let idle = still.placed.idle none in parts ∙ (λ j. record old { pool = idle.0 j; volumes = idle.1 j });
+        same = still_unpointed.loads;
       }
 
+  -- a leaf isn't there
+  lost_leaf : (at want found : ℕ) → IsNone old.failed → LacksLeaf after new.pool.containers at want found → HasLostLeaf after old new at want found
+  lost_leaf at want found was leaf = record { fresh = was; leaf = leaf; same = λ none. loaded_after before after reads.stays.tells reads.stays.reads old new (still_unpointed.loads none) }
+
   -- or a place for a file
-  pub still_wants : (at want found : ℕ) → IsNone old.failed → StandsReady before old → WholeFails before old.pool old.volumes new.pool new.volumes (cp.Damaged at want found) → IsForWant before old after new (Damaged at want found)
+  pub still_wants : (at want found : ℕ) → IsNone old.failed → StandsReady before old → WholeFails before old.pool old.volumes after new.pool new.volumes (cp.Damaged at want found) → IsForWant before old after new (Damaged at want found)
   still_wants at want found was stands fails = (
     reads,
     ⊎_elim
+        (⊎_elim
         (λ (lacks : LacksRoom new.pool new.volumes (block.Damaged at want found)). inl (wants_blocks at want found was stands lacks))
-        (λ (lacks : FailsToPlace before old.pool old.volumes (cp.Damaged at want found)). inr (filed_as before old at want found was lacks))
+        (λ (leaf : LacksLeaf after new.pool.containers at want found). inr (inr (lost_leaf at want found was leaf))))
+        (λ (lacks : FailsToPlace before old.pool old.volumes after (cp.Damaged at want found)). inr (inl (filed_as before old after reads at want found was lacks)))
         fails,
   )
 
-  pub point_lacks : (at want found : ℕ) → IsNone old.failed → StandsReady before old → WholeCounts before after (Err (cp.Damaged at want found)) → WholeFails before old.pool old.volumes new.pool new.volumes (cp.Damaged at want found)
+  pub point_lacks : (at want found : ℕ) → IsNone old.failed → StandsReady before old → WholeCounts before after (Err (cp.Damaged at want found)) → WholeFails before old.pool old.volumes after new.pool new.volumes (cp.Damaged at want found)
       → Goes {T = Unit {0}} 0 AsksPoint before old after new (Err (Damaged at want found))
   point_lacks at want found was stands counts fails = record {
     ends = record { tells = counts.tells; given = counts.given; ends = counts.ends };
@@ -249,13 +253,15 @@ module _ (before : Shown) (old : Session) (after : Shown) (new : Session) (has :
       reason = inl (
         reads,
         inl (⊎_elim
+            (⊎_elim
             (λ (lacks : LacksRoom new.pool new.volumes (block.Damaged at want found)).
             inl (inl refl, lacks_after before after reads.stays.tells reads.stays.reads counts.cause.0 old at want found new (wants_blocks at want found was stands lacks)))
-            (λ (lacks : FailsToPlace before old.pool old.volumes (cp.Damaged at want found)).
+            (λ (leaf : LacksLeaf after new.pool.containers at want found). inr (inr (inl ((0, inr (inr (inl refl))), lost_leaf at want found was leaf)))))
+            (λ (lacks : FailsToPlace before old.pool old.volumes after (cp.Damaged at want found)).
             inr (inl (record {
               files = record {
                 fresh = was;
-                files = files_there before old.pool old.volumes (cp.Damaged at want found) lacks;
+                files = files_there before old.pool old.volumes after (cp.Damaged at want found) lacks;
                 slot = lacks.slot;
                 state = lacks.state;
                 there = lacks.own;
@@ -270,7 +276,7 @@ module _ (before : Shown) (old : Session) (after : Shown) (new : Session) (has :
                 rest = lacks.placed.rest;
                 done = inl lacks.done;
                 first = λ none. (lacks.first none).0;
-                fails = may_after before after reads.stays.tells reads.stays.reads counts.cause.0 lacks.mid lacks.state at want found lacks.fails;
+                fails = lacks.fails;
               };
               comes = inr (inl refl);
               before = λ other. lacks.done;
@@ -375,10 +381,10 @@ pointed_left before old after new pool states none same_pool same_states long go
 
 module _ (old : Shown) (pool : Pool) (states : States) (new : Shown) (left : Pool) (stay : States) (want : ℕ) (delays : List Bool) (is : IsHeldPoint old pool states want new left stay delays) (loaded : IsMapLoaded new.reads left.found left.map) where
   -- each slot is as the new root has it
-  pub all_loaded : (s : ℕ) → s < 64 → IsLoaded new.reads left.found s (state_at stay s) (container_at left.containers s)
-  all_loaded s inside = by (state_at stay s) (container_at left.containers s) (is.held.slots s inside) (is.unchanged s) (is.free s inside)
+  pub all_loaded : (s : ℕ) → s < 64 → IsLoaded new.reads left.found s (state_at stay s) (paged_at left.containers s)
+  all_loaded s inside = by (state_at stay s) (paged_at left.containers s) (is.held.slots s inside) (is.unchanged s) (is.free s inside)
     where
-      by : (o : Option VolumeState) (c : Option Mapped) → IsLentAt new.reads left.found s o c → IfSome o (λ x. x.changed ≡ false) → (o ≡ None → label_place (root_found left.found) s ≡ 0) → IsLoaded new.reads left.found s o c
+      by : (o : Option VolumeState) (c : Option Paged) → IsLentAt new.reads left.found s o c → IfSome o (λ x. x.changed ≡ false) → (o ≡ None → label_place (root_found left.found) s ≡ 0) → IsLoaded new.reads left.found s o c
       by None None slot unchanged none = none_loaded left.found new.reads s (none refl)
       by None (Some map) never unchanged none = absurd never
       by (Some x) None never unchanged none = absurd never

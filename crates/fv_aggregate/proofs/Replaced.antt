@@ -6,8 +6,9 @@ use Rattle.std.proofs.lemmas.List.Sums.{sum_by-set}
 use Rattle.fv_disk.specs.Shown.{Image}
 use Rattle.fv_image.specs.Views.{entry_count}
 use Rattle.fv_root.specs.declared.find.Found.{Found}
-use Rattle.fv_container.specs.Chains.{Slots, container_at}
+use Rattle.fv_container.specs.Chains.{Slots, container_at, paged_at}
 use Rattle.fv_container.specs.Mapped.{Mapped}
+use Rattle.fv_container.specs.Paged.{Paged}
 use Rattle.fv_volume.specs.declared.state.VolumeState.{VolumeState}
 use Rattle.fv_volume.specs.Files.{AreNamed, IsLabelled}
 use Rattle.fv_volume.specs.Loading.{Houses, IsLoaded}
@@ -60,7 +61,7 @@ module _ (states : States) (long : length states ≡ 64) (s : ℕ) (x y : Volume
 
   -- the slots stand in an image, where its maps do, and it does where it hasn't changed
   module _ (i : Image) (found : Found) (label : y.label ≡ x.label) (span : y.span ≡ x.span) (maps : (map : Mapped) → StandMaps i found x map → StandMaps i found y map)
-      (unchanged : (map : Mapped) → (x.changed ≡ false → IsLoaded i found s (Some x) (Some map)) → y.changed ≡ false → IsLoaded i found s (Some y) (Some map)) where
+      (unchanged : (map : Paged) → (x.changed ≡ false → IsLoaded i found s (Some x) (Some map)) → y.changed ≡ false → IsLoaded i found s (Some y) (Some map)) where
     apart_as : (map : Mapped) → AreApartIn x map → AreApartIn y map
     apart_as map is = record {
       some = is.some;
@@ -69,20 +70,20 @@ module _ (states : States) (long : length states ≡ 64) (s : ℕ) (x y : Volume
       label = (λ j. leads map (entry_count (span j)) (label j)) ∙ is.label;
     }
 
-    slot_as : (o : Option Mapped) → IsLentAt i found s (Some x) o → IsLentAt i found s (Some y) o
+    slot_as : (o : Option Paged) → IsLentAt i found s (Some x) o → IsLentAt i found s (Some y) o
     slot_as None never = never
-    slot_as (Some map) l = record {
+    slot_as (Some paged) l = record {
       label = λ some. label ∙ l.label (λ none. some (label ∙ none));
       nodes = l.nodes;
       clean = l.clean;
-      apart = apart_as map l.apart;
-      maps = maps map l.maps;
-      unchanged = unchanged map l.unchanged;
+      apart = apart_as paged.map l.apart;
+      maps = maps paged.map l.maps;
+      unchanged = unchanged paged l.unchanged;
     }
 
-    pub lent_as : (c : Slots) → ((k : ℕ) → k < 64 → IsLentAt i found k (state_at states k) (container_at c k)) → (k : ℕ) → k < 64 → IsLentAt i found k (state_at stay k) (container_at c k)
-    lent_as c was = each_slot (λ k o. k < 64 → IsLentAt i found k o (container_at c k))
-        (λ low. slot_as (container_at c s) (subst (λ (o : Option VolumeState). IsLentAt i found s o (container_at c s)) there (was s low))) (λ k differ. was k)
+    pub lent_as : (c : Slots) → ((k : ℕ) → k < 64 → IsLentAt i found k (state_at states k) (paged_at c k)) → (k : ℕ) → k < 64 → IsLentAt i found k (state_at stay k) (paged_at c k)
+    lent_as c was = each_slot (λ k o. k < 64 → IsLentAt i found k o (paged_at c k))
+        (λ low. slot_as (paged_at c s) (subst (λ (o : Option VolumeState). IsLentAt i found s o (paged_at c s)) there (was s low))) (λ k differ. was k)
 
   -- their blocks are spaced, where the new volume has the blocks of the one before it
   module _ (c : Slots) (same : (map : Mapped) (b : ℕ) → is_of y y.label map b ≡ is_of x x.label map b) where

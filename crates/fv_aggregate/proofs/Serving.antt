@@ -20,7 +20,7 @@ use Rattle.fv_aggregate.specs.declared.fault.Fault.TheVariants.{Failed, Memory}
 use Rattle.fv_aggregate.specs.declared.session.Session.{Session}
 use Rattle.fv_aggregate.specs.Applying.{HasApplied}
 use Rattle.fv_aggregate.specs.Calls.{Goes, GoesFor, IsPlain, IsUntouched, LacksSnapshot, NeedsSnapshot}
-use Rattle.fv_aggregate.specs.Commands.{asked_by, AsksTable, slot_named, changed_by, dirty_limit, file_room, finds_file, has_range, is_built, is_get, machine_after, managed_by, reads_files, room_by, snapped_by, volume_asked, Replies}
+use Rattle.fv_aggregate.specs.Commands.{asked_by, AsksTable, slot_named, changed_by, dirty_limit, file_room, finds_file, has_range, is_built, is_get, machine_after, managed_by, reads_files, removes_volume, room_by, snapped_by, volume_asked, Replies}
 use Rattle.fv_aggregate.specs.Failing.{IsUnmadeIn}
 use Rattle.fv_aggregate.specs.Known.{KeepsNumbers, KeepsNumbersBut, KnowsNamed, KnowsNumbers, MayLose}
 use Rattle.fv_aggregate.specs.Looking.{HasSnapped, Looks, Makes}
@@ -28,7 +28,7 @@ use Rattle.fv_aggregate.specs.Managing.{Manages}
 use Rattle.fv_aggregate.specs.Reclaiming.{MakesRoom}
 use Rattle.fv_aggregate.specs.Standing.{StandsFor, StandsReady}
 use Rattle.fv_aggregate.proofs.Applied.{fault_plain, no_files, rests_for, rests_for_fault}
-use Rattle.fv_aggregate.proofs.Applying.{look_asks, look_files, look_goes, look_goes_for, look_name, look_no_point, look_refused, look_reply, look_same, look_unchanged, make_asks, make_calm, make_entries, make_goes, make_goes_for, make_name, make_no_point, make_reply, make_still, make_unasked, make_unchanged, make_within, no_step, not_dead, rests_as, same_map}
+use Rattle.fv_aggregate.proofs.Applying.{look_asks, look_files, look_goes, look_goes_for, look_name, look_no_point, look_refused, look_reply, look_same, look_unchanged, make_asks, make_calm, make_entries, make_goes, make_goes_for, make_name, make_no_point, make_reply, make_still, make_unasked, make_unchanged, make_within, no_step, not_dead, same_map}
 use Rattle.fv_aggregate.proofs.Calls.{reads_itself, rests_asks, rests_done, rests_wanting, stays_failed}
 use Rattle.fv_aggregate.proofs.Changing.{change_of_volume, change_reads, change_room, look_reads, look_room}
 use Rattle.fv_aggregate.proofs.Holes.{kept_entries, no_holes}
@@ -43,9 +43,6 @@ use Rattle.fv_aggregate.proofs.SnapCommands.{snap_changes, snap_other, snap_read
 on_ok : {T P : Type 0} → P → (r : Result T Fault) → OnOk r P
 on_ok p (Ok x) = p
 on_ok p (Err f) = tt
-
-not_memory : (n : ℕ) → Failed n ≢ Memory
-not_memory n is = cc
 
 -- no volume has the name that one has
 pub not_none : (X : Type 0) (states : States) (slot : ℕ) (name : List ℕ) → slot < slot_count → HasName states slot name → NoneHasName states name → X
@@ -96,7 +93,7 @@ module _ {D : Type 0} (c : Command) (d : Shown) (at : D) (s : Session) (steps : 
     asks = λ none. rests_asks (room_by s.volumes c) d s;
     goes_for = λ tells last m stands. rests_for_fault (Failed n) d s last m (machine_after m c) laws tt stands;
     reply = λ tells last m stands. tt;
-    plain = λ none. fault_plain c d at s (Failed n) tt (λ fresh none. not_dead _ s fresh some) (λ cp none. not_memory n)
+    plain = λ none. fault_plain c d at s (Failed n) tt (λ fresh none. not_dead _ s fresh some)
         (λ fresh name of. not_dead _ s fresh some) (λ fresh name of. not_dead _ s fresh some) (λ fresh name list. not_dead _ s fresh some);
     on_files = λ files. record {
       range = λ fresh far. not_dead _ s fresh some;
@@ -128,15 +125,15 @@ module _ {D : Type 0} (c : Command) (d : Shown) (at : D) (s : Session) (steps : 
 -- ---- a command on a whole volume, or one that isn't built
 
 pub managed_applied : {D : Type 0} (c : Command) (d : Shown) (laws : IsDisk d) (at : D) (old : Session) → FitTogether old.pool old.volumes → IsNone old.failed → StandsReady d old → (steps : ℕ) (new : Session) (reply : Reply)
-    → (is_some (managed_by c) ≡ true) ⊎ (is_built c ≡ false) → Manages old c new reply → reads_files c ≡ false → snapped_by c ≡ None → c ≢ VolList → c ≢ Cp → ((name : List ℕ) → c ≢ SnapList name) → HasApplied c d at old steps d at new steps (Ok reply)
-managed_applied c d laws at old fit fresh stands steps new reply either manages reads snaps no_list no_point no_names =
-    let over = manages_over d old fit c either new reply manages in
+    → removes_volume c ≡ false → (is_some (managed_by c) ≡ true) ⊎ (is_built c ≡ false) → Manages old c new reply → reads_files c ≡ false → snapped_by c ≡ None → c ≢ VolList → c ≢ Cp → ((name : List ℕ) → c ≢ SnapList name) → HasApplied c d at old steps d at new steps (Ok reply)
+managed_applied c d laws at old fit fresh stands steps new reply stays either manages reads snaps no_list no_point no_names =
+    let over = manages_over d old fit c stays either new reply manages in
     record {
       goes = managed_goes d old c new reply over (room_by old.volumes c) fresh stands;
       asks = managed_asks d old c new reply over (room_by old.volumes c);
       goes_for = λ tells last m held. managed_for d old c new reply over laws stands last m held;
       reply = λ tells last m held. over.replies last m held;
-      plain = λ plain. managed_plain d old c new reply over at no_list no_point no_names snaps;
+      plain = λ plain. managed_plain d old c new reply over at stays no_list no_point no_names snaps;
       on_files = λ files. absurd (true≢false (sym files ∙ reads));
       point = λ tells last m held cp. absurd (no_point cp);
       sides = λ tells last m held cp. absurd (no_point cp);
@@ -156,12 +153,12 @@ managed_other c some k none is = true≢false (sym some ∙ ap (λ (z : Command)
 
 -- so it is of each that is on the volume of a name as a whole
 pub own_applied : {D : Type 0} (own c : Command) → c ≡ own → (d : Shown) → IsDisk d → (at : D) (v s : Session) → v ≡ s → v.failed ≡ None → (IsNone v.failed → FitTogether v.pool v.volumes) → (IsNone s.failed → StandsReady d s) → (steps : ℕ) (new : Session) (reply : Reply)
-    → Manages s own new reply → is_some (managed_by own) ≡ true → volume_asked own ≡ None → changed_by own ≡ None → snapped_by own ≡ None → HasApplied c d at s steps d at new steps (Ok reply)
-own_applied own c is d laws at v s same none fits stands steps new reply manages some asks changes snaps =
+    → Manages s own new reply → removes_volume own ≡ false → is_some (managed_by own) ≡ true → volume_asked own ≡ None → changed_by own ≡ None → snapped_by own ≡ None → HasApplied c d at s steps d at new steps (Ok reply)
+own_applied own c is d laws at v s same none fits stands steps new reply manages stays some asks changes snaps =
     let inside : IsNone v.failed = subst IsNone (sym none) refl in
     let fresh : IsNone s.failed = subst (λ (k : Session). IsNone k.failed) same inside in
     subst (λ (k : Command). HasApplied k d at s steps d at new steps (Ok reply)) (sym is)
-    (managed_applied own d laws at s (subst (λ (k : Session). FitTogether k.pool k.volumes) same (fits inside)) fresh (stands fresh) steps new reply (inl some) manages (no_files own asks changes) snaps
+    (managed_applied own d laws at s (subst (λ (k : Session). FitTogether k.pool k.volumes) same (fits inside)) fresh (stands fresh) steps new reply stays (inl some) manages (no_files own asks changes) snaps
     (managed_other own some VolList refl) (managed_other own some Cp refl) (λ name. managed_other own some (SnapList name) refl))
 
 -- ---- a command that asks for files
@@ -263,7 +260,7 @@ snap_applied c name of shown at s left n steps r fresh did missing needs roomy =
   on_files = λ files. absurd (true≢false (sym files ∙ snap_reads name c of));
   point = λ tells last m stands cp. absurd (snap_other name c of Cp refl cp);
   sides = λ tells last m stands cp. absurd (snap_other name c of Cp refl cp);
-  calm = λ other few. rests_as shown at left (did.calm few);
+  calm = λ other few. did.only_reads few;
   entries = λ other few stays. no_holes s n (did.makes.entries few);
   files = λ tells none without. did.files tells without;
   same = λ tells none stays which same. did.same tells which same;

@@ -1,5 +1,5 @@
 -- The commands that make, remove or restore a snapshot, as `apply` has them.
-use Rattle.std.proofs.Common.{◌≡◌, ◌<◌, ℕ, length, List, Option, Some, None, Result, Ok, Err, true≢false, refl, sym, ap, subst, ◌∙◌}
+use Rattle.std.proofs.Common.{◌≡◌, ◌<◌, ℕ, ◌||◌, Bool, true, false, length, List, Option, Some, None, Result, Ok, Err, true≢false, refl, sym, ap, subst, ◌∙◌}
 use Rattle.std.specs.Prelude.{IfErr, IfOk, IsTrue}
 use Rattle.std.specs.FinMap as fin
 use Rattle.fv_disk.specs.Shown.{Shown}
@@ -16,7 +16,7 @@ use Rattle.fv_aggregate.specs.declared.fault.Fault.{Fault}
 use Rattle.fv_aggregate.specs.declared.fault.Fault.TheVariants.{Memory}
 use Rattle.fv_aggregate.specs.declared.session.Session.{Session}
 use Rattle.fv_aggregate.specs.Calls.{GoesFor, IsPlain, NeedsSnapshot}
-use Rattle.fv_aggregate.specs.Commands.{machine_after, snapped_by, Replies}
+use Rattle.fv_aggregate.specs.Commands.{machine_after, managed_by, places_files, removes_volume, snapped_by, Replies}
 use Rattle.fv_aggregate.specs.Looking.{HasSnapped, IsSnapAimed}
 use Rattle.fv_aggregate.specs.Standing.{StandsFor}
 use Rattle.fv_aggregate.proofs.HeldMachine.{not_there}
@@ -50,6 +50,11 @@ module _ {D : Type 0} (c : Command) (v : List ℕ) (of : snapped_by c ≡ Some v
   pub applied_reply : IsTrue d.tells → (last m : Machine) → StandsFor d s last m → IfOk r (Replies m c)
   applied_reply tells last m is = if_ok (λ y allowed. snap_replies v c of m y allowed) r (did.makes.reply tells last m is)
 
+  -- what reads no leaves places no files
+  no_places : (removes places : Bool) → (removes || places) ≡ false → places ≡ false
+  no_places true places idle = absurd (true≢false idle)
+  no_places false places idle = idle
+
   sure_memory : (r : Result Reply Fault) → IfErr r (λ f. ⊥) → IfErr r (λ f. f ≡ Memory → n ≡ s)
   sure_memory (Ok y) never = tt
   sure_memory (Err f) never = absurd never
@@ -57,16 +62,17 @@ module _ {D : Type 0} (c : Command) (v : List ℕ) (of : snapped_by c ≡ Some v
   pub applied_plain : (NoneHasName s.volumes v → r ≡ Ok (Refused NoVolume)) → NeedsSnapshot s.volumes c r → IsPlain c d disk s e left n r
   applied_plain missing needs = record {
     refused = did.refused;
-    calm = λ other few. did.calm few;
+    calm = λ other idle few. did.calm (no_places (removes_volume c) (places_files c) idle) few;
     map = λ other stays none few. did.map none;
-    wanting = λ other none few. sure_memory r (did.sure none);
+    wanting = λ other idle few. sure_memory r (did.sure (no_places (removes_volume c) (places_files c) idle));
     damage = did.damage;
     unbuilt = λ fresh none. absurd (true≢false (sym (snap_built v c of) ∙ none));
     listed = λ list. absurd (snap_other v c of VolList refl list);
     untouched = λ list. absurd (snap_other v c of VolList refl list);
     pointed = λ cp. absurd (snap_other v c of Cp refl cp);
-    memory = λ cp. absurd (snap_other v c of Cp refl cp);
-    managed = λ fresh name whole. absurd (none_some name (sym (snap_whole v c of) ∙ whole));
+    unpointed = λ cp. absurd (snap_other v c of Cp refl cp);
+    managed = λ fresh name whole stays. absurd (none_some name (sym (snap_whole v c of) ∙ whole));
+    removed = λ fresh name its. absurd (none_some name (sym (snap_whole v c of) ∙ ap managed_by its));
     snapped = λ fresh name its. record { missing = λ none. missing (subst (NoneHasName s.volumes) (same_names name v (sym its ∙ of)) none); needs = needs };
     snapshots = λ fresh name list. absurd (snap_other v c of (SnapList name) refl list);
   }

@@ -1,11 +1,12 @@
 -- Each command on snapshots, carried out by the call of the volume of its slot: what the session answers, and what it stands for then.
 use Rattle.std.proofs.Common.{◌≡◌, ◌<◌, ◌≤◌, ◌+◌, ◌⊎◌, ℕ, Bool, true, false, ◌||◌, List, [], ◌∷◌, length, Option, Some, None, is_some, Result, Ok, Err, inl, inr, ⊎_elim, true≢false, refl, sym, ap, subst, ◌∙◌, arith}
-use Rattle.std.specs.Prelude.{IsNone}
+use Rattle.std.specs.Prelude.{IfErr, IsNone}
 use Rattle.std.specs.List.{list_any}
 use Rattle.std.specs.Option.{option_map_or}
 use Rattle.std.specs.FinMap as fin
 use Rattle.std.proofs.lemmas.List.{set-get_or}
-use Rattle.fv_disk.specs.Shown.{IsDisk, Shown}
+use Rattle.fv_disk.specs.Shown.{IsDisk, Rose, Shown}
+use Rattle.fv_disk.specs.DiskCalls.{OnlyReads}
 use Rattle.fv_model.specs.declared.answers.Refusal.{Refusal}
 use Rattle.fv_model.specs.declared.answers.Refusal.TheVariants.{NoSnapshot}
 use Rattle.fv_model.specs.declared.answers.Reply.{Reply}
@@ -42,7 +43,7 @@ use Rattle.fv_snapshot.specs.Creating.{creation_refusal, Creates, TellsCreation}
 use Rattle.fv_snapshot.specs.Deleting.{Deletes, HasUnused}
 use Rattle.fv_snapshot.specs.Restoring.{Restores}
 use Rattle.fv_aggregate.specs.declared.fault.Fault.{Fault}
-use Rattle.fv_aggregate.specs.declared.fault.Fault.TheVariants.{Damaged, Memory}
+use Rattle.fv_aggregate.specs.declared.fault.Fault.TheVariants.{Damaged, DiskFault, Memory}
 use Rattle.fv_aggregate.specs.declared.session.Session.{Session}
 use Rattle.fv_aggregate.specs.Commands.{asked_by, AsksPlacing, slot_named, places_files, room_by, snapped_by}
 use Rattle.fv_aggregate.specs.Known.{KeepsNumbersBut, KnowsNumbers, MayLose}
@@ -57,7 +58,8 @@ use Rattle.fv_aggregate.proofs.Keeping.{keeps_with}
 use Rattle.fv_aggregate.proofs.PointEnds.{has_full_room}
 use Rattle.fv_aggregate.proofs.Rooms.{slot_there}
 use Rattle.fv_aggregate.proofs.SnapCommands.{snap_cases}
-use Rattle.fv_aggregate.proofs.SnapDone.{carried_damaged, carried_done, carried_refused, carried_wanting, IsCarried}
+use Rattle.fv_aggregate.proofs.Calls.{reads_itself}
+use Rattle.fv_aggregate.proofs.SnapDone.{carried_broken, carried_damaged, carried_done, carried_refused, carried_wanting, IsCarried}
 use Rattle.fv_aggregate.proofs.SnapSessions.{none_with, placed_entries, placed_for, placed_stands, snapped_for, snapped_stands, stepped_for, stepped_stands}
 use Rattle.fv_aggregate.proofs.SnapSteps.{made_waits, removed_waits, restored_step, snapped_step, unsnapped_step}
 use Rattle.fv_aggregate.proofs.Stepped.{IsStepped}
@@ -97,7 +99,14 @@ carried_session s slot q y room = record s { volumes = with_state s.volumes slot
 abbrev pub left_session : Session → ℕ → Pool → VolumeState → Session
 left_session s slot q y = record s { volumes = with_state s.volumes slot (Some y); pool = q }
 
-module _ {D : Type 0} (d : Shown) (disk : D) (laws : IsDisk d) (s : Session) (fresh : IsNone s.failed) (stands : StandsReady d s) (fit : FitTogether s.pool s.volumes) (slot : ℕ) (x : VolumeState) (there : state_at s.volumes slot ≡ Some x) (slot_is : x.slot ≡ slot) (named : HasName s.volumes slot x.name) (room : ℕ) where
+module _ {D : Type 0} (shown : D → Shown) (disk left : D) (laws : IsDisk (shown disk)) (reads : OnlyReads (shown disk) (shown left)) (s : Session) (fresh : IsNone s.failed) (stands : StandsReady (shown disk) s) (fit : FitTogether s.pool s.volumes) (slot : ℕ) (x : VolumeState) (there : state_at s.volumes slot ≡ Some x) (slot_is : x.slot ≡ slot) (named : HasName s.volumes slot x.name) (room : ℕ) where
+  -- the disk before, and once blocks were read
+  abbrev d : Shown
+  d = shown disk
+
+  abbrev e : Shown
+  e = shown left
+
   long : length s.volumes ≡ 64
   long = fit.housed.long
 
@@ -121,8 +130,8 @@ module _ {D : Type 0} (d : Shown) (disk : D) (laws : IsDisk d) (s : Session) (fr
   held : (last m : Machine) → StandsFor d s last m → IsHeldIn d s.pool x.slot x
   held last m is = subst (λ (n : ℕ). IsHeldIn d s.pool n x) (sym slot_is) (mine d s.pool s.volumes long last is.held slot x there)
 
-  held_at : (q : Pool) (y : VolumeState) → IsHeldIn d q x.slot y → IsHeldIn d q slot y
-  held_at q y = subst (λ (n : ℕ). IsHeldIn d q n y) slot_is
+  held_at : (q : Pool) (y : VolumeState) → IsHeldIn e q x.slot y → IsHeldIn e q slot y
+  held_at q y = subst (λ (n : ℕ). IsHeldIn e q n y) slot_is
 
   -- what holds of the machine of its volumes holds of the one that the session stands for
   for_machine : (P : Machine → Type 0) → (last m : Machine) → StandsFor d s last m → P (machine_held d s.pool s.volumes) → P m
@@ -138,7 +147,7 @@ module _ {D : Type 0} (d : Shown) (disk : D) (laws : IsDisk d) (s : Session) (fr
   numbers_stay c y same = keeps_with (MayLose c s.volumes) s.volumes slot (Some y) inside (λ known stays. ap is_some same ∙ subst (λ (o : Option VolumeState). KnowsNumbers o) there known)
 
   -- without files in memory nothing is placed
-  module _ (q : Pool) (mid y : VolumeState) (placed : IsPlacedAs d s.pool x d q mid) where
+  module _ (q : Pool) (mid y : VolumeState) (placed : IsPlacedAs d s.pool x e q mid) where
     pool_stays : IsWithoutFiles s → q ≡ s.pool
     pool_stays without = (placed.idle (its_files without.none)).0
 
@@ -148,23 +157,28 @@ module _ {D : Type 0} (d : Shown) (disk : D) (laws : IsDisk d) (s : Session) (fr
       taken = subst (λ (p : Pool). (b : ℕ) → is_member p.map.next b ≡ true → is_member p.map.committed b ≡ true) (sym (pool_stays without)) without.taken;
     }
 
-  carried_as : (c : Command) (new : Session) (result wanted : Result Reply Fault) (was : Session) → new ≡ was → result ≡ wanted → IsCarried d disk s c room was wanted → IsCarried d disk s c room new result
-  carried_as c new result wanted was same is carried = subst (λ (r : Result Reply Fault). IsCarried d disk s c room new r) (sym is) (subst (λ (n : Session). IsCarried d disk s c room n wanted) (sym same) carried)
+  carried_as : (c : Command) (new : Session) (result wanted : Result Reply Fault) (was : Session) → new ≡ was → result ≡ wanted → IsCarried d disk s c room e left was wanted → IsCarried d disk s c room e left new result
+  carried_as c new result wanted was same is carried = subst (λ (r : Result Reply Fault). IsCarried d disk s c room e left new r) (sym is) (subst (λ (n : Session). IsCarried d disk s c room e left n wanted) (sym same) carried)
 
   -- ---- files couldn't be placed
 
-  module _ (c : Command) (q : Pool) (y : VolumeState) (placed : IsPlacedAs d s.pool x d q y) (places : places_files c ≡ true) where
+  module _ (c : Command) (q : Pool) (y : VolumeState) (placed : IsPlacedAs d s.pool x e q y) (places : places_files c ≡ true) where
     numbers_left : KeepsNumbersBut (MayLose c s.volumes) s.volumes (with_state s.volumes slot (Some y))
     numbers_left = numbers_stay c y (ap (λ (z : VolumeState). z.numbers) placed.keeps)
 
-    its_stands : StandsReady d (left_session s slot q y)
-    its_stands = placed_stands d s q slot x y there slot_is fit placed stands
+    its_stands : StandsReady e (left_session s slot q y)
+    its_stands = placed_stands d e s q slot x y there slot_is fit placed stands
 
-    pub wanting : IsCarried d disk s c room (left_session s slot q y) (Err Memory)
-    wanting = carried_wanting d disk laws s fresh c room (left_session s slot q y) fresh its_stands (omega arith) numbers_left (placed_entries d s q slot x y there slot_is fit placed) places (λ last m is. placed_for d s q slot x y there slot_is fit placed last m is)
+    pub wanting : e.faults ≡ d.faults → IsCarried d disk s c room e left (left_session s slot q y) (Err Memory)
+    wanting counts = carried_wanting d e disk left laws reads s fresh c room (left_session s slot q y) fresh its_stands (omega arith) numbers_left (placed_entries d e s q slot x y there slot_is fit placed) places counts (λ last m is. placed_for d e s q slot x y there slot_is fit placed last m is)
 
-    pub damaged : asked_by s.volumes c ≡ AsksPlacing slot → (at want found : ℕ) → MayFail d s.pool (Some x) (volume.Damaged at want found) → IsCarried d disk s c room (left_session s slot q y) (Err (Damaged at want found))
-    damaged asks at want found may = carried_damaged d disk laws s fresh c room (left_session s slot q y) fresh its_stands (omega arith) numbers_left (placed_entries d s q slot x y there slot_is fit placed) places at want found
+    -- a read failed
+    pub broken : (o : Option ℕ) → is_some x.files ≡ true → Rose d.faults e.faults → (Rose e.write_faults e.write_faults → o ≡ Some e.faults) → ((Rose e.write_faults e.write_faults → ⊥) → IsNone o) → IsCarried d disk s c room e left (record (left_session s slot q y) { failed = o }) (Err DiskFault)
+    broken o filed rose written unwritten = carried_broken d e disk left laws reads s fresh c room (left_session s slot q y) fresh its_stands (omega arith) numbers_left (placed_entries d e s q slot x y there slot_is fit placed) places o
+        (λ none. true≢false (sym filed ∙ ap is_some (its_files none))) rose written unwritten (λ last m is. placed_for d e s q slot x y there slot_is fit placed last m is)
+
+    pub damaged : e.faults ≡ d.faults → asked_by s.volumes c ≡ AsksPlacing slot → (at want found : ℕ) → MayFail d s.pool (Some x) (volume.Damaged at want found) → IsCarried d disk s c room e left (left_session s slot q y) (Err (Damaged at want found))
+    damaged counts asks at want found may = carried_damaged d e disk left laws reads s fresh c room (left_session s slot q y) fresh its_stands (omega arith) numbers_left (placed_entries d e s q slot x y there slot_is fit placed) places at want found counts
         (record {
           files = record {
             fresh = fresh;
@@ -194,25 +208,23 @@ module _ {D : Type 0} (d : Shown) (disk : D) (laws : IsDisk d) (s : Session) (fr
         let part = one_pending s.volumes slot in
         let own : pending_by (state_at s.volumes slot) ≡ pending_of x.files = ap pending_by there in
         let stood = (held last m is).stands in
-        other (may.1.0 (stood.told, stood.trees) (subst HasNumbers there (full.numbers slot) may.0) (omega (arith, all, part, own))))
-      where
-        other : volume.Damaged at want found ≡ volume.Memory → ⊥
-        other e = cc
+        may.1.0 (stood.told, stood.trees) (subst HasNumbers there (full.numbers slot) may.0) (omega (arith, all, part, own)))
 
   -- ---- a snapshot was made
 
-  module _ (name : List ℕ) (q : Pool) (y : VolumeState) (ready : IsReady d q y) (room_is : room ≡ map_blocks x.span) (few : (room ≡ 0) ⊎ (s.pending + room ≤ 256)) (exact : room ≡ room_by s.volumes (SnapCreate x.name name))
+  module _ (name : List ℕ) (q : Pool) (y : VolumeState) (ready : IsReady e q y) (room_is : room ≡ map_blocks x.span) (few : (room ≡ 0) ⊎ (s.pending + room ≤ 256)) (exact : room ≡ room_by s.volumes (SnapCreate x.name name))
       (accepted : creation_refusal x.snapshots x.ledger s.pool.found.blocks (beside s.volumes slot) name ≡ None) where
-    pub made : (u : Unit {0}) → Creates d s.pool x (beside s.volumes slot) name q y (Ok u) → TellsCreation s.pool x (beside s.volumes slot) name y (Ok u) → IsCarried d disk s (SnapCreate x.name name) room (carried_session s slot q y room) (Ok Done)
-    made u did tells = carried_done d disk laws s fresh (SnapCreate x.name name) room (carried_session s slot q y room) fresh
-        (snapped_stands d s q slot x did.done.mid y there slot_is fit did.done.placed step ready room stands) (omega (arith, exact)) (numbers_stay (SnapCreate x.name name) y numbers) (placed_entries d s q slot x did.done.mid there slot_is fit did.done.placed)
-        (λ last m is. snapped_for d s q slot x did.done.mid y there slot_is fit did.done.placed step ready room (map_blocks x.span) waits pending enough (held_at q y (did.held (held last m is))) last m (SnapCreate x.name name) is (agreed last m is) (becomes last m is))
+    pub made : (u : Unit {0}) → Creates d s.pool x (beside s.volumes slot) name e q y (Ok u) → TellsCreation s.pool x (beside s.volumes slot) name y (Ok u) → IsCarried d disk s (SnapCreate x.name name) room e left (carried_session s slot q y room) (Ok Done)
+    made u did tells = carried_done d e disk left laws reads s fresh (SnapCreate x.name name) room (carried_session s slot q y room) fresh
+        (snapped_stands d e s q slot x did.done.mid y there slot_is fit did.done.placed step ready room stands) (omega (arith, exact)) (numbers_stay (SnapCreate x.name name) y numbers) (placed_entries d e s q slot x did.done.mid there slot_is fit did.done.placed)
+        did.calm (λ none. absurd (true≢false none))
+        (λ last m is. snapped_for d e s q slot x did.done.mid y there slot_is fit did.done.placed step ready room (map_blocks x.span) waits pending enough (held_at q y (did.held (held last m is))) last m (SnapCreate x.name name) is (agreed last m is) (becomes last m is))
         (λ last m is. made_allows m x.name name (agreed last m is))
         (files_stay q did.done.mid y did.done.placed (ap (λ (z : VolumeState). z.files) did.done.now ∙ did.done.none) room)
         (⊎_elim (λ none. absurd (true≢false none)) (λ without. ap (λ (p : Pool). p.map) (pool_stays q did.done.mid y did.done.placed without))) stands
       where
         step : IsStepped did.done.mid y
-        step = snapped_step d s.pool x q name y did.done tells.waits
+        step = snapped_step d s.pool x e q name y did.done tells.waits
 
         waits : map_wait y ≤ map_wait did.done.mid + map_blocks x.span
         waits =
@@ -233,19 +245,19 @@ module _ {D : Type 0} (d : Shown) (disk : D) (laws : IsDisk d) (s : Session) (fr
         agreed : (last m : Machine) → StandsFor d s last m → refusal m (SnapCreate x.name name) ≡ None
         agreed last m is = for_machine (λ (k : Machine). refusal k (SnapCreate x.name name) ≡ None) last m is ((did.changes (held last m is)).agrees _ (has_within d s.pool s.volumes long last is.held slot x there).beside)
 
-        becomes : (last m : Machine) → StandsFor d s last m → change_of m (SnapCreate x.name name) ≡ Becomes x.name (volume_for d q y)
-        becomes last m is = for_machine (λ (k : Machine). change_of k (SnapCreate x.name name) ≡ Becomes x.name (volume_for d q y)) last m is ((did.changes (held last m is)).becomes _ (is_there d s.pool s.volumes long last is.held slot x there))
+        becomes : (last m : Machine) → StandsFor d s last m → change_of m (SnapCreate x.name name) ≡ Becomes x.name (volume_for e q y)
+        becomes last m is = for_machine (λ (k : Machine). change_of k (SnapCreate x.name name) ≡ Becomes x.name (volume_for e q y)) last m is ((did.changes (held last m is)).becomes _ (is_there d s.pool s.volumes long last is.held slot x there))
 
     -- or not
-    pub unmade : (f : VolumeFault) → Creates d s.pool x (beside s.volumes slot) name q y (Err f) → TellsCreation s.pool x (beside s.volumes slot) name y (Err f) → (new : Session) (result : Result Reply Fault) → Replied d (Err f) (left_session s slot q y) new result
-        → IsCarried d disk s (SnapCreate x.name name) room new result
+    pub unmade : (f : VolumeFault) → Creates d s.pool x (beside s.volumes slot) name e q y (Err f) → TellsCreation s.pool x (beside s.volumes slot) name y (Err f) → (new : Session) (result : Result Reply Fault) → Replied e (Err f) (left_session s slot q y) new result
+        → IsCarried d disk s (SnapCreate x.name name) room e left new result
     unmade (volume.Refused r) did tells new result is = absurd (both (sym accepted ∙ tells.judged r refl))
       where
         both : ◌≡◌ {A = Option Refusal} None (Some r) → ⊥
         both e = cc
-    unmade volume.DiskFault did tells new result b = absurd did.cause
-    unmade (volume.Damaged at want found) did tells new result b = carried_as (SnapCreate x.name name) new result (Err (Damaged at want found)) (left_session s slot q y) b.1.1.1 (b.1.0 ∙ ap (λ (g : Fault). Err g) b.1.1.0) (damaged (SnapCreate x.name name) q y did.failed refl (made_asks name) at want found did.cause)
-    unmade volume.Memory did tells new result b = carried_as (SnapCreate x.name name) new result (Err Memory) (left_session s slot q y) b.1.1.1 (b.1.0 ∙ ap (λ (g : Fault). Err g) b.1.1.0) (wanting (SnapCreate x.name name) q y did.failed refl)
+    unmade volume.DiskFault did tells new result b = carried_as (SnapCreate x.name name) new result (Err DiskFault) (record (left_session s slot q y) { failed = new.failed }) b.1.1.1.same (b.1.0 ∙ ap (λ (g : Fault). Err g) b.1.1.0) (broken (SnapCreate x.name name) q y did.failed refl new.failed did.cause.0.0 did.cause.1 b.1.1.1.written b.1.1.1.unwritten)
+    unmade (volume.Damaged at want found) did tells new result b = carried_as (SnapCreate x.name name) new result (Err (Damaged at want found)) (left_session s slot q y) b.1.1.1 (b.1.0 ∙ ap (λ (g : Fault). Err g) b.1.1.0) (damaged (SnapCreate x.name name) q y did.failed refl did.cause.1 (made_asks name) at want found did.cause.0)
+    unmade volume.Memory did tells new result b = carried_as (SnapCreate x.name name) new result (Err Memory) (left_session s slot q y) b.1.1.1 (b.1.0 ∙ ap (λ (g : Fault). Err g) b.1.1.0) (wanting (SnapCreate x.name name) q y did.failed refl did.cause)
 
   -- a session that changed nothing
   as_left : (q : Pool) (y : VolumeState) → q ≡ s.pool → y ≡ x → left_session s slot q y ≡ s
@@ -255,21 +267,22 @@ module _ {D : Type 0} (d : Shown) (disk : D) (laws : IsDisk d) (s : Session) (fr
 
   -- ---- a snapshot was removed
 
-  module _ (name : List ℕ) (q : Pool) (y : VolumeState) (ready : IsReady d q y) (nothing : room ≡ 0) where
+  module _ (name : List ℕ) (q : Pool) (y : VolumeState) (ready : IsReady e q y) (nothing : room ≡ 0) where
     -- no clone stands on it
     unused : (last m : Machine) → StandsFor d s last m → HasUnused x.name (volume_for d s.pool x) name (machine_held d s.pool s.volumes)
     unused last m is = record { there = is_there d s.pool s.volumes long last is.held slot x there; unused = unbased (machine_held d s.pool s.volumes) (bare d s.pool s.volumes long) _ }
 
-    pub removed : (u : Unit {0}) → Deletes d s.pool x name q y (Ok u) → IsCarried d disk s (SnapDelete x.name name) room (carried_session s slot q y room) (Ok Done)
-    removed u did = carried_done d disk laws s fresh (SnapDelete x.name name) room (carried_session s slot q y room) fresh
-        (snapped_stands d s q slot x did.done.mid y there slot_is fit did.done.placed step ready room stands) (omega (arith, nothing)) (numbers_stay (SnapDelete x.name name) y numbers) (placed_entries d s q slot x did.done.mid there slot_is fit did.done.placed)
-        (λ last m is. snapped_for d s q slot x did.done.mid y there slot_is fit did.done.placed step ready room 0 waits pending (inl (refl, nothing)) (held_at q y (did.held (held last m is))) last m (SnapDelete x.name name) is (agreed last m is) (becomes last m is))
+    pub removed : (u : Unit {0}) → Deletes d s.pool x name e q y (Ok u) → IsCarried d disk s (SnapDelete x.name name) room e left (carried_session s slot q y room) (Ok Done)
+    removed u did = carried_done d e disk left laws reads s fresh (SnapDelete x.name name) room (carried_session s slot q y room) fresh
+        (snapped_stands d e s q slot x did.done.mid y there slot_is fit did.done.placed step ready room stands) (omega (arith, nothing)) (numbers_stay (SnapDelete x.name name) y numbers) (placed_entries d e s q slot x did.done.mid there slot_is fit did.done.placed)
+        did.calm (λ none. absurd (true≢false none))
+        (λ last m is. snapped_for d e s q slot x did.done.mid y there slot_is fit did.done.placed step ready room 0 waits pending (inl (refl, nothing)) (held_at q y (did.held (held last m is))) last m (SnapDelete x.name name) is (agreed last m is) (becomes last m is))
         (λ last m is. removed_allows m x.name name (agreed last m is))
         (files_stay q did.done.mid y did.done.placed (ap (λ (z : VolumeState). z.files) did.done.now ∙ did.done.none) room)
         (⊎_elim (λ none. absurd (true≢false none)) (λ without. ap (λ (p : Pool). p.map) (pool_stays q did.done.mid y did.done.placed without))) stands
       where
         step : IsStepped did.done.mid y
-        step = unsnapped_step d s.pool x q name y did.done
+        step = unsnapped_step d s.pool x e q name y did.done
 
         waits : map_wait y ≤ map_wait did.done.mid + 0
         waits =
@@ -286,28 +299,35 @@ module _ {D : Type 0} (d : Shown) (disk : D) (laws : IsDisk d) (s : Session) (fr
         agreed : (last m : Machine) → StandsFor d s last m → refusal m (SnapDelete x.name name) ≡ None
         agreed last m is = for_machine (λ (k : Machine). refusal k (SnapDelete x.name name) ≡ None) last m is ((did.changes (held last m is)).agrees _ (unused last m is))
 
-        becomes : (last m : Machine) → StandsFor d s last m → change_of m (SnapDelete x.name name) ≡ Becomes x.name (volume_for d q y)
-        becomes last m is = for_machine (λ (k : Machine). change_of k (SnapDelete x.name name) ≡ Becomes x.name (volume_for d q y)) last m is ((did.changes (held last m is)).becomes _ (is_there d s.pool s.volumes long last is.held slot x there))
+        becomes : (last m : Machine) → StandsFor d s last m → change_of m (SnapDelete x.name name) ≡ Becomes x.name (volume_for e q y)
+        becomes last m is = for_machine (λ (k : Machine). change_of k (SnapDelete x.name name) ≡ Becomes x.name (volume_for e q y)) last m is ((did.changes (held last m is)).becomes _ (is_there d s.pool s.volumes long last is.held slot x there))
 
     -- or not
-    pub unremoved : (f : VolumeFault) → Deletes d s.pool x name q y (Err f) → (new : Session) (result : Result Reply Fault) → Replied d (Err f) (left_session s slot q y) new result → IsCarried d disk s (SnapDelete x.name name) room new result
-    unremoved (volume.Refused r) did new result is =
-        let left = did.refused r refl in
-        carried_as (SnapDelete x.name name) new result (Ok (Refused r)) s (is.1 ∙ as_left q y left.0 left.1) is.0
-        (carried_refused d disk laws s fresh (SnapDelete x.name name) room stands r
+    pub unremoved : (f : VolumeFault) → ((w : Refusal) → f ≡ volume.Refused w → left ≡ disk) → Deletes d s.pool x name e q y (Err f) → (new : Session) (result : Result Reply Fault) → Replied e (Err f) (left_session s slot q y) new result → IsCarried d disk s (SnapDelete x.name name) room e left new result
+    unremoved (volume.Refused r) quiet did new result is =
+        let same = did.refused r refl in
+        carried_as (SnapDelete x.name name) new result (Ok (Refused r)) s (is.1 ∙ as_left q y same.0 same.1) is.0
+        (carried_refused d e disk left laws reads s fresh (SnapDelete x.name name) room stands did.cause (quiet r refl) r
         (λ last m is. for_machine (λ (k : Machine). refusal k (SnapDelete x.name name) ≡ Some r) last m is ((did.changes (held last m is)).agrees _ (unused last m is))) nothing)
-    unremoved volume.DiskFault did new result b = absurd did.cause
-    unremoved (volume.Damaged at want found) did new result b = carried_as (SnapDelete x.name name) new result (Err (Damaged at want found)) (left_session s slot q y) b.1.1.1 (b.1.0 ∙ ap (λ (g : Fault). Err g) b.1.1.0) (damaged (SnapDelete x.name name) q y did.failed refl (removed_asks name) at want found did.cause)
-    unremoved volume.Memory did new result b = carried_as (SnapDelete x.name name) new result (Err Memory) (left_session s slot q y) b.1.1.1 (b.1.0 ∙ ap (λ (g : Fault). Err g) b.1.1.0) (wanting (SnapDelete x.name name) q y did.failed refl)
+    unremoved volume.DiskFault quiet did new result b = carried_as (SnapDelete x.name name) new result (Err DiskFault) (record (left_session s slot q y) { failed = new.failed }) b.1.1.1.same (b.1.0 ∙ ap (λ (g : Fault). Err g) b.1.1.0) (broken (SnapDelete x.name name) q y did.failed refl new.failed did.cause.0.0 did.cause.1 b.1.1.1.written b.1.1.1.unwritten)
+    unremoved (volume.Damaged at want found) quiet did new result b = carried_as (SnapDelete x.name name) new result (Err (Damaged at want found)) (left_session s slot q y) b.1.1.1 (b.1.0 ∙ ap (λ (g : Fault). Err g) b.1.1.0) (damaged (SnapDelete x.name name) q y did.failed refl did.cause.1 (removed_asks name) at want found did.cause.0)
+    unremoved volume.Memory quiet did new result b = carried_as (SnapDelete x.name name) new result (Err Memory) (left_session s slot q y) b.1.1.1 (b.1.0 ∙ ap (λ (g : Fault). Err g) b.1.1.0) (wanting (SnapDelete x.name name) q y did.failed refl did.cause)
 
   -- ---- the table of a snapshot became the active one
 
   module _ (name : List ℕ) (y : VolumeState) (ready : IsReady d s.pool y) (nothing : room ≡ 0) where
-    pub turned : (u : Unit {0}) → Restores d s.pool x (beside s.volumes slot) name y (Ok u) → IsCarried d disk s (SnapRestore x.name name) room (carried_session s slot s.pool y room) (Ok Done)
-    turned u did = carried_done d disk laws s fresh (SnapRestore x.name name) room (carried_session s slot s.pool y room) fresh
+    held_here : IsHeldIn d s.pool x.slot y → IsHeldIn d s.pool slot y
+    held_here = subst (λ (n : ℕ). IsHeldIn d s.pool n y) slot_is
+
+    carried_here : (c : Command) (new : Session) (result wanted : Result Reply Fault) (was : Session) → new ≡ was → result ≡ wanted → IsCarried d disk s c room d disk was wanted → IsCarried d disk s c room d disk new result
+    carried_here c new result wanted was same is carried = subst (λ (r : Result Reply Fault). IsCarried d disk s c room d disk new r) (sym is) (subst (λ (n : Session). IsCarried d disk s c room d disk n wanted) (sym same) carried)
+
+    pub turned : (u : Unit {0}) → Restores d s.pool x (beside s.volumes slot) name y (Ok u) → IsCarried d disk s (SnapRestore x.name name) room d disk (carried_session s slot s.pool y room) (Ok Done)
+    turned u did = carried_done d d disk disk laws (reads_itself d) s fresh (SnapRestore x.name name) room (carried_session s slot s.pool y room) fresh
         (stepped_stands d s slot x y there slot_is long step ready room stands) (omega (arith, nothing))
         (keeps_with (MayLose (SnapRestore x.name name) s.volumes) s.volumes slot (Some y) inside (λ known stays. absurd (stays (x.name, (refl, ap (λ (o : Option VolumeState). is_named o x.name) there ∙ itself x.name))))) (kept_entries s (carried_session s slot s.pool y room) refl)
-        (λ last m is. stepped_for d s slot x y there slot_is long step ready room 0 waits pending (inl (refl, nothing)) (held_at s.pool y (did.held (held last m is))) last m (SnapRestore x.name name) is (agreed last m is) (becomes last m is))
+        refl (λ none. refl)
+        (λ last m is. stepped_for d s slot x y there slot_is long step ready room 0 waits pending (inl (refl, nothing)) (held_here (did.held (held last m is))) last m (SnapRestore x.name name) is (agreed last m is) (becomes last m is))
         (λ last m is. turned_allows m x.name name (agreed last m is))
         (λ without. record { none = none_with s.volumes slot y inside none without.none; taken = without.taken })
         (λ which. refl) stands
@@ -331,10 +351,10 @@ module _ {D : Type 0} (d : Shown) (disk : D) (laws : IsDisk d) (s : Session) (fr
         becomes last m is = for_machine (λ (k : Machine). change_of k (SnapRestore x.name name) ≡ Becomes x.name (volume_for d s.pool y)) last m is ((did.changes (held last m is)).becomes _ (is_there d s.pool s.volumes long last is.held slot x there))
 
     -- or no snapshot has the name
-    pub unturned : (f : VolumeFault) → Restores d s.pool x (beside s.volumes slot) name y (Err f) → (new : Session) (result : Result Reply Fault) → Replied d (Err f) (left_session s slot s.pool y) new result → IsCarried d disk s (SnapRestore x.name name) room new result
+    pub unturned : (f : VolumeFault) → Restores d s.pool x (beside s.volumes slot) name y (Err f) → (new : Session) (result : Result Reply Fault) → Replied d (Err f) (left_session s slot s.pool y) new result → IsCarried d disk s (SnapRestore x.name name) room d disk new result
     unturned (volume.Refused r) did new result is =
-        carried_as (SnapRestore x.name name) new result (Ok (Refused r)) s (is.1 ∙ as_left s.pool y refl did.failed) is.0
-        (carried_refused d disk laws s fresh (SnapRestore x.name name) room stands r
+        carried_here (SnapRestore x.name name) new result (Ok (Refused r)) s (is.1 ∙ as_left s.pool y refl did.failed) is.0
+        (carried_refused d d disk disk laws (reads_itself d) s fresh (SnapRestore x.name name) room stands refl refl r
         (λ last m is. for_machine (λ (k : Machine). refusal k (SnapRestore x.name name) ≡ Some r) last m is ((did.changes (held last m is)).agrees _ (has_within d s.pool s.volumes long last is.held slot x there))) nothing)
     unturned volume.DiskFault did new result b = absurd (other did.cause)
       where
@@ -361,35 +381,40 @@ module _ {D : Type 0} (d : Shown) (disk : D) (laws : IsDisk d) (s : Session) (fr
 
   -- what is carried out of a command
   abbrev Carries : Command → Type 0
-  Carries c = (q : Pool) (y : VolumeState) (r : Result Unit VolumeFault) → IsReady d q y → SnapsState d s.pool x (beside s.volumes slot) c q y r → room ≡ snap_blocks (Some x) c → (room ≡ 0) ⊎ (s.pending + room ≤ 256) → room ≡ room_by s.volumes c
-      → IsAccepted (Some x) s.pool.found.blocks (beside s.volumes slot) c → (new : Session) (result : Result Reply Fault) → Replied d (done_as r) (after_call q y r) new result → IsCarried d disk s c room new result
+  Carries c = (q : Pool) (y : VolumeState) (r : Result Unit VolumeFault) → IsReady e q y → (places_files c ≡ false → left ≡ disk) → IfErr r (λ f. (w : Refusal) → f ≡ volume.Refused w → left ≡ disk) → SnapsState d s.pool x (beside s.volumes slot) c e q y r → room ≡ snap_blocks (Some x) c → (room ≡ 0) ⊎ (s.pending + room ≤ 256) → room ≡ room_by s.volumes c
+      → IsAccepted (Some x) s.pool.found.blocks (beside s.volumes slot) c → (new : Session) (result : Result Reply Fault) → Replied e (done_as r) (after_call q y r) new result → IsCarried d disk s c room e left new result
 
   carries_create : (v name : List ℕ) → Carries (SnapCreate v name)
-  carries_create v name q y r ready did room_is few exact accepted new result is = subst (λ (n : List ℕ). IsCarried d disk s (SnapCreate n name) room new result) (sym did.0) (by r did.1.0 did.1.1 is)
+  carries_create v name q y r ready kept quiet did room_is few exact accepted new result is = subst (λ (n : List ℕ). IsCarried d disk s (SnapCreate n name) room e left new result) (sym did.0) (by r did.1.0 did.1.1 is)
     where
       its_exact : room ≡ room_by s.volumes (SnapCreate x.name name)
       its_exact = subst (λ (n : List ℕ). room ≡ room_by s.volumes (SnapCreate n name)) did.0 exact
 
-      by : (r : Result Unit VolumeFault) → Creates d s.pool x (beside s.volumes slot) name q y r → TellsCreation s.pool x (beside s.volumes slot) name y r → Replied d (done_as r) (after_call q y r) new result → IsCarried d disk s (SnapCreate x.name name) room new result
+      by : (r : Result Unit VolumeFault) → Creates d s.pool x (beside s.volumes slot) name e q y r → TellsCreation s.pool x (beside s.volumes slot) name y r → Replied e (done_as r) (after_call q y r) new result → IsCarried d disk s (SnapCreate x.name name) room e left new result
       by (Ok u) made_so tells is = carried_as (SnapCreate x.name name) new result (Ok Done) (carried_session s slot q y room) is.1 is.0 (made name q y ready room_is few its_exact accepted u made_so tells)
       by (Err f) made_so tells is = unmade name q y ready room_is few its_exact accepted f made_so tells new result is
 
   carries_delete : (v name : List ℕ) → Carries (SnapDelete v name)
-  carries_delete v name q y r ready did room_is few exact accepted new result is = subst (λ (n : List ℕ). IsCarried d disk s (SnapDelete n name) room new result) (sym did.0) (by r did.1 is)
+  carries_delete v name q y r ready kept quiet did room_is few exact accepted new result is = subst (λ (n : List ℕ). IsCarried d disk s (SnapDelete n name) room e left new result) (sym did.0) (by r quiet did.1 is)
     where
-      by : (r : Result Unit VolumeFault) → Deletes d s.pool x name q y r → Replied d (done_as r) (after_call q y r) new result → IsCarried d disk s (SnapDelete x.name name) room new result
-      by (Ok u) gone is = carried_as (SnapDelete x.name name) new result (Ok Done) (carried_session s slot q y room) is.1 is.0 (removed name q y ready room_is u gone)
-      by (Err f) gone is = unremoved name q y ready room_is f gone new result is
+      by : (r : Result Unit VolumeFault) → IfErr r (λ f. (w : Refusal) → f ≡ volume.Refused w → left ≡ disk) → Deletes d s.pool x name e q y r → Replied e (done_as r) (after_call q y r) new result → IsCarried d disk s (SnapDelete x.name name) room e left new result
+      by (Ok u) still gone is = carried_as (SnapDelete x.name name) new result (Ok Done) (carried_session s slot q y room) is.1 is.0 (removed name q y ready room_is u gone)
+      by (Err f) still gone is = unremoved name q y ready room_is f still gone new result is
 
   carries_restore : (v name : List ℕ) → Carries (SnapRestore v name)
-  carries_restore v name q y r ready did room_is few exact accepted new result is = subst (λ (n : List ℕ). IsCarried d disk s (SnapRestore n name) room new result) (sym did.0)
-      (by r did.1.1 (subst (λ (p : Pool). Replied d (done_as r) (after_call p y r) new result) did.1.0 is))
+  carries_restore v name q y r ready kept quiet did room_is few exact accepted new result is = subst (λ (n : List ℕ). IsCarried d disk s (SnapRestore n name) room e left new result) (sym did.0)
+      (subst (λ (l : D). IsCarried d disk s (SnapRestore x.name name) room (shown l) l new result) (sym here)
+      (by r did.1.1 (subst (λ (l : D). Replied (shown l) (done_as r) (after_call s.pool y r) new result) here (subst (λ (p : Pool). Replied e (done_as r) (after_call p y r) new result) did.1.0 is))))
     where
-      ready_still : IsReady d s.pool y
-      ready_still = subst (λ (p : Pool). IsReady d p y) did.1.0 ready
+      -- no block was read
+      here : left ≡ disk
+      here = kept refl
 
-      by : (r : Result Unit VolumeFault) → Restores d s.pool x (beside s.volumes slot) name y r → Replied d (done_as r) (after_call s.pool y r) new result → IsCarried d disk s (SnapRestore x.name name) room new result
-      by (Ok u) back is = carried_as (SnapRestore x.name name) new result (Ok Done) (carried_session s slot s.pool y room) is.1 is.0 (turned name y ready_still room_is u back)
+      ready_still : IsReady d s.pool y
+      ready_still = subst (λ (l : D). IsReady (shown l) s.pool y) here (subst (λ (p : Pool). IsReady e p y) did.1.0 ready)
+
+      by : (r : Result Unit VolumeFault) → Restores d s.pool x (beside s.volumes slot) name y r → Replied d (done_as r) (after_call s.pool y r) new result → IsCarried d disk s (SnapRestore x.name name) room d disk new result
+      by (Ok u) back is = carried_here name y ready_still room_is (SnapRestore x.name name) new result (Ok Done) (carried_session s slot s.pool y room) is.1 is.0 (turned name y ready_still room_is u back)
       by (Err f) back is = unturned name y ready_still room_is f back new result is
 
   pub carried_by : (c : Command) → snapped_by c ≡ Some x.name → Carries c

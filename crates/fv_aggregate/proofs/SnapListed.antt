@@ -118,7 +118,7 @@ module _ (command : Command) (v : List ℕ) (is : command ≡ SnapList v) where
   pub snaps_fail : {D : Type 0} (shown : Shown) (disk : D) (s : Session) → IsPlain command shown disk s shown disk s (Err Memory)
   snaps_fail shown disk s = record {
     refused = tt;
-    calm = λ other few. refl;
+    calm = λ other idle few. refl;
     map = λ other stays none few. refl;
     wanting = λ other none few same. refl;
     damage = tt;
@@ -126,8 +126,9 @@ module _ (command : Command) (v : List ℕ) (is : command ≡ SnapList v) where
     listed = λ list. tt;
     untouched = λ list. (refl, refl);
     pointed = λ cp. tt;
-    memory = λ cp. snaps_no_point _ cp;
-    managed = λ fresh name of. no_whole _ name of;
+    unpointed = λ cp. snaps_no_point _ cp;
+    managed = λ fresh name of stays. no_whole _ name of;
+    removed = λ fresh name its. no_whole _ name (ap managed_by its);
     snapped = λ fresh name of. no_snap _ name of;
     snapshots = λ fresh name also. ((refl, refl), tt);
   }
@@ -135,7 +136,7 @@ module _ (command : Command) (v : List ℕ) (is : command ≡ SnapList v) where
   pub snaps_done : {D : Type 0} (shown : Shown) (disk : D) (s : Session) (reply : Reply) → TellsSnapshots s v reply → IsPlain command shown disk s shown disk s (Ok reply)
   snaps_done shown disk s reply told = record {
     refused = λ refused. (refl, refl);
-    calm = λ other few. refl;
+    calm = λ other idle few. refl;
     map = λ other stays none few. refl;
     wanting = λ other none few. tt;
     damage = tt;
@@ -143,8 +144,9 @@ module _ (command : Command) (v : List ℕ) (is : command ≡ SnapList v) where
     listed = λ list. snaps_no_list _ list;
     untouched = λ list. (refl, refl);
     pointed = λ cp. snaps_no_point _ cp;
-    memory = λ cp none. tt;
-    managed = λ fresh name of. no_whole _ name of;
+    unpointed = λ cp. snaps_no_point _ cp;
+    managed = λ fresh name of stays. no_whole _ name of;
+    removed = λ fresh name its. no_whole _ name (ap managed_by its);
     snapped = λ fresh name of. no_snap _ name of;
     snapshots = λ fresh name also. ((refl, refl), subst (λ (n : List ℕ). TellsSnapshots s n reply) (its_name name also) told);
   }

@@ -139,11 +139,11 @@ module _ (s : Session) (slot : ℕ) (x : VolumeState) (there : state_at s.volume
           same_fault e = cc
 
   -- So the session's answer does.
-  pub needs_now : (c : Command) → (d : Shown) (p q : Pool) (y : VolumeState) (others : ℕ) (r : Result Unit VolumeFault) → SnapsState d p x others c q y r
+  pub needs_now : (c : Command) → (d after : Shown) (p q : Pool) (y : VolumeState) (others : ℕ) (r : Result Unit VolumeFault) → SnapsState d p x others c after q y r
       → (e : Shown) (asked : Result Reply VolumeFault) → asked ≡ done_as r → (before new : Session) (result : Result Reply Fault) → Replied e asked before new result → NeedsSnapshot s.volumes c result
-  needs_now (SnapCreate v name) d p q y others r did e asked asked_is before new result replied = needs_none s.volumes (SnapCreate v name) result refl
-  needs_now (SnapDelete v name) d p q y others r did e asked asked_is before new result replied =
+  needs_now (SnapCreate v name) d after p q y others r did e asked asked_is before new result replied = needs_none s.volumes (SnapCreate v name) result refl
+  needs_now (SnapDelete v name) d after p q y others r did e asked asked_is before new result replied =
       by_call (SnapDelete v name) v name refl did.0 r did.1.lost e before new result (subst (λ (a : Result Reply VolumeFault). Replied e a before new result) asked_is replied)
-  needs_now (SnapRestore v name) d p q y others r did e asked asked_is before new result replied =
+  needs_now (SnapRestore v name) d after p q y others r did e asked asked_is before new result replied =
       by_call (SnapRestore v name) v name refl did.0 r did.1.1.lost e before new result (subst (λ (a : Result Reply VolumeFault). Replied e a before new result) asked_is replied)
-  needs_now c d p q y others r did e asked asked_is before new result replied = absurd did
+  needs_now c d after p q y others r did e asked asked_is before new result replied = absurd did

@@ -40,7 +40,7 @@ use Rattle.fv_aggregate.proofs.Calls.{goes_as}
 use Rattle.fv_aggregate.proofs.Changed.{beside, has_within, mine}
 use Rattle.fv_aggregate.proofs.Commits.{commits_kept, commits_still}
 use Rattle.fv_aggregate.proofs.Damages.{damage_room}
-use Rattle.fv_aggregate.proofs.Roots.{found_stands, keeps_earlier}
+use Rattle.fv_aggregate.proofs.Roots.{found_read, keeps_earlier}
 use Rattle.fv_aggregate.proofs.Keeping.{keeps_but}
 use Rattle.fv_aggregate.proofs.SnapCommands.{aimed_room, snap_cases}
 use Rattle.fv_aggregate.proofs.SnapDone.{IsCarried}
@@ -212,7 +212,8 @@ module _ {D : Type 0} (d : Shown) (disk : D) (s : Session) (c : Command) (room :
     };
     damage = wants;
     refused = tt;
-    calm = λ few. never_calm few;
+    calm = λ none few. never_calm few;
+    only_reads = λ few. never_calm few;
     map = λ none. places none;
     sure = λ none. places none;
     files = λ tells without. tt;
@@ -221,7 +222,7 @@ module _ {D : Type 0} (d : Shown) (disk : D) (s : Session) (c : Command) (room :
   }
 
   module _ (u : Unit {0}) (still : room_by n.volumes c ≡ room_by s.volumes c) (goes : Goes room AsksNothing d s e n (Ok u)) (less : n.pending ≤ s.pending) (goes_for : IsTrue d.tells → (last m : Machine) → StandsFor d s last m → GoesFor d last m m e n (Ok u)) (pointed : IsPointed d s n)
-      (numbers : IsNone n.failed → KeepsNumbers s.volumes n.volumes) (new : Session) (result : Result Reply Fault) (carried : IsCarried e mid n c room new result) where
+      (numbers : IsNone n.failed → KeepsNumbers s.volumes n.volumes) (f : Shown) (left : D) (new : Session) (result : Result Reply Fault) (carried : IsCarried e mid n c room f left new result) where
     told : IsTrue d.tells → IsTrue e.tells
     told tells = subst IsTrue (sym goes.ends.tells) tells
 
@@ -235,26 +236,27 @@ module _ {D : Type 0} (d : Shown) (disk : D) (s : Session) (c : Command) (room :
         none name e = cc
 
     -- the point was the only one
-    root_carried : (r : Result Reply Fault) → Goes (room_by n.volumes c) (asked_by n.volumes c) e n e new r → OnOk r (IsTrue d.tells → KeepsRoot s new)
-    root_carried (Ok y) next = λ tells. keeps_earlier s n new (goes.done.root tells) (found_stands e n new (told tells) (goes.stands goes.done.goes_on) (next.stands next.done.goes_on))
-    root_carried (Err f) next = tt
+    root_carried : (r : Result Reply Fault) → Goes (room_by n.volumes c) (asked_by n.volumes c) e n f new r → OnOk r (IsTrue d.tells → KeepsRoot s new)
+    root_carried (Ok y) next = λ tells. keeps_earlier s n new (goes.done.root tells) (found_read e f n new carried.only_reads (told tells) (goes.stands goes.done.goes_on) (next.stands next.done.goes_on))
+    root_carried (Err x) next = tt
 
-    pub snap_roomy : HasSnapped d disk s c e mid new result
+    pub snap_roomy : HasSnapped d disk s c f left new result
     snap_roomy = record {
       makes = record {
-        goes = goes_after u room (room_by s.volumes c) d s e n goes less (asked_by n.volumes c) (asked_by s.volumes c) e new result (omega (arith, past, exact)) (λ at want found is damage. absurd (wants_none at want found (subst (λ (r : Result Reply Fault). IfErr r (λ f. f ≡ Memory)) is (carried.placed pointed.none)))) (root_carried result carried.snapped.makes.goes) (subst (λ (k : ℕ). Goes k (asked_by n.volumes c) e n e new result) still carried.snapped.makes.goes);
+        goes = goes_after u room (room_by s.volumes c) d s e n goes less (asked_by n.volumes c) (asked_by s.volumes c) f new result (omega (arith, past, exact)) (λ at want found is damage. absurd (wants_none at want found (subst (λ (r : Result Reply Fault). IfErr r (λ f. f ≡ Memory)) is (carried.placed pointed.none)))) (root_carried result carried.snapped.makes.goes) (subst (λ (k : ℕ). Goes k (asked_by n.volumes c) e n f new result) still carried.snapped.makes.goes);
         goes_for = λ tells last m is.
             let first = goes_for tells last m is in
-            goes_for_after u d e e n new last m (next m c) first goes.ends.given result (carried.snapped.makes.goes_for (told tells) first.done.point m first.done.stands);
+            goes_for_after u d e f n new last m (next m c) first goes.ends.given result (carried.snapped.makes.goes_for (told tells) first.done.point m first.done.stands);
         reply = λ tells last m is. let first = goes_for tells last m is in carried.snapped.makes.reply (told tells) first.done.point m first.done.stands;
         refused = λ tells last m is. never_refused _ result (carried.accepted some);
         still = λ low. never_calm low;
         calm = λ low. absurd (omega (arith, low, past, exact));
         entries = λ low. never_calm low;
       };
-      damage = wants_memory d s e new result (carried.placed pointed.none);
+      damage = wants_memory d s f new result (carried.placed pointed.none);
       refused = never_refused _ result (carried.accepted some);
-      calm = λ few. never_calm few;
+      calm = λ none few. never_calm few;
+      only_reads = λ few. never_calm few;
       map = λ none. places none;
       sure = λ none. places none;
       files = λ tells without. carried.snapped.files (told tells) (pointed.files tells);

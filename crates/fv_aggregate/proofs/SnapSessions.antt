@@ -3,14 +3,16 @@ use Rattle.std.proofs.Common.{◌≡◌, ◌≢◌, ◌<◌, ◌≤◌, ◌+◌,
 use Rattle.std.proofs.lemmas.Bool.{cases_eq}
 use Rattle.std.proofs.lemmas.List.{set-set}
 use Rattle.std.proofs.lemmas.List.Sums.{sum_by-set}
-use Rattle.fv_disk.specs.Shown.{Shown}
+use Rattle.std.specs.Prelude.{IsTrue}
+use Rattle.fv_disk.specs.Shown.{Image, Shown}
+use Rattle.fv_disk.specs.DiskCalls.{OnlyReads}
+use Rattle.fv_volumes.proofs.PlacedIn.{found_read}
 use Rattle.fv_model.specs.declared.commands.Command.{Command}
 use Rattle.fv_model.specs.Machines.{Machine}
 use Rattle.fv_model.specs.Effects.{Becomes, change_of}
 use Rattle.fv_model.specs.Refusals.{next, refusal}
 use Rattle.fv_image.specs.Held.{view_at}
 use Rattle.fv_image.specs.Views.{overheads}
-use Rattle.fv_root.specs.declared.find.Found.{Found}
 use Rattle.fv_root.specs.Commits.{IsFoundOn}
 use Rattle.fv_root.specs.Finding.{root_found}
 use Rattle.fv_pool.specs.declared.pool.Pool.{Pool}
@@ -41,7 +43,7 @@ none_with states slot y inside none were k = ⊎_elim
 
 -- ---- the files of a volume were placed
 
-module _ (d : Shown) (s : Session) (q : Pool) (slot : ℕ) (x mid : VolumeState) (there : state_at s.volumes slot ≡ Some x) (slot_is : x.slot ≡ slot) (fit : FitTogether s.pool s.volumes) (placed : IsPlacedAs d s.pool x d q mid) where
+module _ (d e : Shown) (s : Session) (q : Pool) (slot : ℕ) (x mid : VolumeState) (there : state_at s.volumes slot ≡ Some x) (slot_is : x.slot ≡ slot) (fit : FitTogether s.pool s.volumes) (placed : IsPlacedAs d s.pool x e q mid) where
   abbrev pub between : States
   between = with_state s.volumes slot (Some mid)
 
@@ -60,41 +62,45 @@ module _ (d : Shown) (s : Session) (q : Pool) (slot : ℕ) (x mid : VolumeState)
   found_same : q.found ≡ s.pool.found
   found_same = placed.goes.goes.goes.found
 
+  -- of the disk blocks were read
+  reads : OnlyReads d e
+  reads = placed.goes.goes.goes.only_reads
+
   -- its parts fit together still,
   pub placed_fit : FitTogether q between
-  placed_fit = flushing.fit_still d d s.pool q s.volumes between x mid its row fit placed
+  placed_fit = flushing.fit_still d e s.pool q s.volumes between x mid its row fit placed
 
   -- calls can be made on each volume,
-  pub placed_ready : AreReady d s.pool s.volumes → AreReady d q between
-  placed_ready ready = placing.ready_still d d s.pool q s.volumes between x mid its row fit.housed placed ready
+  pub placed_ready : AreReady d s.pool s.volumes → AreReady e q between
+  placed_ready ready = placing.ready_still d e s.pool q s.volumes between x mid its row fit.housed placed ready
 
   -- it stands on the disk,
-  pub placed_stands : StandsReady d s → StandsReady d placed_session
+  pub placed_stands : StandsReady d s → StandsReady e placed_session
   placed_stands stands = record {
     stands = record {
-      found = λ tells. subst (IsFoundOn d) (sym found_same) (stands.stands.found tells);
-      map = λ tells. placing.map_still d d s.pool q s.volumes between x mid its row fit.housed placed (stands.stands.map tells);
+      found = λ tells. subst (IsFoundOn e) (sym found_same) (found_read d e s.pool.found reads (stands.stands.found (subst IsTrue reads.stays.tells tells)));
+      map = λ tells. placing.map_still d e s.pool q s.volumes between x mid its row fit.housed placed (stands.stands.map (subst IsTrue reads.stays.tells tells));
       cache = placed.ready.lent.stands;
     };
     ready = placed_ready stands.ready;
   }
 
   -- and it stands for what it stood for.
-  pub placed_for : (last m : Machine) → StandsFor d s last m → StandsFor d placed_session last m
+  pub placed_for : (last m : Machine) → StandsFor d s last m → StandsFor e placed_session last m
   placed_for last m is =
       let full = has_full_room d s last m is in
-      let spent = flushing.spent_still d d s.pool q s.volumes between x mid its row fit placed last is.held (record { numbers = full.numbers; blocks = full.free }) in
-      let maps = flushing.waiting_still d d s.pool q s.volumes between x mid its row fit placed in
+      let spent = flushing.spent_still d e s.pool q s.volumes between x mid its row fit placed last is.held (record { numbers = full.numbers; blocks = full.free }) in
+      let maps = flushing.waiting_still d e s.pool q s.volumes between x mid its row fit placed in
       let clear = clear_stays s.pool.map q.map placed.goes.goes.goes.committed in
       let fewer : unwritten placed_session ≤ unwritten s = omega (arith, spent.fewer, spent.blocks, maps, clear, free_and_placed s.pool.map, free_and_placed q.map) in
       let sum = sum_by-set overhead_by s.volumes slot (Some mid) None inside in
       let own : overhead_by (state_at s.volumes slot) ≡ overhead_by (Some mid) = ap overhead_by there ∙ sym (ap (λ (z : VolumeState). overhead_by (Some z)) placed.keeps) in
-      let same : overheads (view_at (root_found q.found) d.reads) ≡ overheads (view_at (root_found s.pool.found) d.reads) = ap (λ (f : Found). overheads (view_at (root_found f) d.reads)) found_same in
+      let same : overheads (view_at (root_found q.found) e.reads) ≡ overheads (view_at (root_found s.pool.found) d.reads) = λ j. overheads (view_at (root_found (found_same j)) (reads.stays.reads j)) in
       record {
-        held = flushing.held_still d d s.pool q s.volumes between x mid its row fit placed last is.held;
-        machine = flushing.machine_still d d s.pool q s.volumes between x mid its row fit placed last is.held ∙ is.machine;
-        settled = is.settled;
-        delays = known_still d.reads d.reads s.pool.found q.found s.delays s.delays refl found_same refl is.delays;
+        held = flushing.held_still d e s.pool q s.volumes between x mid its row fit placed last is.held;
+        machine = flushing.machine_still d e s.pool q s.volumes between x mid its row fit placed last is.held ∙ is.machine;
+        settled = λ c now a. is.settled c (reads.stays.no_more c now) a ∙ ap (λ (i : Image). i a) (sym reads.stays.reads);
+        delays = known_still d.reads e.reads s.pool.found q.found s.delays s.delays reads.stays.reads found_same refl is.delays;
         pending = omega (arith, same, fewer, sum, own, is.pending);
         files = omega (arith, fewer, is.files);
         few = omega (arith, spent.fewer, spent.blocks, clear, free_and_placed s.pool.map, free_and_placed q.map, is.few);
@@ -103,7 +109,7 @@ module _ (d : Shown) (s : Session) (q : Pool) (slot : ℕ) (x mid : VolumeState)
 
   -- no entry becomes a hole
   pub placed_entries : PlacesEntries s.pool.map s.pool.containers q.containers
-  placed_entries = flushing.entries_still d d s.pool q s.volumes between x mid its row fit placed
+  placed_entries = flushing.entries_still d e s.pool q s.volumes between x mid its row fit placed
 
   -- the volume of the slot is the one that was placed
   pub placed_there : state_at between slot ≡ Some mid
@@ -146,8 +152,8 @@ module _ (d : Shown) (s : Session) (slot : ℕ) (x y : VolumeState) (there : sta
 
 -- ---- one after the other
 
-module _ (d : Shown) (s : Session) (q : Pool) (slot : ℕ) (x mid y : VolumeState) (there : state_at s.volumes slot ≡ Some x) (slot_is : x.slot ≡ slot) (fit : FitTogether s.pool s.volumes) (placed : IsPlacedAs d s.pool x d q mid)
-    (step : IsStepped mid y) (ready : IsReady d q y) (room : ℕ) where
+module _ (d e : Shown) (s : Session) (q : Pool) (slot : ℕ) (x mid y : VolumeState) (there : state_at s.volumes slot ≡ Some x) (slot_is : x.slot ≡ slot) (fit : FitTogether s.pool s.volumes) (placed : IsPlacedAs d s.pool x e q mid)
+    (step : IsStepped mid y) (ready : IsReady e q y) (room : ℕ) where
   abbrev pub snapped_session : Session
   snapped_session = record s { volumes = with_state s.volumes slot (Some y); pool = q; pending = s.pending + room }
 
@@ -158,7 +164,7 @@ module _ (d : Shown) (s : Session) (q : Pool) (slot : ℕ) (x mid y : VolumeStat
   mid_slot = ap (λ (z : VolumeState). z.slot) placed.keeps ∙ slot_is
 
   mid_there : state_at (with_state s.volumes slot (Some mid)) slot ≡ Some mid
-  mid_there = placed_there d s q slot x mid there slot_is fit placed
+  mid_there = placed_there d e s q slot x mid there slot_is fit placed
 
   mid_long : length (with_state s.volumes slot (Some mid)) ≡ 64
   mid_long = length-set s.volumes slot (Some mid) ∙ fit.housed.long
@@ -168,19 +174,19 @@ module _ (d : Shown) (s : Session) (q : Pool) (slot : ℕ) (x mid y : VolumeStat
 
   -- its parts fit together,
   pub snapped_fit : FitTogether q (with_state s.volumes slot (Some y))
-  snapped_fit = subst (FitTogether q) twice (fit_stepped d q (with_state s.volumes slot (Some mid)) mid_long slot mid y mid_there step ready (placed_fit d s q slot x mid there slot_is fit placed))
+  snapped_fit = subst (FitTogether q) twice (fit_stepped e q (with_state s.volumes slot (Some mid)) mid_long slot mid y mid_there step ready (placed_fit d e s q slot x mid there slot_is fit placed))
 
-  as_snapped : stepped_session d first slot mid y mid_there mid_slot mid_long step ready room ≡ snapped_session
+  as_snapped : stepped_session e first slot mid y mid_there mid_slot mid_long step ready room ≡ snapped_session
   as_snapped = λ j. record s { volumes = twice j; pool = q; pending = s.pending + room }
 
   -- it stands on the disk,
-  pub snapped_stands : StandsReady d s → StandsReady d snapped_session
-  snapped_stands stands = subst (StandsReady d) as_snapped (stepped_stands d first slot mid y mid_there mid_slot mid_long step ready room (placed_stands d s q slot x mid there slot_is fit placed stands))
+  pub snapped_stands : StandsReady d s → StandsReady e snapped_session
+  snapped_stands stands = subst (StandsReady e) as_snapped (stepped_stands e first slot mid y mid_there mid_slot mid_long step ready room (placed_stands d e s q slot x mid there slot_is fit placed stands))
 
   -- and it stands for the machine after the command.
-  pub snapped_for : (more : ℕ) → map_wait y ≤ map_wait mid + more → pending_of y.files ≤ pending_of mid.files → ((more ≡ 0) × (room ≡ 0)) ⊎ ((more ≤ room) × (s.pending + room ≤ 256)) → IsHeldIn d q slot y
-      → (last m : Machine) (c : Command) → StandsFor d s last m → refusal m c ≡ None → change_of m c ≡ Becomes x.name (volume_for d q y) → StandsFor d snapped_session last (next m c)
-  snapped_for more waits pending enough now last m c is accepted becomes = subst (λ (n : Session). StandsFor d n last (next m c)) as_snapped
-      (stepped_for d first slot mid y mid_there mid_slot mid_long step ready room more waits pending enough now last m c
-      (placed_for d s q slot x mid there slot_is fit placed last m is) accepted
-      (becomes ∙ ap (λ (n : List ℕ). Becomes n (volume_for d q y)) (sym (ap (λ (z : VolumeState). z.name) placed.keeps))))
+  pub snapped_for : (more : ℕ) → map_wait y ≤ map_wait mid + more → pending_of y.files ≤ pending_of mid.files → ((more ≡ 0) × (room ≡ 0)) ⊎ ((more ≤ room) × (s.pending + room ≤ 256)) → IsHeldIn e q slot y
+      → (last m : Machine) (c : Command) → StandsFor d s last m → refusal m c ≡ None → change_of m c ≡ Becomes x.name (volume_for e q y) → StandsFor e snapped_session last (next m c)
+  snapped_for more waits pending enough now last m c is accepted becomes = subst (λ (n : Session). StandsFor e n last (next m c)) as_snapped
+      (stepped_for e first slot mid y mid_there mid_slot mid_long step ready room more waits pending enough now last m c
+      (placed_for d e s q slot x mid there slot_is fit placed last m is) accepted
+      (becomes ∙ ap (λ (n : List ℕ). Becomes n (volume_for e q y)) (sym (ap (λ (z : VolumeState). z.name) placed.keeps))))

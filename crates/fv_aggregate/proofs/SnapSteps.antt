@@ -172,13 +172,13 @@ turned_step x table map ledger = record {
 
 -- ---- by what the commands leave
 
-module _ (d : Shown) (p : Pool) (x : VolumeState) (q : Pool) (name : List ℕ) (y : VolumeState) where
+module _ (d : Shown) (p : Pool) (x : VolumeState) (e : Shown) (q : Pool) (name : List ℕ) (y : VolumeState) where
   -- files were placed, and then a snapshot was made,
-  pub snapped_step : (did : IsSnapped d p x q name y) → ((slot : ℕ) → IsLeastFree x.snapshots slot → get_or y.fresh slot false ≡ true) → IsStepped did.mid y
+  pub snapped_step : (did : IsSnapped d p x e q name y) → ((slot : ℕ) → IsLeastFree x.snapshots slot → get_or y.fresh slot false ≡ true) → IsStepped did.mid y
   snapped_step did waits = subst (IsStepped did.mid) (sym did.now) (made_step did.mid did.slot name (subst (λ (z : VolumeState). get_or z.fresh did.slot false ≡ true) did.now (waits did.slot did.free)))
 
   -- or one was removed,
-  pub unsnapped_step : (did : IsUnsnapped d p x q name y) → IsStepped did.mid y
+  pub unsnapped_step : (did : IsUnsnapped d p x e q name y) → IsStepped did.mid y
   unsnapped_step did = subst (IsStepped did.mid) (sym did.now) (removed_step did.mid did.at did.snap.slot did.ledger)
 
 -- or one is the active table now

@@ -224,7 +224,7 @@ module _ (i : Image) (found : Found) (m : Machine) (tells : Tells (layout_at (ro
       let k = fault.index in
       let j = bad.map_slot in
       let block : block_in ((view_at t i).entry s (map_vvbn l.span j k)) ≡ i fault.entry.pvbn =
-      sym (block_there found i s l bad.map bad.lies bad.spelled bad.long bad.valid (map_vvbn l.span j k)) ∙ ap (entry_block i) fault.there in
+      sym (block_there found i s l bad.map bad.lies bad.opened bad.long bad.valid (map_vvbn l.span j k)) ∙ ap (entry_block i) fault.there in
       let inside : number < block_bits * map_blocks l.span = below number k (map_blocks l.span) fault.past.place fault.within in
       let test : nat_lt number (block_bits * map_blocks l.span) ≡ true = passes number (block_bits * map_blocks l.span) inside in
       let here : block_in ((view_at t i).entry s (map_vvbn l.span j (number / block_bits))) ≡ i fault.entry.pvbn = ap (λ (n : ℕ). block_in ((view_at t i).entry s (map_vvbn l.span j n))) fault.past.place ∙ block in

@@ -5,7 +5,7 @@ use Rattle.fv_model.specs.declared.commands.Kind.{Kind}
 use Rattle.fv_image.specs.Held.{view_at}
 use Rattle.fv_image.specs.Views.{overheads}
 use Rattle.fv_root.specs.Finding.{root_found}
-use Rattle.fv_container.specs.Chains.{container_at, slot_count}
+use Rattle.fv_container.specs.Chains.{IsSlots, paged_at, slot_count}
 use Rattle.fv_volumes.specs.Creating.{Admits, IsMade, IsNew, with_holes}
 use Rattle.fv_volume.specs.Slots.{IsFirstFree}
 use Rattle.fv_volume.specs.States.{state_at}
@@ -43,13 +43,14 @@ pub record IsAdded (old : Session) (name : List ℕ) (size : ℕ) (kind : Kind) 
   pub slot : ℕ
   pub free : IsFirstFree old.volumes slot
   pub made : IsMade old.volumes slot name size kind new.volumes
-  pub new_there : IsNew (state_at new.volumes slot) (container_at new.pool.containers slot) name size kind
+  pub new_there : IsNew (state_at new.volumes slot) (paged_at new.pool.containers slot) name size kind
   pub holes : new.pool ≡ with_holes old.pool slot size
   pub each : (s : ℕ) → IfSome (state_at new.volumes s) (IsLabelled s)
   pub place : ℕ
   pub span : ℕ
   pub admits : Admits old.volumes old.pool.found.blocks name size kind place span
   pub fit : FitTogether old.pool old.volumes
+  pub few : IsSlots old.pool.containers
   pub long : length old.volumes ≡ slot_count
   pub asked : blocks_asked new.volumes ≤ blocks_asked old.volumes + room
   pub overheads : overheads_in new.volumes ≡ overheads_in old.volumes + room

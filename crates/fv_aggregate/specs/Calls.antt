@@ -7,9 +7,9 @@ use Rattle.fv_model.specs.declared.answers.Refusal.TheVariants.{NoSnapshot, NoVo
 use Rattle.fv_model.specs.declared.answers.Reply.{Reply}
 use Rattle.fv_model.specs.declared.answers.Reply.TheVariants.{Names, Refused}
 use Rattle.fv_model.specs.declared.commands.Command.{Command}
-use Rattle.fv_model.specs.declared.commands.Command.TheVariants.{Cp, SnapList, VolList}
+use Rattle.fv_model.specs.declared.commands.Command.TheVariants.{Cp, SnapList, VolDestroy, VolList}
 use Rattle.fv_model.specs.Machines.{Machine}
-use Rattle.fv_container.specs.Chains.{container_at, own_entry, slot_count}
+use Rattle.fv_container.specs.Chains.{TellsEntries, container_at, own_entry, slot_count}
 use Rattle.fv_volume.specs.Asking.{snap_named, table_named}
 use Rattle.fv_volume.specs.declared.state.VolumeState.{VolumeState}
 use Rattle.fv_volume.specs.Slots.{HasName, NoneHasName}
@@ -23,8 +23,8 @@ use Rattle.fv_aggregate.specs.declared.session.Session.{Session}
 use Rattle.fv_aggregate.specs.Adding.{IsPointed}
 use Rattle.fv_aggregate.specs.Asking.{AsksWithin}
 use Rattle.fv_aggregate.specs.Causes.{KeepsEnds}
-use Rattle.fv_aggregate.specs.Commands.{Asked, changed_by, dirty_limit, finds_file, has_range, is_built, is_get, is_refusal, managed_by, places_files, removes_volume, room_by, snapped_by, snapshot_asked, snapshot_needed, volume_asked}
-pub use Rattle.fv_aggregate.specs.Damages.{HasDamage, HasFilesToPlace, LacksBlocks}
+use Rattle.fv_aggregate.specs.Commands.{Asked, changed_by, dirty_limit, finds_file, has_range, is_built, is_get, is_refusal, managed_by, places_files, reads_leaves, removes_volume, room_by, snapped_by, snapshot_asked, snapshot_needed, volume_asked}
+pub use Rattle.fv_aggregate.specs.Damages.{HasDamage, HasFilesToPlace, HasLoaded, HasLostLeaf, LacksBlocks}
 use Rattle.fv_aggregate.specs.Failing.{IsUnmadeIn}
 use Rattle.fv_aggregate.specs.Known.{KeepsNumbers, KnowsNamed}
 use Rattle.fv_aggregate.specs.Managing.{IsManaged}
@@ -113,13 +113,14 @@ pub record GoesFor {T : Type 0} (before : Shown) (last m next : Machine) (after 
   pub still : IsNone new.failed → OnErr result (StandsAfter after new last m m)
   pub whole : IfErr result IsNoDamage
 
--- damage for want of blocks, or where the files of a volume couldn't be placed, with nothing written
+-- damage for want of blocks or of a leaf, or where the files of a volume couldn't be placed, with nothing written
 abbrev pub IsForWant : Shown → Session → Shown → Session → Fault → Type 0
-IsForWant before old after new (Damaged at want found) = OnlyReads before after × (LacksBlocks before old new at want found ⊎ HasFilesToPlace before old at want found)
+IsForWant before old after new (Damaged at want found) = OnlyReads before after × (LacksBlocks before old new at want found ⊎ (HasFilesToPlace before old at want found ⊎ HasLostLeaf after old new at want found))
 IsForWant before old after new fault = Unit {0}
 
 -- What a call does that may run a consistency point, since it asks for it or for the `room` blocks that it may add, and that makes `next m`
--- of the machine `m`. A point asks for no more than before, damage comes for want of blocks alone, and the numbers of files stay in memory.
+-- of the machine `m`. A point asks for no more than before, damage comes for want of blocks or of a leaf alone, and the numbers of files stay
+-- in memory.
 pub record Runs {T : Type 0} (room : ℕ) (asked : Asked) (next : Machine → Machine) (before : Shown) (old : Session) (after : Shown) (new : Session)
     (result : Result T Fault) : Type 0 where
   pub goes : Goes room asked before old after new result
@@ -127,6 +128,12 @@ pub record Runs {T : Type 0} (room : ℕ) (asked : Asked) (next : Machine → Ma
   pub damage : IfErr result (IsForWant before old after new)
   pub goes_for : IsTrue before.tells → (last m : Machine) → StandsFor before old last m → GoesFor before last m (next m) after new result
   pub numbers : IsNone new.failed → KeepsNumbers old.volumes new.volumes
+
+-- A consistency point wasn't done, though no write and no barrier failed: it only read, and without a file in memory only leaves of containers came
+-- into memory.
+pub record IsUnpointed (before : Shown) (old : Session) (after : Shown) (new : Session) : Type 0 where
+  pub only_reads : OnlyReads before after
+  pub loads : HaveNoFiles old.volumes → HasLoaded before old new
 
 -- no file comes into memory, and where the next root would hold just what the one on the disk holds it does so afterwards
 pub record KeepsHolding {T : Type 0} (before : Shown) (old new : Session) (result : Result T Fault) : Type 0 where
@@ -150,11 +157,18 @@ MakesNoHoles old new = (s : ℕ) → IsSome (state_at old.volumes s) → (v : �
 abbrev pub IsUntouched : {D : Type 0} → D → Session → D → Session → Type 0
 IsUntouched before old after new = (after ≡ before) × (new ≡ old)
 
--- a command on a whole volume is always answered
-pub record IsAnswered (old : Session) (command : Command) (name : List ℕ) (new : Session) (result : Result Reply Fault) : Type 0 where
+-- a command on a whole volume that stays is always answered
+pub record IsAnswered (told : Type 0) (old : Session) (command : Command) (name : List ℕ) (new : Session) (result : Result Reply Fault) : Type 0 where
   pub reply : Reply
   pub is : result ≡ Ok reply
-  pub managed : IsManaged old command name new reply
+  pub managed : IsManaged told old command name new reply
+
+-- A volume was removed, or it is refused; or a leaf of its container wasn't read, or memory ran out. Nothing changed then but the cache, and that the
+-- session may have failed. Nothing was written, either way.
+pub record Removes (before : Shown) (old : Session) (name : List ℕ) (after : Shown) (new : Session) (result : Result Reply Fault) : Type 0 where
+  pub managed : IfOk result (IsManaged (TellsEntries before old.pool.containers) old (VolDestroy name) name new)
+  pub undone : OnErr result (WasRead before old after (record new { failed = old.failed }))
+  pub only_reads : OnlyReads before after
 
 -- the room of a command, with what is pending, stays within the dirty limit, so that no consistency point comes before it
 abbrev pub IsWithinLimit : Session → Command → Type 0
@@ -186,23 +200,27 @@ pub record FindsVolume (states : States) (command : Command) (name : List ℕ) (
   pub needs : NeedsSnapshot states command result
 
 -- What a command that reads no file does beside, whatever the disk holds. Refused it leaves all as it was, and one that isn't built is refused as no
--- command. One that adds no block, or whose room stays within the dirty limit, doesn't reach the disk, but for a `cp`; and then it leaves the session
--- where memory ran out, and takes no block and gives none back, but for a removal and for one that places files. `vol list` answers the names of the
--- session's volumes, and `snap list` those of a volume's snapshots, and both leave all as it was. A `cp` that is done leaves nothing pending and no
--- file in memory; where none was there it has no want of memory. Damage comes for want of blocks alone. A command on a whole volume is answered,
--- without a fault. One on snapshots is refused without its volume, and one that removes or restores a snapshot exactly where that isn't there.
+-- command. One that adds no block, or whose room stays within the dirty limit, doesn't reach the disk, but for a `cp` and for one that may read leaves
+-- of containers; and then it leaves the session where memory ran out. But for a removal and for one that places files it takes no block then and gives
+-- none back. `vol list` answers the names of the session's volumes, and `snap list` those of a volume's snapshots, and both leave all as it was. A `cp`
+-- that is done leaves nothing pending and no file in memory; one that isn't, in a session that goes on, only read, and left all but leaves where no file
+-- was in memory. Damage comes for want of blocks or of a leaf alone. A command on a whole volume that stays is answered, without a fault, and a volume is
+-- removed, or nothing changed. One on snapshots is refused without its volume, and one that removes or restores a snapshot exactly where that isn't
+-- there.
 pub record IsPlain {D : Type 0} (command : Command) (shown : Shown) (before : D) (old : Session) (shown_after : Shown) (after : D) (new : Session) (result : Result Reply Fault) : Type 0 where
   pub refused : IfOk result (λ reply. IsTrue (is_refusal reply) → IsUntouched before old after new)
-  pub calm : command ≢ Cp → IsWithinLimit old command → after ≡ before
+  pub calm : command ≢ Cp → reads_leaves command ≡ false → IsWithinLimit old command → after ≡ before
   pub map : command ≢ Cp → removes_volume command ≡ false → places_files command ≡ false → IsWithinLimit old command → new.pool.map ≡ old.pool.map
-  pub wanting : command ≢ Cp → places_files command ≡ false → IsWithinLimit old command → IfErr result (λ e. e ≡ Memory → new ≡ old)
+  pub wanting : command ≢ Cp → reads_leaves command ≡ false → IsWithinLimit old command → IfErr result (λ e. e ≡ Memory → new ≡ old)
   pub damage : IfErr result (IsForWant shown old shown_after new)
   pub unbuilt : IsNone old.failed → is_built command ≡ false → result ≡ Ok (Refused Syntax)
   pub listed : command ≡ VolList → IfOk result (λ reply. reply ≡ Names (names_from old.volumes 0 slot_count))
   pub untouched : command ≡ VolList → IsUntouched before old after new
   pub pointed : command ≡ Cp → OnOk result (IsPointed shown old new)
-  pub memory : command ≡ Cp → HaveNoFiles old.volumes → IfErr result (λ e. e ≢ Memory)
-  pub managed : IsNone old.failed → (name : List ℕ) → managed_by command ≡ Some name → IsAnswered old command name new result
+  pub unpointed : command ≡ Cp → IsNone new.failed → OnErr result (IsUnpointed shown old shown_after new)
+  pub managed : IsNone old.failed → (name : List ℕ) → managed_by command ≡ Some name → removes_volume command ≡ false
+      → IsAnswered (TellsEntries shown old.pool.containers) old command name new result
+  pub removed : IsNone old.failed → (name : List ℕ) → command ≡ VolDestroy name → Removes shown old name shown_after new result
   pub snapped : IsNone old.failed → (name : List ℕ) → snapped_by command ≡ Some name → FindsVolume old.volumes command name result
   pub snapshots : IsNone old.failed → (name : List ℕ) → command ≡ SnapList name → IsUntouched before old after new × IfOk result (TellsSnapshots old name)
 

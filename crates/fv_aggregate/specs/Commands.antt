@@ -98,6 +98,10 @@ abbrev pub removes_volume : Command → Bool
 removes_volume (VolDestroy volume) = true
 removes_volume command = false
 
+-- whether a command that reads no file may read leaves of containers: it removes a volume, or places what changed of a volume's files
+abbrev pub reads_leaves : Command → Bool
+reads_leaves command = removes_volume command || places_files command
+
 -- the volume that a command asks for files
 abbrev pub volume_asked : Command → Option (List ℕ)
 volume_asked (Get volume snapshot file index) = Some volume
@@ -105,7 +109,7 @@ volume_asked (Len volume snapshot file) = Some volume
 volume_asked (Ls volume snapshot) = Some volume
 volume_asked command = None
 
--- the commands that are built and read blocks of files; each other one reaches the disk by a consistency point alone
+-- the commands that are built and read blocks of files; each other one reaches the disk by a consistency point, or to read leaves of containers
 unfoldable pub reads_files : Command → Bool
 reads_files command = is_some (changed_by command) || is_some (volume_asked command)
 
@@ -206,6 +210,8 @@ pub data Asked : Type 0 where
   AsksPoint : Asked
   -- that what changed of the files of a slot's volume is placed
   AsksPlacing : (slot : ℕ) → Asked
+  -- the leaves of the container of a slot's volume
+  AsksLeaves : (slot : ℕ) → Asked
   -- the active table of a slot's volume, or that of a snapshot of it
   AsksTable : (slot : ℕ) (snapshot : Option (List ℕ)) → Asked
 
@@ -218,7 +224,8 @@ abbrev pub slot_named : States → List ℕ → ℕ
 slot_named states name = slot_among states slots name
 
 -- What a command asks for by a session's volumes: a `cp` asks for a point; a snapshot that is made or removed for the placing of its
--- volume's files; a change of a file for the active table of its volume, and a look at files for the table that it names.
+-- volume's files; the removal of a volume for the leaves of its container; a change of a file for the active table of its volume, and a look at
+-- files for the table that it names.
 unfoldable pub asked_by : States → Command → Asked
 asked_by states (New volume file reserve) = if reserve == 0 then AsksTable (slot_named states volume) None else AsksNothing
 asked_by states (Put volume file index block) = AsksTable (slot_named states volume) None
@@ -229,5 +236,6 @@ asked_by states (Remove volume file) = AsksTable (slot_named states volume) None
 asked_by states (Ls volume snapshot) = AsksTable (slot_named states volume) snapshot
 asked_by states (SnapCreate volume snapshot) = AsksPlacing (slot_named states volume)
 asked_by states (SnapDelete volume snapshot) = AsksPlacing (slot_named states volume)
+asked_by states (VolDestroy volume) = AsksLeaves (slot_named states volume)
 asked_by states Cp = AsksPoint
 asked_by states command = AsksNothing

@@ -1,4 +1,5 @@
--- What is damaged where a call of a session answers so: blocks are lacking, files couldn't be placed, or a table isn't as it has to be.
+-- What is damaged where a call of a session answers so: blocks are lacking, files couldn't be placed, a table isn't as it has to be, or a leaf of a
+-- container isn't there.
 use Rattle.std.specs.Prelude.{◌≡◌, ◌≢◌, ◌<◌, ◌≤◌, ◌+◌, ◌⊎◌, ℕ, IsTrue, IsNone, IsSome, List, Option, Some}
 use Rattle.fv_disk.specs.Shown.{Shown}
 use Rattle.fv_disk.specs.DiskCalls.{OnlyReads}
@@ -8,7 +9,7 @@ use Rattle.fv_aggmap.specs.Space.{free_blocks}
 use Rattle.fv_container.specs.Chains.{container_at}
 use Rattle.fv_pool.specs.declared.fault.VolumeFault.TheVariants as volume
 use Rattle.fv_pool.specs.declared.pool.Pool.{Pool}
-use Rattle.fv_pool.specs.BlocksOver.{LeavesPool}
+use Rattle.fv_pool.specs.BlocksOver.{LacksLeaf, LeavesPool, LoadsPool}
 use Rattle.fv_pool.specs.Calls.{GivesUp, TableFails}
 use Rattle.fv_pool.specs.Lending.{lent_for}
 use Rattle.fv_volume.specs.declared.state.VolumeState.{VolumeState}
@@ -21,14 +22,18 @@ use Rattle.fv_cp.specs.Placing.{AreButPlaced, HaveNoFiles, HaveNoneBefore, MayFa
 use Rattle.fv_aggregate.specs.declared.session.Session.{Session}
 use Rattle.fv_aggregate.specs.Adding.{IsPointed}
 use Rattle.fv_aggregate.specs.Asking.{AsksWithin, IsShort}
-use Rattle.fv_aggregate.specs.Commands.{dirty_limit, Asked, AsksPlacing, AsksPoint, AsksTable}
+use Rattle.fv_aggregate.specs.Commands.{dirty_limit, Asked, AsksLeaves, AsksPlacing, AsksPoint, AsksTable}
 use Rattle.fv_aggregate.specs.Reading.{IsAsRead}
 use Rattle.fv_aggregate.specs.Standing.{taken_since}
 
 -- ---- at a point
 
+-- all of a session stayed, but leaves of containers that came into memory, and its cache
+abbrev pub HasLoaded : Shown → Session → Session → Type 0
+HasLoaded disk old new = LoadsPool disk old.pool new.pool × (new ≡ record old { pool = new.pool })
+
 -- Fewer blocks are free in the session's map than a consistency point of it asks for, with the files in their places; and so it is in the
--- image, beside the blocks that were placed. Without a file in memory the session is as it was.
+-- image, beside the blocks that were placed. Without a file in memory the session is as it was, but for leaves that came into memory.
 pub record LacksBlocks (before : Shown) (old new : Session) (at want found : ℕ) : Type 0 where
   pub fresh : IsNone old.failed
   pub place : at ≡ root_place old.pool.found.slot
@@ -36,11 +41,12 @@ pub record LacksBlocks (before : Shown) (old new : Session) (at want found : ℕ
   pub free : found ≡ free_blocks new.pool.map
   pub short : found < want
   pub image : IsTrue before.tells → (room : ℕ) → AsksWithin before old room → IsShort before.reads room (taken_since new.pool.map) at want found
-  pub same : HaveNoFiles old.volumes → new ≡ old
+  pub same : HaveNoFiles old.volumes → HasLoaded before old new
 
--- The files of a volume of the session couldn't be placed, since no number of the volume was free, or no block. What the volumes share was `mid` then,
--- and the volumes were `between`: this one and each behind it as before, with their containers, and those before it too, but for the placing of their
--- files, none of which is in memory any more; or nothing was placed before. Where none of those slots has files in memory all stayed.
+-- The files of a volume of the session couldn't be placed, since no number of the volume was free, or no block, or a leaf of its container isn't there.
+-- What the volumes share was `mid` then, and the volumes were `between`: this one and each behind it as before, with their containers, and those
+-- before it too, but for the placing of their files, none of which is in memory any more; or nothing was placed before. Where none of those slots
+-- has files in memory all stayed.
 pub record HasFilesToPlace (disk : Shown) (session : Session) (at want found : ℕ) : Type 0 where
   pub fresh : IsNone session.failed
   pub files : HaveNoFiles session.volumes → ⊥
@@ -59,6 +65,13 @@ pub record HasFilesToPlace (disk : Shown) (session : Session) (at want found : �
   pub done : HaveNoneBefore between slot ⊎ ((mid ≡ session.pool) × (between ≡ session.volumes))
   pub first : HaveNoneBefore session.volumes slot → mid ≡ session.pool
   pub fails : MayFail disk mid (Some state) (volume.Damaged at want found)
+
+-- A leaf of the container of a volume doesn't stand where that has it; at a point so once the files have their places. Without a file in memory the
+-- session is as it was, but for leaves that came into memory.
+pub record HasLostLeaf (disk : Shown) (session new : Session) (at want found : ℕ) : Type 0 where
+  pub fresh : IsNone session.failed
+  pub leaf : LacksLeaf disk new.pool.containers at want found
+  pub same : HaveNoFiles session.volumes → HasLoaded disk session new
 
 -- ---- in a table
 
@@ -96,6 +109,10 @@ ComesToPoint room asked session = (asked ≡ AsksPoint) ⊎ PassesLimit session.
 abbrev pub ComesToPlace : ℕ → Asked → Session → ℕ → Type 0
 ComesToPlace room asked session slot = (asked ≡ AsksPlacing slot) ⊎ ComesToPoint room asked session
 
+-- it comes to read leaves of containers: to place files, or for the leaves of a volume's container
+abbrev pub ComesToLeaves : ℕ → Asked → Session → Type 0
+ComesToLeaves room asked session = (slot : ℕ) × ((asked ≡ AsksLeaves slot) ⊎ ComesToPlace room asked session slot)
+
 -- A call that places files found those of a volume that couldn't be placed. But where it places this volume by itself, those of the slots before it
 -- were placed.
 pub record HasUnplaced (room : ℕ) (asked : Asked) (disk : Shown) (session : Session) (at want found : ℕ) : Type 0 where
@@ -103,12 +120,13 @@ pub record HasUnplaced (room : ℕ) (asked : Asked) (disk : Shown) (session : Se
   pub comes : ComesToPlace room asked session files.slot
   pub before : asked ≢ AsksPlacing files.slot → HaveNoneBefore files.between files.slot
 
--- Blocks are lacking for a point, or files couldn't be placed, where a call that may add `room` blocks comes to that; or the table that it
--- asks for isn't as it has to be.
+-- Blocks are lacking for a point, or files couldn't be placed, or a leaf isn't there, where a call that may add `room` blocks comes to that; or the
+-- table that it asks for isn't as it has to be.
 abbrev pub HasDamageIn : ℕ → Asked → Shown → Session → Session → ℕ → ℕ → ℕ → Type 0
 HasDamageIn room asked disk session new at want found =
     (ComesToPoint room asked session × LacksBlocks disk session new at want found)
-    ⊎ (HasUnplaced room asked disk session at want found ⊎ HasBadTable asked disk session new at want found)
+    ⊎ (HasUnplaced room asked disk session at want found
+    ⊎ ((ComesToLeaves room asked session × HasLostLeaf disk session new at want found) ⊎ HasBadTable asked disk session new at want found))
 
 -- a session of which blocks were read for a call that asks for a table
 pub record HasReadFor (asked : Asked) (old session : Session) : Type 0 where

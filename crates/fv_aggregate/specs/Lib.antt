@@ -18,4 +18,5 @@ pub mod Answers
 pub mod Telling
 pub mod Snapping
 pub mod Reclaiming
+pub mod Removing
 pub mod Applying

@@ -97,12 +97,12 @@ pub record ChangesState (before : Shown) (pool : Pool) (x : VolumeState) (others
 
 -- ---- a volume whose snapshots change
 
--- A snapshot of a volume was made, removed or restored, beside volumes that commit so much.
-abbrev pub SnapsState : Shown → Pool → VolumeState → ℕ → Command → Pool → VolumeState → Result Unit VolumeFault → Type 0
-SnapsState disk pool x others (SnapCreate volume snapshot) left y result = (volume ≡ x.name) × (Creates disk pool x others snapshot left y result × TellsCreation pool x others snapshot y result)
-SnapsState disk pool x others (SnapDelete volume snapshot) left y result = (volume ≡ x.name) × Deletes disk pool x snapshot left y result
-SnapsState disk pool x others (SnapRestore volume snapshot) left y result = (volume ≡ x.name) × ((left ≡ pool) × Restores disk pool x others snapshot y result)
-SnapsState disk pool x others command left y result = ⊥
+-- A snapshot of a volume was made, removed or restored, beside volumes that commit so much. Leaves were read where files were placed.
+abbrev pub SnapsState : Shown → Pool → VolumeState → ℕ → Command → Shown → Pool → VolumeState → Result Unit VolumeFault → Type 0
+SnapsState disk pool x others (SnapCreate volume snapshot) after left y result = (volume ≡ x.name) × (Creates disk pool x others snapshot after left y result × TellsCreation pool x others snapshot y result)
+SnapsState disk pool x others (SnapDelete volume snapshot) after left y result = (volume ≡ x.name) × Deletes disk pool x snapshot after left y result
+SnapsState disk pool x others (SnapRestore volume snapshot) after left y result = (volume ≡ x.name) × ((left ≡ pool) × Restores disk pool x others snapshot y result)
+SnapsState disk pool x others command after left y result = ⊥
 
 -- a command makes, removes or restores a snapshot of the volume of a slot, which is the first of its name
 pub record IsSnapAimed (states : States) (slot : ℕ) (command : Command) : Type 0 where
@@ -113,14 +113,15 @@ pub record IsSnapAimed (states : States) (slot : ℕ) (command : Command) : Type
   pub snaps : snapped_by command ≡ Some state.name
 
 -- What a command that makes, removes or restores a snapshot does in a session beside. Refused it leaves all as it was. With room within the dirty
--- limit it doesn't reach the disk, and takes no block and gives none back, but where it places files; one that places none is always answered. No
--- file comes into memory. Beside blocks of files nothing is taken that the next root wouldn't hold, and the numbers of files stay in memory, but for
+-- limit it writes nothing, and but where it places files it doesn't reach the disk, and takes no block and gives none back; one that places none is
+-- always answered. No file comes into memory. Beside blocks of files nothing is taken that the next root wouldn't hold, and the numbers of files stay in memory, but for
 -- a table that is no longer the active one.
 pub record HasSnapped {D : Type 0} (before : Shown) (disk : D) (old : Session) (command : Command) (after : Shown) (left : D) (new : Session) (result : Result Reply Fault) : Type 0 where
   pub makes : Makes (room_by old.volumes command) (asked_by old.volumes command) before old command after new result
   pub damage : IfErr result (IsForWant before old after new)
   pub refused : IfOk result (λ reply. IsTrue (is_refusal reply) → IsUntouched disk old left new)
-  pub calm : IsWithinLimit old command → left ≡ disk
+  pub calm : places_files command ≡ false → IsWithinLimit old command → left ≡ disk
+  pub only_reads : IsWithinLimit old command → OnlyReads before after
   pub map : places_files command ≡ false → new.pool.map ≡ old.pool.map
   pub sure : places_files command ≡ false → IfErr result (λ e. ⊥)
   pub files : IsTrue before.tells → IsWithoutFiles old → OnOk result (IsWithoutFiles new)

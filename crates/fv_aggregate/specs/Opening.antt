@@ -1,5 +1,5 @@
 -- What is read when a session is opened.
-use Rattle.std.specs.Prelude.{◌≡◌, ℕ, true, IfSome, IsNone, IsTrue, Some, replicate}
+use Rattle.std.specs.Prelude.{◌≡◌, ℕ, true, IfSome, IsNone, IsTrue, Some, length, replicate}
 use Rattle.fv_disk.specs.Shown.{Image, Shown}
 use Rattle.fv_model.specs.Machines.{Machine}
 use Rattle.fv_image.specs.Held.{layout_at, view_at}
@@ -21,6 +21,7 @@ use Rattle.fv_aggregate.specs.declared.session.Session.{Session}
 pub record IsOpened (i : Image) (session : Session) : Type 0 where
   pub found : IsFound i session.pool.found
   pub map : IsMapLoaded i session.pool.found session.pool.map
+  pub few : length session.pool.containers.containers ≡ slot_count
   pub slots : LoadedTo i session.pool.found slot_count session.volumes session.pool.containers
   pub view : view_over session.pool session.volumes i ≡ view_at (root_found session.pool.found) i
   pub machine : (m : Machine) → Tells (layout_at (root_found session.pool.found) i) m → machine_in session.pool session.volumes no_trees i ≡ m

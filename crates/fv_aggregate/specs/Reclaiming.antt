@@ -1,5 +1,5 @@
 -- What a consistency point makes of the entries of a session's volumes, as the image shows them.
-use Rattle.std.specs.Prelude.{◌≡◌, ◌≢◌, ◌<◌, ◌+◌, ◌&&◌, ℕ, Bool, true, false, List, Option, Some, None, Result, OnOk, IfErr, IfOk, IsTrue, if◌then◌else◌}
+use Rattle.std.specs.Prelude.{◌≡◌, ◌≢◌, ◌<◌, ◌+◌, ◌&&◌, ℕ, Bool, true, false, List, Option, Some, None, Result, OnErr, OnOk, IfOk, IsNone, IsTrue, if◌then◌else◌}
 use Rattle.std.specs.Option.{option_map}
 use Rattle.std.specs.FinMap as fin
 use Rattle.fv_disk.specs.Shown.{Shown}
@@ -23,13 +23,12 @@ use Rattle.fv_volume.specs.Stored.{is_map_written, map_entry}
 use Rattle.fv_cp.specs.Choosing.{CountsMissing, regions_chosen, LeavesRoom}
 use Rattle.fv_cp.specs.Settling.{OldOrHeld}
 use Rattle.fv_disk.specs.Crash.{Leaves}
-use Rattle.fv_cp.specs.Placing.{HaveNoFiles, AreButPlaced, LeavesUnused, PlacesEntries, RestsPlaced}
+use Rattle.fv_cp.specs.Placing.{AreButPlaced, LeavesUnused, PlacesEntries, RestsPlaced}
 use Rattle.fv_cp.specs.Points.{is_due, IsNextRoot}
 use Rattle.fv_aggregate.specs.declared.fault.Fault.{Fault}
-use Rattle.fv_aggregate.specs.declared.fault.Fault.TheVariants.{Memory}
 use Rattle.fv_aggregate.specs.declared.session.Session.{Session}
 use Rattle.fv_aggregate.specs.Adding.{IsPointed}
-use Rattle.fv_aggregate.specs.Calls.{SameButNumbers}
+use Rattle.fv_aggregate.specs.Calls.{IsUnpointed, SameButNumbers}
 use Rattle.fv_aggregate.specs.Commands.{dirty_limit, is_refusal}
 use Rattle.fv_aggregate.specs.Standing.{StandsFor}
 
@@ -94,12 +93,12 @@ abbrev pub MakesRoom : ℕ → Shown → Session → Shown → Result Reply Faul
 MakesRoom room before old after result = IsTrue before.tells → (last m : Machine) → StandsFor before old last m → room ≢ 0 → dirty_limit < old.pending + room
     → IfOk result (λ reply. is_refusal reply ≡ false → HasMadeRoom room old after m)
 
--- A consistency point ran for an event of this room, or not. Without a file in memory no memory lacks. Done, it is what is said of one;
--- and each image on its way is of one side of it.
+-- A consistency point ran for an event of this room, or not. Done, it is what is said of one; and each image on its way is of one side of it. Where it
+-- wasn't done and the session goes on, it only read.
 pub record Points {T : Type 0} (want : ℕ) (before : Shown) (old : Session) (after : Shown) (new : Session)
     (result : Result T Fault) : Type 0 where
-  pub memory : HaveNoFiles old.volumes → IfErr result (λ e. e ≢ Memory)
   pub point : IsTrue before.tells → (last m : Machine) → StandsFor before old last m → OnOk result (HasPointed want old after new m)
   pub sides : IsTrue before.tells → (last m : Machine) → StandsFor before old last m
       → Leaves before after (OldOrHeld before old.pool old.volumes last)
   pub left : OnOk result (IsPointed before old new)
+  pub undone : IsNone new.failed → OnErr result (IsUnpointed before old after new)

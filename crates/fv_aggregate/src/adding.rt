@@ -21,6 +21,7 @@ use crate::fault::Fault;
 use crate::replies::{done, refuse};
 use crate::session::Session;
 use fv_charge::overhead;
+use fv_cp::known_slots;
 use fv_disk::Disk;
 use fv_model::{Kind, Name, Reply};
 use fv_volumes::Admitted;
@@ -109,6 +110,7 @@ impl Session {
         ensures pending { OnOk result (self.new.pending ≡ self.old.pending + room) }
         ensures same { OnErr result (self.new ≡ self.old) }
     {
+        known_slots(&self.pool.containers);
         self.volumes.create(
             &mut self.pool,
             &mut self.commits,

@@ -73,7 +73,7 @@ pub enum Fault {
     #[error("DiskFault")]
     DiskFault,
     /// Fewer blocks are free than a consistency point asks for; or no number or block is free for a file that it places; or a block of a
-    /// volume's files isn't as it has to be. Over an image that stands for a machine it never comes.
+    /// volume's files, or a leaf of its container, isn't as it has to be. Over an image that stands for a machine it never comes.
     #[error("Damaged")]
     Damaged {
         /// The place of the root that counts, where blocks are lacking; that of the root or of the volume's label, where no number or block

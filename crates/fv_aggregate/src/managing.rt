@@ -2,27 +2,41 @@
 
 ghost use Rattle.std.specs.Prelude.{◌≡◌, ◌<◌, ◌≤◌, ◌-◌, ◌^◌, ℕ, IsNone, IfSome};
 ghost use Rattle.fv_container.specs.Chains.{slot_count};
-ghost use Rattle.fv_model.specs.declared.commands.Command.TheVariants.{VolDestroy, VolGuarantee, VolResize, VolStat};
+ghost use Rattle.fv_model.specs.declared.commands.Command.TheVariants.{VolGuarantee, VolResize, VolStat};
 ghost use Rattle.fv_volume.specs.OneVolume.{IsBooked};
 ghost use Rattle.fv_volume.specs.Slots.{committed_by, sum_of};
 ghost use Rattle.fv_volume.specs.States.{state_at};
+ghost use Rattle.fv_aggregate.specs.Answers.{answer};
 ghost use Rattle.fv_aggregate.specs.Managing.{Manages, told_as};
+ghost use Rattle.fv_aggregate.specs.Removing.{HasRemoved};
+ghost use Rattle.fv_aggregate.specs.Standing.{StandsReady};
 
 use crate::aiming::volume_in;
+use crate::fault::Fault;
 use crate::replies::{done, refuse, stat};
 use crate::session::Session;
+use fv_cp::known_slots;
+use fv_disk::Disk;
 use fv_model::{Kind, Name, Refusal, Reply};
 
 impl Session {
-    /// Removes a volume. `docs/SPACE.md` says when its blocks can be used again.
-    pub(crate) fn destroy(&mut self, volume: &Name, into: &mut Reply)
+    /// Removes a volume, once the leaves of its container are read. `docs/SPACE.md` says when its blocks can be used again.
+    pub(crate) fn destroy<D: Disk>(
+        &mut self,
+        disk: &mut D,
+        volume: &Name,
+        into: &mut Reply,
+    ) -> Result<(), Fault>
         requires fresh { IsNone self.old.failed }
-        ensures { Manages self.old (VolDestroy volume.now) self.new into.new }
+        requires stands { StandsReady (D.shown disk.old) self.old }
+        ensures { HasRemoved (D.shown disk.old) disk.old self.old volume.now (D.shown disk.new) disk.new self.new (answer into.new result) }
     {
+        known_slots(&self.pool.containers);
         let made = self
             .volumes
-            .destroy(&mut self.pool, &mut self.commits, volume);
-        tell(made, into);
+            .destroy(&mut self.pool, disk, &mut self.commits, volume);
+        done(into);
+        self.replied(disk, made, into)
     }
 
     /// Gives a volume another size, in blocks.

@@ -75,9 +75,9 @@ impl Session {
     /// and found. `DiskFault` comes only where the barrier or a read failed, and `Memory` where memory ran out; over an image that
     /// stands for a machine nothing else keeps it from being opened.
     ///
-    /// Costs a barrier, a read for each fixed block, each block of one map area, and each label, container node and map block of the
-    /// volumes. It holds up to 1024 blocks of cache, two bits for each block of the aggregate, and for each VVBN of each volume an entry
-    /// and a bit for each map slot in use. `docs/FORMAT.md` has what it reads.
+    /// Costs a barrier, a read for each fixed block, each block of one map area, each label and map block of the volumes, each node above the
+    /// leaves of their containers, and each leaf that has the entry of a map's block. It holds up to 1024 blocks of cache, two bits for each
+    /// block of the aggregate, and for each VVBN of each volume a bit and one for each map slot in use. `docs/FORMAT.md` has what it reads.
     pub fn open<D: Disk>(alloc: Global, disk: &mut D) -> Result<Session, OpenFault>
         ensures stands { IfOk result (StandsReady (D.shown disk.new)) }
         ensures fresh { IfOk result IsFresh }
@@ -109,11 +109,11 @@ impl Session {
     /// # Errors
     /// `DiskFault` comes only where a read, a write or a barrier failed in this call. Where it was a write or a barrier the session
     /// has failed: it answers `Failed`, with the disk's count of faults of that moment, to every call from then on, and reaches the
-    /// disk no more. `Memory` comes where memory ran out: contracts rule it out for a `cp` without files in memory alone. `Damaged` comes
-    /// where fewer blocks or numbers are free than a consistency point asks for, or a block of a volume's files isn't as it has to be. Over an
-    /// image that stands for a machine it never comes; over another one contracts tell which of these it was, that the command
-    /// came to it, of which volume and table, and at which place (`HasDamage`). After these, and after a read that failed, the session goes
-    /// on; where it stood for a machine it still stands for it.
+    /// disk no more. `Memory` comes where memory ran out. `Damaged` comes where fewer blocks or numbers are free than a consistency point
+    /// asks for, or a block of a volume's files, or a leaf of its container, isn't as it has to be. Over an image that stands for a machine it
+    /// never comes; over another one contracts tell which of these it was, that the command came to it, of which volume and table, and at
+    /// which place (`HasDamage`). After these, and after a read that failed, the session goes on; where it stood for a machine it still stands
+    /// for it.
     /// A command on files that ends with a fault before which no point came made no change: what it left is in memory alone (`IsUnmade`).
     ///
     /// Costs a step for each slot, and memory for the names in `vol list`. A command on files costs what the call of `VolumeState` does.
@@ -121,10 +121,11 @@ impl Session {
     /// then holds each name with its number, and each free number below the greatest that is taken; a later one finds its file by
     /// these, and costs nothing for the others, unless a file was made or removed since, for whose number memory can lack.
     /// Where room has to be made the command is judged first, which costs its reads twice, from the cache where they fit there. `vol create`
-    /// costs a step for each VVBN of the new volume, and holds an entry for each. `vol stat`, `vol resize` and `vol guarantee` take no memory
-    /// and walk nothing but the slots; `vol destroy` takes none, either, and costs a step for each entry and each node of the volume's
-    /// container. `snap create`, `snap delete` and `snap restore` cost what the calls of `fv_snapshot` do, and `snap list` memory for the
-    /// names; none of them reaches the disk but by a point. Where a consistency point runs it costs what `consistency_point` does.
+    /// costs a step for each VVBN of the new volume, and holds a bit for each. `vol stat`, `vol resize` and `vol guarantee` take no memory
+    /// and walk nothing but the slots; `vol destroy` costs a read for each leaf of the volume's container that isn't in memory, a step for each
+    /// entry and each node of it, and memory for a bit for each block that an aggregate can have. `snap create`, `snap delete` and
+    /// `snap restore` cost what the calls of `fv_snapshot` do, where the first two read the leaves of what they place, and `snap list` memory for
+    /// the names; none of them writes but by a point. Where a consistency point runs it costs what `consistency_point` does.
     /// `docs/SPACE.md` has the dirty limit, and `docs/MACHINE.md` the commands.
     pub fn apply<D: Disk, L: Ledger>(
         &mut self,
@@ -172,10 +173,7 @@ impl Session {
                 self.snapshots(volume, into)?;
                 return Ok(());
             }
-            Command::VolDestroy { volume } => {
-                self.destroy(volume, into);
-                return Ok(());
-            }
+            Command::VolDestroy { volume } => return self.destroy(disk, volume, into),
             Command::VolResize { volume, size } => {
                 self.resize(volume, *size, into);
                 return Ok(());
@@ -196,14 +194,16 @@ impl Session {
     /// root counts then, one generation on.
     ///
     /// # Errors
-    /// As of `apply`: what fails, what a session does then, and what stays.
+    /// As of `apply`: what fails, what a session does then, and what stays. Where the session goes on, nothing was written; and without a file in
+    /// memory only leaves of containers came into memory.
     ///
     /// Costs for each volume with files in memory a step for each number of its span, and memory and a write for each block that is
     /// placed; for each volume that changed or may have delayed entries a step for each entry, and up to 25 more for one that is no hole, and so
     /// again, twice in these regions, where a region of it is reclaimed; for each one that changed, or of which a region is reclaimed, in writes at
     /// most its overhead and the blocks of its snapshots' maps that wait; and then, also without changes, a commit: the blocks of one map area,
-    /// a root and at most two gates in writes, and two barriers or three. It reads nothing, though no clause says so, and it takes no
-    /// memory without a file there.
+    /// a root and at most two gates in writes, and two barriers or three. Before all writes it reads leaves of containers that it needs and that
+    /// aren't in memory: those with entries of what it places, those of which it isn't known which entries are holes, and those that change. It
+    /// takes memory for these and for files alone.
     /// `docs/SPACE.md` has the order.
     pub fn consistency_point<D: Disk>(&mut self, disk: &mut D) -> Result<(), Fault>
         requires stands { IsNone self.old.failed → Stands (D.shown disk.old) self.old }

@@ -3,8 +3,11 @@
 
 ghost use Rattle.std.specs.Prelude.{◌≡◌, ◌≢◌, ◌≤◌, ◌+◌, ◌-◌, ◌^◌, ◌⊎◌, false, Some, Ok, IsNone, IfErr, IfOk};
 ghost use Rattle.fv_cp.specs.Placing.{HaveNoFiles};
+ghost use Rattle.fv_disk.specs.DiskCalls.{OnlyReads};
+ghost use Rattle.fv_model.specs.declared.answers.Refusal.{Refusal};
 ghost use Rattle.fv_model.specs.declared.answers.Refusal.TheVariants.{NoVolume};
 ghost use Rattle.fv_model.specs.declared.answers.Reply.TheVariants.{Refused};
+ghost use Rattle.fv_pool.specs.declared.fault.VolumeFault.TheVariants as of_volume;
 ghost use Rattle.fv_root.specs.Formatted.{IsSize};
 ghost use Rattle.fv_volume.specs.Files.{IsLabelled};
 ghost use Rattle.fv_volume.specs.OneVolume.{IsBooked, IsReady};
@@ -13,7 +16,7 @@ ghost use Rattle.fv_volume.specs.States.{state_at};
 ghost use Rattle.fv_aggregate.specs.declared.fault.Fault.TheVariants.{Memory};
 ghost use Rattle.fv_aggregate.specs.Answers.{answer};
 ghost use Rattle.fv_aggregate.specs.Calls.{NeedsSnapshot, TellsSnapshots};
-ghost use Rattle.fv_aggregate.specs.Commands.{dirty_limit, is_refusal, room_by, snapped_by};
+ghost use Rattle.fv_aggregate.specs.Commands.{dirty_limit, is_refusal, places_files, room_by, snapped_by};
 ghost use Rattle.fv_aggregate.specs.Looking.{HasSnapped, IsSnapAimed, SnapsState};
 ghost use Rattle.fv_aggregate.specs.Reclaiming.{MakesRoom};
 ghost use Rattle.fv_aggregate.specs.Snapping.{HasGrant, JudgesSnap};
@@ -87,10 +90,10 @@ impl Session {
         self.snap_now(disk, slot, others, granted, command, into)
     }
 
-    /// Carries out such a command for which there is room. It doesn't reach the disk.
+    /// Carries out such a command for which there is room. It writes nothing, and reads leaves of containers where it places files.
     fn snap_now<D: Disk>(
         &mut self,
-        disk: &D,
+        disk: &mut D,
         slot: u8,
         others: u64,
         granted: Granted,
@@ -98,13 +101,14 @@ impl Session {
         into: &mut Reply,
     ) -> Result<(), Fault>
         requires fresh { IsNone self.old.failed }
-        requires stands { StandsReady (D.shown disk.now) self.old }
+        requires stands { StandsReady (D.shown disk.old) self.old }
         requires aimed { IsSnapAimed self.old.volumes slot command.now }
         requires others { others ≡ sum_of self.old.volumes - committed_by (state_at self.old.volumes slot) }
         requires most { others ≤ 2 ^ 62 }
         requires few { (granted.room ≡ 0) ⊎ (self.old.pending + granted.room ≤ dirty_limit) }
         requires granted { HasGrant (state_at self.old.volumes slot) self.old.pool.found.blocks others command.now granted }
-        ensures snapped { HasSnapped (D.shown disk.now) disk.now self.old command.now (D.shown disk.now) disk.now self.new (answer into.new result) }
+        ensures snapped { HasSnapped (D.shown disk.old) disk.old self.old command.now (D.shown disk.new) disk.new self.new (answer into.new result) }
+        ensures only_reads { OnlyReads (D.shown disk.old) (D.shown disk.new) }
         ensures placed { HaveNoFiles self.old.volumes → IfErr (answer into.new result) (λ e. e ≡ Memory) }
         ensures accepted { granted.room ≢ 0 → IfOk (answer into.new result) (λ reply. is_refusal reply ≡ false) }
         ensures needs { NeedsSnapshot self.old.volumes command.now (answer into.new result) }
@@ -158,17 +162,19 @@ fn judge_snap(
 fn change_snaps<D: Disk>(
     state: &mut VolumeState,
     pool: &mut Pool,
-    disk: &D,
+    disk: &mut D,
     others: u64,
     granted: Granted,
     command: &Command,
 ) -> Result<(), VolumeFault>
     requires snaps { snapped_by command.now ≡ Some state.old.name }
-    requires ready { IsReady (D.shown disk.now) pool.old state.old }
+    requires ready { IsReady (D.shown disk.old) pool.old state.old }
     requires others { others ≤ 2 ^ 62 }
     requires granted { HasGrant (Some state.old) pool.old.found.blocks others command.now granted }
-    ensures snaps { SnapsState (D.shown disk.now) pool.old state.old others command.now pool.new state.new result }
-    ensures ready { IsReady (D.shown disk.now) pool.new state.new }
+    ensures snaps { SnapsState (D.shown disk.old) pool.old state.old others command.now (D.shown disk.new) pool.new state.new result }
+    ensures refused { IfErr result (λ e. (r : Refusal) → e ≡ of_volume.Refused r → disk.new ≡ disk.old) }
+    ensures kept { places_files command.now ≡ false → disk.new ≡ disk.old }
+    ensures ready { IsReady (D.shown disk.new) pool.new state.new }
 {
     match command {
         Command::SnapCreate { snapshot, .. } => {

@@ -1,10 +1,15 @@
 -- A walk along a chain of parents.
-use Rattle.std.proofs.Common.{◌≡◌, ℕ, zero, suc, ◌+◌, ◌-◌, ◌<◌, ◌≤◌, Option, Some, None, refl, sym, ap, ◌∙◌, arith}
+use Rattle.std.proofs.Common.{◌≡◌, ℕ, zero, suc, ◌+◌, ◌-◌, ◌<◌, ◌≤◌, Option, Some, None, refl, sym, ap, subst, ◌∙◌, arith}
 use Rattle.std.specs.Prelude.{IfSome, length}
+use Rattle.std.proofs.lemmas.List.{get_or_past}
 use Rattle.std.proofs.lemmas.List.Elements.{All-get_or, All-replicate}
+use Rattle.fv_disk.specs.Shown.{Image}
+use Rattle.fv_disk.specs.declared.fault.BlockFault.{BlockFault}
+use Rattle.fv_container.specs.Paged.{Paged}
+use Rattle.fv_container.specs.Clean.{IsCleanOn}
 use Rattle.fv_container.specs.declared.entry.Entry.{Entry}
 use Rattle.fv_container.specs.Mapped.{Mapped, IsMapped, IsHeld, entry_under}
-use Rattle.fv_container.specs.Chains.{Slots, IsSlots, slot_count, container_at, parent_at, own_entry, or_else, along, no_containers}
+use Rattle.fv_container.specs.Chains.{AreCleanOn, IsFaultIn, IsLeafFault, Slots, IsSlots, slot_count, container_at, paged_at, parent_at, own_entry, or_else, along, no_containers}
 
 -- the slot's own entry, or else what follows
 along_step : (slots : Slots) (n slot v : ℕ) → 0 < n → along slots n (Some slot) v ≡ or_else (own_entry (container_at slots slot) v) (along slots (n - 1) (parent_at slots slot) v)
@@ -52,3 +57,12 @@ slots_at_first = record {
 
 pub held_under : (map : Mapped) (v : ℕ) → IsMapped map → v < length map.entries → IfSome (entry_under map v) IsHeld
 held_under map v is within = All-get_or (λ entry. IfSome entry IsHeld) map.entries v None within is.entries
+
+pub past_none : (paged : Paged) (v : ℕ) → length paged.map.entries ≤ v → entry_under paged.map v ≡ None
+past_none paged v past = get_or_past paged.map.entries v None past
+
+pub clean_at : (i j : Image) (slots : Slots) (s : ℕ) → j ≡ i → AreCleanOn i slots → IfSome (paged_at slots s) (IsCleanOn j)
+clean_at i j slots s same clean = subst (λ (x : Image). IfSome (paged_at slots s) (IsCleanOn x)) (sym same) (clean s)
+
+pub chain_fault : (i j : Image) (slots : Slots) (slot v : ℕ) (fault : BlockFault) → j ≡ i → IsFaultIn j (paged_at slots slot) v fault → IsLeafFault i slots v fault
+chain_fault i j slots slot v fault same bad = record { slot = slot; reason = subst (λ (x : Image). IsFaultIn x (paged_at slots slot) v fault) same bad }

@@ -1,8 +1,9 @@
 -- A tree that was written.
 use Rattle.std.proofs.Common.{◌≡◌, ◌≢◌, ℕ, suc, ◌+◌, ◌-◌, ◌*◌, ◌/◌, ◌%◌, ◌<◌, ◌≤◌, List, length, get_or, take, Bool, true, false, not, ◌&&◌, refl, sym, ap, subst, ◌∙◌, arith, ⊎_elim, Result, Ok, Option, None}
-use Rattle.std.specs.Prelude.{nat_lt, nat_le, ◌||◌, ◌==◌, if◌then◌else◌}
+use Rattle.std.specs.Prelude.{nat_lt, nat_le, ◌||◌, ◌==◌, if◌then◌else◌, IfSome}
+use Rattle.std.specs.Option.{is_some}
 use Rattle.std.specs.FinSet as set
-use Rattle.std.proofs.lemmas.Bool.{cases_Bool, cases_lt, or_left, or_right}
+use Rattle.std.proofs.lemmas.Bool.{cases_Bool, cases_eq, cases_lt, or_left, or_right}
 use Rattle.std.proofs.lemmas.Bool.Decides.{nat_tests}
 use Rattle.std.proofs.lemmas.List.{get_or_past}
 use Rattle.fv_disk.specs.Shown.{Image}
@@ -16,14 +17,18 @@ use Rattle.fv_image.proofs.NodesOnce.{shaped_when_whole}
 use Rattle.fv_image.proofs.WholeSlots.{all_between}
 use Rattle.fv_container.specs.declared.entry.Entry.{Entry}
 use Rattle.fv_container.specs.Kept.{map_of}
-use Rattle.fv_container.specs.Mapped.{node_count}
+use Rattle.fv_container.specs.Mapped.{IsHeld, node_count}
+use Rattle.fv_container.specs.Paged.{AreWell, Leaves, leaf_here}
+use Rattle.fv_container.specs.Clean.{IsOver}
+use Rattle.fv_container.specs.Reading.{TreeAt}
+use Rattle.fv_container.specs.Storing.{AreSaid}
 use Rattle.fv_container.specs.Spelled.{names, pair_of}
 use Rattle.fv_container.specs.Freeing.{Room}
-use Rattle.fv_container.specs.Written.{AreWritten, IsInnerOf, IsLeafOf, HasTaken, has_entry, is_written, root_number}
+use Rattle.fv_container.specs.Written.{AreWritten, IsInnerOf, IsLeafOf, HasTaken, is_above, is_full, is_there, root_number}
 use Rattle.fv_container.specs.Flushed.{IsFlushed, Loses}
 use Rattle.fv_container.proofs.Nodes.{lying_read}
-use Rattle.fv_container.proofs.Regions.{hole_in}
-use Rattle.fv_container.proofs.Trees.{TreeAt, each_node, spelled}
+use Rattle.fv_container.proofs.Regions.{bare_holes}
+use Rattle.fv_container.proofs.Trees.{each_node, spelled}
 
 -- ---- one node
 
@@ -88,23 +93,15 @@ module _ (es : List (Option Entry)) (few : length es ≤ most_entries) where
   abbrev pub inner : ℕ
   inner = level_width n 1
 
-  leaf_if : (k : ℕ) → k < leaves → is_written es k ≡ has_entry es k
-  unfolding is_written
-  leaf_if k within = let test : nat_lt k leaves ≡ true = grind (arith, nat_tests) in rw test refl
-
-  inner_is : (q : ℕ) → q < inner → is_written es (leaves + q) ≡ true
-  unfolding is_written
+  inner_is : (q : ℕ) → q < inner → is_above n (leaves + q) ≡ true
   inner_is q within =
-      let past : nat_lt (leaves + q) leaves ≡ false = grind (arith, nat_tests) in
       let inside : nat_lt (leaves + q) (leaves + inner) ≡ true = grind (arith, nat_tests) in
-      rw (past, inside) refl
+      ap (λ (t : Bool). t || nat_lt 1 inner) inside
 
-  top_if : is_written es (leaves + inner) ≡ nat_lt 1 inner
-  unfolding is_written
+  top_if : is_above n (leaves + inner) ≡ nat_lt 1 inner
   top_if =
-      let past : nat_lt (leaves + inner) leaves ≡ false = grind (arith, nat_tests) in
       let end : nat_lt (leaves + inner) (leaves + inner) ≡ false = grind (arith, nat_tests) in
-      rw (past, end) refl
+      ap (λ (t : Bool). t || nat_lt 1 inner) end
 
   low_inner : leaves ≤ 256 → inner ≡ 1
   low_inner low = omega (arith, low)
@@ -118,11 +115,12 @@ module _ (es : List (Option Entry)) (few : length es ≤ most_entries) where
   -- ---- the tree
 
   module _ (i : Image) (ps : List ℕ) (dirty : List Bool) (long : length ps ≡ node_count n) (written : AreWritten es ps (length ps) i)
-      (placed : (m : ℕ) → m < length ps → is_written es m ≡ true → get_or ps m 0 ≢ 0)
-      (absent : (m : ℕ) → m < length ps → is_written es m ≡ false → get_or ps m 0 ≡ 0)
+      (placed : (m : ℕ) → m < length ps → leaves ≤ m → is_above n m ≡ true → get_or ps m 0 ≢ 0)
+      (absent : (m : ℕ) → m < length ps → leaves ≤ m → is_above n m ≡ false → get_or ps m 0 ≡ 0)
+      (holes : (k c : ℕ) → k < leaves → get_or ps k 0 ≡ 0 → c < 256 → get_or es (256 * k + c) None ≡ None)
     where
       inner_place : (q : ℕ) → q < inner → get_or ps (leaves + q) 0 ≢ 0
-      inner_place q within = placed (leaves + q) (omega (arith, long, within)) (inner_is q within)
+      inner_place q within = placed (leaves + q) (omega (arith, long, within)) (omega arith) (inner_is q within)
 
       inner_block : (q : ℕ) → q < inner → IsInnerOf ps 1 q (256 * q) leaves (i (get_or ps (leaves + q) 0))
       inner_block q within =
@@ -155,26 +153,24 @@ module _ (es : List (Option Entry)) (few : length es ≤ most_entries) where
           let up : k < leaves = omega (arith, within) in
           let at : 256 * k + v % 256 ≡ v = omega arith in
           ⊎_elim
-          (λ (is : has_entry es k ≡ true).
-          let some : get_or ps k 0 ≢ 0 = placed k (omega (arith, long, up)) (leaf_if k up ∙ is) in
+          (λ (none : get_or ps k 0 ≡ 0).
+          let hole : get_or es v None ≡ None = ap (λ (m : ℕ). get_or es m None) (sym at) ∙ holes k (v % 256) up none (omega arith) in
+          ap pair_of hole ∙ sym (ap (λ (p : ℕ). entry_in (lying leaf_at i p) (v % 256)) none))
+          (λ (some : get_or ps k 0 ≢ 0).
           let leaf = (written k (omega (arith, long, up)) some).leaf up in
           sym (ap (λ l. entry_in l (v % 256)) (lying_read leaf_at i (get_or ps k 0) leaf.leaf some leaf.said) ∙ leaf.entries (v % 256) (omega arith) ∙ ap (λ (m : ℕ). pair_of (get_or es m None)) at))
-          (λ (none : has_entry es k ≡ false).
-          let place : get_or ps k 0 ≡ 0 = absent k (omega (arith, long, up)) (leaf_if k up ∙ none) in
-          let hole : get_or es v None ≡ None = ap (λ (m : ℕ). get_or es m None) (sym at) ∙ hole_in es k (v % 256) none (omega arith) in
-          ap pair_of hole ∙ sym (ap (λ (p : ℕ). entry_in (lying leaf_at i p) (v % 256)) place))
-          (cases_Bool (has_entry es k))
+          (cases_eq (get_or ps k 0) 0)
 
       -- a tree with these places, whose top node ends and is whole
       flushed : (root height : ℕ) → TreeAt i root height n ps → (height ≡ 2 → (node_verdict 2 0 (i root) ≡ Ok tt) × (has_none_past n 2 0 (i root) ≡ true)) → IsFlushed i root height (map_of es ps dirty)
       flushed root height tree top =
           let whole : IsWholeTree i root height n = record {
-            nodes = each_node i root height es ps tree (λ level number b. node_verdict level number b ≡ Ok tt) leaves_whole inner_all_whole (λ two some. (top two).0);
+            nodes = each_node i root height n ps tree (λ level number b. node_verdict level number b ≡ Ok tt) leaves_whole inner_all_whole (λ two some. (top two).0);
           } in
           record {
             spelled = spelled i root height es ps tree (shaped_when_whole i root height n whole) read dirty;
             whole = whole;
-            ends = record { nodes = each_node i root height es ps tree (λ level number b. has_none_past n level number b ≡ true) leaves_end inner_end (λ two some. (top two).1) };
+            ends = record { nodes = each_node i root height n ps tree (λ level number b. has_none_past n level number b ≡ true) leaves_end inner_end (λ two some. (top two).1) };
           }
 
       module _ (low : leaves ≤ 256) where
@@ -201,7 +197,7 @@ module _ (es : List (Option Entry)) (few : length es ≤ most_entries) where
           inner = λ q within.
               let first : q ≡ 0 = omega (arith, within, low_inner low) in
               rw (first, plus_none) refl;
-          top = absent (leaves + inner) (omega (arith, long)) (top_if ∙ alone);
+          top = absent (leaves + inner) (omega (arith, long)) (omega arith) (top_if ∙ alone);
         }
           where
             alone : nat_lt 1 inner ≡ false
@@ -221,7 +217,7 @@ module _ (es : List (Option Entry)) (few : length es ≤ most_entries) where
         high_root = rw more refl
 
         top_place : get_or ps (leaves + inner) 0 ≢ 0
-        top_place = placed (leaves + inner) (omega (arith, long)) (top_if ∙ more)
+        top_place = placed (leaves + inner) (omega (arith, long)) (omega arith) (top_if ∙ more)
 
         top_block : IsInnerOf ps 2 0 leaves (leaves + inner) (i (get_or ps (leaves + inner) 0))
         top_block = (written (leaves + inner) (omega (arith, long)) top_place).top refl
@@ -248,8 +244,8 @@ module _ (es : List (Option Entry)) (few : length es ≤ most_entries) where
 
 -- ---- the map
 
-pub lost : (old mid : Room) (es : List (Option Entry)) (fresh : List ℕ) (n : ℕ) → HasTaken old es fresh n mid → Loses old mid
-lost old mid es fresh n takes = record {
+pub lost : (old mid : Room) (test : ℕ → Bool) (fresh : List ℕ) (n : ℕ) → HasTaken old test fresh n mid → Loses old mid
+lost old mid test fresh n takes = record {
   free = λ b now. first (set.contains old.free b) (names (take n fresh) b) (sym (takes.left b) ∙ now);
   committed = takes.committed;
 }
@@ -258,18 +254,54 @@ lost old mid es fresh n takes = record {
     first true t is = refl
     first false t is = is
 
-pub root_placed : (es : List (Option Entry)) (ps : List ℕ) → length es ≤ most_entries → length ps ≡ node_count (length es) → ((m : ℕ) → m < length ps → is_written es m ≡ true → get_or ps m 0 ≢ 0) → 1 ≤ get_or ps (root_number (length es)) 0
-root_placed es ps few long placed =
-    let leaves = level_width (length es) 0 in
-    let inner = level_width (length es) 1 in
+pub root_placed : (entries : ℕ) (ps : List ℕ) → length ps ≡ node_count entries → ((m : ℕ) → m < length ps → level_width entries 0 ≤ m → is_above entries m ≡ true → get_or ps m 0 ≢ 0) → 1 ≤ get_or ps (root_number entries) 0
+root_placed entries ps long placed =
+    let leaves = level_width entries 0 in
+    let inner = level_width entries 1 in
     ⊎_elim
     (λ (high : 1 < inner).
     let test : nat_lt 1 inner ≡ true = grind (arith, nat_tests) in
-    let some = placed (leaves + inner) (omega (arith, long)) (top_if es few ∙ test) in
+    let some = placed (leaves + inner) (omega (arith, long)) (omega arith) (or_right (nat_lt (leaves + inner) (leaves + inner)) (nat_lt 1 inner) test) in
     rw test (omega (arith, some)))
     (λ (low : inner ≤ 1).
     let test : nat_lt 1 inner ≡ false = grind (arith, nat_tests) in
-    let first : leaves + 0 ≡ leaves = omega arith in
-    let some : get_or ps leaves 0 ≢ 0 = placed leaves (omega (arith, long)) (ap (is_written es) (sym first) ∙ inner_is es few 0 (omega arith)) in
+    let inside : nat_lt leaves (leaves + inner) ≡ true = grind (arith, nat_tests) in
+    let some : get_or ps leaves 0 ≢ 0 = placed leaves (omega (arith, long)) (omega arith) (or_left (nat_lt leaves (leaves + inner)) (nat_lt 1 inner) inside) in
     rw test (omega (arith, some)))
     (cases_lt 1 inner)
+
+-- ---- the tree that a flush leaves
+
+-- a node above the leaves is there by its number alone
+pub there_above : (held : Leaves) (tree : List ℕ) (dirty : List Bool) (entries m : ℕ) → level_width entries 0 ≤ m → is_there held tree dirty entries m ≡ is_above entries m
+unfolding is_there
+there_above held tree dirty entries m past = let test : nat_lt m (level_width entries 0) ≡ false = grind (arith, nat_tests) in rw test refl
+
+there_leaf : (held : Leaves) (tree : List ℕ) (dirty : List Bool) (entries k : ℕ) → k < level_width entries 0 → is_there held tree dirty entries k ≡ (if get_or dirty k true then is_full (leaf_here held k) else not (get_or tree k 0 == 0))
+unfolding is_there
+there_leaf held tree dirty entries k low = let test : nat_lt k (level_width entries 0) ≡ true = grind (arith, nat_tests) in rw test refl
+
+module _ (held : Leaves) (es : List (Option Entry)) (tree : List ℕ) (dirty : List Bool) (i : Image)
+    (well : AreWell held) (entries_held : (v : ℕ) → IfSome (get_or es v None) IsHeld) (here : (k : ℕ) → k < level_width (length es) 0 → get_or dirty k true ≡ true → is_some (leaf_here held k) ≡ true)
+    (said : AreSaid es held dirty) (over : IsOver i (map_of es tree dirty))
+  where
+    -- a leaf that the next tree hasn't has holes
+    pub gone_holes : (k c : ℕ) → k < level_width (length es) 0 → is_there held tree dirty (length es) k ≡ false → c < 256 → get_or es (256 * k + c) None ≡ None
+    gone_holes k c low gone lt = ⊎_elim
+        (λ (marked : get_or dirty k true ≡ true).
+        let bare : is_full (leaf_here held k) ≡ false = sym (ap (λ (t : Bool). if t then is_full (leaf_here held k) else not (get_or tree k 0 == 0)) marked) ∙ (sym (there_leaf held tree dirty (length es) k low) ∙ gone) in
+        bare_holes es k (leaf_here held k) (here k low marked) (said k marked) (well k) bare entries_held c lt)
+        (λ (clean : get_or dirty k true ≡ false).
+        let none : not (get_or tree k 0 == 0) ≡ false = sym (ap (λ (t : Bool). if t then is_full (leaf_here held k) else not (get_or tree k 0 == 0)) clean) ∙ (sym (there_leaf held tree dirty (length es) k low) ∙ gone) in
+        over.absent k c clean (no_place (get_or tree k 0) none) lt)
+        (cases_Bool (get_or dirty k true))
+      where
+        no_place : (a : ℕ) → not (a == 0) ≡ false → a ≡ 0
+        no_place a none = grind (arith, nat_tests, none)
+
+    module _ (next : List ℕ) (there : (m : ℕ) → m < length next → is_there held tree dirty (length es) m ≡ true → get_or next m 0 ≢ 0) (long : length next ≡ node_count (length es)) where
+      pub absent_holes : (k c : ℕ) → k < level_width (length es) 0 → get_or next k 0 ≡ 0 → c < 256 → get_or es (256 * k + c) None ≡ None
+      absent_holes k c low none lt = ⊎_elim
+          (λ (is : is_there held tree dirty (length es) k ≡ true). absurd (there k (omega (arith, low, long)) is none))
+          (λ (gone : is_there held tree dirty (length es) k ≡ false). gone_holes k c low gone lt)
+          (cases_Bool (is_there held tree dirty (length es) k))

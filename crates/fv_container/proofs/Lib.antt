@@ -1,16 +1,27 @@
+mod Token
+mod Tests
 mod Chains
+pub mod Damage
+pub mod Changing
 mod Nodes
 mod Reading
+mod Entries
 pub mod Named
 pub mod Leading
 mod Trees
 mod Walks
+mod Walking
 mod Whole
 mod Positions
 mod Regions
 mod Taking
 mod Flushed
 pub mod Clean
-mod Rows
+mod Loaded
+mod Puts
+mod Stored
+mod Opened
+mod Counting
+mod Marked
 mod Moving
 pub mod Laws

@@ -1,29 +1,35 @@
 -- A tree some nodes of which stay at their places.
-use Rattle.std.proofs.Common.{◌≡◌, ◌≢◌, ℕ, ◌+◌, ◌-◌, ◌*◌, ◌/◌, ◌<◌, ◌≤◌, ◌⊎◌, List, length, get_or, take, Bool, true, false, not, ◌&&◌, ◌||◌, refl, sym, ap, subst, ◌∙◌, arith, inl, inr, ⊎_elim, Option, None}
-use Rattle.std.specs.Prelude.{slice_set, nat_lt, if◌then◌else◌}
+use Rattle.std.proofs.Common.{◌≡◌, ◌≢◌, ℕ, ◌+◌, ◌-◌, ◌*◌, ◌/◌, ◌<◌, ◌≤◌, ◌⊎◌, List, length, get_or, take, Bool, true, false, not, ◌&&◌, ◌||◌, refl, sym, ap, subst, ◌∙◌, arith, inl, inr, ⊎_elim, Ok, Option, None, Some}
+use Rattle.std.specs.Prelude.{slice_set, nat_lt, ◌==◌, if◌then◌else◌, IfSome}
 use Rattle.std.specs.FinSet as set
-use Rattle.std.proofs.lemmas.Bool.{cases_eq, cases_lt, true≢false}
+use Rattle.std.proofs.lemmas.Bool.{and_parts, cases_Bool, cases_eq, cases_lt, true≢false}
 use Rattle.std.proofs.lemmas.Bool.Decides.{nat_tests}
 use Rattle.std.proofs.lemmas.List.{get_or-set_same, get_or-set_other, get_or_past}
 use Rattle.std.proofs.Math.Seq.{take-length}
 use Rattle.fv_disk.specs.Shown.{Image}
 use Rattle.fv_codec.specs.Blocks.{last_place}
 use Rattle.fv_image.specs.Containers.{level_width}
+use Rattle.std.specs.Global.{Box}
+use Rattle.fv_codec.specs.declared.container.ContainerLeaf.{ContainerLeaf}
+use Rattle.fv_codec.specs.Blocks.{leaf_at}
 use Rattle.fv_container.specs.declared.entry.Entry.{Entry}
 use Rattle.fv_container.specs.Kept.{map_of}
-use Rattle.fv_container.specs.Mapped.{Mapped, node_count}
+use Rattle.fv_container.specs.Mapped.{node_count}
 use Rattle.fv_container.specs.Spelled.{names, pair_of}
 use Rattle.fv_container.specs.Freeing.{IsRoom, Room}
-use Rattle.fv_container.specs.Written.{AreAnew, AreLeft, ArePlaced, AreWritten, HasReleased, HasTaken, IsInnerOf, IsNodeOf, IsPlaced, IsSameBelow, Stays, blocks_needed, child_from, is_written, written_before}
-use Rattle.fv_container.specs.Clean.{AreAlone, IsCleanOn}
-use Rattle.fv_container.specs.Flushed.{AreRows, IsApart, IsMoved, IsOnce}
+use Rattle.fv_container.specs.Paged.{IsLeafFor, Leaves, is_as_said, leaf_here}
+use Rattle.fv_container.specs.Written.{AreAnew, AreLeft, ArePlaced, AreWritten, HasReleased, HasTaken, IsInnerOf, IsLeafOf, IsNodeOf, IsPlaced, IsPutOf, IsSameBelow, Stays, child_from, is_above, is_full, is_there, may_move, passed_before}
+use Rattle.fv_container.specs.Clean.{IsOver}
+use Rattle.fv_container.specs.Flushed.{AreRows, IsApart, IsOnce, is_kept}
+use Rattle.fv_container.specs.Storing.{AreSaid, HasMoved}
 use Rattle.fv_container.proofs.Named.{named_at, named_where}
+use Rattle.fv_container.proofs.Tests.{said_as}
 
 -- ---- taking places
 
-module _ (es : List (Option Entry)) (tree : List ℕ) (dirty : List Bool) (fresh places : List ℕ) (n : ℕ) where
+module _ (there : ℕ → Bool) (entries : ℕ) (tree : List ℕ) (dirty : List Bool) (fresh places : List ℕ) (n : ℕ) where
   -- the first nodes are placed as they were
-  pub placed_before : (a b : ℕ) (m : ℕ) → m < n → n < length places → IsPlaced es tree dirty fresh places m → IsPlaced es tree dirty (slice_set fresh n a) (slice_set places n b) m
+  pub placed_before : (a b : ℕ) (m : ℕ) → m < n → n < length places → IsPlaced there entries tree dirty fresh places m → IsPlaced there entries tree dirty (slice_set fresh n a) (slice_set places n b) m
   placed_before a b m lt inside is = record {
     absent = λ out. place m lt ∙ is.absent out;
     written = λ written none. is.written written (sym (place m lt) ∙ none);
@@ -56,21 +62,21 @@ module _ (es : List (Option Entry)) (tree : List ℕ) (dirty : List Bool) (fresh
     here b = get_or-set_same places n b 0 in_places
 
     -- a node that takes a place, or has none
-    pub placed_anew : (is_written es n ≡ true → a ≢ 0) → (is_written es n ≡ false → a ≡ 0) → (is_written es n ≡ true → get_or tree n 0 ≢ 0 → get_or dirty n true ≡ false → IsSameBelow (length es) tree places n → ⊥)
-        → IsPlaced es tree dirty (slice_set fresh n a) (slice_set places n a) n
+    pub placed_anew : (there n ≡ true → a ≢ 0) → (there n ≡ false → a ≡ 0) → (there n ≡ true → get_or tree n 0 ≢ 0 → get_or dirty n true ≡ false → IsSameBelow (entries) tree places n → ⊥)
+        → IsPlaced there entries tree dirty (slice_set fresh n a) (slice_set places n a) n
     placed_anew some none moves = record {
       absent = λ out. here a ∙ none out;
       written = λ is z. some is (sym (here a) ∙ z);
       anew = λ is. here a ∙ sym here_fresh;
       stays = λ z is. absurd (is (here a ∙ sym here_fresh ∙ z));
-      keeps = λ written there clean below. absurd (moves written there clean (record {
+      keeps = λ written some_there clean below. absurd (moves written some_there clean (record {
         inner = λ low high k from to end. sym (get_or-set_other places n k a 0 (omega (arith, low, end))) ∙ below.inner low high k from to end;
         top = λ top k from to. sym (get_or-set_other places n k a 0 (omega (arith, top, to))) ∙ below.top top k from to;
       }));
     }
 
     -- a node that stays
-    pub placed_still : is_written es n ≡ true → get_or tree n 0 ≢ 0 → get_or dirty n true ≡ false → IsSameBelow (length es) tree places n → a ≡ 0 → IsPlaced es tree dirty (slice_set fresh n a) (slice_set places n (get_or tree n 0)) n
+    pub placed_still : there n ≡ true → get_or tree n 0 ≢ 0 → get_or dirty n true ≡ false → IsSameBelow (entries) tree places n → a ≡ 0 → IsPlaced there entries tree dirty (slice_set fresh n a) (slice_set places n (get_or tree n 0)) n
     placed_still written some clean below none = record {
       absent = λ out. absurd (true≢false (sym written ∙ out));
       written = λ is z. some (sym (here (get_or tree n 0)) ∙ z);
@@ -83,17 +89,17 @@ module _ (es : List (Option Entry)) (tree : List ℕ) (dirty : List Bool) (fresh
           top = λ top k from to. get_or-set_other places n k (get_or tree n 0) 0 (omega (arith, top, to)) ∙ below.top top k from to;
         };
       };
-      keeps = λ is there so under. here (get_or tree n 0);
+      keeps = λ is some_there so under. here (get_or tree n 0);
     }
 
   -- one node more
-  pub placed_more : (a b : ℕ) → n < length places → ArePlaced es tree dirty fresh places n → IsPlaced es tree dirty (slice_set fresh n a) (slice_set places n b) n → ArePlaced es tree dirty (slice_set fresh n a) (slice_set places n b) (n + 1)
+  pub placed_more : (a b : ℕ) → n < length places → ArePlaced there entries tree dirty fresh places n → IsPlaced there entries tree dirty (slice_set fresh n a) (slice_set places n b) n → ArePlaced there entries tree dirty (slice_set fresh n a) (slice_set places n b) (n + 1)
   placed_more a b inside so_far now m lt = ⊎_elim
-      (λ (e : m ≡ n). subst (IsPlaced es tree dirty (slice_set fresh n a) (slice_set places n b)) (sym e) now)
+      (λ (e : m ≡ n). subst (IsPlaced there entries tree dirty (slice_set fresh n a) (slice_set places n b)) (sym e) now)
       (λ (ne : m ≢ n). placed_before a b m (omega (arith, lt, ne)) inside (so_far m (omega (arith, lt, ne))))
       (cases_eq m n)
 
--- a node is written anew exactly where it is written and doesn't stay
+-- a node is written anew exactly where it is there and doesn't stay
 pub wanted_written : (stays written wanted : Bool) → wanted ≡ (not stays && written) → wanted ≡ true → written ≡ true
 wanted_written true written wanted is so = absurd (true≢false (sym so ∙ is))
 wanted_written false written wanted is so = sym is ∙ so
@@ -104,28 +110,68 @@ not_wanted stays written wanted is so = is ∙ ap (λ t. not t && written) so
 pub is_wanted : (stays written wanted : Bool) → wanted ≡ (not stays && written) → stays ≡ false → wanted ≡ written
 is_wanted stays written wanted is so = is ∙ ap (λ t. not t && written) so
 
+-- a node that is written anew may have to be: a leaf that isn't dirty stays
+pub wants_move : (held : Leaves) (tree : List ℕ) (dirty : List Bool) (entries : ℕ) (places : List ℕ) (n : ℕ) (there stays wanted : Bool) → there ≡ is_there held tree dirty entries n → wanted ≡ (not stays && there)
+    → (stays ≡ false → there ≡ true → get_or tree n 0 ≢ 0 → get_or dirty n true ≡ false → IsSameBelow entries tree places n → ⊥) → wanted ≡ true → may_move held dirty entries n ≡ true
+unfolding is_there may_move
+wants_move held tree dirty entries places n there stays wanted is so apart want = ⊎_elim
+    (λ (low : n < level_width entries 0).
+    let test : nat_lt n (level_width entries 0) ≡ true = grind (arith, nat_tests) in
+    ⊎_elim
+    (λ (marked : get_or dirty n true ≡ true).
+    let full : is_full (leaf_here held n) ≡ true = sym (ap (λ (t : Bool). if t then (if get_or dirty n true then is_full (leaf_here held n) else not (get_or tree n 0 == 0)) else is_above entries n) test ∙ ap (λ (t : Bool). if t then is_full (leaf_here held n) else not (get_or tree n 0 == 0)) marked) ∙ (sym is ∙ yes) in
+    rw (test, marked) full)
+    (λ (clean : get_or dirty n true ≡ false).
+    let some : not (get_or tree n 0 == 0) ≡ true = sym (ap (λ (t : Bool). if t then (if get_or dirty n true then is_full (leaf_here held n) else not (get_or tree n 0 == 0)) else is_above entries n) test ∙ ap (λ (t : Bool). if t then is_full (leaf_here held n) else not (get_or tree n 0 == 0)) clean) ∙ (sym is ∙ yes) in
+    absurd (apart no yes (place_of (get_or tree n 0) some) clean (record {
+      inner = λ past high k from to end. absurd (omega (arith, low, past));
+      top = λ top k from to. absurd (omega (arith, low, top));
+    })))
+    (cases_Bool (get_or dirty n true)))
+    (λ (high : level_width entries 0 ≤ n).
+    let test : nat_lt n (level_width entries 0) ≡ false = grind (arith, nat_tests) in
+    rw test (sym (ap (λ (t : Bool). if t then (if get_or dirty n true then is_full (leaf_here held n) else not (get_or tree n 0 == 0)) else is_above entries n) test) ∙ (sym is ∙ yes)))
+    (cases_lt n (level_width entries 0))
+  where
+    parts : (not stays ≡ true) × (there ≡ true)
+    parts = and_parts (not stays) there (sym so ∙ want)
+
+    yes : there ≡ true
+    yes = parts.1
+
+    no : stays ≡ false
+    no = by stays parts.0
+      where
+        by : (t : Bool) → not t ≡ true → t ≡ false
+        by true e = absurd (true≢false (sym e))
+        by false e = refl
+
+    place_of : (a : ℕ) → not (a == 0) ≡ true → a ≢ 0
+    place_of a some none = let test : (a == 0) ≡ true = grind (arith, nat_tests, none) in true≢false (sym some ∙ ap not test)
+
 -- ---- the whole tree
 
-module _ (es : List (Option Entry)) (tree : List ℕ) (dirty : List Bool) (fresh places next room_row : List ℕ) (rows : AreRows es tree dirty next room_row)
-    (len : length places ≡ length next) (anew_len : length fresh ≡ length room_row) (placed : ArePlaced es tree dirty fresh places (length places))
+module _ (held : Leaves) (entries : ℕ) (tree : List ℕ) (dirty : List Bool) (fresh places next room_row : List ℕ) (rows : AreRows held entries tree dirty next room_row)
+    (len : length places ≡ length next) (anew_len : length fresh ≡ length room_row) (placed : ArePlaced (is_there held tree dirty entries) entries tree dirty fresh places (length places))
   where
-    tree_long : length tree ≡ node_count (length es)
+    tree_long : length tree ≡ node_count entries
     tree_long = rows.tree
 
-    pub long : length places ≡ node_count (length es)
+    pub long : length places ≡ node_count entries
     long = len ∙ rows.nodes
 
     fresh_long : length fresh ≡ length places
     fresh_long = anew_len ∙ (rows.fresh ∙ sym long)
 
     abbrev leaves : ℕ
-    leaves = level_width (length es) 0
+    leaves = level_width entries 0
 
     abbrev inner : ℕ
-    inner = level_width (length es) 1
+    inner = level_width entries 1
 
-    abbrev pub old : Mapped
-    old = map_of es tree dirty
+    -- a node that isn't dirty has a place of its own
+    abbrev Alone : Type 0
+    Alone = (m k : ℕ) → m ≢ k → get_or dirty m true ≡ false → get_or tree m 0 ≢ 0 → get_or tree m 0 ≢ get_or tree k 0
 
     within : (ps : List ℕ) (m : ℕ) → get_or ps m 0 ≢ 0 → m < length ps
     within ps m some = ⊎_elim (λ (is : m < length ps). is) (λ (past : length ps ≤ m). absurd (some (get_or_past ps m 0 past))) (cases_lt m (length ps))
@@ -133,7 +179,7 @@ module _ (es : List (Option Entry)) (tree : List ℕ) (dirty : List Bool) (fresh
     inside_tree : (m : ℕ) → get_or tree m 0 ≢ 0 → m < length places
     inside_tree m some = omega (arith, within tree m some, tree_long, long)
 
-    pub all_bounded : (room : Room) (new : Room) → HasTaken room es fresh (length fresh) new → (m : ℕ) → get_or places m 0 ≤ last_place
+    pub all_bounded : (room : Room) (new : Room) → HasTaken room (may_move held dirty entries) fresh (length fresh) new → (m : ℕ) → get_or places m 0 ≤ last_place
     all_bounded room new taken m = ⊎_elim
         (λ (none : get_or places m 0 ≡ 0). omega (arith, none))
         (λ (some : get_or places m 0 ≢ 0).
@@ -146,67 +192,90 @@ module _ (es : List (Option Entry)) (tree : List ℕ) (dirty : List Bool) (fresh
 
     -- ---- what stands on the disk
 
-    module _ (stored : List (Option Entry)) (stored_long : length stored ≡ length es) (same : (v : ℕ) → get_or dirty (v / 256) true ≡ false → get_or es v None ≡ get_or stored v None) where
-      child_same : (from end c : ℕ) → ((k : ℕ) → from ≤ k → k < from + 256 → k < end → get_or places k 0 ≡ get_or tree k 0) → c < 256 → child_from tree from end c ≡ child_from places from end c
-      child_same from end c below lt = ⊎_elim
-          (λ (inside : from + c < end).
-          let test : nat_lt (from + c) end ≡ true = grind (arith, nat_tests) in
-          rw test (sym (below (from + c) (omega arith) (omega (arith, lt)) inside)))
-          (λ (past : end ≤ from + c).
-          let test : nat_lt (from + c) end ≡ false = grind (arith, nat_tests) in
-          rw test refl)
-          (cases_lt (from + c) end)
+    module _ (es : List (Option Entry)) (size : length es ≡ entries) where
+      -- a leaf that is written anew is in memory, and as the entries say
+      put_leaf : (m : ℕ) (block : List ℕ) (b : Option (Box ContainerLeaf)) → is_full b ≡ true → is_as_said es m b ≡ true → IfSome b (λ x. IsLeafFor m x.value) → IfSome b (λ x. leaf_at block ≡ Ok x.value) → IsLeafOf es m block
+      put_leaf m block None full said well stands = absurd (true≢false (sym full))
+      put_leaf m block (Some x) full said well stands = record { leaf = x.value; said = stands; index_said = well.index; entries = said_as es m x said }
 
-      inner_same : (level number from end : ℕ) (block : List ℕ) → ((k : ℕ) → from ≤ k → k < from + 256 → k < end → get_or places k 0 ≡ get_or tree k 0) → IsInnerOf tree level number from end block → IsInnerOf places level number from end block
-      inner_same level number from end block below is = record {
-        node = is.node;
-        said = is.said;
-        level_said = is.level_said;
-        number_said = is.number_said;
-        children = λ c lt. is.children c lt ∙ child_same from end c below lt;
+      moves_leaf : (m : ℕ) → m < level_width entries 0 → may_move held dirty entries m ≡ true → (get_or dirty m true ≡ true) × (is_full (leaf_here held m) ≡ true)
+      unfolding may_move
+      moves_leaf m low is =
+          let test : nat_lt m (level_width entries 0) ≡ true = grind (arith, nat_tests) in
+          and_parts (get_or dirty m true) (is_full (leaf_here held m)) (sym (ap (λ (t : Bool). if t then (get_or dirty m true && is_full (leaf_here held m)) else is_above entries m) test) ∙ is)
+
+      put_node : (m : ℕ) (block : List ℕ) → may_move held dirty entries m ≡ true → AreSaid es held dirty → IsPutOf held entries places m block → IsNodeOf es places m block
+      put_node m block moves said is = record {
+        leaf = λ low.
+            let low_n : m < level_width entries 0 = rw (← size) low in
+            let both = moves_leaf m low_n moves in
+            put_leaf m block (leaf_here held m) both.1 (said m both.0) (rows.well m) (is.leaf low_n);
+        inner = λ low high. rw size (is.inner (rw (← size) low) (rw (← size) high));
+        top = λ top. rw size (is.top (rw (← size) top));
       }
 
-      node_same : (m : ℕ) (block : List ℕ) → Stays (length es) tree dirty places m → IsNodeOf stored tree m block → IsNodeOf es places m block
-      node_same m block stays is = record {
-        leaf = λ low. let leaf = is.leaf (rw stored_long low) in record {
-          leaf = leaf.leaf;
-          said = leaf.said;
-          index_said = leaf.index_said;
-          entries = λ c lt.
-              let at : (256 * m + c) / 256 ≡ m = omega (arith, lt) in
-              leaf.entries c lt ∙ ap pair_of (sym (same (256 * m + c) (ap (λ (k : ℕ). get_or dirty k true) at ∙ stays.clean)));
-        };
-        inner = λ low high.
-            inner_same 1 (m - leaves) (256 * (m - leaves)) leaves block (λ k from to end. stays.below.inner low high k from to end) (rw (← stored_long) (is.inner (rw stored_long low) (rw stored_long high)));
-        top = λ top.
-            inner_same 2 0 leaves (leaves + inner) block (λ k from to end. stays.below.top top k from end) (rw (← stored_long) (is.top (rw stored_long top)));
-      }
+      module _ (stored : List (Option Entry)) (stored_long : length stored ≡ length es) (same : (v : ℕ) → get_or dirty (v / 256) true ≡ false → get_or es v None ≡ get_or stored v None) where
+        child_same : (from end c : ℕ) → ((k : ℕ) → from ≤ k → k < from + 256 → k < end → get_or places k 0 ≡ get_or tree k 0) → c < 256 → child_from tree from end c ≡ child_from places from end c
+        child_same from end c below lt = ⊎_elim
+            (λ (inside : from + c < end).
+            let test : nat_lt (from + c) end ≡ true = grind (arith, nat_tests) in
+            rw test (sym (below (from + c) (omega arith) (omega (arith, lt)) inside)))
+            (λ (past : end ≤ from + c).
+            let test : nat_lt (from + c) end ≡ false = grind (arith, nat_tests) in
+            rw test refl)
+            (cases_lt (from + c) end)
 
-    pub all_written : (room mid : Room) (i j : Image) → HasTaken room es fresh (length fresh) mid → IsApart room tree → IsCleanOn i old → ((b : ℕ) → names fresh b ≡ false → j b ≡ i b) → AreAnew es places fresh (length fresh) j
-        → AreWritten es places (length places) j
-    all_written room mid i j taken apart clean still anew m lt some = ⊎_elim
-        (λ (none : get_or fresh m 0 ≡ 0).
-        let stays = (placed m lt).stays none some in
-        let over = clean m stays.clean in
-        let there : get_or tree m 0 ≢ 0 = λ z. some (stays.place ∙ z) in
-        let inside : m < length tree = within tree m there in
-        let named : names tree (get_or tree m 0) ≡ true = named_at tree m (get_or tree m 0) inside refl there in
-        let spared : names fresh (get_or tree m 0) ≡ false = not_true (names fresh (get_or tree m 0)) (λ is. true≢false (sym named ∙ apart (get_or tree m 0) (taken.free (get_or tree m 0) (ap (λ (l : List ℕ). names l (get_or tree m 0)) (take-length fresh) ∙ is)))) in
-        let stands : IsNodeOf over.stored tree m (j (get_or tree m 0)) = subst (IsNodeOf over.stored tree m) (sym (still (get_or tree m 0) spared)) (over.written m inside there) in
-        subst (λ (p : ℕ). IsNodeOf es places m (j p)) (sym stays.place) (node_same over.stored over.long over.same m (j (get_or tree m 0)) stays stands))
-        (λ (is : get_or fresh m 0 ≢ 0). subst (λ (p : ℕ). IsNodeOf es places m (j p)) (sym ((placed m lt).anew is)) (anew m (omega (arith, lt, fresh_long)) is))
-        (cases_eq (get_or fresh m 0) 0)
-      where
-        not_true : (t : Bool) → (t ≡ true → ⊥) → t ≡ false
-        not_true true wrong = absurd (wrong refl)
-        not_true false wrong = refl
+        inner_same : (level number from end : ℕ) (block : List ℕ) → ((k : ℕ) → from ≤ k → k < from + 256 → k < end → get_or places k 0 ≡ get_or tree k 0) → IsInnerOf tree level number from end block → IsInnerOf places level number from end block
+        inner_same level number from end block below is = record {
+          node = is.node;
+          said = is.said;
+          level_said = is.level_said;
+          number_said = is.number_said;
+          children = λ c lt. is.children c lt ∙ child_same from end c below lt;
+        }
+
+        node_same : (m : ℕ) (block : List ℕ) → Stays (length es) tree dirty places m → IsNodeOf stored tree m block → IsNodeOf es places m block
+        node_same m block stays is = record {
+          leaf = λ low. let leaf = is.leaf (rw stored_long low) in record {
+            leaf = leaf.leaf;
+            said = leaf.said;
+            index_said = leaf.index_said;
+            entries = λ c lt.
+                let at : (256 * m + c) / 256 ≡ m = omega (arith, lt) in
+                leaf.entries c lt ∙ ap pair_of (sym (same (256 * m + c) (ap (λ (k : ℕ). get_or dirty k true) at ∙ stays.clean)));
+          };
+          inner = λ low high.
+              inner_same 1 (m - (level_width (length es) 0)) (256 * (m - (level_width (length es) 0))) (level_width (length es) 0) block (λ k from to end. stays.below.inner low high k from to end) (rw (← stored_long) (is.inner (rw stored_long low) (rw stored_long high)));
+          top = λ top.
+              inner_same 2 0 (level_width (length es) 0) (level_width (length es) 0 + level_width (length es) 1) block (λ k from to end. stays.below.top top k from end) (rw (← stored_long) (is.top (rw stored_long top)));
+        }
+
+      pub all_written : (room mid : Room) (i j : Image) → HasTaken room (may_move held dirty entries) fresh (length fresh) mid → AreSaid es held dirty → IsApart room tree → IsOver i (map_of es tree dirty)
+          → ((b : ℕ) → names fresh b ≡ false → j b ≡ i b) → AreAnew held entries places fresh (length fresh) j → AreWritten es places (length places) j
+      all_written room mid i j taken said apart over still anew m lt some = ⊎_elim
+          (λ (none : get_or fresh m 0 ≡ 0).
+          let stays = (placed m lt).stays none some in
+          let there : get_or tree m 0 ≢ 0 = λ z. some (stays.place ∙ z) in
+          let inside : m < length tree = within tree m there in
+          let named : names tree (get_or tree m 0) ≡ true = named_at tree m (get_or tree m 0) inside refl there in
+          let spared : names fresh (get_or tree m 0) ≡ false = not_true (names fresh (get_or tree m 0)) (λ is. true≢false (sym named ∙ apart (get_or tree m 0) (taken.free (get_or tree m 0) (ap (λ (l : List ℕ). names l (get_or tree m 0)) (take-length fresh) ∙ is)))) in
+          let stands : IsNodeOf over.stored tree m (j (get_or tree m 0)) = subst (IsNodeOf over.stored tree m) (sym (still (get_or tree m 0) spared)) (over.written m inside there) in
+          subst (λ (p : ℕ). IsNodeOf es places m (j p)) (sym stays.place) (node_same over.stored over.long over.same m (j (get_or tree m 0)) (subst (λ (n : ℕ). Stays n tree dirty places m) (sym size) stays) stands))
+          (λ (is : get_or fresh m 0 ≢ 0).
+          let inside : m < length fresh = omega (arith, lt, fresh_long) in
+          subst (λ (p : ℕ). IsNodeOf es places m (j p)) (sym ((placed m lt).anew is)) (put_node m (j (get_or fresh m 0)) (taken.wanted m inside is) said (anew m inside is)))
+          (cases_eq (get_or fresh m 0) 0)
+        where
+          not_true : (t : Bool) → (t ≡ true → ⊥) → t ≡ false
+          not_true true wrong = absurd (wrong refl)
+          not_true false wrong = refl
 
     -- ---- the map
 
     -- a place of the new tree is new, or the node stays
     record Kept (b : ℕ) : Type 0 where
       number : ℕ
-      stays : Stays (length es) tree dirty places number
+      stays : Stays (entries) tree dirty places number
       place : get_or places number 0 ≡ b
       some : b ≢ 0
 
@@ -239,7 +308,7 @@ module _ (es : List (Option Entry)) (tree : List ℕ) (dirty : List Bool) (fresh
     and_first false t is = absurd (true≢false (sym is))
 
     module _ (given : List ℕ) (given_is : length given ≡ length fresh) (left : AreLeft tree places given (length given)) (room mid new : Room) (laws : IsRoom room)
-        (taken : HasTaken room es fresh (length fresh) mid) (released : HasReleased mid given (length given) new)
+        (taken : HasTaken room (may_move held dirty entries) fresh (length fresh) mid) (released : HasReleased mid given (length given) new)
       where
         given_long : length given ≡ length places
         given_long = given_is ∙ fresh_long
@@ -293,7 +362,7 @@ module _ (es : List (Option Entry)) (tree : List ℕ) (dirty : List Bool) (fresh
         held_now : (b : ℕ) → new.held b ≡ (not (names given b) && (names fresh b || room.held b))
         held_now b = released.held b ∙ ap (λ t. not t && mid.held b) (all_given b) ∙ ap (λ t. not (names given b) && t) (taken.held b ∙ ap (λ t. t || room.held b) (all_taken b))
 
-        module _ (apart : IsApart room tree) (alone : AreAlone old) where
+        module _ (apart : IsApart room tree) (alone : Alone) where
           not_new : (b : ℕ) → names tree b ≡ true → names fresh b ≡ false
           not_new b named = not_true (names fresh b) (λ is. true≢false (sym named ∙ apart b (new_free b is)))
 
@@ -312,8 +381,8 @@ module _ (es : List (Option Entry)) (tree : List ℕ) (dirty : List Bool) (fresh
           held_so : (b : ℕ) → (p t g f : Bool) → names places b ≡ p → names tree b ≡ t → names given b ≡ g → names fresh b ≡ f → (not g && (f || room.held b)) ≡ (if p then (not t || room.held b) else (not t && room.held b)) → Holds b
           held_so b p t g f is_p is_t is_g is_f e = held_now b ∙ rw (is_p, is_t, is_g, is_f) e
 
-          held : (b : ℕ) → Holds b
-          held b = by (names places b) (names tree b) refl refl
+          held_by : (b : ℕ) → Holds b
+          held_by b = by (names places b) (names tree b) refl refl
             where
               by : (p t : Bool) → names places b ≡ p → names tree b ≡ t → Holds b
               by true true is_p is_t =
@@ -356,10 +425,44 @@ module _ (es : List (Option Entry)) (tree : List ℕ) (dirty : List Bool) (fresh
               (cases_eq (get_or fresh k 0) 0))
               (cases_eq (get_or fresh m 0) 0)
 
-        pub all_moved : (clean : List Bool) → IsMoved room old (map_of es places clean) new
-        all_moved clean = record {
-          once = once;
-          map = record {
+        there_kept : (n : ℕ) → is_kept entries n ≡ true → get_or tree n 0 ≢ 0 → get_or dirty n true ≡ false → is_there held tree dirty entries n ≡ true
+        unfolding is_there
+        there_kept n is some clean = ⊎_elim
+            (λ (low : n < level_width entries 0).
+            let test : nat_lt n (level_width entries 0) ≡ true = grind (arith, nat_tests) in
+            let none : (get_or tree n 0 == 0) ≡ false = grind (arith, nat_tests, some) in
+            rw (test, clean, none) refl)
+            (λ (high : level_width entries 0 ≤ n).
+            let test : nat_lt n (level_width entries 0) ≡ false = grind (arith, nat_tests) in
+            rw test (ap (λ (t : Bool). t || is_above entries n) (sym test) ∙ is))
+            (cases_lt n (level_width entries 0))
+
+        -- a leaf that isn't dirty stays, and is absent where it was
+        leaf_kept : (n : ℕ) → n < level_width entries 0 → get_or dirty n true ≡ false → get_or places n 0 ≡ get_or tree n 0
+        unfolding is_there
+        leaf_kept n low clean = ⊎_elim
+            (λ (none : get_or tree n 0 ≡ 0). (placed n inside).absent (gone none) ∙ sym none)
+            (λ (some : get_or tree n 0 ≢ 0). (placed n inside).keeps (there_kept n kept some clean) some clean (record {
+              inner = λ past high k from to end. absurd (omega (arith, low, past));
+              top = λ is k from to. absurd (omega (arith, low, is));
+            }))
+            (cases_eq (get_or tree n 0) 0)
+          where
+            inside : n < length places
+            inside = omega (arith, low, long)
+
+            test : nat_lt n (level_width entries 0) ≡ true
+            test = grind (arith, nat_tests)
+
+            kept : is_kept entries n ≡ true
+            kept = ap (λ (t : Bool). t || is_above entries n) test
+
+            gone : get_or tree n 0 ≡ 0 → is_there held tree dirty entries n ≡ false
+            gone none = let zero : (get_or tree n 0 == 0) ≡ true = grind (arith, nat_tests, none) in rw (test, clean, zero) refl
+
+        pub all_moved : HasMoved room held entries tree dirty places new
+        all_moved = record {
+          exchanges = λ es. record {
             free = λ b named lacks. ⊎_elim (new_free b) (λ kept. absurd (true≢false (sym (kept_was b kept) ∙ lacks))) (new_or_kept b named);
             stay = λ b free lacks.
                 released.keeps b (taken.left b ∙ ap (λ t. set.contains room.free b && not t) (all_taken b ∙ not_true (names fresh b) (λ is. true≢false (sym (new_named b is) ∙ lacks))) ∙ ap (λ t. t && true) free);
@@ -371,11 +474,13 @@ module _ (es : List (Option Entry)) (tree : List ℕ) (dirty : List Bool) (fresh
                 ))
                 (λ (back : names (take (length given) given) b ≡ true). absurd (true≢false (sym (given_was b (sym (all_given b) ∙ back)) ∙ lacks)))
                 (released.adds b free);
-            held = held;
+            held = held_by;
             committed = released.committed ∙ taken.committed;
           };
+          once = λ es. once;
           count =
-              let needed : written_before es (length fresh) ≡ blocks_needed es = ap (written_before es) (fresh_long ∙ long) in
+              let needed : passed_before (may_move held dirty entries) (length fresh) ≡ passed_before (may_move held dirty entries) (node_count entries) = ap (passed_before (may_move held dirty entries)) (fresh_long ∙ long) in
               omega (arith, taken.fewer, released.grows, needed);
-          stays = λ m written there so below. (placed m (inside_tree m there)).keeps written there so below;
+          stays = λ m kept some so below. (placed m (inside_tree m some)).keeps (there_kept m kept some so) some so below;
+          clean = leaf_kept;
         }

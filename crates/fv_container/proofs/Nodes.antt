@@ -1,5 +1,5 @@
 -- Nodes that were read.
-use Rattle.std.proofs.Common.{◌≡◌, ◌≢◌, ℕ, zero, suc, ◌<◌, ◌≤◌, List, length, get_or, replicate, refl, sym, ap, subst, ◌∙◌, arith, ⊎_elim, Result, Ok, Err, Some}
+use Rattle.std.proofs.Common.{◌≡◌, ◌≢◌, ℕ, zero, suc, ◌+◌, ◌-◌, ◌<◌, ◌≤◌, List, length, get_or, replicate, refl, sym, ap, subst, ◌∙◌, arith, inl, inr, ⊎_elim, Result, Ok, Err, Some}
 use Rattle.std.specs.List.{zip}
 use Rattle.std.proofs.lemmas.Bool.{cases_lt}
 use Rattle.std.proofs.lemmas.List.{get_or-replicate, get_or_past, length-replicate}
@@ -9,9 +9,9 @@ use Rattle.fv_disk.specs.Shown.{Image}
 use Rattle.fv_codec.specs.declared.shape.Shape.{Shape}
 use Rattle.fv_codec.specs.declared.container.ContainerLeaf.{ContainerLeaf}
 use Rattle.fv_codec.specs.declared.container.ContainerInner.{ContainerInner}
-use Rattle.fv_codec.specs.Blocks.{IsContainerLeaf, IsEntry, inner_at, leaf_at}
+use Rattle.fv_codec.specs.Blocks.{IsContainerInner, IsContainerLeaf, IsEntry, inner_at, last_place, leaf_at}
 use Rattle.fv_image.specs.Containers.{child_in, entry_in, lying}
-use Rattle.fv_container.specs.Reading.{ReadsAs}
+use Rattle.fv_container.specs.Reading.{FillsFrom, ReadsAs, StaysOutside}
 
 said_ok : {X : Type 0} (at : ℕ) (r : Result X Shape) (x : X) → ReadsAs at (λ n. n) r (Ok x) → r ≡ Ok x
 said_ok at (Ok y) x is = cc
@@ -49,3 +49,23 @@ pub leaf_range : (leaf : ContainerLeaf) → IsContainerLeaf leaf → length leaf
 leaf_range leaf is pvbns kinds c inside =
     let all = All-get_or IsEntry (zip leaf.pvbns leaf.kinds) c (0, 0) (omega (arith, length-zip leaf.pvbns leaf.kinds, pvbns, kinds, inside)) is.entries in
     subst IsEntry (get_or-zip leaf.pvbns leaf.kinds c (0, 0) (omega (arith, pvbns, inside)) (omega (arith, kinds, inside))) all
+
+pub inner_bounded : (node : ContainerInner) → IsContainerInner node → (c : ℕ) → get_or node.children c 0 ≤ last_place
+inner_bounded node is c = ⊎_elim
+    (λ (lt : c < length node.children). All-get_or (λ place. place ≤ last_place) node.children c 0 lt is.children)
+    (λ (past : length node.children ≤ c). let none = get_or_past node.children c 0 past in omega (arith, none))
+    (cases_lt c (length node.children))
+
+-- the children of a node are put into a row, whose places stay within
+pub fill_bounded : (old new children : List ℕ) (from end : ℕ) → FillsFrom children new from end → StaysOutside 0 old new from → ((c : ℕ) → get_or children c 0 ≤ last_place)
+    → ((m : ℕ) → m < end → get_or old m 0 ≤ last_place) → (m : ℕ) → m < end → get_or new m 0 ≤ last_place
+fill_bounded old new children from end fills outside bounded was m lt = ⊎_elim
+    (λ (before : m < from). rw (outside m (inl before)) (was m lt))
+    (λ (after : from ≤ m). ⊎_elim
+    (λ (here : m < from + 256).
+    let at : from + (m - from) ≡ m = omega (arith, after) in
+    let is : get_or new m 0 ≡ get_or children (m - from) 0 = ap (λ (k : ℕ). get_or new k 0) (sym at) ∙ fills (m - from) (omega (arith, after, here)) (omega (arith, at, lt)) in
+    rw is (bounded (m - from)))
+    (λ (behind : from + 256 ≤ m). rw (outside m (inr behind)) (was m lt))
+    (cases_lt m (from + 256)))
+    (cases_lt m from)

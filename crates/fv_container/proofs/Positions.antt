@@ -5,16 +5,14 @@ use Rattle.std.proofs.lemmas.Bool.{and_parts, cases_eq, cases_lt}
 use Rattle.std.proofs.lemmas.Bool.Decides.{nat_tests}
 use Rattle.std.proofs.lemmas.List.{get_or_past}
 use Rattle.fv_disk.specs.Shown.{Image}
-use Rattle.fv_codec.specs.declared.container.ContainerLeaf.{ContainerLeaf}
 use Rattle.fv_codec.specs.declared.container.ContainerInner.{ContainerInner}
 use Rattle.fv_codec.specs.Blocks.{inner_at, leaf_at}
 use Rattle.fv_image.specs.Containers.{child_in, entry_in, level_width, lying, node_below, node_of}
 use Rattle.fv_container.specs.declared.entry.Entry.{Entry}
 use Rattle.fv_container.specs.Spelled.{pair_of}
-use Rattle.fv_container.specs.Reading.{IsInnerAs, IsLeafAs, StandInner, StandLeaves, StandsInner, StandsLeaf}
+use Rattle.fv_container.specs.Reading.{IsInnerAs, StandInner, StandLeaves, StandsInner, TreeAt}
 use Rattle.fv_container.specs.Written.{AreWritten, IsInnerOf, IsLeafOf}
 use Rattle.fv_container.proofs.Nodes.{lying_read}
-use Rattle.fv_container.proofs.Trees.{TreeAt}
 use Rattle.fv_container.proofs.Walks.{leaf_of}
 
 -- ---- one node more
@@ -30,18 +28,6 @@ inner_more i places leaves q at node whole own is said own_is so_far all k lt so
     (λ (e : k ≡ q). subst (λ (n : ℕ). get_or places (leaves + n) 0 ≢ 0 → StandsInner i (get_or places (leaves + n) 0) 1 n (leaves - 256 * n)) (sym e) here some)
     (λ (ne : k ≢ q). so_far parts.0 k (omega (arith, lt, ne)) some)
     (cases_eq k q)
-
-pub leaf_more : (i : Image) (entries : ℕ) (places : List ℕ) (k at : ℕ) (leaf : ContainerLeaf) (whole own : Bool) → at ≡ get_or places k 0
-    → (at ≢ 0 → leaf_at (i at) ≡ Ok leaf) → (own ≡ true → at ≢ 0 → IsLeafAs leaf k (entries - 256 * k))
-    → (whole ≡ true → StandLeaves i entries places k) → (whole && own) ≡ true → StandLeaves i entries places (k + 1)
-leaf_more i entries places k at leaf whole own is said own_is so_far all m lt some =
-    let parts = and_parts whole own all in
-    let here : get_or places k 0 ≢ 0 → StandsLeaf i (get_or places k 0) k (entries - 256 * k) =
-    subst (λ (p : ℕ). p ≢ 0 → StandsLeaf i p k (entries - 256 * k)) is (λ there. record { leaf = leaf; said = said there; own = own_is parts.1 there }) in
-    ⊎_elim
-    (λ (e : m ≡ k). subst (λ (n : ℕ). get_or places n 0 ≢ 0 → StandsLeaf i (get_or places n 0) n (entries - 256 * n)) (sym e) here some)
-    (λ (ne : m ≢ k). so_far parts.0 m (omega (arith, lt, ne)) some)
-    (cases_eq m k)
 
 -- the same nodes, by the same places
 pub stand_at : (i j : Image) (leaves count : ℕ) (above places : List ℕ) → j ≡ i → ((m : ℕ) → leaves ≤ m → get_or places m 0 ≡ get_or above m 0) → StandInner j above leaves count → StandInner i places leaves count

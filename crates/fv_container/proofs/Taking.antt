@@ -1,5 +1,5 @@
 -- Places that are taken and given back one after another.
-use Rattle.std.proofs.Common.{◌≡◌, ◌≢◌, ℕ, zero, suc, ◌+◌, ◌-◌, ◌<◌, ◌≤◌, ◌⊎◌, List, [], ◌∷◌, length, get_or, take, Bool, true, false, not, ◌&&◌, ◌||◌, cond, nat_eq, ◌==◌, if◌then◌else◌, refl, sym, ap, ◌∙◌, inl, inr, arith, ⊎_elim, Option}
+use Rattle.std.proofs.Common.{◌≡◌, ◌≢◌, ℕ, zero, suc, ◌+◌, ◌-◌, ◌<◌, ◌≤◌, ◌⊎◌, List, [], ◌∷◌, length, get_or, take, Bool, true, false, not, ◌&&◌, ◌||◌, cond, nat_eq, ◌==◌, if◌then◌else◌, refl, sym, ap, ◌∙◌, inl, inr, arith, ⊎_elim}
 use Rattle.std.specs.Prelude.{slice_set}
 use Rattle.std.specs.FinSet as set
 use Rattle.std.specs.FinSet.{FinSet}
@@ -10,15 +10,14 @@ use Rattle.std.proofs.lemmas.Bool.Decides.{nat_tests}
 use Rattle.std.proofs.Math.Bool.{and-false, and-true, or_assoc, or_comm}
 use Rattle.std.proofs.lemmas.List.{get_or-set_same, get_or-set_other, get_or-take, length-take, take_more_set}
 use Rattle.std.proofs.lemmas.List.Folds.{list_any-append, list_any_more}
-use Rattle.fv_container.specs.declared.entry.Entry.{Entry}
 use Rattle.fv_container.specs.Spelled.{is_at, names}
 use Rattle.fv_container.specs.Freeing.{IsRoom, Releases, Room}
-use Rattle.fv_container.specs.Written.{HasReleased, HasTaken, TakesIf, is_written, written_before}
+use Rattle.fv_container.specs.Written.{HasReleased, HasTaken, TakesIf, passed_before}
 use Rattle.fv_container.proofs.Named.{named_at}
 
 -- ---- tests
 
-or_false : (a : Bool) → (a || false) ≡ a
+pub or_false : (a : Bool) → (a || false) ≡ a
 or_false true = refl
 or_false false = refl
 
@@ -73,25 +72,25 @@ or_cases false b is = inr is
 names_more : (ps : List ℕ) (n b a : ℕ) → n < length ps → names (take (n + 1) (slice_set ps n b)) a ≡ (names (take n ps) a || is_at a b)
 names_more ps n b a within = ap (λ (l : List ℕ). names l a) (take_more_set ps n b within) ∙ list_any-append (is_at a) (take n ps) (b ∷ []) ∙ ap (λ t. names (take n ps) a || t) (or_false (is_at a b))
 
-names_next : (ps : List ℕ) (n a : ℕ) → n < length ps → names (take (n + 1) ps) a ≡ (names (take n ps) a || is_at a (get_or ps n 0))
+pub names_next : (ps : List ℕ) (n a : ℕ) → n < length ps → names (take (n + 1) ps) a ≡ (names (take n ps) a || is_at a (get_or ps n 0))
 names_next ps n a within = list_any_more (is_at a) ps n 0 within
 
 -- ---- taking
 
-written_more : (es : List (Option Entry)) (n : ℕ) → written_before es (n + 1) ≡ written_before es n + (if is_written es n then 1 else 0)
-unfolding written_before
-written_more es n = let e : n + 1 ≡ suc n = omega arith in rw e refl
+written_more : (test : ℕ → Bool) (n : ℕ) → passed_before test (n + 1) ≡ passed_before test n + (if test n then 1 else 0)
+unfolding passed_before
+written_more test n = let e : n + 1 ≡ suc n = omega arith in rw e refl
 
-written_up : (es : List (Option Entry)) (n k : ℕ) → written_before es n ≤ written_before es (n + k)
-written_up es n zero = let e : n + 0 ≡ n = omega arith in rw e (omega arith)
-written_up es n (suc k) =
+written_up : (test : ℕ → Bool) (n k : ℕ) → passed_before test n ≤ passed_before test (n + k)
+written_up test n zero = let e : n + 0 ≡ n = omega arith in rw e (omega arith)
+written_up test n (suc k) =
     let e : n + suc k ≡ (n + k) + 1 = omega arith in
-    rw (e, written_more es (n + k)) (omega (arith, written_up es n k))
+    rw (e, written_more test (n + k)) (omega (arith, written_up test n k))
 
-pub some_left : (old mid : Room) (es : List (Option Entry)) (fresh : List ℕ) (n total : ℕ) → HasTaken old es fresh n mid → written_before es total ≤ set.len old.free → n < total → is_written es n ≡ true → 0 < set.len mid.free
-some_left old mid es fresh n total taken room within is =
-    let up : written_before es (n + 1) ≤ written_before es total = rw (sum) (written_up es (n + 1) (total - (n + 1))) in
-    let one : written_before es (n + 1) ≡ written_before es n + 1 = written_more es n ∙ ap (λ t. written_before es n + (if t then 1 else 0)) is in
+pub some_left : (old mid : Room) (test : ℕ → Bool) (fresh : List ℕ) (n total : ℕ) → HasTaken old test fresh n mid → passed_before test total ≤ set.len old.free → n < total → test n ≡ true → 0 < set.len mid.free
+some_left old mid test fresh n total taken room within is =
+    let up : passed_before test (n + 1) ≤ passed_before test total = rw (sum) (written_up test (n + 1) (total - (n + 1))) in
+    let one : passed_before test (n + 1) ≡ passed_before test n + 1 = written_more test n ∙ ap (λ t. passed_before test n + (if t then 1 else 0)) is in
     omega (arith, up, one, room, taken.fewer)
   where
     sum : total ≡ (n + 1) + (total - (n + 1))
@@ -103,10 +102,11 @@ some_in s b in_it = ⊎_elim
     (λ (some : set.len s ≢ 0). omega (arith, some))
     (cases_eq (set.len s) 0)
 
-pub taken_none : (room : Room) (es : List (Option Entry)) (ps : List ℕ) → HasTaken room es ps 0 room
-unfolding written_before
-taken_none room es ps = record {
+pub taken_none : (room : Room) (test : ℕ → Bool) (ps : List ℕ) → HasTaken room test ps 0 room
+unfolding passed_before
+taken_none room test ps = record {
   fewer = omega arith;
+  wanted = λ m lt. absurd (omega (arith, lt));
   left = λ b. sym (and_true (set.contains room.free b));
   free = λ b named. absurd (true≢false (sym named));
   held = λ b. refl;
@@ -119,7 +119,7 @@ taken_none room es ps = record {
     and_true true = refl
     and_true false = refl
 
-module _ (old mid new : Room) (es : List (Option Entry)) (ps : List ℕ) (n b : ℕ) (laws : IsRoom old) (within : n < length ps) (so_far : HasTaken old es ps n mid) where
+module _ (old mid new : Room) (test : ℕ → Bool) (ps : List ℕ) (n b : ℕ) (laws : IsRoom old) (within : n < length ps) (so_far : HasTaken old test ps n mid) where
   after : List ℕ
   after = slice_set ps n b
 
@@ -135,7 +135,7 @@ module _ (old mid new : Room) (es : List (Option Entry)) (ps : List ℕ) (n b : 
   unfolding after
   more a = names_more ps n b a within
 
-  module _ (is : is_written es n ≡ true) (some : set.contains mid.free b ≡ true) (taken : new.free ≡ set.remove mid.free b) (held : (a : ℕ) → new.held a ≡ (nat_eq a b || mid.held a)) (still : new.committed ≡ mid.committed) where
+  module _ (is : test n ≡ true) (some : set.contains mid.free b ≡ true) (taken : new.free ≡ set.remove mid.free b) (held : (a : ℕ) → new.held a ≡ (nat_eq a b || mid.held a)) (still : new.committed ≡ mid.committed) where
     was_free : (set.contains old.free b && not (names (take n ps) b)) ≡ true
     was_free = sym (so_far.left b) ∙ some
 
@@ -151,12 +151,16 @@ module _ (old mid new : Room) (es : List (Option Entry)) (ps : List ℕ) (n b : 
     not_yet : (m : ℕ) → m < n → get_or ps m 0 ≢ b
     not_yet m lt is = true≢false (sym (named_at (take n ps) m b (omega (arith, length-take n ps, lt, within)) (get_or-take n ps m 0 lt ∙ is) place) ∙ new_name)
 
-    taken_one : HasTaken old es after (n + 1) new
+    taken_one : HasTaken old test after (n + 1) new
     taken_one = record {
       fewer =
           let len : set.len new.free ≡ set.len mid.free - 1 = ap set.len taken ∙ set.len-remove nat_cmp_total mid.free b ∙ ap (λ t. cond t (set.len mid.free - 1) (set.len mid.free)) some in
-          let one : written_before es (n + 1) ≡ written_before es n + 1 = written_more es n ∙ ap (λ t. written_before es n + (if t then 1 else 0)) is in
+          let one : passed_before test (n + 1) ≡ passed_before test n + 1 = written_more test n ∙ ap (λ t. passed_before test n + (if t then 1 else 0)) is in
           omega (arith, len, one, so_far.fewer, some_in mid.free b some);
+      wanted = λ m lt there. ⊎_elim
+          (λ (e : m ≡ n). ap test e ∙ is)
+          (λ (ne : m ≢ n). so_far.wanted m (omega (arith, lt, ne)) (λ none. there (before m ne ∙ none)))
+          (cases_eq m n);
       left = λ a.
           ap (λ (s : FinSet nat_cmp). set.contains s a) taken ∙ set.contains-remove nat_cmp_total mid.free b a
           ∙ ap (λ t. not t && set.contains mid.free a) (same_test a b ∙ sym (at_some a b place))
@@ -185,11 +189,15 @@ module _ (old mid new : Room) (es : List (Option Entry)) (ps : List ℕ) (n b : 
     no_name : (a : ℕ) → names (take (n + 1) after) a ≡ names (take n ps) a
     no_name a = more a ∙ ap (λ t. names (take n ps) a || t) (at_none a b none) ∙ or_false (names (take n ps) a)
 
-    taken_nothing : HasTaken old es after (n + 1) new
+    taken_nothing : HasTaken old test after (n + 1) new
     taken_nothing = record {
       fewer =
           let same : set.len new.free ≡ set.len mid.free = ap (λ (r : Room). set.len r.free) stays in
-          omega (arith, same, written_up es n 1, so_far.fewer);
+          omega (arith, same, written_up test n 1, so_far.fewer);
+      wanted = λ m lt there. ⊎_elim
+          (λ (e : m ≡ n). absurd (there (ap (λ (x : ℕ). get_or after x 0) e ∙ here ∙ none)))
+          (λ (ne : m ≢ n). so_far.wanted m (omega (arith, lt, ne)) (λ z. there (before m ne ∙ z)))
+          (cases_eq m n);
       left = λ a. ap (λ (r : Room). set.contains r.free a) stays ∙ so_far.left a ∙ sym (ap (λ t. set.contains old.free a && not t) (no_name a));
       free = λ a named. so_far.free a (sym (no_name a) ∙ named);
       held = λ a. ap (λ (r : Room). r.held a) stays ∙ so_far.held a ∙ sym (ap (λ t. t || old.held a) (no_name a));
@@ -204,7 +212,7 @@ module _ (old mid new : Room) (es : List (Option Entry)) (ps : List ℕ) (n b : 
       committed = ap (λ (r : Room). r.committed) stays ∙ so_far.committed;
     }
 
-  pub taken_more : (wanted : Bool) → (wanted ≡ true → is_written es n ≡ true) → TakesIf wanted mid b new → HasTaken old es (slice_set ps n b) (n + 1) new
+  pub taken_more : (wanted : Bool) → (wanted ≡ true → test n ≡ true) → TakesIf wanted mid b new → HasTaken old test (slice_set ps n b) (n + 1) new
   unfolding after
   taken_more wanted is takes = ⊎_elim
       (λ (so : wanted ≡ true). taken_one (is so) (takes.some so) (takes.taken so) (takes.held so) takes.committed)

@@ -9,9 +9,8 @@ use Rattle.fv_codec.specs.Blocks.{inner_at, leaf_at}
 use Rattle.fv_image.specs.Containers.{child_in, container_entry, entry_in, level_width, lying, most_entries, node_below, node_of, node_shape, IsNodePlace, IsShapedTree}
 use Rattle.fv_container.specs.declared.entry.Entry.{Entry}
 use Rattle.fv_container.specs.Kept.{map_of}
-use Rattle.fv_container.specs.Mapped.{node_count}
-use Rattle.fv_container.specs.Spelled.{Spelled, names, pair_of}
-use Rattle.fv_container.specs.Reading.{AreShaped, FillsFrom}
+use Rattle.fv_container.specs.Spelled.{IsOpened, IsShapedAbove, Spelled, names, pair_of}
+use Rattle.fv_container.specs.Reading.{AreShaped, FillsFrom, TreeAt}
 use Rattle.fv_container.proofs.Named.{named_at, named_where}
 
 -- ---- the root, and the level above the leaves
@@ -37,16 +36,6 @@ root_high i j places children leaves inner root height q same filled read within
 
 -- ---- a tree at a row of places
 
--- each place is that of the node of its position
-pub record TreeAt (i : Image) (root height entries : ℕ) (places : List ℕ) : Type 0 where
-  pub few : entries ≤ most_entries
-  pub least : 1 ≤ height
-  pub greatest : height ≤ 2
-  pub long : length places ≡ node_count entries
-  pub leaf : (k : ℕ) → k < level_width entries 0 → get_or places k 0 ≡ node_of i root height 0 k
-  pub inner : (q : ℕ) → q < level_width entries 1 → get_or places (level_width entries 0 + q) 0 ≡ node_of i root height 1 q
-  pub top : get_or places (level_width entries 0 + level_width entries 1) 0 ≡ (if height == 2 then root else 0)
-
 few_inner : (entries : ℕ) → entries ≤ most_entries → level_width entries 1 ≤ 256
 few_inner entries few = omega (arith, few)
 
@@ -57,10 +46,7 @@ pub top_root : (i : Image) (root : ℕ) → node_of i root 2 2 0 ≡ root
 unfolding node_below
 top_root i root = refl
 
-module _ (i : Image) (root height : ℕ) (es : List (Option Entry)) (places : List ℕ) (tree : TreeAt i root height (length es) places) where
-  abbrev pub n : ℕ
-  n = length es
-
+module _ (i : Image) (root height n : ℕ) (places : List ℕ) (tree : TreeAt i root height n places) where
   place_of_top : height ≡ 2 → get_or places (level_width n 0 + level_width n 1) 0 ≡ root
   place_of_top high = tree.top ∙ rw high refl
 
@@ -94,7 +80,16 @@ module _ (i : Image) (root height : ℕ) (es : List (Option Entry)) (places : Li
         inner top;
   }
 
-  named_node : (level number b : ℕ) → level ≤ height → number < level_width n level → b ≡ node_of i root height level number → b ≢ 0 → names places b ≡ true
+  pub shaped_above : AreShaped i 1 places (level_width n 0) (level_width n 1) → (height ≡ 2 → root ≢ 0 → node_shape 1 (i root) ≡ Ok tt) → IsShapedAbove i root height n
+  shaped_above inner top = record {
+    nodes = λ level number least le within some. each_node (λ level number b. 1 ≤ level → node_shape level b ≡ Ok tt)
+        (λ k within some one. absurd (omega (arith, one)))
+        (λ q within some one. inner q within some)
+        (λ high some one. top high some)
+        level number le within some least;
+  }
+
+  pub named_node : (level number b : ℕ) → level ≤ height → number < level_width n level → b ≡ node_of i root height level number → b ≢ 0 → names places b ≡ true
   named_node zero number b le within is some = named_at places number b (omega (arith, tree.long, within)) (tree.leaf number within ∙ sym is) some
   named_node (suc zero) number b le within is some = named_at places (level_width n 0 + number) b (omega (arith, tree.long, within)) (tree.inner number within ∙ sym is) some
   named_node (suc (suc zero)) number b le within is some =
@@ -102,7 +97,7 @@ module _ (i : Image) (root height : ℕ) (es : List (Option Entry)) (places : Li
       named_at places (level_width n 0 + level_width n 1) b (omega (arith, tree.long)) (place_of_top high ∙ sym (is ∙ top_node number high within)) some
   named_node (suc (suc (suc level))) number b le within is some = absurd (omega (arith, le, tree.greatest))
 
-  node_named : (m b : ℕ) → m < length places → get_or places m 0 ≡ b → b ≢ 0 → IsNodePlace i root height n b
+  pub node_named : (m b : ℕ) → m < length places → get_or places m 0 ≡ b → b ≢ 0 → IsNodePlace i root height n b
   node_named m b within is some = ⊎_elim
       (λ (low : m < level_width n 0). record { level = 0; number = m; below = omega arith; within = low; place = sym is ∙ tree.leaf m low; some = some })
       (λ (past : level_width n 0 ≤ m). ⊎_elim
@@ -124,26 +119,39 @@ module _ (i : Image) (root height : ℕ) (es : List (Option Entry)) (places : Li
           not_high : (h : ℕ) → h ≢ 2 → (if h == 2 then root else 0) ≡ 0
           not_high h ne = let test : (h == 2) ≡ false = grind (arith, nat_tests, ne) in rw test refl
 
-  entry_spelled : ((v : ℕ) → v < n → pair_of (get_or es v None) ≡ entry_in (lying leaf_at i (get_or places (v / 256) 0)) (v % 256)) → (v : ℕ) → container_entry i root height n v ≡ pair_of (get_or es v None)
+module _ (i : Image) (root height : ℕ) (es : List (Option Entry)) (places : List ℕ) (tree : TreeAt i root height (length es) places) where
+  abbrev pub size : ℕ
+  size = length es
+
+  entry_spelled : ((v : ℕ) → v < size → pair_of (get_or es v None) ≡ entry_in (lying leaf_at i (get_or places (v / 256) 0)) (v % 256)) → (v : ℕ) → container_entry i root height size v ≡ pair_of (get_or es v None)
   unfolding container_entry
   entry_spelled read v = ⊎_elim
-      (λ (inside : v < n).
-      let test : nat_lt v n ≡ true = grind (arith, nat_tests) in
-      let k : v / 256 < level_width n 0 = omega (arith, inside) in
+      (λ (inside : v < size).
+      let test : nat_lt v size ≡ true = grind (arith, nat_tests) in
+      let k : v / 256 < level_width size 0 = omega (arith, inside) in
       let is : get_or places (v / 256) 0 ≡ node_below i root height (v / 256) = tree.leaf (v / 256) k ∙ ap (λ (h : ℕ). node_below i root h (v / 256)) (all height) in
       rw (test, ← is) (sym (read v inside)))
-      (λ (past : n ≤ v).
-      let test : nat_lt v n ≡ false = grind (arith, nat_tests) in
+      (λ (past : size ≤ v).
+      let test : nat_lt v size ≡ false = grind (arith, nat_tests) in
       rw (test, get_or_past es v None past) refl)
-      (cases_lt v n)
+      (cases_lt v size)
     where
       all : (h : ℕ) → h - 0 ≡ h
       all h = omega arith
 
-  pub spelled : IsShapedTree i root height n → ((v : ℕ) → v < n → pair_of (get_or es v None) ≡ entry_in (lying leaf_at i (get_or places (v / 256) 0)) (v % 256)) → (dirty : List Bool) → Spelled i root height (map_of es places dirty)
+  pub spelled : IsShapedTree i root height size → ((v : ℕ) → v < size → pair_of (get_or es v None) ≡ entry_in (lying leaf_at i (get_or places (v / 256) 0)) (v % 256)) → (dirty : List Bool) → Spelled i root height (map_of es places dirty)
   spelled shaped read dirty = record {
     shaped = shaped;
     entries = entry_spelled read;
-    nodes = λ b node. named_node node.level node.number b node.below node.within node.place node.some;
-    places = λ b named. let at = named_where places b named in node_named at.number b at.within at.place at.some;
+    nodes = λ b node. named_node i root height (length es) places tree node.level node.number b node.below node.within node.place node.some;
+    places = λ b named. let at = named_where places b named in node_named i root height (length es) places tree at.number b at.within at.place at.some;
+  }
+
+  pub opened : IsShapedAbove i root height size → ((v : ℕ) → v < size → pair_of (get_or es v None) ≡ entry_in (lying leaf_at i (get_or places (v / 256) 0)) (v % 256)) → (dirty : List Bool) → IsOpened i root height (map_of es places dirty)
+  opened above read dirty = record {
+    leaves = tree.leaf;
+    above = above;
+    entries = entry_spelled read;
+    nodes = λ b node. named_node i root height (length es) places tree node.level node.number b node.below node.within node.place node.some;
+    places = λ b named. let at = named_where places b named in node_named i root height (length es) places tree at.number b at.within at.place at.some;
   }

@@ -8,8 +8,7 @@ use Rattle.fv_disk.specs.declared.fault.BlockFault.{BlockFault}
 use Rattle.fv_disk.specs.declared.fault.BlockFault.TheVariants.{DiskFault, Damaged, Memory}
 use Rattle.fv_container.specs.Mapped.{node_count}
 use Rattle.fv_container.specs.Spelled.{IsFault}
-use Rattle.fv_container.specs.Reading.{AreChildren, AreShaped, IsBadNode, IsLevelFault}
-use Rattle.fv_container.proofs.Trees.{TreeAt}
+use Rattle.fv_container.specs.Reading.{AreChildren, AreShaped, IsBadNode, IsLevelFault, TreeAt}
 
 pub fault_root : (i : Image) (root height entries : ℕ) (fault : BlockFault) → height ≡ 2 → IsBadNode i root 1 fault → IsFault i root height entries fault
 unfolding node_below

@@ -1,6 +1,6 @@
 -- A tree that is whole on the disk is found so.
-use Rattle.std.proofs.Common.{◌≡◌, ◌≢◌, ℕ, zero, suc, ◌+◌, ◌-◌, ◌*◌, ◌<◌, ◌≤◌, List, length, get_or, Bool, true, false, not, ◌&&◌, ◌||◌, ◌==◌, refl, sym, ap, subst, ◌∙◌, arith, ⊎_elim, Result, Ok, Err}
-use Rattle.std.specs.Prelude.{nat_lt, if◌then◌else◌}
+use Rattle.std.proofs.Common.{◌≡◌, ◌≢◌, ℕ, zero, suc, ◌+◌, ◌-◌, ◌*◌, ◌<◌, ◌≤◌, List, length, get_or, Bool, true, false, not, ◌&&◌, ◌||◌, ◌==◌, refl, sym, ap, subst, ◌∙◌, arith, ⊎_elim, Result, Ok}
+use Rattle.std.specs.Prelude.{nat_lt}
 use Rattle.std.specs.List.{list_all, range_with_len}
 use Rattle.std.proofs.lemmas.Bool.{and_from, and_parts, cases_eq, cases_lt}
 use Rattle.std.proofs.lemmas.Bool.Decides.{nat_tests}
@@ -13,14 +13,11 @@ use Rattle.fv_codec.specs.declared.container.ContainerLeaf.{ContainerLeaf}
 use Rattle.fv_codec.specs.declared.container.ContainerInner.{ContainerInner}
 use Rattle.fv_codec.specs.Fields.{up_to}
 use Rattle.fv_codec.specs.Blocks.{IsEntry, inner_at, last_place, leaf_at}
-use Rattle.fv_image.specs.Containers.{child_in, entry_in, has_none_past, level_width, node_of, node_verdict, shaped, IsNodePlace}
+use Rattle.fv_image.specs.Containers.{child_in, entry_in, has_none_past, level_width, node_of, node_verdict, shaped}
 use Rattle.fv_image.proofs.NodesOnce.{inner_says, leaf_says}
-use Rattle.fv_container.specs.Mapped.{Mapped}
 use Rattle.fv_container.specs.Clean.{IsCleanTree}
-use Rattle.fv_container.specs.Reading.{AreWholeLeaves, IsBadNode, IsInnerAs, IsLeafAs, IsLevelFault, StandInner, StandsInner}
-use Rattle.fv_container.specs.Spelled.{Spelled}
-use Rattle.fv_container.proofs.Named.{named_at}
-use Rattle.fv_container.proofs.Trees.{TreeAt, top_root}
+use Rattle.fv_container.specs.Reading.{AreWholeLeaves, IsBadNode, IsInnerAs, IsLeafAs, IsLevelFault, StandInner, StandLeaves, StandsInner, TreeAt}
+use Rattle.fv_container.proofs.Trees.{node_named, top_root}
 
 -- ---- one node
 
@@ -94,20 +91,8 @@ inner_kept i places leaves q at node whole own is said own_is so_far all =
     (so_far (λ k lt some. all k (omega (arith, lt)) some))
     (own_is (λ some. inner_as i at 1 q (leaves - 256 * q) node (said some) (subst (λ (p : ℕ). StandsInner i p 1 q (leaves - 256 * q)) (sym is) (all q (omega arith) (λ none. some (is ∙ none))))))
 
-pub leaf_kept : (i : Image) (entries : ℕ) (places : List ℕ) (k at : ℕ) (leaf : ContainerLeaf) (whole own : Bool) → at ≡ get_or places k 0
-    → (at ≢ 0 → leaf_at (i at) ≡ Ok leaf) → ((c : ℕ) → c < 256 → IsEntry (get_or leaf.pvbns c 0, get_or leaf.kinds c 0)) → ((at ≢ 0 → IsLeafAs leaf k (entries - 256 * k)) → own ≡ true)
-    → (AreWholeLeaves i entries places k → whole ≡ true) → AreWholeLeaves i entries places (k + 1) → (whole && own) ≡ true
-leaf_kept i entries places k at leaf whole own is said range own_is so_far all =
-    and_from whole own
-    (so_far (λ m lt some. all m (omega (arith, lt)) some))
-    (own_is (λ some.
-    let here = all k (omega arith) (λ none. some (is ∙ none)) in
-    leaf_as entries k (i at) leaf (said some) range
-    (subst (λ (p : ℕ). node_verdict 0 k (i p) ≡ Ok tt) (sym is) here.0)
-    (subst (λ (p : ℕ). has_none_past entries 0 k (i p) ≡ true) (sym is) here.1)))
-
-pub all_three : (top level low below all : Bool) → below ≡ (level && low) → all ≡ (top && below) → top ≡ true → level ≡ true → low ≡ true → all ≡ true
-all_three top level low below all is both a b c = both ∙ and_from top below a (is ∙ and_from level low b c)
+pub all_both : (top level all : Bool) → all ≡ (top && level) → top ≡ true → level ≡ true → all ≡ true
+all_both top level all both a b = both ∙ and_from top level a b
 
 -- a leaf that was read without its shape
 pub bad_leaf : (i j : Image) (places : List ℕ) (k count : ℕ) (fault : BlockFault) → j ≡ i → k < count → IsBadNode j (get_or places k 0) 0 fault → IsLevelFault i 0 places 0 count fault
@@ -157,17 +142,19 @@ whole_top i root height entries clean high some =
     (subst (λ (p : ℕ). node_verdict 2 0 (i p) ≡ Ok tt) is (clean.whole.nodes 2 0 (omega (arith, high)) (omega arith) there))
     (subst (λ (p : ℕ). has_none_past entries 2 0 (i p) ≡ true) is (clean.ends.nodes 2 0 (omega (arith, high)) (omega arith) there))
 
--- each of its places is within
-pub whole_bounded : (i : Image) (root height entries : ℕ) (map : Mapped) → length map.entries ≡ entries → Spelled i root height map → IsCleanTree i root height entries → (m : ℕ) → get_or map.tree m 0 ≤ last_place
-whole_bounded i root height entries map long spelled clean m = ⊎_elim
-    (λ (none : get_or map.tree m 0 ≡ 0). omega (arith, none))
-    (λ (some : get_or map.tree m 0 ≢ 0).
-    let within : m < length map.tree = ⊎_elim (λ (is : m < length map.tree). is) (λ (past : length map.tree ≤ m). absurd (some (get_or_past map.tree m 0 past))) (cases_lt m (length map.tree)) in
-    clean.bounded (get_or map.tree m 0) (subst (λ (n : ℕ). IsNodePlace i root height n (get_or map.tree m 0)) long (spelled.places (get_or map.tree m 0) (named_at map.tree m (get_or map.tree m 0) within refl some))))
-    (cases_eq (get_or map.tree m 0) 0)
+-- each leaf stands where the row says
+module _ (i : Image) (root height entries : ℕ) (places : List ℕ) (tree : TreeAt i root height entries places) (clean : IsCleanTree i root height entries) (range : (at : ℕ) (leaf : ContainerLeaf) → leaf_at (i at) ≡ Ok leaf → (c : ℕ) → c < 256 → IsEntry (get_or leaf.pvbns c 0, get_or leaf.kinds c 0)) where
+  pub leaves_stand : StandLeaves i entries places (level_width entries 0)
+  leaves_stand k within some =
+      let here = whole_leaves i root height entries places tree clean k within some in
+      let says = leaf_says k (i (get_or places k 0)) here.0 in
+      record { leaf = says.0; said = says.1; own = leaf_as entries k (i (get_or places k 0)) says.0 says.1 (range (get_or places k 0) says.0 says.1) here.0 here.1 }
 
--- and then no node is dirty
-pub all_clean : (row marks : List Bool) (whole within all : Bool) → row ≡ marks → all ≡ (whole && within) → whole ≡ true → within ≡ true → ((m : ℕ) → m < length marks → get_or marks m true ≡ not all)
-    → (m : ℕ) → m < length row → get_or row m true ≡ false
-all_clean row marks whole within all is both a b filled m inside =
-    ap (λ (l : List Bool). get_or l m true) is ∙ filled m (subst (λ (l : List Bool). m < length l) is inside) ∙ ap not (both ∙ and_from whole within a b)
+-- each of its places is within
+pub whole_bounded : (i : Image) (root height entries : ℕ) (places : List ℕ) → TreeAt i root height entries places → IsCleanTree i root height entries → (m : ℕ) → get_or places m 0 ≤ last_place
+whole_bounded i root height entries places tree clean m = ⊎_elim
+    (λ (none : get_or places m 0 ≡ 0). omega (arith, none))
+    (λ (some : get_or places m 0 ≢ 0).
+    let within : m < length places = ⊎_elim (λ (is : m < length places). is) (λ (past : length places ≤ m). absurd (some (get_or_past places m 0 past))) (cases_lt m (length places)) in
+    clean.bounded (get_or places m 0) (node_named i root height entries places tree m (get_or places m 0) within refl some))
+    (cases_eq (get_or places m 0) 0)

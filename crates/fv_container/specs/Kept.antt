@@ -1,13 +1,29 @@
 -- How a container is kept.
-use Rattle.std.specs.Prelude.{◌≡◌, ℕ, Bool, List, length, Option}
+use Rattle.std.specs.Prelude.{◌≡◌, ◌<◌, ℕ, Bool, true, false, List, length, get_or, Option}
+use Rattle.std.specs.Option.{is_some}
+use Rattle.fv_image.specs.Containers.{level_width}
 use Rattle.fv_container.specs.declared.entry.Entry.{Entry}
 use Rattle.fv_container.specs.Mapped.{Mapped, IsMapped, node_count}
+use Rattle.fv_container.specs.Paged.{AreWell, IsSureOf, Leaves, Paged, here_of, leaf_here}
 
 abbrev pub map_of : List (Option Entry) → List ℕ → List Bool → Mapped
 map_of entries tree dirty = record { entries = entries; tree = tree; dirty = dirty }
 
--- there is room for the places of a tree, and for those of them that are new
-pub record IsKept (entries : List (Option Entry)) (tree : List ℕ) (dirty : List Bool) (next fresh : List ℕ) : Type 0 where
-  pub mapped : IsMapped (map_of entries tree dirty)
-  pub room : length next ≡ node_count (length entries)
-  pub anew : length fresh ≡ node_count (length entries)
+abbrev pub paged_of : List (Option Entry) → List ℕ → List Bool → Leaves → List Bool → List Bool → Paged
+paged_of entries tree dirty leaves known sure = record { map = map_of entries tree dirty; here = here_of leaves; known = known; sure = sure }
+
+-- There is a leaf, or room for one, for each region, and room for the places of a tree, and for those of them that are new. Of a leaf in
+-- memory it is known which of its entries are holes, and a dirty leaf is in memory.
+pub record IsKept (paged : Paged) (count : ℕ) (leaves : Leaves) (used : List Bool) (next fresh : List ℕ) : Type 0 where
+  pub mapped : IsMapped paged.map
+  pub size : count ≡ length paged.map.entries
+  pub room : length next ≡ node_count count
+  pub anew : length fresh ≡ node_count count
+  pub long : length leaves ≡ level_width count 0
+  pub known : length paged.known ≡ level_width count 0
+  pub sure : length paged.sure ≡ level_width count 0
+  pub bits : length used ≡ count
+  pub well : AreWell leaves
+  pub learned : (k : ℕ) → is_some (leaf_here leaves k) ≡ true → get_or paged.known k false ≡ true
+  pub held : (k : ℕ) → k < length leaves → get_or paged.map.dirty k true ≡ true → is_some (leaf_here leaves k) ≡ true
+  pub told : (k : ℕ) → IsSureOf paged.map.entries k (get_or paged.sure k false) (leaf_here leaves k) used

@@ -4,6 +4,7 @@ use Rattle.std.specs.List.{list_any, range_with_len}
 use Rattle.fv_container.specs.declared.entry.Entry.{Entry}
 use Rattle.fv_container.specs.Mapped.{Mapped, entry_under}
 use Rattle.fv_container.specs.Spelled.{is_at}
+use Rattle.fv_container.specs.Paged.{Paged}
 use Rattle.fv_container.specs.Clean.{StaysClean}
 
 -- the place of an entry; a hole has none
@@ -20,8 +21,8 @@ abbrev pub lead_to : Mapped → (ℕ → Bool) → ℕ → ℕ → ℕ → Bool
 lead_to map goes from count b = list_any (λ v. goes v && is_at b (place_at map v)) (range_with_len from count)
 
 -- some entries became holes, and every other is as it was; what was clean is clean
-pub record HasEmptied (old : Mapped) (goes : ℕ → Bool) (new : Mapped) : Type 0 where
-  pub entries : (v : ℕ) → entry_under new v ≡ (if goes v then None else entry_under old v)
-  pub long : length new.entries ≡ length old.entries
-  pub tree : new.tree ≡ old.tree
+pub record HasEmptied (old : Paged) (goes : ℕ → Bool) (new : Paged) : Type 0 where
+  pub entries : (v : ℕ) → entry_under new.map v ≡ (if goes v then None else entry_under old.map v)
+  pub long : length new.map.entries ≡ length old.map.entries
+  pub tree : new.map.tree ≡ old.map.tree
   pub clean : StaysClean old new

@@ -1,11 +1,16 @@
 pub mod Mapped
+pub mod Paged
 pub mod Chains
 pub mod Kept
 pub mod Rows
 pub mod Spelled
 pub mod Reading
+pub mod Seeing
 pub mod Freeing
 pub mod Written
 pub mod Clean
+pub mod Loading
+pub mod Putting
 pub mod Leading
 pub mod Flushed
+pub mod Storing

@@ -1,13 +1,13 @@
 -- A container as a map from VVBNs to entries.
-use Rattle.std.specs.Prelude.{◌≡◌, ◌≤◌, ◌+◌, ◌/◌, ℕ, Bool, true, false, List, length, replicate, slice_set, slice_index_or, get_or, All, Option, None, IfSome}
+use Rattle.std.specs.Prelude.{◌≡◌, ◌≤◌, ◌+◌, ◌/◌, ◌++◌, ℕ, Bool, true, false, List, length, replicate, slice_set, slice_index_or, get_or, All, Option, None, IfSome}
 use Rattle.fv_codec.specs.Blocks.{last_place}
 use Rattle.fv_image.specs.Containers.{level_width, most_entries}
 use Rattle.fv_container.specs.declared.entry.Entry.{Entry}
 
 -- The entries by VVBN, each an entry or a hole, and the places of the nodes of the tree on the disk that the
 -- container was read from or flushed to last, 0 for a node that it hasn't. A node is dirty where its block on the disk
--- may say something else than the container: a leaf an entry of which was set since, and each node of a tree that was read
--- with a node that isn't the one of its position.
+-- may say something else than the container: a leaf an entry of which was changed since, and each node above the leaves of a tree that was
+-- read with such a node that isn't the one of its position.
 pub record Mapped : Type 0 where
   pub entries : List (Option Entry)
   pub tree : List ℕ
@@ -25,9 +25,13 @@ with_entry map v entry = record { entries = slice_set map.entries v entry; tree 
 abbrev pub node_count : ℕ → ℕ
 node_count entries = level_width entries 0 + (level_width entries 1 + 1)
 
--- a map without entries that no tree on the disk spells
+-- marks of nodes: no leaf is dirty, and the nodes above the leaves all are, or none
+abbrev pub marks_above : ℕ → Bool → List Bool
+marks_above entries dirty = replicate (level_width entries 0) false ++ replicate (level_width entries 1 + 1) dirty
+
+-- a map of holes of which no node is on the disk: each leaf is absent, as it would be there
 abbrev pub empty_map : ℕ → Mapped
-empty_map entries = record { entries = replicate entries None; tree = replicate (node_count entries) 0; dirty = replicate (node_count entries) true }
+empty_map entries = record { entries = replicate entries None; tree = replicate (node_count entries) 0; dirty = marks_above entries true }
 
 -- an entry that can be set
 pub record IsEntry (entry : Entry) : Type 0 where

@@ -1,5 +1,6 @@
 -- Nodes as they are read.
-use Rattle.std.specs.Prelude.{true, ◌≡◌, ◌≢◌, ◌<◌, ◌≤◌, ◌+◌, ◌-◌, ◌*◌, ◌/◌, ◌%◌, ◌^◌, ◌⊎◌, ℕ, List, length, get_or, Option, None, Result, Ok, Err}
+use Rattle.std.specs.Global.{Box}
+use Rattle.std.specs.Prelude.{IsTrue, nat_lt, ◌==◌, if◌then◌else◌, Some, true, ◌≡◌, ◌≢◌, ◌<◌, ◌≤◌, ◌+◌, ◌-◌, ◌*◌, ◌/◌, ◌%◌, ◌^◌, ◌⊎◌, ℕ, List, length, get_or, Option, None, Result, Ok, Err}
 use Rattle.fv_disk.specs.Shown.{Image, Shown}
 use Rattle.fv_disk.specs.DiskCalls.{OnlyReads}
 use Rattle.fv_disk.specs.Faults.{HasBlockCause}
@@ -7,12 +8,12 @@ use Rattle.fv_codec.specs.declared.shape.Shape.{Shape}
 use Rattle.fv_codec.specs.declared.container.ContainerLeaf.{ContainerLeaf}
 use Rattle.fv_codec.specs.declared.container.ContainerInner.{ContainerInner}
 use Rattle.fv_codec.specs.Blocks.{inner_at, leaf_at}
-use Rattle.fv_image.specs.Containers.{node_shape, node_verdict, has_none_past, lying, child_in, most_entries}
+use Rattle.fv_image.specs.Containers.{node_of, node_shape, node_verdict, has_none_past, level_width, lying, child_in, most_entries}
 use Rattle.fv_disk.specs.declared.fault.BlockFault.{BlockFault}
 use Rattle.fv_disk.specs.declared.fault.BlockFault.TheVariants.{DiskFault, Damaged, Memory}
 use Rattle.fv_store.specs.Held.{Pairs, StandsOn}
-use Rattle.fv_container.specs.declared.entry.Entry.{Entry}
 use Rattle.fv_container.specs.Mapped.{node_count}
+use Rattle.fv_container.specs.Paged.{pair_at, pair_there}
 
 -- a block of a tree as it was read, or the fault of the block at this place
 abbrev pub ReadsAs : {X Y : Type 0} → ℕ → (X → Y) → Result X Shape → Result Y BlockFault → Type 0
@@ -54,11 +55,10 @@ FillsFrom items places from end = (c : ℕ) → c < 256 → from + c < end → g
 abbrev pub StaysOutside : {X : Type 0} → X → List X → List X → ℕ → Type 0
 StaysOutside default old new from = (m : ℕ) → (m < from) ⊎ (from + 256 ≤ m) → get_or new m default ≡ get_or old m default
 
--- rows for the entries and the places of a tree that is to be read: holes alone, and no places
-pub record IsBlank (entries : List (Option Entry)) (places : List ℕ) : Type 0 where
-  pub few : length entries ≤ most_entries
-  pub holes : (v : ℕ) → get_or entries v None ≡ None
-  pub nodes : length places ≡ node_count (length entries)
+-- a row for the places of a tree of so many entries that is to be read: no places
+pub record IsBlank (entries : ℕ) (places : List ℕ) : Type 0 where
+  pub few : entries ≤ most_entries
+  pub nodes : length places ≡ node_count entries
   pub zeros : (m : ℕ) → get_or places m 0 ≡ 0
 
 -- a row of zeros for the places of so many leaves, of so many nodes above them, and of a root
@@ -111,3 +111,22 @@ pub record HasRead {X : Type 0} (old new : Shown) (pairs : Pairs) (result : Resu
   pub only_reads : OnlyReads old new
   pub stands : StandsOn new pairs
   pub cause : HasBlockCause old.faults new.faults result
+
+-- the entries of a leaf that is loaded as that of a region: those of the leaf at a place, and holes past so many entries
+abbrev pub pair_loaded : Image → ℕ → ℕ → ℕ → ℕ → ℕ × ℕ
+pair_loaded i entries at region c = if nat_lt (256 * region + c) entries then pair_there i at c else (0, 0)
+
+-- the pair that is looked up: that of the leaf in memory, and else that on the disk
+abbrev pub LooksUp : Shown → ℕ → ℕ → Option (Box ContainerLeaf) → ℕ × ℕ → Type 0
+LooksUp disk at c (Some b) pair = pair ≡ pair_at b.value c
+LooksUp disk at c None pair = IsTrue disk.tells → pair ≡ pair_there disk.reads at c
+
+-- each place of a row is that of the node of its position: the leaves, the level above them, and a root above that
+pub record TreeAt (i : Image) (root height entries : ℕ) (places : List ℕ) : Type 0 where
+  pub few : entries ≤ most_entries
+  pub least : 1 ≤ height
+  pub greatest : height ≤ 2
+  pub long : length places ≡ node_count entries
+  pub leaf : (k : ℕ) → k < level_width entries 0 → get_or places k 0 ≡ node_of i root height 0 k
+  pub inner : (q : ℕ) → q < level_width entries 1 → get_or places (level_width entries 0 + q) 0 ≡ node_of i root height 1 q
+  pub top : get_or places (level_width entries 0 + level_width entries 1) 0 ≡ (if height == 2 then root else 0)

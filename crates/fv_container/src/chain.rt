@@ -1,13 +1,15 @@
 //! The containers of all volumes, and look-ups along chains of parents.
 
-ghost use Rattle.std.specs.Prelude.{◌≡◌, ◌<◌, ◌≤◌, ◌+◌, None, Some, IsSome, IfOk, IfErr, IfSome, option_copied, length, replicate, slice_index_or};
+ghost use Rattle.std.specs.Prelude.{◌≡◌, ◌<◌, ◌+◌, None, Some, IsSome, IsTrue, IfOk, IfErr, IfSome, option_copied, length, replicate, slice_index_or};
 ghost use Rattle.std.specs.Option.{option_copied_mut};
 ghost use Rattle.fv_store.specs.Held.{StandsOn};
 ghost use Rattle.fv_disk.specs.DiskCalls.{OnlyReads};
 ghost use Rattle.fv_disk.specs.Faults.{HasBlockCause};
-ghost use Rattle.fv_disk.specs.declared.fault.BlockFault.TheVariants.{DiskFault};
 ghost use Rattle.fv_container.specs.Mapped.{IsHeld};
-ghost use Rattle.fv_container.specs.Chains.{IsSlots, along, chain_entry, container_at, no_containers, own_entry, parent_at, slot_count, with_container, with_parent};
+ghost use Rattle.fv_container.specs.Clean.{IsCleanOn};
+ghost use Rattle.fv_container.specs.Loading.{IsReadFault};
+ghost use Rattle.fv_container.specs.Reading.{HasRead};
+ghost use Rattle.fv_container.specs.Chains.{AreCleanOn, IsFaultIn, IsLeafFault, IsSlots, along, chain_entry, map_in, no_containers, own_entry, paged_at, parent_at, slot_count, with_container, with_parent};
 
 use crate::container::Container;
 use crate::entry::Entry;
@@ -62,7 +64,7 @@ impl Containers {
         requires slot { slot < slot_count }
         requires parent { IfSome parent (λ parent. parent < slot_count) }
         ensures put { self.new ≡ with_parent (with_container self.old slot (Some container)) slot parent }
-        ensures there { container_at self.new slot ≡ Some container }
+        ensures there { paged_at self.new slot ≡ Some container }
         ensures parent { parent_at self.new slot ≡ parent }
         ensures valid { IsSlots self.new }
     {
@@ -74,7 +76,7 @@ impl Containers {
     pub fn set_parent(&mut self, slot: u8, parent: Option<u8>)
         requires slot { slot < slot_count }
         requires parent { IfSome parent (λ parent. parent < slot_count) }
-        requires used { IsSome (container_at self.old slot) }
+        requires used { IsSome (paged_at self.old slot) }
         ensures { self.new ≡ with_parent self.old slot parent }
     {
         self.parents[slot as usize] = parent;
@@ -92,9 +94,16 @@ impl Containers {
     /// The container of a slot, `None` exactly where it has none.
     pub fn get(&self, slot: u8) -> Option<&Container>
         requires { slot < slot_count }
-        ensures { option_copied result ≡ container_at self.now slot }
+        ensures { option_copied result ≡ paged_at self.now slot }
     {
         self.containers[slot as usize].as_ref()
+    }
+
+    /// There are as many slots as volumes can have. It costs nothing: it is here so that a proof sees it.
+    pub fn known_slots(&self)
+        ensures { IsSlots self.now }
+    {
+        let _ = self.containers[0].is_some();
     }
 
     /// The container of a slot, to be changed; `None` exactly where the slot has none. What the caller
@@ -102,7 +111,7 @@ impl Containers {
     pub fn get_mut(&mut self, slot: u8) -> Option<&mut Container>
         requires { slot < slot_count }
         ensures* writes_back { sem 𝓛 (LendsIf the_row container_row self.entry result (λ map. with_container self.old slot (Some map)) self.old) }
-        ensures container { option_copied_mut result ≡ container_at self.old slot }
+        ensures container { option_copied_mut result ≡ paged_at self.old slot }
         ensures valid { IsSlots self.old }
     {
         self.containers[slot as usize].as_mut()
@@ -110,8 +119,12 @@ impl Containers {
 
     /// The first entry of a VVBN along the chain of a slot: the slot's own container, that of its parent,
     /// of the parent's parent and so on, at most 64 volumes. `None` exactly where all of them have a hole
-    /// there; a container has one from its number of entries on. It counts one step for the whole chain.
-    /// The one error is `DiskFault`, and it comes only where a read failed in this call.
+    /// there; a container has one from its number of entries on. It counts one step for the whole chain. Leaves that aren't in memory are
+    /// read, and aren't held.
+    ///
+    /// # Errors
+    /// `Damaged` comes only where a leaf of one of these containers hasn't the shape of one on the disk, and `DiskFault` only where a read
+    /// failed in this call. `Memory` doesn't come. It reads one block at most for each volume.
     pub fn look_up_chain<D: Disk, L: Ledger>(
         &mut self,
         store: &mut Store,
@@ -122,9 +135,11 @@ impl Containers {
     ) -> Result<Option<Entry>, ContainerFault>
         requires within { slot < slot_count }
         requires stands { StandsOn (D.shown disk.old) store.old.pairs }
-        ensures entry { IfOk result (λ entry. entry ≡ chain_entry self.old slot vvbn) }
+        ensures entry { IsTrue (D.shown disk.old).tells → AreCleanOn (D.shown disk.old).reads self.old
+            → IfOk result (λ entry. entry ≡ chain_entry self.old slot vvbn) }
         ensures held { IfOk result (λ entry. IfSome entry IsHeld) }
-        ensures fault { IfErr result (λ fault. fault ≡ DiskFault) }
+        ensures fault { IsTrue (D.shown disk.old).tells → IfErr result (IsLeafFault (D.shown disk.old).reads self.old vvbn) }
+        ensures kind { IfErr result IsReadFault }
         ensures same { self.new ≡ self.old }
         ensures step { steps.new ≡ steps.old + 1 }
         ensures only_reads { OnlyReads (D.shown disk.old) (D.shown disk.new) }
@@ -132,25 +147,44 @@ impl Containers {
         ensures cause { HasBlockCause (D.shown disk.old).faults (D.shown disk.new).faults result }
     {
         steps.tick();
-        Ok(self.first_entry(slot, vvbn))
+        self.first_entry(store, disk, slot, vvbn)
     }
 
     /// The first entry of a VVBN along the chain of a slot, as `look_up_chain` finds it, where that isn't counted: it
-    /// counts no step, makes no disk call and takes no memory, and passes at most 64 volumes.
-    #[tactic(auto, using(crate::proofs::Chains::found_here, crate::proofs::Chains::goes_up, crate::proofs::Chains::ends_above, crate::proofs::Chains::ends_after, crate::proofs::Chains::parent_within))]
-    pub fn first_entry(&self, slot: u8, vvbn: u32) -> Option<Entry>
-        requires { slot < slot_count }
-        ensures entry { result ≡ chain_entry self.now slot vvbn }
-        ensures held { IfSome result IsHeld }
+    /// counts no step and takes no memory, and passes at most 64 volumes.
+    ///
+    /// # Errors
+    /// As those of `look_up_chain`.
+    #[tactic(auto, using(crate::proofs::Chains::found_here, crate::proofs::Chains::goes_up, crate::proofs::Chains::ends_above, crate::proofs::Chains::ends_after, crate::proofs::Chains::parent_within, crate::proofs::Chains::clean_at, crate::proofs::Chains::chain_fault, crate::proofs::Reading::reads_none, fv_disk::proofs::Resting::reads_then))]
+    pub fn first_entry<D: Disk>(
+        &self,
+        store: &mut Store,
+        disk: &mut D,
+        slot: u8,
+        vvbn: u32,
+    ) -> Result<Option<Entry>, ContainerFault>
+        requires within { slot < slot_count }
+        requires stands { StandsOn (D.shown disk.old) store.old.pairs }
+        ensures entry { IsTrue (D.shown disk.old).tells → AreCleanOn (D.shown disk.old).reads self.now
+            → IfOk result (λ entry. entry ≡ chain_entry self.now slot vvbn) }
+        ensures held { IfOk result (λ entry. IfSome entry IsHeld) }
+        ensures fault { IsTrue (D.shown disk.old).tells → IfErr result (IsLeafFault (D.shown disk.old).reads self.now vvbn) }
+        ensures kind { IfErr result IsReadFault }
+        ensures only_reads { OnlyReads (D.shown disk.old) (D.shown disk.new) }
+        ensures stands { StandsOn (D.shown disk.new) store.new.pairs }
+        ensures cause { HasBlockCause (D.shown disk.old).faults (D.shown disk.new).faults result }
     {
         let mut at = slot;
         for _ in 0..SLOTS {
-            if let Some(entry) = own_entry(&self.containers, at, vvbn) {
-                return Some(entry);
+            if let Some(entry) = own_entry(&self.containers, store, disk, at, vvbn)? {
+                return Ok(Some(entry));
             }
-            at = parent_of(&self.parents, at)?;
+            let Some(parent) = parent_of(&self.parents, at) else {
+                return Ok(None);
+            };
+            at = parent;
         }
-        None
+        Ok(None)
     }
 }
 
@@ -165,14 +199,26 @@ fn free_slots(alloc: Global) -> Result<Vec<Option<Container>>, AllocError>
 }
 
 /// The entry that a slot's own container has.
-fn own_entry(containers: &[Option<Container>], slot: u8, vvbn: u32) -> Option<Entry>
-    requires { slot < length containers.now }
-    ensures entry { result ≡ own_entry (slice_index_or containers.now slot None) vvbn }
-    ensures held { IfSome result IsHeld }
+fn own_entry<D: Disk>(
+    containers: &[Option<Container>],
+    store: &mut Store,
+    disk: &mut D,
+    slot: u8,
+    vvbn: u32,
+) -> Result<Option<Entry>, ContainerFault>
+    requires within { slot < length containers.now }
+    requires stands { StandsOn (D.shown disk.old) store.old.pairs }
+    ensures entry { IsTrue (D.shown disk.old).tells → IfSome (slice_index_or containers.now slot None) (IsCleanOn (D.shown disk.old).reads)
+        → IfOk result (λ entry. entry ≡ own_entry (map_in (slice_index_or containers.now slot None)) vvbn) }
+    ensures held { IfOk result (λ entry. IfSome entry IsHeld) }
+    ensures fault { IsTrue (D.shown disk.old).tells
+        → IfErr result (IsFaultIn (D.shown disk.old).reads (slice_index_or containers.now slot None) vvbn) }
+    ensures kind { IfErr result IsReadFault }
+    ensures read { HasRead (D.shown disk.old) (D.shown disk.new) store.new.pairs result }
 {
     match &containers[slot as usize] {
-        Some(container) => container.entry_or_none(vvbn),
-        None => None,
+        Some(container) => container.find_or_none(store, disk, vvbn),
+        None => Ok(None),
     }
 }
 

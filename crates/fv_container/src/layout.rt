@@ -1,6 +1,6 @@
 //! How many nodes a tree has.
 
-ghost use Rattle.std.specs.Prelude.{◌≡◌, ◌<◌, ◌≤◌, ℕ, true, length, get_or, replicate, IfOk};
+ghost use Rattle.std.specs.Prelude.{◌≡◌, ◌<◌, ◌≤◌, ◌+◌, ◌++◌, ℕ, true, false, length, get_or, replicate, IfOk};
 ghost use Rattle.fv_image.specs.Containers.{height_of, level_width, most_entries};
 ghost use Rattle.fv_container.specs.Mapped.{node_count};
 
@@ -24,6 +24,14 @@ pub(crate) fn inner_count(entries: usize) -> usize
 {
     let covering = (leaf_count(entries) + 255) / FAN;
     if covering == 0 { 1 } else { covering }
+}
+
+/// How many nodes stand above the leaves, with a root above these.
+pub(crate) fn above_count(entries: usize) -> usize
+    requires { entries ≤ most_entries }
+    ensures { result ≡ level_width entries 1 + 1 }
+{
+    inner_count(entries) + 1
 }
 
 /// How many nodes a tree can have: leaves, the level above them, and a root above that.
@@ -60,6 +68,45 @@ pub(crate) fn filled<T: Copy + Drop>(
         items.push(value)?;
     }
     Ok(items)
+}
+
+/// Marks of nodes: none of so many leaves is marked, and each of so many nodes above them where that is wished.
+pub(crate) fn marks_above(
+    alloc: Global,
+    leaves: usize,
+    above: usize,
+    wished: bool,
+) -> Result<Vec<bool>, AllocError>
+    requires leaves { leaves ≤ 65536 }
+    requires above { above ≤ 65536 }
+    ensures { IfOk result (λ marks. marks.items ≡ replicate leaves false ++ replicate above wished) }
+{
+    let mut marks = Vec::with_capacity(alloc, leaves + above)?;
+    for _ in 0..leaves {
+        marks.push(false)?;
+    }
+    for _ in 0..above {
+        marks.push(wished)?;
+    }
+    Ok(marks)
+}
+
+/// Which of so many leaves are absent, whose places stand first in a row.
+pub(crate) fn absent_leaves(
+    alloc: Global,
+    tree: &[u32],
+    leaves: usize,
+) -> Result<Vec<bool>, AllocError>
+    requires { leaves ≤ length tree.now }
+    ensures long { IfOk result (λ absent. length absent.items ≡ leaves) }
+    ensures absent { IfOk result (λ absent. (k : ℕ) → k < leaves → get_or absent.items k false ≡ true → get_or tree.now k 0 ≡ 0) }
+    ensures there { IfOk result (λ absent. (k : ℕ) → k < leaves → get_or tree.now k 0 ≡ 0 → get_or absent.items k false ≡ true) }
+{
+    let mut absent = filled(alloc, leaves, false)?;
+    for k in 0..leaves {
+        absent[k] = tree[k] == 0;
+    }
+    Ok(absent)
 }
 
 /// Puts one value into a whole row.

@@ -1,17 +1,24 @@
 //! Containers: which block stands under each VVBN of a volume.
 #![tactic(auto)]
 
+mod bits;
 mod chain;
 mod container;
 mod entry;
 mod fault;
 mod flush;
 mod free;
+mod known;
 mod layout;
+mod leaf;
 mod load;
+mod looking;
+mod marking;
 mod places;
 mod position;
 mod steps;
+mod telling;
+mod told;
 mod write;
 
 pub use chain::Containers;

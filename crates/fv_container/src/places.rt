@@ -1,43 +1,68 @@
 //! The places of a tree: which nodes have one, taking them and giving them back.
 
-ghost use Rattle.std.specs.Prelude.{◌≡◌, ◌≢◌, ◌<◌, ◌≤◌, ◌+◌, ◌*◌, ◌^◌, ℕ, true, false, not, ◌&&◌, length, get_or};
+ghost use Rattle.std.specs.Prelude.{◌≡◌, ◌≢◌, ◌<◌, ◌≤◌, ℕ, true, false, not, ◌&&◌, ◌==◌, length, get_or};
+ghost use Rattle.std.specs.List.{list_any};
 ghost use Rattle.std.specs.FinSet as set;
 ghost use Rattle.fv_image.specs.Containers.{level_width, most_entries};
 ghost use Rattle.fv_container.specs.Mapped.{node_count};
 ghost use Rattle.fv_container.specs.Freeing.{Releases};
-ghost use Rattle.fv_container.specs.Written.{AreLeft, ArePlaced, HasReleased, HasTaken, IsSameBelow, TakesIf, blocks_needed, has_entry, is_written, root_number};
+ghost use Rattle.fv_container.specs.Paged.{leaf_here};
+ghost use Rattle.fv_container.specs.Written.{AreLeft, ArePlaced, HasReleased, HasTaken, IsSameBelow, TakesIf, is_full, is_there, may_move, passed_before, root_number};
 
-use crate::entry::Entry;
 use crate::free::Free;
 use crate::layout::{FAN, inner_count, leaf_count};
+use fv_codec::ContainerLeaf;
 
 /// Whether a leaf has an entry that isn't a hole.
-fn has_entry(entries: &[Option<Entry>], leaf: usize) -> bool
-    requires { 256 * leaf < length entries.now }
-    ensures { result ≡ has_entry entries.now leaf }
+fn has_entry(leaf: &ContainerLeaf) -> bool
+    ensures { result ≡ list_any (λ kind. not (kind == 0)) leaf.now.kinds }
 {
-    let from = FAN * leaf;
-    for c in 0..FAN {
-        if c < entries.len() - from && entries[from + c].is_some() {
+    for c in 0..leaf.kinds.len() {
+        if leaf.kinds[c] != 0 {
             return true;
         }
     }
     false
 }
 
-/// Whether a node is written: a leaf of holes is absent, and a root above the second level stands only
-/// where that has more than one node.
-#[tactic(auto, unfolding(crate::specs::Written::is_written))]
-fn is_written(entries: &[Option<Entry>], node: usize) -> bool
-    requires { length entries.now ≤ most_entries }
-    ensures { result ≡ is_written entries.now node }
+/// Whether the leaf of a number is in memory, and has an entry that isn't a hole.
+fn is_full(leaves: &[Option<Box<ContainerLeaf>>], leaf: usize) -> bool
+    requires { leaf < length leaves.now }
+    ensures { result ≡ is_full (leaf_here leaves.now leaf) }
 {
-    let leaves = leaf_count(entries.len());
-    let inner = inner_count(entries.len());
-    if node < leaves {
-        has_entry(entries, node)
+    match &leaves[leaf] {
+        Some(leaf) => has_entry(leaf),
+        None => false,
+    }
+}
+
+/// Whether the next tree has a node: a dirty leaf of holes is absent then, any other leaf is there where it is, and a root above the second
+/// level stands only where that has more than one node.
+#[tactic(auto, unfolding(crate::specs::Written::is_there))]
+fn is_there(
+    leaves: &[Option<Box<ContainerLeaf>>],
+    tree: &[u32],
+    dirty: &[bool],
+    count: usize,
+    node: usize,
+) -> bool
+    requires few { count ≤ most_entries }
+    requires leaves { length leaves.now ≡ level_width count 0 }
+    requires tree { length tree.now ≡ node_count count }
+    requires dirty { length dirty.now ≡ node_count count }
+    requires within { node < node_count count }
+    ensures { result ≡ is_there leaves.now tree.now dirty.now count node }
+{
+    let low = leaf_count(count);
+    let inner = inner_count(count);
+    if node < low {
+        if dirty[node] {
+            is_full(leaves, node)
+        } else {
+            tree[node] != 0
+        }
     } else {
-        node < leaves + inner || inner > 1
+        node < low + inner || inner > 1
     }
 }
 
@@ -95,64 +120,64 @@ fn is_same_below(entries: usize, tree: &[u32], places: &[u32], node: usize) -> b
     }
 }
 
-/// Whether a node stays at its place: it is written and has one, it isn't dirty, and the nodes below it stay.
+/// Whether a node stays at its place: it is there, and has one, it isn't dirty, and the nodes below it stay.
 fn may_stay(
-    entries: &[Option<Entry>],
+    there: bool,
+    count: usize,
     tree: &[u32],
     dirty: &[bool],
     places: &[u32],
     node: usize,
 ) -> bool
-    requires few { length entries.now ≤ most_entries }
-    requires tree { length tree.now ≡ node_count (length entries.now) }
-    requires dirty { length dirty.now ≡ node_count (length entries.now) }
-    requires places { length places.now ≡ node_count (length entries.now) }
-    requires within { node < node_count (length entries.now) }
-    ensures written { result ≡ true → is_written entries.now node ≡ true }
+    requires few { count ≤ most_entries }
+    requires tree { length tree.now ≡ node_count count }
+    requires dirty { length dirty.now ≡ node_count count }
+    requires places { length places.now ≡ node_count count }
+    requires within { node < node_count count }
+    ensures there { result ≡ true → there ≡ true }
     ensures some { result ≡ true → get_or tree.now node 0 ≢ 0 }
     ensures clean { result ≡ true → get_or dirty.now node true ≡ false }
-    ensures below { result ≡ true → IsSameBelow (length entries.now) tree.now places.now node }
-    ensures stays { result ≡ false → is_written entries.now node ≡ true → get_or tree.now node 0 ≢ 0 → get_or dirty.now node true ≡ false
-        → IsSameBelow (length entries.now) tree.now places.now node → ⊥ }
+    ensures below { result ≡ true → IsSameBelow count tree.now places.now node }
+    ensures stays { result ≡ false → there ≡ true → get_or tree.now node 0 ≢ 0 → get_or dirty.now node true ≡ false
+        → IsSameBelow count tree.now places.now node → ⊥ }
 {
-    tree[node] != 0
-        && !dirty[node]
-        && is_written(entries, node)
-        && is_same_below(entries.len(), tree, places, node)
+    tree[node] != 0 && !dirty[node] && there && is_same_below(count, tree, places, node)
 }
 
-/// Whether a node is written anew: it is written, and doesn't stay.
-fn is_wanted(entries: &[Option<Entry>], node: usize, stays: bool) -> bool
-    requires { length entries.now ≤ most_entries }
-    ensures { result ≡ (not stays && is_written entries.now node) }
+/// Whether a node is written anew: it is there, and doesn't stay.
+fn is_wanted(there: bool, stays: bool) -> bool
+    ensures { result ≡ (not stays && there) }
 {
-    !stays && is_written(entries, node)
+    !stays && there
 }
 
-/// Puts the places of the next tree into `places`: a node that is written stays where it can, and else has a free block, which is in `fresh`, too; for each
-/// other node there is 0.
+/// Puts the places of the next tree into `places`: a node that is there stays where it can, and else has a free block, which is in `fresh`,
+/// too; for each other node there is 0.
 pub(crate) fn take_places<F: Free>(
     map: &mut F,
-    entries: &[Option<Entry>],
+    leaves: &[Option<Box<ContainerLeaf>>],
+    count: usize,
     tree: &[u32],
     dirty: &[bool],
     places: &mut [u32],
     fresh: &mut [u32],
 )
-    requires few { length entries.now ≤ most_entries }
-    requires tree { length tree.now ≡ node_count (length entries.now) }
-    requires dirty { length dirty.now ≡ node_count (length entries.now) }
-    requires places { length places.old ≡ node_count (length entries.now) }
-    requires fresh { length fresh.old ≡ node_count (length entries.now) }
-    requires room { blocks_needed entries.now ≤ set.len (F.room map.old).free }
+    requires few { count ≤ most_entries }
+    requires leaves { length leaves.now ≡ level_width count 0 }
+    requires tree { length tree.now ≡ node_count count }
+    requires dirty { length dirty.now ≡ node_count count }
+    requires places { length places.old ≡ node_count count }
+    requires fresh { length fresh.old ≡ node_count count }
+    requires room { passed_before (may_move leaves.now dirty.now count) (node_count count) ≤ set.len (F.room map.old).free }
     ensures len { length places.new ≡ length places.old }
     ensures anew { length fresh.new ≡ length fresh.old }
-    ensures taken { HasTaken (F.room map.old) entries.now fresh.new (length fresh.new) (F.room map.new) }
-    ensures placed { ArePlaced entries.now tree.now dirty.now fresh.new places.new (length places.new) }
+    ensures taken { HasTaken (F.room map.old) (may_move leaves.now dirty.now count) fresh.new (length fresh.new) (F.room map.new) }
+    ensures placed { ArePlaced (is_there leaves.now tree.now dirty.now count) count tree.now dirty.now fresh.new places.new (length places.new) }
 {
     for n in 0..places.len() {
-        let stays = may_stay(entries, tree, dirty, places, n);
-        let place = take_place(map, is_wanted(entries, n, stays));
+        let there = is_there(leaves, tree, dirty, count, n);
+        let stays = may_stay(there, count, tree, dirty, places, n);
+        let place = take_place(map, is_wanted(there, stays));
         fresh[n] = place;
         places[n] = if stays { tree[n] } else { place };
     }

@@ -2,10 +2,10 @@
 
 ghost use Rattle.std.specs.Prelude.{◌≡◌, ◌≢◌, ◌<◌, ◌≤◌, ◌&&◌, ℕ, true, length, get_or};
 ghost use Rattle.fv_codec.specs.Blocks.{last_place};
-ghost use Rattle.fv_container.specs.Reading.{IsInnerAs, IsLeafAs};
+ghost use Rattle.fv_container.specs.Reading.{IsInnerAs};
 
 use crate::layout::FAN;
-use fv_codec::{ContainerInner, ContainerLeaf};
+use fv_codec::ContainerInner;
 
 /// The last place of a block.
 const LAST_PLACE: u32 = 1_048_575;
@@ -34,29 +34,6 @@ fn has_no_child(children: &[u32; 256], from: usize) -> bool
 {
     for c in 0..FAN {
         if c >= from && children[c] != 0 {
-            return false;
-        }
-    }
-    true
-}
-
-/// Whether what was read at a place is the leaf of an index, with at most so many entries. Where `at` is 0 nothing was.
-pub(crate) fn is_leaf_as(at: u32, leaf: &ContainerLeaf, index: usize, width: usize) -> bool
-    ensures whole { result ≡ true → at ≢ 0 → IsLeafAs leaf.now index width }
-    ensures kept { (at ≢ 0 → IsLeafAs leaf.now index width) → result ≡ true }
-{
-    at == 0 || (leaf.index == index as u64 && has_no_entry(leaf, width))
-}
-
-/// Whether a leaf has no entry from a number on.
-fn has_no_entry(leaf: &ContainerLeaf, from: usize) -> bool
-    ensures pvbns { result ≡ true → (c : ℕ) → from ≤ c → c < 256 → get_or leaf.now.pvbns c 0 ≡ 0 }
-    ensures kinds { result ≡ true → (c : ℕ) → from ≤ c → c < 256 → get_or leaf.now.kinds c 0 ≡ 0 }
-    ensures kept { ((c : ℕ) → from ≤ c → c < 256 → get_or leaf.now.pvbns c 0 ≡ 0)
-        → ((c : ℕ) → from ≤ c → c < 256 → get_or leaf.now.kinds c 0 ≡ 0) → result ≡ true }
-{
-    for c in 0..FAN {
-        if c >= from && (leaf.pvbns[c] != 0 || leaf.kinds[c] != 0) {
             return false;
         }
     }

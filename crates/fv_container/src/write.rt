@@ -1,83 +1,28 @@
 //! Writing the nodes of a tree to their places.
 
-ghost use Rattle.std.specs.Prelude.{◌≡◌, ◌≢◌, ◌<◌, ◌≤◌, ◌+◌, ◌-◌, ◌*◌, ◌^◌, ℕ, length, get_or, None, IfSome, IsTrue, OnOk};
+ghost use Rattle.std.specs.Prelude.{◌≡◌, ◌≢◌, ◌<◌, ◌≤◌, ◌^◌, ℕ, length, get_or, IfSome, IsTrue, Ok, OnOk};
 ghost use Rattle.fv_disk.specs.Shown.{SameBut};
-ghost use Rattle.fv_codec.specs.Blocks.{IsEntry as IsLeafEntry, last_place};
-ghost use Rattle.fv_image.specs.Containers.{level_width, most_entries};
+ghost use Rattle.fv_codec.specs.Blocks.{last_place, leaf_at};
 ghost use Rattle.fv_store.specs.Held.{StandsOn};
 ghost use Rattle.fv_disk.specs.Sparing.{Spares};
-ghost use Rattle.fv_container.specs.Mapped.{IsHeld, node_count};
-ghost use Rattle.fv_container.specs.Spelled.{pair_of};
-ghost use Rattle.fv_container.specs.Written.{AreAnew, AreWritable, IsElsewhere, IsInnerOf, IsLeafOf, IsNodeOf, child_from};
+ghost use Rattle.fv_container.specs.Paged.{AreWell, leaf_here};
+ghost use Rattle.fv_container.specs.Written.{AreAnew, AreWritable, IsElsewhere, IsInnerOf, IsPutOf, child_from};
 
-use crate::entry::Entry;
 use crate::layout::{FAN, inner_count, leaf_count};
 use fv_codec::{ContainerInner, ContainerLeaf};
 use fv_disk::{Block, Disk, Failed, ZERO};
 use fv_store::Store;
 
-/// An entry as a leaf has it.
-fn pair_of(entry: Option<Entry>) -> (u32, u32)
-    requires { IfSome entry IsHeld }
-    ensures pair { (result.0, result.1) ≡ pair_of entry }
-    ensures range { IsLeafEntry (result.0, result.1) }
+/// The block of a leaf in memory; where it isn't there, the block stays.
+#[tactic(auto, using(crate::proofs::Regions::leaf_in_range))]
+fn leaf_block(leaves: &[Option<Box<ContainerLeaf>>], index: usize, into: &mut Block)
+    requires within { index < length leaves.now }
+    requires well { AreWell leaves.now }
+    ensures { IfSome (leaf_here leaves.now index) (λ b. leaf_at into.new ≡ Ok b.value) }
 {
-    match entry {
-        Some(entry) => (entry.pvbn, u32::from(entry.kind)),
-        None => (0, 0),
+    if let Some(leaf) = &leaves[index] {
+        leaf.encode(into);
     }
-}
-
-/// The entry under a number; past the end each is a hole.
-fn entry_under(entries: &[Option<Entry>], v: usize) -> Option<Entry>
-    requires { (v : ℕ) → IfSome (get_or entries.now v None) IsHeld }
-    ensures value { result ≡ get_or entries.now v None }
-    ensures held { IfSome result IsHeld }
-{
-    if v < entries.len() { entries[v] } else { None }
-}
-
-/// The entries of a leaf.
-fn leaf_of(entries: &[Option<Entry>], index: usize) -> ContainerLeaf
-    requires few { index < 2 ^ 32 }
-    requires held { (v : ℕ) → IfSome (get_or entries.now v None) IsHeld }
-    ensures index { result.index ≡ index }
-    ensures pvbns { length result.pvbns ≡ 256 }
-    ensures kinds { length result.kinds ≡ 256 }
-    ensures entries { (c : ℕ) → c < 256 → (get_or result.pvbns c 0, get_or result.kinds c 0) ≡ pair_of (get_or entries.now (256 * index + c) None) }
-    ensures range { (c : ℕ) → c < 256 → IsLeafEntry (get_or result.pvbns c 0, get_or result.kinds c 0) }
-{
-    let mut pvbns = [0; 256];
-    let mut kinds = [0; 256];
-    fill_leaf(entries, FAN * index, &mut pvbns, &mut kinds);
-    ContainerLeaf {
-        index: index as u64,
-        pvbns,
-        kinds,
-    }
-}
-
-fn fill_leaf(entries: &[Option<Entry>], from: usize, pvbns: &mut [u32; 256], kinds: &mut [u32; 256])
-    requires few { from < 2 ^ 48 }
-    requires held { (v : ℕ) → IfSome (get_or entries.now v None) IsHeld }
-    ensures entries { (c : ℕ) → c < 256 → (get_or pvbns.new c 0, get_or kinds.new c 0) ≡ pair_of (get_or entries.now (from + c) None) }
-    ensures range { (c : ℕ) → c < 256 → IsLeafEntry (get_or pvbns.new c 0, get_or kinds.new c 0) }
-{
-    for c in 0..FAN {
-        let pair = pair_of(entry_under(entries, from + c));
-        pvbns[c] = pair.0;
-        kinds[c] = pair.1;
-    }
-}
-
-/// The block of a leaf.
-fn leaf_block(entries: &[Option<Entry>], index: usize, into: &mut Block)
-    requires few { index < 2 ^ 32 }
-    requires held { (v : ℕ) → IfSome (get_or entries.now v None) IsHeld }
-    ensures { IsLeafOf entries.now index into.new }
-{
-    let leaf = leaf_of(entries, index);
-    leaf.encode(into);
 }
 
 /// The places of children that stand in a row up to an end.
@@ -113,20 +58,26 @@ fn inner_block(places: &[u32], level: u8, number: u64, from: usize, end: usize, 
 }
 
 /// The block of a node, by its number.
-fn node_block(entries: &[Option<Entry>], places: &[u32], node: usize, into: &mut Block)
-    requires rows { AreWritable entries.now places.now }
+fn node_block(
+    leaves: &[Option<Box<ContainerLeaf>>],
+    count: usize,
+    places: &[u32],
+    node: usize,
+    into: &mut Block,
+)
+    requires rows { AreWritable leaves.now count places.now }
     requires within { node < length places.now }
-    ensures { IsNodeOf entries.now places.now node into.new }
+    ensures { IsPutOf leaves.now count places.now node into.new }
 {
-    let leaves = leaf_count(entries.len());
-    let inner = inner_count(entries.len());
-    if node < leaves {
-        leaf_block(entries, node, into);
-    } else if node < leaves + inner {
-        let number = node - leaves;
-        inner_block(places, 1, number as u64, FAN * number, leaves, into);
+    let low = leaf_count(count);
+    let inner = inner_count(count);
+    if node < low {
+        leaf_block(leaves, node, into);
+    } else if node < low + inner {
+        let number = node - low;
+        inner_block(places, 1, number as u64, FAN * number, low, into);
     } else {
-        inner_block(places, 2, 0, leaves, leaves + inner, into);
+        inner_block(places, 2, 0, low, low + inner, into);
     }
 }
 
@@ -135,17 +86,18 @@ fn node_block(entries: &[Option<Entry>], places: &[u32], node: usize, into: &mut
 fn write_node<D: Disk>(
     store: &mut Store,
     disk: &mut D,
-    entries: &[Option<Entry>],
+    leaves: &[Option<Box<ContainerLeaf>>],
+    count: usize,
     places: &[u32],
     fresh: &[u32],
     node: usize,
 ) -> Result<(), Failed>
     requires stands { StandsOn (D.shown disk.old) store.old.pairs }
-    requires rows { AreWritable entries.now places.now }
+    requires rows { AreWritable leaves.now count places.now }
     requires fresh { length fresh.now ≡ length places.now }
     requires within { node < length fresh.now }
     ensures written { IsTrue (D.shown disk.old).tells
-        → OnOk result (get_or fresh.now node 0 ≢ 0 → IsNodeOf entries.now places.now node ((D.shown disk.new).reads (get_or fresh.now node 0))) }
+        → OnOk result (get_or fresh.now node 0 ≢ 0 → IsPutOf leaves.now count places.now node ((D.shown disk.new).reads (get_or fresh.now node 0))) }
     ensures others { IsTrue (D.shown disk.old).tells
         → SameBut (get_or fresh.now node 0) (D.shown disk.old).reads (D.shown disk.new).reads }
     ensures spares { Spares (IsElsewhere fresh.now) (D.shown disk.old) (D.shown disk.new) result }
@@ -155,7 +107,7 @@ fn write_node<D: Disk>(
         return Ok(());
     }
     let mut block = ZERO;
-    node_block(entries, places, node, &mut block);
+    node_block(leaves, count, places, node, &mut block);
     store.put(disk, fresh[node], &block)
 }
 
@@ -164,21 +116,22 @@ fn write_node<D: Disk>(
 pub(crate) fn write_tree<D: Disk>(
     store: &mut Store,
     disk: &mut D,
-    entries: &[Option<Entry>],
+    leaves: &[Option<Box<ContainerLeaf>>],
+    count: usize,
     places: &[u32],
     fresh: &[u32],
 ) -> Result<(), Failed>
     requires stands { StandsOn (D.shown disk.old) store.old.pairs }
-    requires rows { AreWritable entries.now places.now }
+    requires rows { AreWritable leaves.now count places.now }
     requires fresh { length fresh.now ≡ length places.now }
     requires once { (m k : ℕ) → m < k → k < length fresh.now → get_or fresh.now k 0 ≢ 0 → get_or fresh.now m 0 ≢ get_or fresh.now k 0 }
     ensures written { IsTrue (D.shown disk.old).tells
-        → OnOk result (AreAnew entries.now places.now fresh.now (length fresh.now) (D.shown disk.new).reads) }
+        → OnOk result (AreAnew leaves.now count places.now fresh.now (length fresh.now) (D.shown disk.new).reads) }
     ensures spares { Spares (IsElsewhere fresh.now) (D.shown disk.old) (D.shown disk.new) result }
     ensures stands { StandsOn (D.shown disk.new) store.new.pairs }
 {
     for n in 0..fresh.len() {
-        write_node(store, disk, entries, places, fresh, n)?;
+        write_node(store, disk, leaves, count, places, fresh, n)?;
     }
     Ok(())
 }

@@ -10,15 +10,23 @@ use fv_disk::Disk;
 use fv_memdisk::MemHost;
 use fv_root::{find_root, format};
 use fv_store::Store;
-use std::alloc::{AllocError, Global};
+use std::alloc::Global;
 use std::marker::Brand;
 use std::sync::ledger::{Blank, Ledger};
 use std::test::Fail;
 
-/// Places data blocks under these VVBNs, 100 blocks past them.
-fn place_data(container: &mut Container, entries: u32, vvbns: &[u32])
-    requires size { length container.old.entries ≡ entries }
-    ensures size { length container.new.entries ≡ entries }
+/// Sets data blocks under these VVBNs, 100 blocks past them.
+pub(crate) fn set_data<D: Disk>(
+    container: &mut Container,
+    store: &mut Store,
+    disk: &mut D,
+    entries: u32,
+    vvbns: &[u32],
+) -> Result<(), ContainerFault>
+    requires size { length container.old.map.entries ≡ entries }
+    requires stands { StandsOn (D.shown disk.old) store.old.pairs }
+    ensures size { length container.new.map.entries ≡ entries }
+    ensures stands { StandsOn (D.shown disk.new) store.new.pairs }
 {
     for vvbn in vvbns {
         if *vvbn < entries && *vvbn < 1_000_000 {
@@ -26,27 +34,39 @@ fn place_data(container: &mut Container, entries: u32, vvbns: &[u32])
                 pvbn: *vvbn + 100,
                 kind: 1,
             };
-            container.place(*vvbn, entry);
+            container.set(store, disk, *vvbn, Some(entry))?;
         }
     }
+    Ok(())
 }
 
 /// The PVBN under a VVBN, 0 for a hole.
-fn pvbn_at(container: &Container, entries: u32, vvbn: u32) -> u32
-    requires { length container.now.entries ≡ entries }
+fn pvbn_at<D: Disk>(
+    container: &Container,
+    store: &mut Store,
+    disk: &mut D,
+    vvbn: u32,
+) -> Result<u32, ContainerFault>
+    requires within { vvbn < length container.now.map.entries }
+    requires stands { StandsOn (D.shown disk.old) store.old.pairs }
+    ensures stands { StandsOn (D.shown disk.new) store.new.pairs }
 {
-    if vvbn >= entries {
-        return 0;
-    }
-    match container.entry_at(vvbn) {
-        Some(entry) => entry.pvbn,
-        None => 0,
+    match container.find(store, disk, vvbn)? {
+        Some(entry) => Ok(entry.pvbn),
+        None => Ok(0),
     }
 }
 
 /// Whether just these VVBNs of a container have their data blocks.
-fn has_just(container: &Container, entries: u32, vvbns: &[u32]) -> bool
-    requires { length container.now.entries ≡ entries }
+fn has_just<D: Disk>(
+    container: &Container,
+    store: &mut Store,
+    disk: &mut D,
+    entries: u32,
+    vvbns: &[u32],
+) -> Result<bool, ContainerFault>
+    requires size { length container.now.map.entries ≡ entries }
+    requires stands { StandsOn (D.shown disk.old) store.old.pairs }
 {
     for vvbn in 0..entries {
         let want = if vvbns.contains(&vvbn) {
@@ -54,33 +74,42 @@ fn has_just(container: &Container, entries: u32, vvbns: &[u32]) -> bool
         } else {
             0
         };
-        if pvbn_at(container, entries, vvbn) as u64 != want {
-            return false;
+        let pvbn = pvbn_at(container, store, disk, vvbn)?;
+        if u64::from(pvbn) != want {
+            return Ok(false);
         }
     }
-    true
+    Ok(true)
 }
 
 /// The map of a new aggregate.
-fn aggregate<D: Disk>(alloc: Global, disk: &mut D) -> Option<AggMap> {
+pub(crate) fn aggregate<D: Disk>(alloc: Global, disk: &mut D) -> Option<AggMap> {
     format(disk, 2048).ok()?;
     let found = find_root(disk).ok()?;
     AggMap::load(alloc, disk, &found).ok()
 }
 
 /// A container with data blocks under these VVBNs.
-fn with_data(alloc: Global, entries: u32, vvbns: &[u32]) -> Result<Container, AllocError>
+fn with_data<D: Disk>(
+    alloc: Global,
+    store: &mut Store,
+    disk: &mut D,
+    entries: u32,
+    vvbns: &[u32],
+) -> Result<Container, ContainerFault>
     requires few { entries ≤ most_entries }
-    ensures size { IfOk result (λ container. length container.entries ≡ entries) }
+    requires stands { StandsOn (D.shown disk.old) store.old.pairs }
+    ensures size { IfOk result (λ container. length container.map.entries ≡ entries) }
+    ensures stands { StandsOn (D.shown disk.new) store.new.pairs }
 {
     let mut container = Container::new(alloc, entries)?;
-    place_data(&mut container, entries, vvbns);
+    set_data(&mut container, store, disk, entries, vvbns)?;
     Ok(container)
 }
 
 /// Writes a container with data blocks under these VVBNs, where there are blocks enough, and answers its root.
 #[tactic(auto, using(fv_store::proofs::Laws::stands_at_first))]
-fn written<D: Disk>(
+pub(crate) fn written<D: Disk>(
     alloc: Global,
     disk: &mut D,
     map: &mut AggMap,
@@ -89,8 +118,8 @@ fn written<D: Disk>(
 ) -> Option<u32>
     requires { entries ≤ most_entries }
 {
-    let mut container = with_data(alloc, entries, vvbns).ok()?;
     let mut store = Store::new(alloc, 8).ok()?;
+    let mut container = with_data(alloc, &mut store, disk, entries, vvbns).ok()?;
     if map.free_count() < entries / 256 + entries / 65536 + 4 {
         return None;
     }
@@ -111,7 +140,7 @@ fn spells<D: Disk>(
     let mut store = Store::new(alloc, 2).ok()?;
     let height = height_of(entries);
     let container = Container::at(alloc, &mut store, disk, entries, height, root).ok()?;
-    Some(has_just(&container, entries, vvbns))
+    has_just(&container, &mut store, disk, entries, vvbns).ok()
 }
 
 /// Whether a container that was written is read again as it was.

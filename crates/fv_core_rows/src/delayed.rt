@@ -1,13 +1,15 @@
 //! Delayed frees: which regions are chosen, and the reclaim of one.
 
 ghost use Rattle.std.specs.Prelude.{◌≡◌, length, IfOk, IfSome};
+ghost use Rattle.fv_store.specs.Held.{StandsOn};
 
 use fv_aggmap::AggMap;
-use fv_container::{Container, Entry};
+use fv_container::{Container, ContainerFault, Entry};
 use fv_delay::{Count, Counts, Region, choose_regions, delayed_by_region, reclaim};
 use fv_disk::Disk;
 use fv_memdisk::MemHost;
 use fv_root::{find_root, format};
+use fv_store::Store;
 use fv_volmap::VolMap;
 use std::alloc::{AllocError, Global};
 use std::test::Fail;
@@ -58,58 +60,87 @@ fn with_one(alloc: Global) -> Option<VolMap>
     Some(map)
 }
 
-/// Places a block of the aggregate under a VVBN.
-fn place(container: &mut Container, map: &mut AggMap, vvbn: u32)
-    requires size { length container.old.entries ≡ 325 }
-    ensures size { length container.new.entries ≡ 325 }
+/// Sets a block of the aggregate under a VVBN.
+fn set_block<D: Disk>(
+    container: &mut Container,
+    store: &mut Store,
+    disk: &mut D,
+    map: &mut AggMap,
+    vvbn: u32,
+) -> Result<(), ContainerFault>
+    requires size { length container.old.map.entries ≡ 325 }
+    requires stands { StandsOn (D.shown disk.old) store.old.pairs }
+    ensures size { length container.new.map.entries ≡ 325 }
+    ensures stands { StandsOn (D.shown disk.new) store.new.pairs }
 {
-    if let Some(pvbn) = map.take_free() {
-        if vvbn < 325 && 0 < pvbn && pvbn < 512 {
-            container.place(vvbn, Entry { pvbn, kind: 1 });
-        }
+    if let Some(pvbn) = map.take_free()
+        && vvbn < 325
+        && 0 < pvbn
+        && pvbn < 512
+    {
+        container.set(store, disk, vvbn, Some(Entry { pvbn, kind: 1 }))?;
     }
+    Ok(())
 }
 
 /// A container for 300 numbers and 25 maps of a block, with blocks under these VVBNs.
-fn with_blocks(alloc: Global, map: &mut AggMap, vvbns: &[u32]) -> Result<Container, AllocError>
-    ensures size { IfOk result (λ container. length container.entries ≡ 325) }
+fn with_blocks<D: Disk>(
+    alloc: Global,
+    store: &mut Store,
+    disk: &mut D,
+    map: &mut AggMap,
+    vvbns: &[u32],
+) -> Result<Container, ContainerFault>
+    requires stands { StandsOn (D.shown disk.old) store.old.pairs }
+    ensures size { IfOk result (λ container. length container.map.entries ≡ 325) }
+    ensures stands { StandsOn (D.shown disk.new) store.new.pairs }
 {
     let mut container = Container::new(alloc, 325)?;
     for vvbn in vvbns {
-        place(&mut container, map, *vvbn);
+        set_block(&mut container, store, disk, map, *vvbn)?;
     }
     Ok(container)
 }
 
 /// How many entries of the first three regions are delayed.
-fn delayed(container: &Container, map: &VolMap) -> [u32; 3]
-    requires size { length container.now.entries ≡ 325 }
+fn delayed<D: Disk>(
+    container: &mut Container,
+    store: &mut Store,
+    disk: &mut D,
+    map: &VolMap,
+) -> Result<[u32; 3], ContainerFault>
+    requires size { length container.old.map.entries ≡ 325 }
     requires span { map.now.span ≡ 300 }
+    requires stands { StandsOn (D.shown disk.old) store.old.pairs }
+    ensures size { length container.new.map.entries ≡ 325 }
+    ensures stands { StandsOn (D.shown disk.new) store.new.pairs }
 {
-    [
+    container.learn_all(store, disk)?;
+    Ok([
         delayed_by_region(container, map, 0),
         delayed_by_region(container, map, 1),
         delayed_by_region(container, map, 2),
-    ]
+    ])
 }
 
 /// Reclaims region 1. Answers the delayed entries before and afterwards, how many became holes, and the free blocks before, afterwards and once
 /// the next root is committed.
+#[tactic(auto, using(fv_store::proofs::Laws::stands_at_first))]
 fn reclaimed<D: Disk>(alloc: Global, disk: &mut D) -> Option<([u32; 3], [u32; 3], [u32; 4])> {
     let mut pool_map = aggregate(alloc, disk)?;
     let map = with_one(alloc)?;
-    let mut container = with_blocks(alloc, &mut pool_map, &[0, 7, 299, 300, 301]).ok()?;
+    let mut store = Store::new(alloc, 2).ok()?;
+    let vvbns = [0, 7, 299, 300, 301];
+    let mut container = with_blocks(alloc, &mut store, disk, &mut pool_map, &vvbns).ok()?;
     pool_map.committed();
-    let before = delayed(&container, &map);
+    let before = delayed(&mut container, &mut store, disk, &map).ok()?;
     let free = pool_map.free_count();
+    container.load(&mut store, disk, 1).ok()?;
     let count = reclaim(&mut container, &map, 1, &mut pool_map);
     let soon = pool_map.free_count();
     pool_map.committed();
-    Some((
-        before,
-        delayed(&container, &map),
-        [count, free, soon, pool_map.free_count()],
-    ))
+    let behind = delayed(&mut container, &mut store, disk, &map).ok()?;
+    Some((before, behind, [count, free, soon, pool_map.free_count()]))
 }
 
 /// Number 0 is in the active map, and 300 is the block of that. So 7 waits in region 0, and in region 1 number 299 and 301, a block of

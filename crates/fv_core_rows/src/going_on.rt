@@ -35,8 +35,8 @@ fn seen(answer: &Result<Reply, Fault>) -> Told {
 fn make(volume: Name) -> Command {
     Command::VolCreate {
         volume,
-        size: 100,
-        kind: Kind::Volume,
+        size: 300,
+        kind: Kind::Thin,
     }
 }
 
@@ -65,6 +65,30 @@ fn get(volume: Name, index: u32) -> Command {
         file: volume,
         index,
     }
+}
+
+/// Puts so many blocks into the file of a volume, and makes a point once all are put. It answers how many were.
+fn fill<D: Disk, L: Ledger>(
+    alloc: Global,
+    disk: &mut D,
+    volume: Name,
+    count: u32,
+    blank: Blank,
+) -> Result<u32, OpenFault>
+    requires name { blank.name ≡ L.name }
+    requires parts { blank.parts ≡ L.parts }
+    requires some { 0 < L.parts }
+{
+    let mut steps: Steps<L> = Steps::open(blank);
+    let mut session = Session::open(alloc, disk)?;
+    for index in 0..count {
+        let answer = session.apply(disk, &put(volume, index, 1), &mut steps);
+        if seen(&answer) != Told::Done {
+            return Ok(index);
+        }
+    }
+    let _ = session.consistency_point(disk);
+    Ok(count)
 }
 
 /// What four commands are answered in a session, one after the other.
@@ -103,7 +127,7 @@ fn failing(host: &MemHost, read: u64) -> Result<MemHost, AllocError> {
     Ok(image)
 }
 
-/// Opening makes eleven reads. The next one is that of the inode block, and then comes that of the file's block.
+/// Opening makes ten reads. The next one is that of the inode block, and then comes that of the file's block.
 #[test]
 fn a_read_that_failed_is_made_again(rt: HostRuntime) -> Result<(), Fail> {
     let alloc = rt.alloc();
@@ -116,17 +140,62 @@ fn a_read_that_failed_is_made_again(rt: HostRuntime) -> Result<(), Fail> {
     };
     let lines = [make(a), new(a), put(a, 0, 1), Command::Cp];
     assert_eq!(rt; play(alloc, &mut host, &lines), Ok([Told::Done; 4]));
-    for read in [11, 12] {
+    for read in [10, 11] {
         let mut image = failing(&host, read)?;
         let lines = [get(a, 0), get(a, 0), put(a, 1, 2), get(a, 1)];
         let wanted = [Told::DiskFault, Told::First(1), Told::Done, Told::First(2)];
         assert_eq!(rt; play(alloc, &mut image, &lines), Ok(wanted));
         assert_eq!(rt; image.faults(), 1);
     }
-    let mut image = failing(&host, 11)?;
+    let mut image = failing(&host, 10)?;
     let lines = [put(a, 0, 3), put(a, 0, 3), Command::Cp, get(a, 0)];
     let wanted = [Told::DiskFault, Told::Done, Told::Done, Told::First(3)];
     assert_eq!(rt; play(alloc, &mut image, &lines), Ok(wanted));
     assert_eq!(rt; (image.faults(), image.write_faults()), (1, 0));
+    Ok(())
+}
+
+/// A host with a volume `a` whose file has 260 blocks: with three nodes over them, one over these and an inode block they have VVBNs in two leaves.
+fn with_two_leaves(alloc: Global, a: Name) -> Result<MemHost, Fail> {
+    let mut host = MemHost::new(alloc, Vec::new(alloc));
+    format(&mut host, 1024).map_err(|_| "it is made")?;
+    let lines = [make(a), new(a), put(a, 0, 1), Command::Cp];
+    play(alloc, &mut host, &lines).map_err(|_| "it is opened")?;
+    let done = fill::<MemHost, Brand>(alloc, &mut host, a, 260, Blank::new(1));
+    match done {
+        Ok(260) => Ok(host),
+        _ => Err("all are put".into()),
+    }
+}
+
+/// A point first reads the two leaves. Where one of these reads fails it has written nothing, all is told as before, and the next point is done. Opening
+/// makes ten reads, and the first `get` four. A disk has one moment before its first call, and one more once opening has made its barrier.
+#[test]
+fn a_point_that_failed_to_read_is_made_again(rt: HostRuntime) -> Result<(), Fail> {
+    let alloc = rt.alloc();
+    let a = Name::read(b"a").ok_or("it is a name")?;
+    let host = with_two_leaves(alloc, a)?;
+    for read in [14, 15] {
+        let mut image = failing(&host, read)?;
+        let lines = [get(a, 0), Command::Cp, get(a, 0), get(a, 259)];
+        let wanted = [
+            Told::First(1),
+            Told::DiskFault,
+            Told::First(1),
+            Told::First(1),
+        ];
+        assert_eq!(rt; play(alloc, &mut image, &lines), Ok(wanted));
+        assert_eq!(rt;
+            (image.moments(), image.faults(), image.write_faults()),
+            (2, 1, 0)
+        );
+    }
+    for read in [10, 11] {
+        let mut image = failing(&host, read)?;
+        let lines = [Command::Cp, Command::Cp, put(a, 0, 2), Command::Cp];
+        let wanted = [Told::DiskFault, Told::Done, Told::Done, Told::Done];
+        assert_eq!(rt; play(alloc, &mut image, &lines), Ok(wanted));
+        assert_eq!(rt; (image.faults(), image.write_faults()), (1, 0));
+    }
     Ok(())
 }

@@ -1,4 +1,5 @@
-//! Tests of maps, lists of snapshots, containers, delayed frees, trees and sessions over a host in memory: rows worked out by hand, calls that fail, and texts.
+//! Tests of maps, lists of snapshots, containers with what they read and write, delayed frees, trees and sessions over a host in memory: rows
+//! worked out by hand, calls that fail, and texts.
 #![tactic(auto)]
 
 #[cfg(test)]
@@ -11,6 +12,8 @@ mod failed;
 mod going_on;
 #[cfg(test)]
 mod maps;
+#[cfg(test)]
+mod paged;
 #[cfg(test)]
 mod snapshots;
 #[cfg(test)]

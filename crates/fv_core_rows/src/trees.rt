@@ -46,7 +46,7 @@ fn root_of<D: Disk>(disk: &mut D) -> Result<Found, BlockFault>
 /// A container of holes.
 fn holes(alloc: Global, entries: u32) -> Result<Container, BlockFault>
     requires few { entries ≤ most_entries }
-    ensures size { IfOk result (λ container. length container.entries ≡ entries) }
+    ensures size { IfOk result (λ container. length container.map.entries ≡ entries) }
 {
     Ok(Container::new(alloc, entries)?)
 }
@@ -121,6 +121,8 @@ fn written_and_read<D: Disk, L: Ledger>(
     blocks: &mut VolumeBlocks<'_, '_, '_, '_, Silent, D, L>,
 ) -> Result<[u8; 4], TreeFault> {
     let root = write_tree(alloc, blocks)?;
+    // What was noted speaks of the disk as it was.
+    blocks.noted = Noted::NONE;
     write_kept(blocks.pool, blocks.disk)?;
     read_tree(alloc, blocks, root)
 }
@@ -170,9 +172,17 @@ fn each_read_fails_in_turn(rt: HostRuntime) {
 }
 
 /// A container with an entry under VVBN 4.
-fn with_entry(alloc: Global) -> Result<Container, AllocError> {
+fn with_entry<D: Disk>(
+    alloc: Global,
+    store: &mut Store,
+    disk: &mut D,
+) -> Result<Container, BlockFault>
+    requires stands { StandsOn (D.shown disk.old) store.old.pairs }
+    ensures stands { StandsOn (D.shown disk.new) store.new.pairs }
+{
     let mut container = Container::new(alloc, 16)?;
-    container.place(4, Entry { pvbn: 200, kind: 1 });
+    let entry = Entry { pvbn: 200, kind: 1 };
+    container.set(store, disk, 4, Some(entry))?;
     Ok(container)
 }
 
@@ -222,7 +232,8 @@ fn along_the_chain<D: Disk, L: Ledger>(
     let mut pool = pool_of(alloc, disk, found)?;
     pool.containers.set_parent(0, Some(3));
     pool.containers.put(3, Container::new(alloc, 16)?, Some(9));
-    pool.containers.put(9, with_entry(alloc)?, None);
+    let last = with_entry(alloc, &mut pool.store, disk)?;
+    pool.containers.put(9, last, None);
     let map = five_numbers(alloc)?;
     let four = read_unknown(&mut pool, disk, &map, &mut steps, 4);
     let five = read_unknown(&mut pool, disk, &map, &mut steps, 5);

@@ -1,5 +1,5 @@
--- What a point by its plan leaves, of the volumes as they were given: the laws of `Ending` over the volumes that are marked, and the regions
--- that are chosen.
+-- What a point by its plan leaves, of the volumes as they were given: the laws of `Ending` over the volumes that are marked, and the
+-- regions that are chosen.
 use Rattle.std.proofs.Common.{◌≡◌, ◌≤◌, ℕ, List, Bool, length}
 use Rattle.std.specs.Prelude.{IsTrue}
 use Rattle.fv_disk.specs.Shown.{Shown}
@@ -25,7 +25,7 @@ use Rattle.fv_cp.proofs.Pointing.{come_chosen, marked_chosen, none_left}
 module _ (disk : Shown) (pool : Pool) (given : States) (before : Machine) (lent : IsLent disk pool given before) (fit : FitTogether pool given) (want : ℕ) (delays : List Bool) (can : CanChoose disk pool given want delays) (plan : Plan)
     (planned : AreCounted pool.containers given delays → asked_with (regions_chosen pool given want) given ≤ free_blocks pool.map → IsPlan (holdings pool.containers given) (threshold_for (counts_of (holdings pool.containers given)) (missing_for pool given want)) plan)
     (now : States) (marked : (s : ℕ) → state_at now s ≡ marked_at (is_set plan.due) given s) (long : length now ≡ 64) (labels : List ℕ) (left : Pool) (mid : Shown)
-    (come : HasCome (taken plan (holdings pool.containers now)) disk pool now 64 labels left mid) (tells : IsTrue disk.tells) where
+    (told : Type 0) (come : HasCome (taken plan (holdings pool.containers now)) told disk pool now 64 labels left mid) (tells : IsTrue disk.tells) (leaves : told) where
   fit_now : FitTogether pool now
   fit_now = fit_marked given now (is_set plan.due) marked pool long fit
 
@@ -34,15 +34,15 @@ module _ (disk : Shown) (pool : Pool) (given : States) (before : Machine) (lent 
 
   -- what a crash leaves while the new root is written
   pub moments_by : (new : Shown) → (IsTrue mid.tells → Leaves mid new (OldOrNew mid left.found (root_with pool labels) left.map.next)) → Leaves disk new (OldOrLent disk pool given before)
-  moments_by = moments disk pool now before lent_now fit_now labels left mid given want
-      (come_chosen disk pool given before lent fit want delays can plan planned now marked fit_now.housed labels left mid come) tells
+  moments_by = moments disk pool now before lent_now fit_now labels left mid given want told
+      (come_chosen disk pool given before lent fit want delays can plan planned now marked told fit_now.housed labels left mid come) tells leaves
       (marked_chosen disk pool given before lent fit want delays can plan planned now marked) fit.housed.long
 
   -- and what the point leaves
   pub point_by : (new : Shown) → (IsTrue mid.tells → IsCommitted mid left.found (root_with pool labels) left.map.next new) → (last : Pool) (stay : States) → IsSwitched left (root_with pool labels) last → last.containers ≡ left.containers → last.kept ≡ left.kept
       → ((s : ℕ) → state_at stay s ≡ settled_at labels now s) → (after : List Bool) → LeaveDelays plan (holdings pool.containers now) 64 plan.delays after → IsPoint disk pool given want new last stay after
-  point_by new committed last stay switched containers kept settled after leave = point disk pool now before lent_now fit_now labels left mid given want
-      (come_chosen disk pool given before lent fit want delays can plan planned now marked fit_now.housed labels left mid come) tells
+  point_by new committed last stay switched containers kept settled after leave = point disk pool now before lent_now fit_now labels left mid given want told
+      (come_chosen disk pool given before lent fit want delays can plan planned now marked told fit_now.housed labels left mid come) tells leaves
       (marked_chosen disk pool given before lent fit want delays can plan planned now marked) fit.housed.long
       new committed last stay switched containers kept settled after
       (none_left disk pool given before lent fit want delays can plan planned now marked after leave)

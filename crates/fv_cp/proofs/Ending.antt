@@ -1,7 +1,7 @@
 -- What a consistency point ends with: once all slots are passed the volumes stand under the labels of the new
 -- root, and then that counts.
 use Rattle.std.proofs.Common.{◌≡◌, ℕ, ◌<◌, ◌≤◌, false, List, length, get_or, refl, sym, ap, subst, ◌∙◌, Ok, Bool, true, ◌||◌, ◌⊎◌, arith}
-use Rattle.std.proofs.lemmas.Bool.{both_ways, true≢false}
+use Rattle.std.proofs.lemmas.Bool.{both_ways, or_right, true≢false}
 use Rattle.std.specs.Prelude.{Option, Some, None, IfSome, IsTrue}
 use Rattle.std.specs.FinMap as fin
 use Rattle.std.specs.Option.{option_map}
@@ -13,7 +13,7 @@ use Rattle.fv_bits.specs.Members.{is_member}
 use Rattle.fv_codec.specs.declared.root.Root.{Root}
 use Rattle.fv_model.specs.Machines.{Machine}
 use Rattle.fv_image.specs.NewerRoot.{Taken}
-use Rattle.fv_image.specs.Views.{View}
+use Rattle.fv_image.specs.Views.{View, entry_count}
 use Rattle.fv_image.specs.Held.{AgreeOnHeld, Keeps, label_place, layout_at, view_at, with_bits}
 use Rattle.fv_image.specs.Soundness.{AreMaps, AreTables}
 use Rattle.fv_image.specs.Staying.{StaysHeld}
@@ -24,7 +24,12 @@ use Rattle.fv_image.proofs.SameSeen.{same_seen, same_told}
 use Rattle.fv_image.proofs.SoundSlots.{held_lies}
 use Rattle.fv_image.proofs.SoundTests.{machine_under, tells_from}
 use Rattle.fv_container.specs.Mapped.{Mapped, entry_under}
-use Rattle.fv_container.specs.Chains.{Slots, container_at, own_entry, parent_at}
+use Rattle.fv_container.specs.Paged.{Paged}
+use Rattle.fv_container.specs.Clean.{IsCleanOn}
+use Rattle.fv_container.specs.Spelled.{is_at}
+use Rattle.fv_container.proofs.Clean.{clean_still}
+use Rattle.fv_cp.proofs.Stepping.{clean_lent}
+use Rattle.fv_container.specs.Chains.{Slots, container_at, map_in, own_entry, paged_at, parent_at}
 use Rattle.fv_root.specs.declared.find.Found.{Found}
 use Rattle.fv_root.specs.Finding.{IsInRange, root_found}
 use Rattle.fv_root.specs.Commits.{IsCommitted, IsFoundOn, OldOrNew, next_found}
@@ -38,7 +43,7 @@ use Rattle.fv_pool.specs.Keeping.{Blocks, seen as block_seen, seen}
 use Rattle.fv_volume.specs.Loading.{IsLoaded, label_of}
 use Rattle.fv_volume.specs.States.{States, label_in_state, placed_in, state_at, view_over}
 use Rattle.fv_volume.specs.Trees.{active_in, no_trees}
-use Rattle.fv_volume.specs.Stored.{AreApartIn, AreSpacedIn, has_block, is_of, stays}
+use Rattle.fv_volume.specs.Stored.{AreApartIn, AreSpacedIn, has_block, is_of, leads, stays}
 use Rattle.fv_volume.specs.Writing.{on_disk}
 use Rattle.fv_volumes.proofs.HeldAlone.{of_each}
 use Rattle.fv_volumes.proofs.LentSlots.{lent_apart, lent_from_loaded, loaded_from_lent, lent_slot}
@@ -84,7 +89,7 @@ root_with pool labels = record pool.found.root { labels = labels }
 
 -- ---- whatever the disk tells
 
-module _ (regions : ℕ → ℕ → Bool) (disk : Shown) (pool : Pool) (states : States) (fit : FitTogether pool states) (labels : List ℕ) (left : Pool) (mid : Shown) (come : HasCome regions disk pool states 64 labels left mid) where
+module _ (regions : ℕ → ℕ → Bool) (disk : Shown) (pool : Pool) (states : States) (fit : FitTogether pool states) (labels : List ℕ) (left : Pool) (mid : Shown) (told : Type 0) (come : HasCome regions told disk pool states 64 labels left mid) where
   -- what was found counts until the switch
   pub found_left : (IsTrue disk.tells → IsFoundOn disk pool.found) → IsTrue mid.tells → IsFoundOn mid left.found
   found_left found told =
@@ -126,7 +131,7 @@ module _ (regions : ℕ → ℕ → Bool) (disk : Shown) (pool : Pool) (states :
 
 -- The volumes are those of before, marked where one of the chosen regions is theirs, and these regions are reclaimed.
 module _ (disk : Shown) (pool : Pool) (states : States) (before : Machine) (lent : IsLent disk pool states before) (fit : FitTogether pool states) (labels : List ℕ) (left : Pool) (mid : Shown) (given : States) (want : ℕ)
-    (come : HasCome (has_region (regions_chosen pool given want)) disk pool states 64 labels left mid) (tells : IsTrue disk.tells) (marked : (s : ℕ) → state_at states s ≡ marked_at (has_slot (regions_chosen pool given want)) given s) (housed : length given ≡ 64) where
+    (leaves_told : Type 0) (come : HasCome (has_region (regions_chosen pool given want)) leaves_told disk pool states 64 labels left mid) (tells : IsTrue disk.tells) (leaves_here : leaves_told) (marked : (s : ℕ) → state_at states s ≡ marked_at (has_slot (regions_chosen pool given want)) given s) (housed : length given ≡ 64) where
   abbrev list : List Region
   list = regions_chosen pool given want
 
@@ -154,7 +159,7 @@ module _ (disk : Shown) (pool : Pool) (states : States) (before : Machine) (lent
   -- ---- all slots are passed
 
   pub is : IsCourse regions pool states (seen pool.kept disk.reads) 64 labels left.map.next left.containers mid.reads
-  is = come.written tells before lent
+  is = come.written tells before lent leaves_here
 
   agrees : AgreeOnHeld (root_found pool.found) disk.reads mid.reads
   agrees = old_stays disk pool states before lent mid (Ok tt) come.spares tells
@@ -163,56 +168,59 @@ module _ (disk : Shown) (pool : Pool) (states : States) (before : Machine) (lent
   pub settled_is : (s : ℕ) → s < 64 → settled_at labels states s ≡ is.now s
   settled_is s inside = by (is.each s inside)
     where
-      by : IsOnCourse regions pool states (seen pool.kept disk.reads) 64 s (is.now s) (get_or labels s 0) (container_at left.containers s) mid.reads → settled_at labels states s ≡ is.now s
+      by : IsOnCourse regions pool states (seen pool.kept disk.reads) 64 s (is.now s) (get_or labels s 0) (paged_at left.containers s) mid.reads → settled_at labels states s ≡ is.now s
       by (renewed x low there changed now r) = settled_written (state_at states s) x (get_or labels s 0) there changed ∙ sym now
       by (as_lent waits at) = settled_same (state_at states s) (get_or labels s 0) (none_waits (state_at states s) s inside waits) ∙ sym at.state
 
   labelled : (s : ℕ) (x : VolumeState) → state_at states s ≡ Some x → IsLabelled s x
   labelled s x there = subst (λ (o : Option VolumeState). IfSome o (IsLabelled s)) there (fit.housed.volumes s)
 
-  stands : (s : ℕ) → s < 64 → StandsUnder mid.reads f s (settled_at labels states s) (container_at left.containers s)
-  stands s inside = subst (λ (o : Option VolumeState). StandsUnder mid.reads f s o (container_at left.containers s)) (sym (settled_is s inside)) (by (is.each s inside))
+  stands : (s : ℕ) → s < 64 → StandsUnder mid.reads f s (settled_at labels states s) (paged_at left.containers s)
+  stands s inside = subst (λ (o : Option VolumeState). StandsUnder mid.reads f s o (paged_at left.containers s)) (sym (settled_is s inside)) (by (is.each s inside))
     where
-      as_it_was : (o : Option VolumeState) (c : Option Mapped) → get_or labels s 0 ≡ label_lent o (get_or pool.found.root.labels s 0) → IsLentAt disk.reads pool.found s o c → IfSome o (λ x. x.changed ≡ false) → StandsUnder mid.reads f s o c
+      as_it_was : (o : Option VolumeState) (c : Option Paged) → get_or labels s 0 ≡ label_lent o (get_or pool.found.root.labels s 0) → IsLentAt disk.reads pool.found s o c → IfSome o (λ x. x.changed ≡ false) → StandsUnder mid.reads f s o c
       as_it_was None None named slot unchanged = none_stands f mid.reads s (place_is f s inside ∙ named)
       as_it_was None (Some map) named slot unchanged = absurd slot
       as_it_was (Some x) None named slot unchanged = absurd slot
       as_it_was (Some x) (Some map) named slot unchanged =
           still_stands pool.found f disk.reads mid.reads s inside (place_is f s inside ∙ named ∙ sym (place_is pool.found s inside)) agrees lent.tells.sound refl (Some x) (Some map) (slot.unchanged unchanged)
 
-      by : IsOnCourse regions pool states (seen pool.kept disk.reads) 64 s (is.now s) (get_or labels s 0) (container_at left.containers s) mid.reads → StandsUnder mid.reads f s (is.now s) (container_at left.containers s)
+      by : IsOnCourse regions pool states (seen pool.kept disk.reads) 64 s (is.now s) (get_or labels s 0) (paged_at left.containers s) mid.reads → StandsUnder mid.reads f s (is.now s) (paged_at left.containers s)
       by (renewed x low there changed now r) =
-          let lies : (b : ℕ) → is_of x (get_or labels s 0) r.new b ≡ true → IsAllocatable u.blocks b = λ b of. (is.spaced.held s b inside ((λ k. has_block (now k) (r.now k) b) ∙ of)).1 in
-          subst (λ (o : Option VolumeState). StandsUnder mid.reads f s o (container_at left.containers s)) (sym now) (subst (λ (c : Option Mapped). StandsUnder mid.reads f s (Some (as_written x (get_or labels s 0))) c) (sym r.now)
-          (stored_stands f mid.reads s x r.mid (get_or labels s 0) r.new r.stored (place_is f s inside) (labelled s x there) r.valid disk.reads pool.found
-          (maps_left s x (labelled s x there) (regions s) r.old r.mid r.reclaimed disk.reads pool.found (lent_slot disk.reads pool.found s (state_at states s) (container_at pool.containers s) x r.old there r.was (lent.slots s inside)).maps) agrees
+          let lies : (b : ℕ) → is_of x (get_or labels s 0) r.new.map b ≡ true → IsAllocatable u.blocks b = λ b of. (is.spaced.held s b inside ((λ k. has_block (now k) (map_in (r.now k)) b) ∙ of)).1 in
+          subst (λ (o : Option VolumeState). StandsUnder mid.reads f s o (paged_at left.containers s)) (sym now) (subst (λ (c : Option Paged). StandsUnder mid.reads f s (Some (as_written x (get_or labels s 0))) c) (sym r.now)
+          (stored_stands f mid.reads s x r.mid.map (get_or labels s 0) r.new r.stored r.memory (place_is f s inside) (labelled s x there) r.valid disk.reads pool.found
+          (maps_left s x (labelled s x there) (regions s) r.old r.mid r.reclaimed disk.reads pool.found (lent_slot disk.reads pool.found s (state_at states s) (paged_at pool.containers s) x r.old there r.was (lent.slots s inside)).maps) agrees
           (past_clear pool states disk.reads fit.housed lent.tables lent.reach s x inside there) lies))
       by (as_lent waits at) =
-          subst (λ (o : Option VolumeState). StandsUnder mid.reads f s o (container_at left.containers s)) (sym at.state) (subst (λ (c : Option Mapped). StandsUnder mid.reads f s (state_at states s) c) (sym at.lies)
-          (as_it_was (state_at states s) (container_at pool.containers s) at.named (lent.slots s inside) (none_waits (state_at states s) s inside waits)))
+          subst (λ (o : Option VolumeState). StandsUnder mid.reads f s o (paged_at left.containers s)) (sym at.state) (subst (λ (c : Option Paged). StandsUnder mid.reads f s (state_at states s) c) (sym at.lies)
+          (as_it_was (state_at states s) (paged_at pool.containers s) at.named (lent.slots s inside) (none_waits (state_at states s) s inside waits)))
 
   -- an entry that stays has its block
   block_kept : (s v : ℕ) (x : VolumeState) → s < 64 → state_at states s ≡ Some x → stays x v ≡ true → placed_in fin.empty mid.reads (own_entry (container_at left.containers s) v) ≡ placed_in pool.kept disk.reads (own_entry (container_at pool.containers s) v)
   block_kept s v x inside there on = by (is.each s inside)
     where
       of_map : (map : Mapped) → container_at pool.containers s ≡ Some map → StaysFrom x map (seen pool.kept disk.reads) mid.reads → placed_in fin.empty mid.reads (entry_under map v) ≡ placed_in pool.kept disk.reads (entry_under map v)
-      of_map map lies stay = entry_kept map pool.kept disk.reads mid.reads v ((lent_slot disk.reads pool.found s (state_at states s) (container_at pool.containers s) x map there lies (lent.slots s inside)).apart.some v) (stay v on)
+      of_map map lies stay =
+          let apart : AreApartIn x map = subst (λ (c : Option Mapped). IfSome c (AreApartIn x)) lies
+          (subst (λ (o : Option VolumeState). IfSome o (λ y. IfSome (container_at pool.containers s) (AreApartIn y))) there (lent_apart disk.reads pool.found s (state_at states s) (paged_at pool.containers s) (lent.slots s inside))) in
+          entry_kept map pool.kept disk.reads mid.reads v (apart.some v) (stay v on)
 
       of_container : (c : Option Mapped) → container_at pool.containers s ≡ c → ((map : Mapped) → container_at pool.containers s ≡ Some map → StaysFrom x map (seen pool.kept disk.reads) mid.reads) → placed_in fin.empty mid.reads (own_entry c v) ≡ placed_in pool.kept disk.reads (own_entry c v)
       of_container None lies stay = refl
       of_container (Some map) lies stay = of_map map lies (stay map lies)
 
-      by : IsOnCourse regions pool states (seen pool.kept disk.reads) 64 s (is.now s) (get_or labels s 0) (container_at left.containers s) mid.reads → placed_in fin.empty mid.reads (own_entry (container_at left.containers s) v) ≡ placed_in pool.kept disk.reads (own_entry (container_at pool.containers s) v)
+      by : IsOnCourse regions pool states (seen pool.kept disk.reads) 64 s (is.now s) (get_or labels s 0) (paged_at left.containers s) mid.reads → placed_in fin.empty mid.reads (own_entry (container_at left.containers s) v) ≡ placed_in pool.kept disk.reads (own_entry (container_at pool.containers s) v)
       by (renewed y low here changed now r) =
           let same : y ≡ x = same_Some y x (sym here ∙ there) in
           let stay : stays y v ≡ true = ap (λ (z : VolumeState). stays z v) same ∙ on in
-          let stayed : entry_under r.new v ≡ entry_under r.old v = r.stored.kept v (stays_unwritten y v stay) ∙ stays_left s y (labelled s y here) (regions s) r.old r.mid r.reclaimed v stay in
-          ap (λ (c : Option Mapped). placed_in fin.empty mid.reads (own_entry c v)) r.now ∙ ap (placed_in fin.empty mid.reads) stayed
-          ∙ of_map r.old r.was (subst (λ (z : VolumeState). StaysFrom z r.old (seen pool.kept disk.reads) mid.reads) same r.stay)
-          ∙ sym (ap (λ (c : Option Mapped). placed_in pool.kept disk.reads (own_entry c v)) r.was)
-      by (as_lent waits at) = ap (λ (c : Option Mapped). placed_in fin.empty mid.reads (own_entry c v)) at.lies ∙ of_container (container_at pool.containers s) refl (λ map lies. at.stay x map there lies)
+          let stayed : entry_under r.new.map v ≡ entry_under r.old.map v = r.stored.kept v (stays_unwritten y v stay) ∙ stays_left s y (labelled s y here) (regions s) r.old r.mid r.reclaimed v stay in
+          ap (λ (c : Option Mapped). placed_in fin.empty mid.reads (own_entry c v)) (ap map_in r.now) ∙ ap (placed_in fin.empty mid.reads) stayed
+          ∙ of_map r.old.map (ap map_in r.was) (subst (λ (z : VolumeState). StaysFrom z r.old.map (seen pool.kept disk.reads) mid.reads) same r.stay)
+          ∙ sym (ap (λ (c : Option Mapped). placed_in pool.kept disk.reads (own_entry c v)) (ap map_in r.was))
+      by (as_lent waits at) = ap (λ (c : Option Mapped). placed_in fin.empty mid.reads (own_entry c v)) (ap map_in at.lies) ∙ of_container (container_at pool.containers s) refl (λ map lies. at.stay x map there lies)
 
-  pub all_stand : AllStandUnder pool states disk.reads f labels left.map.next (container_at left.containers) mid.reads
+  pub all_stand : AllStandUnder pool states disk.reads f labels left.map.next (paged_at left.containers) mid.reads
   all_stand = record {
     each = stands;
     kept = block_kept;
@@ -222,8 +230,8 @@ module _ (disk : Shown) (pool : Pool) (states : States) (before : Machine) (lent
   -- ---- the space rule
 
   shown_now : AreHoldingsOf (view_at u mid.reads) (λ s. holding_with (is.now s) (container_at left.containers s))
-  shown_now = holdings_shown f mid.reads is.now (container_at left.containers)
-      (λ s inside. subst (λ (o : Option VolumeState). IsLoaded mid.reads f s o (container_at left.containers s)) (settled_is s inside) (stands s inside).loaded)
+  shown_now = holdings_shown f mid.reads is.now (paged_at left.containers)
+      (λ s inside. subst (λ (o : Option VolumeState). IsLoaded mid.reads f s o (paged_at left.containers s)) (settled_is s inside) (stands s inside).loaded)
       (λ s inside. subst (λ (o : Option VolumeState). IfSome o HasOwnSlots) (settled_is s inside) (settled_slots s (state_at states s) (get_or labels s 0) (fit.housed.volumes s)))
       (λ s inside. subst (λ (o : Option VolumeState). IfSome o (λ x. x.map.span ≡ x.span)) (settled_is s inside) (settled_span s (state_at states s) (get_or labels s 0) (fit.housed.volumes s)))
 
@@ -235,14 +243,14 @@ module _ (disk : Shown) (pool : Pool) (states : States) (before : Machine) (lent
   left_delayed = delayed_left regions pool states fit.housed (chosen_marked list given states marked) (seen pool.kept disk.reads) mid.reads labels left.map.next left.containers is
 
   stays_written : StaysHeld w (view_at u mid.reads)
-  stays_written = stays_now_told pool states disk.reads fit.housed lent.tables lent.reach f labels left.map.next (container_at left.containers) mid.reads refl refl all_stand
+  stays_written = stays_now_told pool states disk.reads fit.housed lent.tables lent.reach f labels left.map.next (paged_at left.containers) mid.reads refl refl all_stand
 
   -- it holds once the chosen regions were reclaimed
   room_left : LeavesRoom (view_at u mid.reads) want
   unfolding layout_at view_at
   room_left = leaves pool states disk.reads fit.housed fit.range.size lent.states (view_at u mid.reads) stays_written.heads (same_seen w (view_at u mid.reads) stays_written lent.tables.bases lent.tables.rests) refl
-      (tables_now pool states disk.reads fit.housed lent.tables lent.reach f labels left.map.next (container_at left.containers) mid.reads refl refl all_stand)
-      (uses_there pool states disk.reads fit.housed lent.tables lent.reach f labels left.map.next (container_at left.containers) mid.reads refl refl all_stand)
+      (tables_now pool states disk.reads fit.housed lent.tables lent.reach f labels left.map.next (paged_at left.containers) mid.reads refl refl all_stand)
+      (uses_there pool states disk.reads fit.housed lent.tables lent.reach f labels left.map.next (paged_at left.containers) mid.reads refl refl all_stand)
       list want (sym (chosen_still pool given states (has_slot list) marked housed fit.housed.long want)) now_held left_delayed shown_now
 
   -- and they were chosen for just what it lacked
@@ -251,19 +259,19 @@ module _ (disk : Shown) (pool : Pool) (states : States) (before : Machine) (lent
   missing_left maps fits =
       sym (missing_still pool given states (has_slot list) marked housed fit.housed.long want)
       ∙ counts_missing pool states disk.reads fit.housed fit.range.size lent.states (view_at u mid.reads) stays_written.heads (same_seen w (view_at u mid.reads) stays_written lent.tables.bases lent.tables.rests) refl
-      (tables_now pool states disk.reads fit.housed lent.tables lent.reach f labels left.map.next (container_at left.containers) mid.reads refl refl all_stand) maps want fits
+      (tables_now pool states disk.reads fit.housed lent.tables lent.reach f labels left.map.next (paged_at left.containers) mid.reads refl refl all_stand) maps want fits
       ∙ ap (λ (h : ℕ → Option Holding). lacking (view_at u mid.reads) (all_delayed h) want) (holdings_marked pool.containers given states (has_slot list) marked)
 
   -- What lies on the disk is ready for the commit.
   pub ready : machine_from (with_bits (is_member left.map.next) (layout_at u mid.reads)) ≡ Some (machine_lent disk pool states)
   unfolding layout_at
-  ready = stands_for pool states disk.reads fit.housed lent.tables lent.reach f labels left.map.next (container_at left.containers) mid.reads refl refl all_stand lent.states.names room_left.rule lent.built
+  ready = stands_for pool states disk.reads fit.housed lent.tables lent.reach f labels left.map.next (paged_at left.containers) mid.reads refl refl all_stand lent.states.names room_left.rule lent.built
 
   -- ---- the new root
 
   -- The new root was written, too.
   pub moments : (new : Shown) → (IsTrue mid.tells → Leaves mid new (OldOrNew mid left.found root left.map.next)) → Leaves disk new (OldOrLent disk pool given before)
-  moments new switched = subst (λ (k : Machine). Leaves disk new (λ c g. (IsOld disk pool before c ⊎ IsNew pool k c) × (g ≡ disk.given))) (machine_marked given states (has_slot list) marked disk pool) (switching disk pool states before lent mid (Ok tt) come.spares left.found root left.map.next new come.found (found_left regions disk pool states fit labels left mid come (λ t. lent.found) told)
+  moments new switched = subst (λ (k : Machine). Leaves disk new (λ c g. (IsOld disk pool before c ⊎ IsNew pool k c) × (g ≡ disk.given))) (machine_marked given states (has_slot list) marked disk pool) (switching disk pool states before lent mid (Ok tt) come.spares left.found root left.map.next new come.found (found_left regions disk pool states fit labels left mid leaves_told come (λ t. lent.found) told)
       (subst (λ (x : Found). IsReadyFor mid x root left.map.next m) (sym come.found) ready) (switched told))
 
   module _ (new : Shown) (committed : IsTrue mid.tells → IsCommitted mid left.found root left.map.next new) (last : Pool) (stay : States) (switched : IsSwitched left root last) (containers : last.containers ≡ left.containers) (kept : last.kept ≡ left.kept) (settled : (s : ℕ) → state_at stay s ≡ settled_at labels states s) where
@@ -271,7 +279,7 @@ module _ (disk : Shown) (pool : Pool) (states : States) (before : Machine) (lent
     done = subst (λ (x : Found). IsCommitted mid x root left.map.next new) come.found (committed told)
 
     found : last.found ≡ f
-    found = found_last regions disk pool states fit labels left mid come new last stay switched containers kept settled
+    found = found_last regions disk pool states fit labels left mid leaves_told come new last stay switched containers kept settled
 
     now_ready : IsReadyFor mid pool.found root left.map.next m
     now_ready = ready
@@ -295,8 +303,8 @@ module _ (disk : Shown) (pool : Pool) (states : States) (before : Machine) (lent
     unfolding layout_at
     missing_now = subst (λ (z : View). CountsMissing pool given z want) (sym same_now) (missing_left (subst AreMaps same_now tells_now.sound.maps))
 
-    loaded_then : (s : ℕ) → s < 64 → IsLoaded new.reads f s (settled_at labels states s) (container_at left.containers s)
-    loaded_then s inside = still_loaded f f mid.reads new.reads s inside refl new_agrees (settled_at labels states s) (container_at left.containers s) (all_stand.each s inside).loaded
+    loaded_then : (s : ℕ) → s < 64 → IsLoaded new.reads f s (settled_at labels states s) (paged_at left.containers s)
+    loaded_then s inside = still_loaded f f mid.reads new.reads s inside refl new_agrees (settled_at labels states s) (paged_at left.containers s) (all_stand.each s inside).loaded
 
     -- ---- the view
 
@@ -312,21 +320,41 @@ module _ (disk : Shown) (pool : Pool) (states : States) (before : Machine) (lent
     stays_now : StaysHeld w (view_over last stay new.reads)
     stays_now = stays_in pool states disk.reads fit.housed lent.tables lent.reach (view_over last stay new.reads) view_stays.0 view_stays.1.0 view_stays.1.1 (λ s v x inside there on.
         entry_now s v inside ∙ ap (λ (z : View). z.entry s v) same_now
-        ∙ entry_stays pool states disk.reads fit.housed lent.tables lent.reach f labels left.map.next (container_at left.containers) mid.reads refl refl all_stand s v x inside there on)
+        ∙ entry_stays pool states disk.reads fit.housed lent.tables lent.reach f labels left.map.next (paged_at left.containers) mid.reads refl refl all_stand s v x inside there on)
 
     -- ---- the slots
 
     apart_now : (s : ℕ) → s < 64 → IfSome (settled_at labels states s) (λ x. IfSome (container_at left.containers s) (AreApartIn x))
     apart_now s inside = subst (λ (o : Option VolumeState). IfSome o (λ x. IfSome (container_at left.containers s) (AreApartIn x))) (sym (settled_is s inside)) (by (is.each s inside))
       where
-        by : IsOnCourse regions pool states (block_seen pool.kept disk.reads) 64 s (is.now s) (get_or labels s 0) (container_at left.containers s) mid.reads → IfSome (is.now s) (λ x. IfSome (container_at left.containers s) (AreApartIn x))
-        by (renewed x low there changed now r) = subst (λ (o : Option VolumeState). IfSome o (λ x. IfSome (container_at left.containers s) (AreApartIn x))) (sym now) (subst (λ (c : Option Mapped). IfSome c (AreApartIn (as_written x (get_or labels s 0)))) (sym r.now) r.stored.apart)
-        by (as_lent waits at) = subst (λ (o : Option VolumeState). IfSome o (λ x. IfSome (container_at left.containers s) (AreApartIn x))) (sym at.state) (subst (λ (c : Option Mapped). IfSome (state_at states s) (λ x. IfSome c (AreApartIn x))) (sym at.lies) (lent_apart disk.reads pool.found s (state_at states s) (container_at pool.containers s) (lent.slots s inside)))
+        by : IsOnCourse regions pool states (block_seen pool.kept disk.reads) 64 s (is.now s) (get_or labels s 0) (paged_at left.containers s) mid.reads → IfSome (is.now s) (λ x. IfSome (container_at left.containers s) (AreApartIn x))
+        by (renewed x low there changed now r) = subst (λ (o : Option VolumeState). IfSome o (λ x. IfSome (container_at left.containers s) (AreApartIn x))) (sym now) (subst (λ (c : Option Mapped). IfSome c (AreApartIn (as_written x (get_or labels s 0)))) (sym (ap map_in r.now)) r.stored.apart)
+        by (as_lent waits at) = subst (λ (o : Option VolumeState). IfSome o (λ x. IfSome (container_at left.containers s) (AreApartIn x))) (sym at.state) (subst (λ (c : Option Mapped). IfSome (state_at states s) (λ x. IfSome c (AreApartIn x))) (sym (ap map_in at.lies)) (lent_apart disk.reads pool.found s (state_at states s) (paged_at pool.containers s) (lent.slots s inside)))
 
-    lent_at_now : (s : ℕ) → s < 64 → IsLentAt new.reads f s (state_at stay s) (container_at last.containers s)
-    lent_at_now s inside = subst (λ (o : Option VolumeState). IsLentAt new.reads f s o (container_at last.containers s)) (sym (settled s)) (subst (λ (c : Slots). IsLentAt new.reads f s (settled_at labels states s) (container_at c s)) (sym containers)
-        (lent_from_loaded new.reads f s (settled_at labels states s) (container_at left.containers s) (loaded_then s inside) (apart_now s inside)
-        (loaded_maps f new.reads s inside tells_now.sound (settled_at labels states s) (container_at left.containers s) (loaded_then s inside) (settled_slots s (state_at states s) (get_or labels s 0) (fit.housed.volumes s)))))
+    -- the containers are clean still, since no node is a fixed block
+    clean_then : (s : ℕ) → s < 64 → (x : VolumeState) (paged : Paged) → is.now s ≡ Some x → paged_at left.containers s ≡ Some paged → IsCleanOn mid.reads paged → IsCleanOn new.reads paged
+    clean_then s inside x paged now lies clean = clean_still mid.reads new.reads paged
+        (λ b named. done.side.volumes b (is.spaced.held s b inside ((λ k. has_block (now k) (map_in (lies k)) b) ∙ or_right (is_at b x.label) _ (ap (λ (t : Bool). t || leads paged.map (entry_count x.span) b) named))).1.0) clean
+
+    clean_now : (s : ℕ) → s < 64 → IfSome (paged_at left.containers s) (IsCleanOn new.reads)
+    clean_now s inside = by (is.each s inside)
+      where
+        of_lent : (o : Option VolumeState) (c : Option Paged) → IsLentAt disk.reads pool.found s o c → is.now s ≡ o → paged_at left.containers s ≡ c → IfSome c (IsCleanOn mid.reads) → IfSome c (IsCleanOn new.reads)
+        of_lent None None slot now lies clean = tt
+        of_lent None (Some paged) slot now lies clean = absurd slot
+        of_lent (Some x) None slot now lies clean = tt
+        of_lent (Some x) (Some paged) slot now lies clean = clean_then s inside x paged now lies clean
+
+        by : IsOnCourse regions pool states (block_seen pool.kept disk.reads) 64 s (is.now s) (get_or labels s 0) (paged_at left.containers s) mid.reads → IfSome (paged_at left.containers s) (IsCleanOn new.reads)
+        by (renewed x low there changed now r) = subst (λ (c : Option Paged). IfSome c (IsCleanOn new.reads)) (sym r.now)
+            (clean_then s inside (as_written x (get_or labels s 0)) r.new now r.now (record { over = r.stored.over; here = r.memory.here; known = r.memory.known }))
+        by (as_lent waits at) = subst (λ (c : Option Paged). IfSome c (IsCleanOn new.reads)) (sym at.lies)
+            (of_lent (state_at states s) (paged_at pool.containers s) (lent.slots s inside) at.state at.lies (clean_lent disk pool states before lent tells mid come.spares s inside))
+
+    lent_at_now : (s : ℕ) → s < 64 → IsLentAt new.reads f s (state_at stay s) (paged_at last.containers s)
+    lent_at_now s inside = subst (λ (o : Option VolumeState). IsLentAt new.reads f s o (paged_at last.containers s)) (sym (settled s)) (subst (λ (c : Slots). IsLentAt new.reads f s (settled_at labels states s) (paged_at c s)) (sym containers)
+        (lent_from_loaded new.reads f s (settled_at labels states s) (paged_at left.containers s) (loaded_then s inside) (apart_now s inside)
+        (loaded_maps f new.reads s inside tells_now.sound (settled_at labels states s) (paged_at left.containers s) (loaded_then s inside) (settled_slots s (state_at states s) (get_or labels s 0) (fit.housed.volumes s))) (clean_now s inside)))
 
     -- ---- the point
 
@@ -336,7 +364,7 @@ module _ (disk : Shown) (pool : Pool) (states : States) (before : Machine) (lent
       tells = subst (λ (x : Found). Tells (layout_at (root_found x) new.reads) m) (sym found) tells_now;
       keeps = λ c now. subst (λ (d : Image). Keeps (root_found last.found) new.reads d) (sym (settled_image new c done.settled now)) (record { root = done.side.counts ∙ ap (λ (x : Found). Some (root_found x)) (sym found); layout = refl });
       map = let is_map = map_now mid left.found root left.map.next new (committed told) last.found last.map switched.found switched.map switched.size in record { len = is_map.len; bits = is_map.bits };
-      slots = λ s inside. subst (λ (x : Found). IsLentAt new.reads x s (state_at stay s) (container_at last.containers s)) (sym found) (lent_at_now s inside);
+      slots = λ s inside. subst (λ (x : Found). IsLentAt new.reads x s (state_at stay s) (paged_at last.containers s)) (sym found) (lent_at_now s inside);
       spaced = subst (λ (n : ℕ). AreSpacedIn n last.map.next (state_at stay) (container_at last.containers)) (ap (λ (x : Found). x.blocks) (sym found)) (subst (λ (x : Space). AreSpacedIn pool.found.blocks x.next (state_at stay) (container_at last.containers)) (sym switched.map)
           (spaced_same pool.found.blocks left.map.next (settled_at labels states) (state_at stay) (container_at left.containers) (container_at last.containers) (λ s inside. settled s) (λ s inside. ap (λ (c : Slots). container_at c s) containers) all_stand.spaced));
       states = states_stay w (view_over last stay new.reads) states fit.housed.long (head_at pool states disk.reads) stays_now lent.tables stay labels settled lent.states;
@@ -350,7 +378,7 @@ module _ (disk : Shown) (pool : Pool) (states : States) (before : Machine) (lent
     places_stay = of_each states fit.housed.volumes (λ s o. IfSome o (λ x. x.changed ≡ false → label_place u s ≡ label_place (root_found pool.found) s)) (λ s. tt) (λ x there unchanged.
         let inside = is_inside states x.slot x fit.housed.long there in
         let same : IfSome (state_at states x.slot) (λ y. y.changed ≡ false) = subst (λ (o : Option VolumeState). IfSome o (λ y. y.changed ≡ false)) (sym there) unchanged in
-        sym (loaded_then x.slot inside).label ∙ ap label_in_state (settled_same (state_at states x.slot) (get_or labels x.slot 0) same) ∙ (loaded_from_lent disk.reads pool.found x.slot (state_at states x.slot) (container_at pool.containers x.slot) (lent.slots x.slot inside) same (λ none. absurd (none-some x (sym none ∙ there)))).label)
+        sym (loaded_then x.slot inside).label ∙ ap label_in_state (settled_same (state_at states x.slot) (get_or labels x.slot 0) same) ∙ (loaded_from_lent disk.reads pool.found x.slot (state_at states x.slot) (paged_at pool.containers x.slot) (lent.slots x.slot inside) same (λ none. absurd (none-some x (sym none ∙ there)))).label)
 
     -- each volume's table is told as before
     tables_stay : (s : ℕ) → IfSome (state_at states s) (λ x. active_in (view_over last stay new.reads) no_trees s ≡ active_in w no_trees s)
@@ -365,13 +393,13 @@ module _ (disk : Shown) (pool : Pool) (states : States) (before : Machine) (lent
         → (after : Mapped) × ((container_at last.containers s ≡ Some after) × LeavesEntries pool.map.committed (regions s) x map after)
     entries_left s x map inside there changed was = by (is.each s inside)
       where
-        by : IsOnCourse regions pool states (block_seen pool.kept disk.reads) 64 s (is.now s) (get_or labels s 0) (container_at left.containers s) mid.reads
+        by : IsOnCourse regions pool states (block_seen pool.kept disk.reads) 64 s (is.now s) (get_or labels s 0) (paged_at left.containers s) mid.reads
             → (after : Mapped) × ((container_at last.containers s ≡ Some after) × LeavesEntries pool.map.committed (regions s) x map after)
         by (renewed y low here differs now r) =
             let same : y ≡ x = same_Some y x (sym here ∙ there) in
-            let first : r.old ≡ map = same_Some r.old map (sym r.was ∙ was) in
-            let leaves : LeavesEntries pool.map.committed (regions s) y r.old r.new = record { reclaimed = λ v off. r.stored.kept v off ∙ r.reclaimed.entries v; written = r.stored.maps; spare = r.fresh } in
-            (r.new, (container_now s ∙ r.now, subst (λ (z : VolumeState). LeavesEntries pool.map.committed (regions s) z map r.new) same (subst (λ (m : Mapped). LeavesEntries pool.map.committed (regions s) y m r.new) first leaves)))
+            let first : r.old.map ≡ map = same_Some r.old.map map (sym (ap map_in r.was) ∙ was) in
+            let leaves : LeavesEntries pool.map.committed (regions s) y r.old.map r.new.map = record { reclaimed = λ v off. r.stored.kept v off ∙ r.reclaimed.entries v; written = r.stored.maps; spare = r.fresh } in
+            (r.new.map, (container_now s ∙ ap map_in r.now, subst (λ (z : VolumeState). LeavesEntries pool.map.committed (regions s) z map r.new.map) same (subst (λ (m : Mapped). LeavesEntries pool.map.committed (regions s) y m r.new.map) first leaves)))
         by (as_lent waits at) =
             let late : x.changed ≡ true → 64 ≤ s = subst (λ (o : Option VolumeState). IfSome o (λ z. z.changed ≡ true → 64 ≤ s)) there waits in
             let past = late changed in
@@ -380,9 +408,9 @@ module _ (disk : Shown) (pool : Pool) (states : States) (before : Machine) (lent
     container_stays : (s : ℕ) → s < 64 → IfSome (state_at states s) (λ x. x.changed ≡ false) → container_at last.containers s ≡ container_at pool.containers s
     container_stays s inside unchanged = container_now s ∙ by (is.each s inside)
       where
-        by : IsOnCourse regions pool states (block_seen pool.kept disk.reads) 64 s (is.now s) (get_or labels s 0) (container_at left.containers s) mid.reads → container_at left.containers s ≡ container_at pool.containers s
+        by : IsOnCourse regions pool states (block_seen pool.kept disk.reads) 64 s (is.now s) (get_or labels s 0) (paged_at left.containers s) mid.reads → container_at left.containers s ≡ container_at pool.containers s
         by (renewed y low here differs now r) = absurd (both_ways _ (subst (λ (o : Option VolumeState). IfSome o (λ z. z.changed ≡ false)) here unchanged) differs)
-        by (as_lent waits at) = at.lies
+        by (as_lent waits at) = ap map_in at.lies
 
     -- ---- of the volumes as they were given
 

@@ -1,11 +1,13 @@
 -- The files of volumes are placed slot by slot.
-use Rattle.std.proofs.Common.{◌≡◌, ◌≢◌, ℕ, ◌<◌, ◌≤◌, ◌+◌, Bool, List, length, Some, None, is_some, true≢false, false, ⊎_elim, inl, inr, ◌⊎◌, sym, ap, subst, ◌∙◌, arith, Option, refl, get_or-set_other}
+use Rattle.std.specs.Prelude.{IsTrue}
+use Rattle.std.proofs.Common.{◌≡◌, ◌≢◌, ℕ, ◌<◌, ◌≤◌, ◌+◌, Bool, List, length, Some, None, Result, Ok, Err, is_some, true≢false, false, ⊎_elim, inl, inr, ◌⊎◌, sym, ap, subst, ◌∙◌, arith, Option, refl, get_or-set_other}
 use Rattle.std.specs.Prelude.{cond, sum_by, IfSome}
 use Rattle.std.specs.Option.{option_map}
 use Rattle.std.specs.FinMap as fin
-use Rattle.std.proofs.lemmas.Bool.{cases_eq}
+use Rattle.std.proofs.lemmas.Bool.{cases_eq, cases_lt}
+use Rattle.std.proofs.lemmas.List.{get_or_past}
 use Rattle.std.proofs.lemmas.List.Sums.{sum_by-set}
-use Rattle.fv_disk.specs.Shown.{Image, Shown}
+use Rattle.fv_disk.specs.Shown.{Image, Rose, Shown}
 use Rattle.fv_bits.specs.Members.{is_member}
 use Rattle.fv_model.specs.Spelling.{name_cmp}
 use Rattle.fv_model.specs.Machines.{Machine, capacity}
@@ -18,11 +20,14 @@ use Rattle.fv_aggmap.specs.Space.{Space}
 use Rattle.fv_root.specs.declared.find.Found.{Found}
 use Rattle.fv_root.specs.Finding.{IsInRange, root_found}
 use Rattle.fv_root.specs.Commits.{IsFoundOn}
-use Rattle.fv_container.specs.Chains.{Slots, container_at, own_entry}
+use Rattle.fv_container.specs.Chains.{IsSlots, Slots, TellsEntries, container_at, own_entry}
+use Rattle.fv_container.proofs.Changing.{maps_same}
 use Rattle.fv_container.specs.Mapped.{Mapped}
 use Rattle.fv_volmap.specs.Slots.{active_of}
 use Rattle.fv_pool.specs.declared.pool.Pool.{Pool}
 use Rattle.fv_volume.specs.declared.state.VolumeState.{VolumeState}
+use Rattle.fv_pool.specs.BlocksOver.{LoadsPool}
+use Rattle.fv_pool.specs.Causes.{IsNoDamage}
 use Rattle.fv_pool.specs.Lending.{IsNewEntry}
 use Rattle.fv_volume.specs.OneVolume.{IsReady}
 use Rattle.fv_pool.specs.Placing.{KeepsUnused}
@@ -37,11 +42,14 @@ use Rattle.fv_volume.proofs.Spending.{spent_one}
 use Rattle.fv_volumes.proofs.Staying.{only_itself}
 use Rattle.fv_cp.specs.Held.{machine_held, named_held, IsHeld, IsHeldIn}
 use Rattle.fv_cp.specs.Lent.{asked_all, asked_by, asked_of, blocks_asked, maps_waiting, waiting_by, FitTogether}
+use Rattle.fv_volume.specs.Held.{HasPlaceCause}
 use Rattle.fv_cp.specs.Placing.{pending_by, pending_files, HasNumbers, HaveNoFiles, HaveRoom, HaveSpent, IsPlacedAs, AreButPlaced, ArePlaced, AreReady, but_placed, FailsToPlace, HasNoFiles, HasWholeMap, HaveNoneBefore, IsReadyIn, IsSlotPlaced, IsSpareEntry, MayFail, LeavesUnused, PlacesEntries, PlacesSlot, RestsPlaced}
 use Rattle.fv_disk.proofs.Resting.{reads_then}
+use Rattle.fv_disk.specs.DiskCalls.{OnlyReads}
+use Rattle.fv_cp.proofs.CameIn.{placed_loaded}
 use Rattle.fv_store.specs.Held.{StandsOn}
 use Rattle.fv_pool.specs.declared.fault.VolumeFault.{VolumeFault}
-use Rattle.fv_pool.specs.declared.fault.VolumeFault.TheVariants.{Memory}
+use Rattle.fv_pool.specs.declared.fault.VolumeFault.TheVariants.{Refused, DiskFault, Damaged, Memory}
 
 -- ---- one volume: the session is what it was between points
 
@@ -78,7 +86,7 @@ module _ (disk after : Shown) (pool left : Pool) (states stay : States) (x y : V
       own : Placed x.slot
       own = ⊎_elim
           (λ (same : own_entry (container_at left.containers x.slot) v ≡ own_entry (container_at pool.containers x.slot) v). inl same)
-          (λ (new : IsNewEntry pool.map pool.containers left.containers x.slot v). inr (record { entry = new.entry; stands = new.stands; lies = new.takes.lies; spare = new.takes.spare }))
+          (λ (new : IsNewEntry (TellsEntries disk pool.containers) pool.map pool.containers left.containers x.slot v). inr (record { entry = new.entry; stands = new.stands; lies = new.takes.lies; spare = new.takes.spare }))
           (placed.goes.goes.goes.entries v)
 
   -- a volume without files in memory stays
@@ -194,10 +202,14 @@ unused_none : (containers : Slots) (s : ℕ) (o : Option VolumeState) → IfSome
 unused_none containers s None = tt
 unused_none containers s (Some y) = λ v out. refl
 
+-- nothing came into memory
+loads_none : (disk : Shown) (pool : Pool) → LoadsPool disk pool pool
+loads_none disk pool = record { map = refl; kept = refl; found = refl; containers = maps_same disk pool.containers }
+
 pub passed_none : (disk : Shown) (pool : Pool) (states : States) → FitTogether pool states → AreReady disk pool states → StandsOn disk pool.store.pairs → HasPassed disk pool states 0 disk pool states
 passed_none disk pool states fit ready stands = record {
   come = record {
-    placed = record { held = λ before held. held; machine = λ before held. refl; fit = fit; found = refl; committed = refl; cores = λ s. refl; asked = refl; all = refl; waiting = refl; spent = λ before held room. record { fewer = omega arith; numbers = room.numbers; blocks = omega arith }; others = λ s. refl; entries = λ s v. inl refl; unused = λ before held s. unused_none pool.containers s (state_at states s); rest = λ s none. (refl, refl); only_reads = only_itself disk; idle = λ none. (refl, refl) };
+    placed = record { held = λ before held. held; machine = λ before held. refl; fit = fit; found = refl; committed = refl; cores = λ s. refl; asked = refl; all = refl; waiting = refl; spent = λ before held room. record { fewer = omega arith; numbers = room.numbers; blocks = omega arith }; others = λ s. refl; entries = λ s v. inl refl; unused = λ before held s. unused_none pool.containers s (state_at states s); rest = λ s none. (refl, refl); only_reads = only_itself disk; idle = λ none. (loads_none disk pool, refl) };
     ready = ready;
     stands = stands;
   };
@@ -216,14 +228,14 @@ module _ (disk : Shown) (pool : Pool) (states : States) (mid : Shown) (held : Po
   room_now : HaveSpent pool states held between → HaveRoom pool states → HaveRoom held between
   room_now spent room = record { numbers = spent.numbers; blocks = (let first = room.blocks in omega (arith, first, spent.blocks)) }
 
-  -- with it a slot fails for want of memory alone
-  pub enough_more : (before : Machine) → IsHeld disk pool states before → HaveRoom pool states → (e : VolumeFault) → MayFail mid held (state_at between slot) e → e ≡ Memory
+  -- with it no slot answers damage
+  pub enough_more : (before : Machine) → IsHeld disk pool states before → HaveRoom pool states → (e : VolumeFault) → MayFail mid held (state_at between slot) e → IsNoDamage e
   enough_more before was room e fails = by (state_at between slot) refl fails
     where
       spent : HaveSpent pool states held between
       spent = come.placed.spent before was room
 
-      by : (o : Option VolumeState) → state_at between slot ≡ o → MayFail mid held o e → e ≡ Memory
+      by : (o : Option VolumeState) → state_at between slot ≡ o → MayFail mid held o e → IsNoDamage e
       by None none fails = absurd fails
       by (Some x) there fails =
           let now : HaveRoom held between = room_now spent room in
@@ -297,7 +309,7 @@ module _ (disk : Shown) (pool : Pool) (states : States) (mid : Shown) (held : Po
               let first = come.placed.idle none in
               let files : HasNoFiles (state_at between slot) = subst (λ (xs : States). HasNoFiles (state_at xs slot)) (sym first.1) (none slot) in
               let second = one.idle_still mid after held left between stay x did.now here now come.placed.fit.housed did.placed (subst HasNoFiles there files) in
-              (second.0 ∙ first.0, second.1 ∙ first.1);
+              (subst (LoadsPool disk pool) (sym second.0) first.0, second.1 ∙ first.1);
         };
         ready = one.ready_still mid after held left between stay x did.now here now come.placed.fit.housed did.placed come.ready;
         stands = did.placed.ready.lent.stands;
@@ -308,12 +320,12 @@ module _ (disk : Shown) (pool : Pool) (states : States) (mid : Shown) (held : Po
   without e f g = subst (λ (d : Shown). HasCome disk pool states d left stay) (sym e) (subst (λ (p : Pool). HasCome disk pool states mid p stay) (sym f)
       (subst (λ (xs : States). HasCome disk pool states mid held xs) (sym g) come))
 
-  pub come_more : container_at held.containers slot ≡ container_at pool.containers slot → PlacesSlot mid held between slot (state_at between slot) after left stay → (state_at between slot ≡ None → after ≡ mid) → (state_at between slot ≡ None → (left ≡ held) × (stay ≡ between))
+  pub come_more : container_at held.containers slot ≡ container_at pool.containers slot → PlacesSlot mid held between slot (state_at between slot) after left stay → (state_at between slot ≡ None → (left ≡ held) × ((stay ≡ between) × (after ≡ mid)))
       → HasCome disk pool states after left stay
-  come_more first did same idle = by (state_at between slot) refl did
+  come_more first did idle = by (state_at between slot) refl did
     where
       by : (o : Option VolumeState) → state_at between slot ≡ o → PlacesSlot mid held between slot o after left stay → HasCome disk pool states after left stay
-      by None none did = let all = idle none in without (same none) all.0 all.1
+      by None none did = let all = idle none in without all.1.1 all.0 all.1.0
       by (Some x) there did = with_volume first x there did
 
   other_slot : (s : ℕ) → s ≢ slot → PlacesSlot mid held between slot (state_at between slot) after left stay → (state_at between slot ≡ None → stay ≡ between) → state_at stay s ≡ state_at between s
@@ -334,11 +346,11 @@ module _ (disk : Shown) (pool : Pool) (states : States) (mid : Shown) (held : Po
           did.placed.goes.goes.goes.others s (λ same. differ (same ∙ ready.slot))
 
   -- a slot without files in memory leaves all
-  idle_more : HasNoFiles (state_at between slot) → PlacesSlot mid held between slot (state_at between slot) after left stay → (state_at between slot ≡ None → (left ≡ held) × (stay ≡ between)) → (left ≡ held) × (stay ≡ between)
+  idle_more : HasNoFiles (state_at between slot) → PlacesSlot mid held between slot (state_at between slot) after left stay → (state_at between slot ≡ None → (left ≡ held) × ((stay ≡ between) × (after ≡ mid))) → (left ≡ held) × (stay ≡ between)
   idle_more none did idle = by (state_at between slot) refl did none
     where
       by : (o : Option VolumeState) → state_at between slot ≡ o → PlacesSlot mid held between slot o after left stay → HasNoFiles o → (left ≡ held) × (stay ≡ between)
-      by None at did none = idle at
+      by None at did none = let all = idle at in (all.0, all.1.0)
       by (Some x) at did none =
           let ready : IsReadyIn mid held slot x = subst (λ (o : Option VolumeState). IfSome o (IsReadyIn mid held slot)) at (come.ready slot) in
           let here : state_at between x.slot ≡ Some x = ap (state_at between) ready.slot ∙ at in
@@ -348,12 +360,12 @@ module _ (disk : Shown) (pool : Pool) (states : States) (mid : Shown) (held : Po
   pub passed_more : ((s : ℕ) → slot ≤ s → container_at held.containers s ≡ container_at pool.containers s) → ((s : ℕ) → slot ≤ s → state_at between s ≡ state_at states s)
       → (((s : ℕ) → s < slot → HasNoFiles (state_at states s)) → (held ≡ pool) × (between ≡ states)) → ((s : ℕ) → s < slot → HasNoFiles (state_at between s)) → ((s : ℕ) → s < slot → HasWholeMap (state_at between s))
       → HasNoFiles (state_at stay slot) → HasWholeMap (state_at stay slot)
-      → PlacesSlot mid held between slot (state_at between slot) after left stay → (state_at between slot ≡ None → after ≡ mid) → (state_at between slot ≡ None → (left ≡ held) × (stay ≡ between))
+      → PlacesSlot mid held between slot (state_at between slot) after left stay → (state_at between slot ≡ None → (left ≡ held) × ((stay ≡ between) × (after ≡ mid)))
       → HasPassed disk pool states (slot + 1) after left stay
-  passed_more ahead waits first done whole none long did same idle = record {
-    come = come_more (ahead slot (omega arith)) did same idle;
+  passed_more ahead waits first done whole none long did idle = record {
+    come = come_more (ahead slot (omega arith)) did idle;
     ahead = λ s past. other_container s (λ e. absurd (omega (arith, past, e))) did (λ e. (idle e).0) ∙ ahead s (omega (arith, past));
-    waits = λ s past. other_slot s (λ e. absurd (omega (arith, past, e))) did (λ e. (idle e).1) ∙ waits s (omega (arith, past));
+    waits = λ s past. other_slot s (λ e. absurd (omega (arith, past, e))) did (λ e. (idle e).1.0) ∙ waits s (omega (arith, past));
     first = λ none.
         let before = first (λ s low. none s (omega (arith, low))) in
         let now = idle_more (subst HasNoFiles (sym (waits slot (omega arith))) (none slot (omega arith))) did idle in
@@ -365,16 +377,41 @@ module _ (disk : Shown) (pool : Pool) (states : States) (mid : Shown) (held : Po
       also : (P : Option VolumeState → Type 0) → ((s : ℕ) → s < slot → P (state_at between s)) → P (state_at stay slot) → (s : ℕ) → s < slot + 1 → P (state_at stay s)
       also P before here s low = ⊎_elim
           (λ (e : s ≡ slot). subst (λ (n : ℕ). P (state_at stay n)) (sym e) here)
-          (λ (differ : s ≢ slot). subst P (sym (other_slot s differ did (λ e. (idle e).1))) (before s (omega (arith, low, differ))))
+          (λ (differ : s ≢ slot). subst P (sym (other_slot s differ did (λ e. (idle e).1.0))) (before s (omega (arith, low, differ))))
           (cases_eq s slot)
+
+-- what holds of the first slots holds of each: behind them there is none
+pub all_slots : (P : Option VolumeState → Type 0) → P None → (states : States) → length states ≡ 64 → (count : ℕ) → 64 ≤ count → ((s : ℕ) → s < count → P (state_at states s)) → (s : ℕ) → P (state_at states s)
+all_slots P none states long count all was s = ⊎_elim
+    (λ (low : s < 64). was s (omega (arith, low, all)))
+    (λ (past : 64 ≤ s). subst P (sym (get_or_past states s None (omega (arith, long, past)))) none)
+    (cases_lt s 64)
 
 -- ---- where a slot fails
 
-pub lacks_place : (disk : Shown) (pool : Pool) (states : States) (held : Pool) (between : States) → ArePlaced disk pool states disk held between → (slot : ℕ) → ((s : ℕ) → slot ≤ s → container_at held.containers s ≡ container_at pool.containers s)
-    → ((s : ℕ) → slot ≤ s → state_at between s ≡ state_at states s) → (HaveNoneBefore states slot → (held ≡ pool) × (between ≡ states)) → HaveNoneBefore between slot → (e : VolumeFault) → MayFail disk held (state_at between slot) e → FailsToPlace disk pool states e
-lacks_place disk pool states held between placed slot ahead waits first done e fails = by (state_at between slot) refl fails
+-- the cache tells what the disk reads still
+stands_on : (now after : Shown) (pairs : List (ℕ × List ℕ)) → after.tells ≡ now.tells → after.reads ≡ now.reads → StandsOn now pairs → StandsOn after pairs
+stands_on now after pairs tells reads stands = record { same = λ told pvbn block held. stands.same (subst IsTrue tells told) pvbn block held ∙ ap (λ (i : Image). i pvbn) (sym reads) }
+
+-- placing may fail over a disk that tells and reads the same
+pub may_on : (now after : Shown) (pool : Pool) (o : Option VolumeState) (e : VolumeFault) → after.tells ≡ now.tells → after.reads ≡ now.reads → MayFail now pool o e → MayFail after pool o e
+may_on now after pool None e tells reads may = may
+may_on now after pool (Some x) e tells reads may = by e (subst (λ (d : Shown). MayFail d pool (Some x) e) (λ j. record now { tells = sym tells j; reads = sym reads j }) may)
   where
-    by : (o : Option VolumeState) → state_at between slot ≡ o → MayFail disk held o e → FailsToPlace disk pool states e
+    by : (e : VolumeFault) → MayFail (record now { tells = after.tells; reads = after.reads }) pool (Some x) e → MayFail after pool (Some x) e
+    by (Refused r) may = may
+    by DiskFault may = may
+    by (Damaged at want found) may = may
+    by Memory may = may
+
+pub lacks_place : (disk : Shown) (pool : Pool) (states : States) (now : Shown) (held : Pool) (between : States) → HasCome disk pool states now held between → IsSlots held.containers → (slot : ℕ) → ((s : ℕ) → slot ≤ s → container_at held.containers s ≡ container_at pool.containers s)
+    → ((s : ℕ) → slot ≤ s → state_at between s ≡ state_at states s) → (HaveNoneBefore states slot → (held ≡ pool) × (between ≡ states)) → HaveNoneBefore between slot → (after : Shown) → OnlyReads now after → (e : VolumeFault) → MayFail now held (state_at between slot) e → FailsToPlace disk pool states after e
+lacks_place disk pool states now held between come few slot ahead waits first done after reads e fails = by (state_at between slot) refl fails
+  where
+    placed : ArePlaced disk pool states after held between
+    placed = placed_loaded disk now after pool held held states between come.placed (loads_none now held) reads (stands_on now after held.store.pairs reads.stays.tells reads.stays.reads come.stands) few
+
+    by : (o : Option VolumeState) → state_at between slot ≡ o → MayFail now held o e → FailsToPlace disk pool states after e
     by None there fails = absurd fails
     by (Some x) there fails = record {
       mid = held;
@@ -388,11 +425,29 @@ lacks_place disk pool states held between placed slot ahead waits first done e f
       done = done;
       ahead = λ s behind. (waits s behind, ahead s behind);
       first = first;
-      fails = fails;
+      fails = may_on now after held (Some x) e reads.stays.tells reads.stays.reads fails;
     }
 
+-- what was read where a slot was placed, or not
+pub slot_reads : (mid : Shown) (held : Pool) (between : States) (slot : ℕ) (after : Shown) (left : Pool) (stay : States) → PlacesSlot mid held between slot (state_at between slot) after left stay → (state_at between slot ≡ None → after ≡ mid) → OnlyReads mid after
+slot_reads mid held between slot after left stay did idle = by (state_at between slot) refl did
+  where
+    by : (o : Option VolumeState) → state_at between slot ≡ o → PlacesSlot mid held between slot o after left stay → OnlyReads mid after
+    by None none did = subst (OnlyReads mid) (sym (idle none)) (only_itself mid)
+    by (Some x) there did = did.placed.goes.goes.goes.only_reads
+
 -- it does so with files in memory alone
-pub files_there : (disk : Shown) (pool : Pool) (states : States) (e : VolumeFault) → FailsToPlace disk pool states e → HaveNoFiles states → ⊥
-files_there disk pool states e lacks none =
+pub files_there : (disk : Shown) (pool : Pool) (states : States) (after : Shown) (e : VolumeFault) → FailsToPlace disk pool states after e → HaveNoFiles states → ⊥
+files_there disk pool states after e lacks none =
     let still : state_at states lacks.slot ≡ Some lacks.state = ap (λ (xs : States). state_at xs lacks.slot) (sym (lacks.placed.idle none).1) ∙ lacks.there in
     true≢false (sym lacks.fails.0 ∙ ap is_some (subst HasNoFiles still (none lacks.slot)))
+
+-- ---- the count of faults
+
+-- What placing tells of the count of faults, where it stayed before.
+pub cause_on : (old mid new : Shown) (r : Result Unit VolumeFault) → mid.faults ≡ old.faults → HasPlaceCause mid new r → HasPlaceCause old new r
+cause_on old mid new (Ok done) same cause = cause ∙ same
+cause_on old mid new (Err (Refused x)) same cause = absurd cause
+cause_on old mid new (Err DiskFault) same cause = subst (λ (n : ℕ). Rose n new.faults) same cause
+cause_on old mid new (Err (Damaged at want found)) same cause = cause ∙ same
+cause_on old mid new (Err Memory) same cause = cause ∙ same

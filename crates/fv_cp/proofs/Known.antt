@@ -8,8 +8,8 @@ use Rattle.fv_model.specs.Machines.{Machine}
 use Rattle.fv_image.specs.Views.{Head, View, entry_count, is_held_in}
 use Rattle.fv_image.specs.Views as views
 use Rattle.fv_image.specs.Held.{view_at}
-use Rattle.fv_container.specs.Chains.{container_at}
-use Rattle.fv_container.specs.Mapped.{Mapped}
+use Rattle.fv_container.specs.Chains.{map_in, paged_at}
+use Rattle.fv_container.specs.Paged.{Paged}
 use Rattle.fv_root.specs.declared.find.Found.{Found}
 use Rattle.fv_root.specs.Finding.{root_found}
 use Rattle.fv_delay.specs.Delay.{is_delayed, region_of}
@@ -51,15 +51,16 @@ module _ (disk : Shown) (pool : Pool) (states : States) (before : Machine) (lent
   abbrev w : View
   w = view_at (root_found pool.found) disk.reads
 
-  head_shown : (s : ℕ) (x : VolumeState) (map : Mapped) → IsLoaded disk.reads pool.found s (Some x) (Some map) → w.head s ≡ Some (head_in x)
+  head_shown : (s : ℕ) (x : VolumeState) (map : Paged) → IsLoaded disk.reads pool.found s (Some x) (Some map) → w.head s ≡ Some (head_in x)
   unfolding view_at
   head_shown s x map is = sym is.head
 
   -- of a volume that hasn't changed and isn't marked
-  none_here : (s : ℕ) → s < 64 → get_or delays s true ≡ false → (x : VolumeState) (map : Mapped) → IsLabelled s x → IsLoaded disk.reads pool.found s (Some x) (Some map) → counts_in s (held_by x.map map) ≡ []
-  none_here s inside off x map labelled loaded =
-      let head = head_shown s x map loaded in
-      let shown = holding_shown pool.found disk.reads s (head_in x) head (Some x) (Some map) loaded (labelled.slots, labelled.snapshots.slots) labelled.map in
+  none_here : (s : ℕ) → s < 64 → get_or delays s true ≡ false → (x : VolumeState) (paged : Paged) → IsLabelled s x → IsLoaded disk.reads pool.found s (Some x) (Some paged) → counts_in s (held_by x.map paged.map) ≡ []
+  none_here s inside off x paged labelled loaded =
+      let map = paged.map in
+      let head = head_shown s x paged loaded in
+      let shown = holding_shown pool.found disk.reads s (head_in x) head (Some x) (Some paged) loaded (labelled.slots, labelled.snapshots.slots) labelled.map in
       let same : held_by x.map map ≡ shown.0 = same_Some (held_by x.map map) shown.0 shown.1.0 in
       let of : IsHoldingOf w s (head_in x) (held_by x.map map) = subst (IsHoldingOf w s (head_in x)) (sym same) shown.1.1 in
       none_counted_in (held_by x.map map) s (λ v within.
@@ -68,16 +69,17 @@ module _ (disk : Shown) (pool : Pool) (states : States) (before : Machine) (lent
 
   -- The volumes that aren't counted have no delayed entries.
   pub are_counted : AreCounted pool.containers states delays
-  are_counted s inside off unchanged = by (state_at states s) (container_at pool.containers s) (housed.volumes s) (lent.slots s inside) unchanged
+  are_counted s inside off unchanged = by (state_at states s) (paged_at pool.containers s) (housed.volumes s) (lent.slots s inside) unchanged
     where
-      by : (o : Option VolumeState) (c : Option Mapped) → IfSome o (IsLabelled s) → IsLentAt disk.reads pool.found s o c → IfSome o (λ x. x.changed ≡ false) → counts_at s (holding_with o c) ≡ []
+      by : (o : Option VolumeState) (c : Option Paged) → IfSome o (IsLabelled s) → IsLentAt disk.reads pool.found s o c → IfSome o (λ x. x.changed ≡ false) → counts_at s (holding_with o (map_in c)) ≡ []
       by None c labelled slot same = refl
       by (Some x) None labelled slot same = refl
       by (Some x) (Some map) labelled slot same = none_here s inside off x map labelled (slot.unchanged same)
 
 -- ---- behind a point
 
--- Behind a reclaim of some regions it is known of the slots that aren't marked, where each delayed entry of their volumes lay in one of these.
+-- Behind a reclaim of some regions it is known of the slots that aren't marked, where each delayed entry of their volumes lay in one of
+-- these.
 pub known_left : (i : Image) (found : Found) (regions : ℕ → ℕ → Bool) (old new : ℕ → Option Holding) (delays : List Bool) → AreLeft regions old new → AreHoldingsOf (view_at (root_found found) i) new
     → ((s : ℕ) (x : Holding) → s < 64 → get_or delays s true ≡ false → old s ≡ Some x → (v : ℕ) → is_delayed x.map x.container v ≡ true → regions s (region_of v) ≡ true) → AreKnown i found delays
 known_left i found regions old new delays left shown clear s h inside off is v within = by (old s) refl

@@ -12,7 +12,8 @@ use Rattle.fv_image.specs.Views.{Head, View, entry_count, head_of}
 use Rattle.fv_image.specs.Held.{view_at}
 use Rattle.fv_image.specs.Mapped.{AreInSlots}
 use Rattle.fv_container.specs.declared.entry.Entry.{Entry}
-use Rattle.fv_container.specs.Chains.{Slots, container_at}
+use Rattle.fv_container.specs.Chains.{Slots, container_at, map_in, paged_at}
+use Rattle.fv_container.specs.Paged.{Paged}
 use Rattle.fv_container.specs.Mapped.{Mapped, entry_under}
 use Rattle.fv_root.specs.declared.find.Found.{Found}
 use Rattle.fv_root.specs.Finding.{root_found}
@@ -47,10 +48,10 @@ module _ (regions : ℕ → ℕ → Bool) (pool : Pool) (states : States) (house
   labelled s x there = subst (λ (o : Option VolumeState). IfSome o (IsLabelled s)) there (housed.volumes s)
 
   -- a volume that was written
-  left_renewed : (s : ℕ) (y : VolumeState) (label : ℕ) (container : Option Mapped) → state_at states s ≡ Some y → (r : IsRenewed (regions s) pool first s y label container i) → IsLeft (regions s) (held_by y.map r.old) (held_by y.map r.new)
+  left_renewed : (s : ℕ) (y : VolumeState) (label : ℕ) (container : Option Paged) → state_at states s ≡ Some y → (r : IsRenewed (regions s) pool first s y label container i) → IsLeft (regions s) (held_by y.map r.old.map) (held_by y.map r.new.map)
   left_renewed s y label container there r =
-      let long : length r.old.entries ≡ entry_count y.span = subst (Houses (Some y)) r.was (subst (λ (o : Option VolumeState). Houses o (container_at pool.containers s)) there (housed.each s)) in
-      left_still (regions s) (held_by y.map r.old) y.map r.mid r.new (record { long = r.reclaimed.long; delayed = delayed_now y.map (regions s) r.old r.mid r.reclaimed })
+      let long : length r.old.map.entries ≡ entry_count y.span = subst (Houses (Some y)) (ap map_in r.was) (subst (λ (o : Option VolumeState). Houses o (container_at pool.containers s)) there (housed.each s)) in
+      left_still (regions s) (held_by y.map r.old.map) y.map r.mid.map r.new.map (record { long = r.reclaimed.long; delayed = delayed_now y.map (regions s) r.old r.mid r.reclaimed })
       (r.stored.long ∙ sym (r.reclaimed.long ∙ long)) (λ v free. r.stored.kept v (not_so (is_map_written y v) (λ written. both_ways _ free (written_held s y (labelled s y there) v written))))
 
   -- a volume that wasn't
@@ -71,7 +72,7 @@ module _ (regions : ℕ → ℕ → Bool) (pool : Pool) (states : States) (house
   none_comes : (s : ℕ) → s < 64 → state_at states s ≡ None → is.now s ≡ None
   none_comes s inside none = by (is.each s inside)
     where
-      by : IsOnCourse regions pool states first 64 s (is.now s) (get_or labels s 0) (container_at containers s) i → is.now s ≡ None
+      by : IsOnCourse regions pool states first 64 s (is.now s) (get_or labels s 0) (paged_at containers s) i → is.now s ≡ None
       by (renewed y low there changed now r) = absurd (none-some y (sym none ∙ there))
       by (as_lent waits at) = at.state ∙ none
 
@@ -91,12 +92,12 @@ module _ (regions : ℕ → ℕ → Bool) (pool : Pool) (states : States) (house
       here z map there lies = same_Some (held_by z.map map) x (sym (λ k. holding_with (there k) (lies k)) ∙ some)
 
       on : (z : VolumeState) (map : Mapped) → state_at states s ≡ Some z → container_at pool.containers s ≡ Some map
-          → IsOnCourse regions pool states first 64 s (is.now s) (get_or labels s 0) (container_at containers s) i → (y : Holding) × ((last s ≡ Some y) × IsLeft (regions s) x y)
+          → IsOnCourse regions pool states first 64 s (is.now s) (get_or labels s 0) (paged_at containers s) i → (y : Holding) × ((last s ≡ Some y) × IsLeft (regions s) x y)
       on z map there lies (renewed y low at changed now r) =
-          (held_by y.map r.new, ((λ k. holding_with (now k) (r.now k)), subst (λ (h : Holding). IsLeft (regions s) h (held_by y.map r.new)) (here y r.old at r.was) (left_renewed s y (get_or labels s 0) (container_at containers s) at r)))
+          (held_by y.map r.new.map, ((λ k. holding_with (now k) (map_in (r.now k))), subst (λ (h : Holding). IsLeft (regions s) h (held_by y.map r.new.map)) (here y r.old.map at (ap map_in r.was)) (left_renewed s y (get_or labels s 0) (paged_at containers s) at r)))
       on z map there lies (as_lent waits at) =
           let unchanged : z.changed ≡ false = subst (λ (o : Option VolumeState). IfSome o (λ x. x.changed ≡ false)) there (none_waits (state_at states s) s inside waits) in
-          (held_by z.map map, ((λ k. holding_with ((at.state ∙ there) k) ((at.lies ∙ lies) k)), subst (λ (h : Holding). IsLeft (regions s) h (held_by z.map map)) (here z map there lies) (left_as_lent s z there unchanged map)))
+          (held_by z.map map, ((λ k. holding_with ((at.state ∙ there) k) ((ap map_in at.lies ∙ lies) k)), subst (λ (h : Holding). IsLeft (regions s) h (held_by z.map map)) (here z map there lies) (left_as_lent s z there unchanged map)))
 
       by : (o : Option VolumeState) (c : Option Mapped) → state_at states s ≡ o → container_at pool.containers s ≡ c → (y : Holding) × ((last s ≡ Some y) × IsLeft (regions s) x y)
       by None c there lies = absurd (none-some x (sym (ap (λ (o : Option VolumeState). holding_with o (container_at pool.containers s)) there) ∙ some))
@@ -127,10 +128,10 @@ module _ (found : Found) (i : Image) (s : ℕ) (h : Head) where
   entry_there m tree v = sym (entry_of fin.empty i (λ b. fin.get-empty nat_cmp b) (label_of found i s) (Some m) v tree)
 
   -- A volume that is loaded is the one that the image shows in its slot.
-  pub holding_shown : w.head s ≡ Some h → (o : Option VolumeState) (c : Option Mapped) → IsLoaded i found s o c → IfSome o HasOwnSlots → IfSome o (λ x. x.map.span ≡ x.span) → (y : Holding) × ((holding_with o c ≡ Some y) × IsHoldingOf w s h y)
+  pub holding_shown : w.head s ≡ Some h → (o : Option VolumeState) (c : Option Paged) → IsLoaded i found s o c → IfSome o HasOwnSlots → IfSome o (λ x. x.map.span ≡ x.span) → (y : Holding) × ((holding_with o (map_in c) ≡ Some y) × IsHoldingOf w s h y)
   unfolding head_of
   holding_shown is_head None c is slots spans = absurd (none-some h (is.head ∙ head_of_label is_head))
-  holding_shown is_head (Some x) c is slots spans = by (label_of found i s) refl c is.tree refl
+  holding_shown is_head (Some x) c is slots spans = by (label_of found i s) refl (map_in c) is.tree refl
     where
       head : head_in x ≡ h
       head = same_Some (head_in x) h (is.head ∙ head_of_label is_head)
@@ -138,7 +139,7 @@ module _ (found : Found) (i : Image) (s : ℕ) (h : Head) where
       span : x.span ≡ h.span
       span = ap (λ (g : Head). g.span) head
 
-      by : (l : Option Label) → label_of found i s ≡ l → (d : Option Mapped) → IsContainerOf i (label_of found i s) d → c ≡ d → (y : Holding) × ((holding_with (Some x) c ≡ Some y) × IsHoldingOf w s h y)
+      by : (l : Option Label) → label_of found i s ≡ l → (d : Option Mapped) → IsContainerOf i (label_of found i s) d → map_in c ≡ d → (y : Holding) × ((holding_with (Some x) (map_in c) ≡ Some y) × IsHoldingOf w s h y)
       by None there d tree same = absurd (none-some h (sym (ap (option_map head_of) there) ∙ head_of_label is_head))
       by (Some l) there None tree same = absurd (subst (λ (o : Option Label). IsContainerOf i o None) there tree)
       by (Some l) there (Some m) tree same =
@@ -156,9 +157,9 @@ none_shown found i s none None c head = refl
 none_shown found i s none (Some x) c head = absurd (none-some (head_in x) (sym (head ∙ none)))
 
 -- So all volumes are, where those of all slots are loaded.
-pub holdings_shown : (found : Found) (i : Image) (now : ℕ → Option VolumeState) (container : ℕ → Option Mapped) → ((s : ℕ) → s < 64 → IsLoaded i found s (now s) (container s))
-    → ((s : ℕ) → s < 64 → IfSome (now s) HasOwnSlots) → ((s : ℕ) → s < 64 → IfSome (now s) (λ x. x.map.span ≡ x.span)) → AreHoldingsOf (view_at (root_found found) i) (λ s. holding_with (now s) (container s))
+pub holdings_shown : (found : Found) (i : Image) (now : ℕ → Option VolumeState) (container : ℕ → Option Paged) → ((s : ℕ) → s < 64 → IsLoaded i found s (now s) (container s))
+    → ((s : ℕ) → s < 64 → IfSome (now s) HasOwnSlots) → ((s : ℕ) → s < 64 → IfSome (now s) (λ x. x.map.span ≡ x.span)) → AreHoldingsOf (view_at (root_found found) i) (λ s. holding_with (now s) (map_in (container s)))
 holdings_shown found i now container loaded slots spans = record {
-  free = λ s inside none. none_shown found i s none (now s) (container s) (loaded s inside).head;
+  free = λ s inside none. none_shown found i s none (now s) (map_in (container s)) (loaded s inside).head;
   each = λ s h inside is_head. holding_shown found i s h is_head (now s) (container s) (loaded s inside) (slots s inside) (spans s inside);
 }

@@ -41,7 +41,7 @@ use Rattle.fv_volume.specs.Numbering.{AreNumbersSeen}
 use Rattle.fv_volume.specs.OneVolume.{IsReady, IsStanding}
 use Rattle.fv_volume.specs.Placing.{IsLedTo, IsStoredWell}
 use Rattle.fv_aggmap.specs.Loading.{IsLoaded as IsMapLoaded}
-use Rattle.fv_container.specs.Chains.{container_at, slot_count}
+use Rattle.fv_container.specs.Chains.{paged_at, slot_count}
 use Rattle.fv_volume.specs.Loading.{LoadedTo}
 use Rattle.fv_volumes.proofs.LentSlots.{loaded_from_lent}
 use Rattle.fv_volumes.proofs.SeenAlone as loaded_alone
@@ -163,7 +163,7 @@ module _ (disk : Shown) (pool : Pool) (states : States) (before : Machine) (lent
 module _ (disk : Shown) (pool : Pool) (states : States) (m : Machine) (lent : IsLent disk pool states m) (fit : FitTogether pool states) (unchanged : (s : ℕ) → IfSome (state_at states s) (λ x. x.changed ≡ false)) (free : (s : ℕ) → s < slot_count → state_at states s ≡ None → label_place (root_found pool.found) s ≡ 0) (unkept : pool.kept ≡ fin.empty)
     (few : length pool.containers.containers ≡ 64) (map : IsMapLoaded disk.reads pool.found pool.map) (tells : IsTrue disk.tells) (whole : (b : ℕ) → length (disk.reads b) ≡ 4096) (none : (s : ℕ) → HasNoFiles (state_at states s)) where
   loaded : LoadedTo disk.reads pool.found slot_count states pool.containers
-  loaded = record { each = λ s inside. loaded_from_lent disk.reads pool.found s (state_at states s) (container_at pool.containers s) (lent.slots s inside) (unchanged s) (free s inside) }
+  loaded = record { each = λ s inside. loaded_from_lent disk.reads pool.found s (state_at states s) (paged_at pool.containers s) (lent.slots s inside) (unchanged s) (free s inside) }
 
   of_loaded : (P : VolumeState → Type 0) → ((x : VolumeState) → state_at states x.slot ≡ Some x → x.files ≡ None → P x) → (s : ℕ) → IfSome (state_at states s) P
   of_loaded P some s = of_each states fit.housed.volumes (λ s o. HasNoFiles o → IfSome o P) (λ s no_files. tt) some s (none s)

@@ -2,6 +2,8 @@ pub mod Stepping
 pub mod Crashing
 pub mod Ending
 pub mod Flushing
+pub mod CameIn
+pub mod Prepared
 pub mod Lendable
 pub mod Whole
 pub mod Choosing

@@ -13,8 +13,9 @@ use Rattle.fv_image.specs.Seen.{seen}
 use Rattle.fv_image.specs.Soundness.{AreTables}
 use Rattle.fv_image.specs.WholeMachine.{is_built}
 use Rattle.fv_image.proofs.Counts.{same_sum, sums_within}
-use Rattle.fv_container.specs.Chains.{Slots, container_at}
+use Rattle.fv_container.specs.Chains.{Slots, container_at, paged_at}
 use Rattle.fv_container.specs.Mapped.{Mapped}
+use Rattle.fv_container.specs.Paged.{Paged}
 use Rattle.fv_aggmap.specs.Space.{Space, free_blocks}
 use Rattle.fv_root.specs.declared.find.Found.{Found}
 use Rattle.fv_delay.specs.declared.regions.Region.{Region}
@@ -38,6 +39,8 @@ use Rattle.fv_volumes.proofs.Settling.{turned_all, turned_more}
 use Rattle.fv_cp.specs.Choosing.{AreMarkedTo, ReclaimsChanged, asked_marked, asked_with, greatest_number, has_slot, holding_with, holdings, marked, marked_as, marked_at, claimed, claimed_by, missing_for, regions_chosen}
 use Rattle.fv_cp.specs.Lent.{FitTogether, IsLent, asked_all, asked_by, asked_of, blocks_asked}
 use Rattle.fv_cp.specs.Points.{machine_lent}
+use Rattle.fv_cp.specs.declared.planning.Plan.{Plan}
+use Rattle.fv_cp.specs.Planning.{HasLeaves, HasLeavesAt, HaveLeaves, is_set}
 use Rattle.fv_cp.proofs.Sums.{over_slots}
 
 -- ---- one volume
@@ -62,7 +65,7 @@ marked_same f same false (Some x) = refl
 marked_labelled : (s : ℕ) (x : VolumeState) → IsLabelled s x → IsLabelled s (record x { changed = true })
 marked_labelled s x is = relabelled s x x.label true x.fresh is.waits is
 
-marked_slot : (i : Image) (found : Found) (s : ℕ) (x : VolumeState) (map : Mapped) → IsLentSlot i found s x map → IsLentSlot i found s (record x { changed = true }) map
+marked_slot : (i : Image) (found : Found) (s : ℕ) (x : VolumeState) (map : Paged) → IsLentSlot i found s x map → IsLentSlot i found s (record x { changed = true }) map
 marked_slot i found s x map is = record {
   label = is.label;
   nodes = is.nodes;
@@ -72,7 +75,7 @@ marked_slot i found s x map is = record {
   unchanged = λ e. absurd (true≢false e);
 }
 
-marked_lent : (i : Image) (found : Found) (s : ℕ) (b : Bool) (o : Option VolumeState) (c : Option Mapped) → IsLentAt i found s o c → IsLentAt i found s (option_map (marked_as b) o) c
+marked_lent : (i : Image) (found : Found) (s : ℕ) (b : Bool) (o : Option VolumeState) (c : Option Paged) → IsLentAt i found s o c → IsLentAt i found s (option_map (marked_as b) o) c
 marked_lent i found s b None None is = is
 marked_lent i found s b None (Some map) is = is
 marked_lent i found s true (Some x) None is = is
@@ -229,13 +232,33 @@ module _ (states now : States) (marks : ℕ → Bool) (marks_are : (s : ℕ) →
         tells = lent.tells;
         keeps = lent.keeps;
         map = lent.map;
-        slots = λ s inside. subst (λ (o : Option VolumeState). IsLentAt disk.reads pool.found s o (container_at pool.containers s)) (sym (marks_are s)) (marked_lent disk.reads pool.found s (marks s) (state_at states s) (container_at pool.containers s) (lent.slots s inside));
+        slots = λ s inside. subst (λ (o : Option VolumeState). IsLentAt disk.reads pool.found s o (paged_at pool.containers s)) (sym (marks_are s)) (marked_lent disk.reads pool.found s (marks s) (state_at states s) (paged_at pool.containers s) (lent.slots s inside));
         spaced = spaced_marked pool.found.blocks pool.map.next (container_at pool.containers) lent.spaced;
         states = subst (λ (w : View). AreStates w no_trees now) same (states_marked (view_over pool states disk.reads) lent.states);
         built = subst (λ (w : View). is_built w ≡ true) same lent.built;
         tables = subst (λ (w : View). AreTables (seen w)) same lent.tables;
         reach = subst (λ (w : View). HaveReaches w now) same (reach_marked (view_over pool states disk.reads) lent.reach);
       }
+
+-- What is in memory for the writing of volumes is there for them as they are marked.
+pub leaves_marked : (plan : Plan) (containers : Slots) (states now : States) → ((s : ℕ) → state_at now s ≡ marked_at (is_set plan.due) states s) → HaveLeaves plan containers states → HaveLeaves plan containers now
+leaves_marked plan containers states now marked leaves s inside =
+    subst (λ (o : Option VolumeState). HasLeavesAt plan s o (paged_at containers s)) (sym (marked s)) (by (is_set plan.due s) refl (state_at states s) (paged_at containers s) (leaves s inside))
+  where
+    same : (b : Bool) → is_set plan.due s ≡ b → (x : VolumeState) (paged : Paged) → HasLeaves plan s x paged → HasLeaves plan s (marked_as b x) paged
+    same b is x paged has = record {
+      known = has.known;
+      maps = λ some. has.maps (once (is_set plan.due s) b x.changed is some);
+    }
+      where
+        once : (due b changed : Bool) → due ≡ b → (due || (b || changed)) ≡ true → (due || changed) ≡ true
+        once true b changed is some = refl
+        once false b changed is some = subst (λ (t : Bool). (t || changed) ≡ true) (sym is) some
+
+    by : (b : Bool) → is_set plan.due s ≡ b → (o : Option VolumeState) (c : Option Paged) → HasLeavesAt plan s o c → HasLeavesAt plan s (option_map (marked_as b) o) c
+    by b is None c has = tt
+    by b is (Some x) None has = tt
+    by b is (Some x) (Some paged) has = same b is x paged has
 
 -- ---- marks
 

@@ -143,7 +143,8 @@ few_delayed volumes few = sum_few (λ s. option_map_or (λ x. delayed_of x.map x
 
 -- ---- what is missing
 
--- What the rule lacks for volumes that use so much is at most what is counted as missing for so much room or more, where it is a number of 64 bits.
+-- What the rule lacks for volumes that use so much is at most what is counted as missing for so much room or more, where it is a number of
+-- 64 bits.
 pub lacks_missing : (pool : Pool) (states : States) (want room used : ℕ) → used ≤ claimed states → max 256 room ≤ max 256 want → used + all_delayed (holdings pool.containers states) + max 256 room ≤ greatest_number
     → (used + all_delayed (holdings pool.containers states) + max 256 room) - (pool.found.blocks - first_block pool.found.blocks) ≤ missing_for pool states want
 unfolding missing_for

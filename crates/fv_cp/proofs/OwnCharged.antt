@@ -1,5 +1,5 @@
--- A volume without a base has just as many entries of its own as it is charged for: below the span each number that its roots reach has one,
--- and past it each block of a snapshot's map.
+-- A volume without a base has just as many entries of its own as it is charged for: below the span each number that its roots reach has
+-- one, and past it each block of a snapshot's map.
 use Rattle.std.proofs.Common.{◌≡◌, ◌≢◌, ℕ, zero, suc, ◌+◌, ◌-◌, ◌*◌, ◌/◌, ◌%◌, ◌<◌, ◌≤◌, Bool, true, false, cond, not, List, [], ◌∷◌, length, inl, inr, refl, sym, ap, subst, ◌∙◌, arith, ⊎_elim}
 use Rattle.std.specs.Prelude.{Option, Some, None, ◌&&◌, ◌||◌, ◌==◌, map, nat_lt, nat_le, count_by, if◌then◌else◌}
 use Rattle.std.specs.List.{list_all, list_any, range_with_len}

@@ -9,10 +9,15 @@ use Rattle.fv_delay.specs.declared.threshold.Threshold.{Threshold}
 use Rattle.fv_delay.specs.ByThreshold.{TakesAll, behind, counts_before, taken_in, takes_some, threshold_for}
 use Rattle.fv_delay.specs.Choice.{chosen, regions_counted}
 use Rattle.fv_delay.specs.Delay.{is_delayed, region_of}
-use Rattle.fv_delay.specs.Holding.{Holding, counts_in, counts_of, has_region}
+use Rattle.fv_delay.specs.Holding.{Holding, counts_in, counts_of, has_region, held_by}
 use Rattle.fv_cp.specs.declared.planning.Plan.{Plan}
 use Rattle.fv_cp.specs.Choosing.{counts_at, has_slot}
-use Rattle.fv_cp.specs.Planning.{IsPlan, LeaveDelays, LeavesDelays, TakesAllOf, is_set, start_at, taken, takes_of}
+use Rattle.fv_disk.specs.Shown.{Image}
+use Rattle.fv_container.specs.Clean.{IsCleanOn}
+use Rattle.fv_container.specs.Paged.{Paged}
+use Rattle.fv_volume.specs.declared.state.VolumeState.{VolumeState}
+use Rattle.fv_cp.specs.Course.{AreHereIn}
+use Rattle.fv_cp.specs.Planning.{HasLeaves, IsReclaimable, IsPlan, LeaveDelays, LeavesDelays, TakesAllOf, is_set, start_at, taken, takes_of}
 use Rattle.fv_cp.proofs.Counting.{none_delayed_in, some_there}
 use Rattle.fv_cp.proofs.Marking.{none_chosen}
 use Rattle.fv_delay.proofs.InVolume.{slot_chosen, taken_chosen}
@@ -82,6 +87,13 @@ pub delays_set : (plan : Plan) (s : ℕ) (x : Holding) (old : List Bool) (left :
 delays_set plan s x old left within due all = record {
   known = λ off. inr (due, all (sym (get_or-set_same old s left true within) ∙ off));
   others = λ k other. get_or-set_other old s k left true other;
+}
+
+-- The regions of a plan can be reclaimed where the container is clean, and what that needs is in memory.
+pub reclaimable : (plan : Plan) (s : ℕ) (x : VolumeState) (paged : Paged) (i : Image) → IsCleanOn i paged → HasLeaves plan s x paged → AreHereIn (takes_of plan s (Some (held_by x.map paged.map))) paged → IsReclaimable plan s x.map paged
+reclaimable plan s x paged i clean leaves here = record {
+  sure = λ due region within. clean.known region (leaves.known due region within);
+  taken = λ due region is. here region (ap (λ (t : Bool). t && taken_in (start_at plan s) (held_by x.map paged.map) region) due ∙ is);
 }
 
 -- ---- where nothing is reclaimed

@@ -4,7 +4,7 @@ use Rattle.std.specs.Prelude.{Option, Some, None}
 use Rattle.fv_disk.specs.Shown.{Image, Shown}
 use Rattle.fv_model.specs.Machines.{Machine}
 use Rattle.fv_aggmap.specs.Space.{free_blocks}
-use Rattle.fv_container.specs.Chains.{Slots, container_at}
+use Rattle.fv_container.specs.Chains.{Slots, container_at, map_in, paged_at}
 use Rattle.fv_container.specs.Leading.{HasEmptied}
 use Rattle.fv_container.specs.Mapped.{Mapped}
 use Rattle.fv_delay.specs.ByThreshold.{threshold_for}
@@ -55,23 +55,24 @@ module _ (f g : ℕ → ℕ → Bool) (pool : Pool) (states : States) (same : (s
     each = λ s inside. by s inside (is.each s inside);
   }
     where
-      by : (s : ℕ) → s < 64 → IsOnCourse f pool states first count s (is.now s) (get_or labels s 0) (container_at containers s) i → IsOnCourse g pool states first count s (is.now s) (get_or labels s 0) (container_at containers s) i
+      by : (s : ℕ) → s < 64 → IsOnCourse f pool states first count s (is.now s) (get_or labels s 0) (paged_at containers s) i → IsOnCourse g pool states first count s (is.now s) (get_or labels s 0) (paged_at containers s) i
       by s inside (as_lent waits at) = as_lent waits at
       by s inside (renewed x low there changed now r) = renewed x low there changed now (record {
         old = r.old;
         was = r.was;
         mid = r.mid;
-        reclaimed = subst (λ (p : ℕ → Bool). HasEmptied r.old p r.mid) (λ k v. same s x r.old inside there r.was v k) r.reclaimed;
+        reclaimed = subst (λ (p : ℕ → Bool). HasEmptied r.old p r.mid) (λ k v. same s x r.old.map inside there (ap map_in r.was) v k) r.reclaimed;
         new = r.new;
         now = r.now;
         valid = r.valid;
         stored = r.stored;
+        memory = r.memory;
         stay = r.stay;
         fresh = r.fresh;
       })
 
-  pub come_as : (disk : Shown) (count : ℕ) (labels : List ℕ) (left : Pool) (now : Shown) → HasCome f disk pool states count labels left now → HasCome g disk pool states count labels left now
-  come_as disk count labels left now come = record {
+  pub come_as : (told : Type 0) (disk : Shown) (count : ℕ) (labels : List ℕ) (left : Pool) (now : Shown) → HasCome f told disk pool states count labels left now → HasCome g told disk pool states count labels left now
+  come_as told disk count labels left now come = record {
     long = come.long;
     places = come.places;
     free = come.free;
@@ -83,7 +84,7 @@ module _ (f g : ℕ → ℕ → Bool) (pool : Pool) (states : States) (same : (s
     found = come.found;
     kept = come.kept;
     spares = come.spares;
-    written = λ tells before lent. course_as (seen pool.kept disk.reads) count labels left.map.next left.containers now.reads (come.written tells before lent);
+    written = λ tells before lent here. course_as (seen pool.kept disk.reads) count labels left.map.next left.containers now.reads (come.written tells before lent here);
   }
 
 -- ---- over a disk
@@ -102,10 +103,10 @@ module _ (disk : Shown) (pool : Pool) (given : States) (before : Machine) (lent 
     held_same = holdings_marked pool.containers given now (is_set plan.due) marked
 
     -- just the chosen regions are reclaimed,
-    pub come_chosen : AreHoused pool.containers now → (labels : List ℕ) (left : Pool) (mid : Shown) → HasCome (taken plan (holdings pool.containers now)) disk pool now 64 labels left mid
-        → HasCome (has_region (regions_chosen pool given want)) disk pool now 64 labels left mid
-    come_chosen housed labels left mid come = come_as (taken plan (holdings pool.containers given)) (has_region (regions_chosen pool given want)) pool now same disk 64 labels left mid
-        (subst (λ (volumes : ℕ → Option Holding). HasCome (taken plan volumes) disk pool now 64 labels left mid) held_same come)
+    pub come_chosen : (told : Type 0) → AreHoused pool.containers now → (labels : List ℕ) (left : Pool) (mid : Shown) → HasCome (taken plan (holdings pool.containers now)) told disk pool now 64 labels left mid
+        → HasCome (has_region (regions_chosen pool given want)) told disk pool now 64 labels left mid
+    come_chosen told housed labels left mid come = come_as (taken plan (holdings pool.containers given)) (has_region (regions_chosen pool given want)) pool now same told disk 64 labels left mid
+        (subst (λ (volumes : ℕ → Option Holding). HasCome (taken plan volumes) told disk pool now 64 labels left mid) held_same come)
       where
         same : (s : ℕ) (x : VolumeState) (map : Mapped) → s < 64 → state_at now s ≡ Some x → container_at pool.containers s ≡ Some map
             → (v : ℕ) → goes_with x.map map (taken plan (holdings pool.containers given) s) v ≡ goes_with x.map map (has_region (regions_chosen pool given want) s) v

@@ -3,6 +3,7 @@ use Rattle.std.proofs.Common.{◌≡◌, ◌≤◌, ℕ, Bool, false, length, Op
 use Rattle.std.specs.Prelude.{IfSome, IsTrue, None}
 use Rattle.std.specs.Option.{option_map}
 use Rattle.fv_disk.specs.Crash.{Leaves}
+use Rattle.fv_disk.specs.DiskCalls.{OnlyReads}
 use Rattle.fv_disk.specs.Faults.{HasBlockCause}
 use Rattle.fv_disk.specs.Shown.{Image, IsDisk, Rose, Shown}
 use Rattle.fv_disk.specs.declared.fault.BlockFault.{BlockFault}
@@ -14,14 +15,17 @@ use Rattle.fv_image.specs.NewerRoot.{root_of}
 use Rattle.fv_root.specs.declared.find.Found.{Found}
 use Rattle.fv_root.specs.Finding.{root_found}
 use Rattle.fv_root.specs.Commits.{IsFoundOn, next_found}
-use Rattle.fv_store.specs.Held.{StandsOn}
-use Rattle.fv_container.specs.Chains.{container_at, parent_at}
+use Rattle.fv_image.specs.Layout.{root_place}
+use Rattle.fv_aggmap.specs.Space.{free_blocks}
+use Rattle.fv_container.specs.Chains.{IsSlots, container_at, parent_at}
+use Rattle.fv_container.proofs.Damage.{none_damaged}
 use Rattle.fv_volmap.specs.Slots.{Volume}
 use Rattle.fv_pool.specs.declared.fault.VolumeFault.{VolumeFault}
 use Rattle.fv_pool.specs.declared.fault.VolumeFault.TheVariants as volume
 use Rattle.fv_pool.specs.declared.pool.Pool.{Pool}
 use Rattle.fv_volume.specs.declared.state.VolumeState.{VolumeState}
 use Rattle.fv_pool.specs.Causes.{of_block}
+use Rattle.fv_pool.specs.BlocksOver.{LoadsPool}
 use Rattle.fv_volume.specs.Files.{IsLabelled}
 use Rattle.fv_volume.specs.Loading.{Houses}
 use Rattle.fv_volume.specs.Numbering.{AreNumbersSeen}
@@ -31,14 +35,15 @@ use Rattle.fv_volumes.proofs.Staying.{kept_stands}
 use Rattle.fv_volumes.proofs.HeldSettled.{core_parent, ready_of, settled_core, settled_no_files, settled_numbers, settled_ready, settled_unchanged, settled_whole}
 use Rattle.fv_cp.specs.Held.{machine_held, IsHeld}
 use Rattle.fv_cp.specs.Lent.{FitTogether, IsLent}
-use Rattle.fv_cp.specs.Placing.{core_of, ArePlaced, AreReady, FailsToPlace, HasNoFiles, HasWholeMap, HaveNoFiles, HaveRoom, IsPlaceFault, IsReadyIn}
-use Rattle.fv_cp.specs.Points.{machine_lent, Counts, GoesOn, IsCalm, IsNew, IsNextRoot, IsOld, IsPoint, LacksRoom, LeavesAll, LeavesContainers, OldOrLent}
+use Rattle.fv_cp.specs.Placing.{core_of, ArePlaced, AreReady, FailsToPlace, HasNoFiles, HasWholeMap, HaveRoom, IsPlaceFault, IsReadyIn}
+use Rattle.fv_cp.specs.Points.{machine_lent, Counts, GoesOn, IsNew, IsNextRoot, IsOld, IsPoint, LacksPoint, LeavesContainers, OldOrLent}
 use Rattle.fv_cp.specs.Settling.{GoesOnWhole, HasWholeCause, HaveFullRoom, IsHeldPoint, IsNoDamage, IsStill, OldOrHeld, StillHeld, WholeCounts, WholeFails}
 use Rattle.fv_volumes.specs.Housed.{settled_as}
 use Rattle.fv_volume.specs.Trees.{active_in, no_trees}
 use Rattle.fv_cp.specs.Choosing.{CanChoose, has_slot, marked_as, regions_chosen}
 use Rattle.fv_cp.specs.Known.{AreKnown}
 use Rattle.fv_cp.proofs.Marking.{asked_least, asked_most, marked_core, marked_no_files, marked_numbers, marked_ready, marked_table, marked_whole}
+use Rattle.fv_cp.proofs.CameIn.{leaf_still, lent_clean}
 use Rattle.fv_cp.proofs.SameChoice.{chosen_before, chosen_behind}
 use Rattle.fv_cp.proofs.Lendable.{held_lent, held_machine, numbers_held, past_held}
 use Rattle.fv_volumes.proofs.PlacedIn.{found_read}
@@ -88,9 +93,9 @@ module _ (disk : Shown) (pool : Pool) (states : States) (mid : Shown) (held : Po
     }
 
     -- What a point needs is known of the image, and there is room for each choice of regions.
-    can_choose : (before : Machine) → IsHeld disk pool states before → (want : ℕ) (delays : List Bool) → AreKnown mid.reads pool.found delays → HaveFullRoom pool states → CanChoose mid held between want delays
+    can_choose : (before : Machine) → IsHeld disk pool states before → (want : ℕ) (delays : List Bool) → AreKnown disk.reads pool.found delays → HaveFullRoom pool states → CanChoose mid held between want delays
     can_choose before was want delays known room = record {
-      known = subst (λ (f : Found). AreKnown mid.reads f delays) (sym placed.found) known;
+      known = subst (λ (f : Found). AreKnown mid.reads f delays) (sym placed.found) (subst (λ (i : Image). AreKnown i pool.found delays) (sym placed.only_reads.stays.reads) known);
       room =
           let spent = placed.spent before was (some_room pool states room) in
           let most = asked_most (has_slot (regions_chosen held between want)) between placed.fit.housed.long in
@@ -99,7 +104,7 @@ module _ (disk : Shown) (pool : Pool) (states : States) (mid : Shown) (held : Po
           omega (arith, spent.blocks, most, asked, blocks);
     }
 
-    pub pointing : IsDisk disk → (new : Shown) (before : Machine) → IsHeld disk pool states before → (want : ℕ) (delays : List Bool) → AreKnown mid.reads pool.found delays → HaveFullRoom pool states
+    pub pointing : IsDisk disk → (new : Shown) (before : Machine) → IsHeld disk pool states before → (want : ℕ) (delays : List Bool) → AreKnown disk.reads pool.found delays → HaveFullRoom pool states
         → ((before : Machine) → IsLent mid held between before → CanChoose mid held between want delays → Leaves mid new (OldOrLent mid held between before)) → Leaves disk new (OldOrHeld disk pool states before)
     pointing laws new before was want delays known room left = then disk mid new (OldOrHeld disk pool states before) (placing laws before was)
         (weaken mid new (OldOrLent mid held between before) (OldOrHeld disk pool states before)
@@ -175,7 +180,7 @@ module _ (disk : Shown) (pool : Pool) (states : States) (mid : Shown) (held : Po
 
       -- Over a disk.
       pub point_held : (before : Machine) → IsHeld disk pool states before → (few : length left.containers.containers ≡ 64) → IsTrue disk.tells → new.tells ≡ mid.tells → ((b : ℕ) → length (new.reads b) ≡ 4096)
-          → (want : ℕ) (first delays : List Bool) → AreKnown mid.reads pool.found first → HaveFullRoom pool states
+          → (want : ℕ) (first delays : List Bool) → AreKnown disk.reads pool.found first → HaveFullRoom pool states
           → ((before : Machine) → IsLent mid held between before → CanChoose mid held between want first → IsPoint mid held between want new left stay delays) → IsHeldPoint disk pool states want new left stay delays
       point_held before was few told tells long want first delays known enough did =
           let point = did before (lent_mid before was) (can_choose before was want first known enough) in
@@ -198,32 +203,34 @@ module _ (disk : Shown) (pool : Pool) (states : States) (mid : Shown) (held : Po
 
   -- ---- it wasn't done
 
-  -- fewer blocks were free than it asks for
-  pub still_placed : AreReady mid held between → (new : Shown) (left : Pool) (stay : States) → new ≡ mid → left ≡ held → stay ≡ between → (stands : StandsOn mid held.store.pairs) → StillHeld disk pool states new left stay
-  still_placed ready new left stay e f g stands = subst (λ (d : Shown). StillHeld disk pool states d left stay) (sym e) (subst (λ (p : Pool). StillHeld disk pool states mid p stay) (sym f)
-      (subst (λ (xs : States). StillHeld disk pool states mid held xs) (sym g) (record { placed = placed; stands = stands; ready = ready })))
-
-  pub still_after : {T : Type 0} (shown : T → Shown) (a b : T) → shown a ≡ mid → AreReady mid held between → StandsOn mid held.store.pairs → (left : Pool) (stay : States) (e : BlockFault) → IsCalm a b e → LeavesAll mid held between (shown b) left stay e
-      → IsStill disk pool states (shown b) left stay (of_block e)
-  still_after shown a b at ready stands left stay DiskFault calm leaves = tt
-  still_after shown a b at ready stands left stay (Damaged what want found) calm leaves = still_placed ready (shown b) left stay (ap shown calm ∙ at) leaves.1.0 leaves.1.1 stands
-  still_after shown a b at ready stands left stay Memory calm leaves = still_placed ready (shown b) left stay (ap shown calm ∙ at) leaves.1.0 leaves.1.1 stands
+  -- a point that isn't prepared leaves what was placed
+  pub still_unprepared : StillHeld disk pool states mid held between → (e : BlockFault) → IsStill disk pool states mid held between (of_block e)
+  still_unprepared still DiskFault = inr still
+  still_unprepared still (Damaged at want found) = still
+  still_unprepared still Memory = still
 
   -- ---- the counts
 
-  whole_cause : mid.faults ≡ disk.faults → (new : Shown) (e : BlockFault) → HasBlockCause {T = Unit {0}} mid.faults new.faults (Err e) → HasBlockCause {T = Unit {0}} mid.write_faults new.write_faults (Err e) → HasWholeCause disk new (Err (of_block e))
-  whole_cause calm new DiskFault cause wrote =
-      let rose : Rose disk.write_faults new.write_faults = subst (λ (n : ℕ). Rose n new.write_faults) placed.only_reads.write_faults wrote in
-      (subst (λ (n : ℕ). Rose n new.faults) calm cause, rose)
-  whole_cause calm new (Damaged at want found) cause wrote = (cause ∙ calm, wrote ∙ placed.only_reads.write_faults)
-  whole_cause calm new Memory cause wrote = (cause ∙ calm, wrote ∙ placed.only_reads.write_faults)
+  unprepared_cause : (e : BlockFault) → HasBlockCause {T = Unit {0}} disk.faults mid.faults (Err e) → HasWholeCause disk mid (Err (of_block e))
+  unprepared_cause DiskFault cause = (cause, inl placed.only_reads.write_faults)
+  unprepared_cause (Damaged at want found) cause = (cause, placed.only_reads.write_faults)
+  unprepared_cause Memory cause = (cause, placed.only_reads.write_faults)
 
-  pub counts_failed : mid.faults ≡ disk.faults → (new : Shown) (e : BlockFault) → Counts mid new (Err e) → WholeCounts disk new (Err (of_block e))
-  counts_failed calm new e counts = record {
+  pub counts_unprepared : (e : BlockFault) → HasBlockCause {T = Unit {0}} disk.faults mid.faults (Err e) → WholeCounts disk mid (Err (of_block e))
+  counts_unprepared e cause = record {
+    tells = placed.only_reads.stays.tells;
+    given = placed.only_reads.given;
+    ends = placed.only_reads.ends;
+    cause = unprepared_cause e cause;
+  }
+
+  -- a write failed
+  pub counts_failed : mid.faults ≡ disk.faults → (new : Shown) → Counts mid new (Err DiskFault) → WholeCounts disk new (Err volume.DiskFault)
+  counts_failed calm new counts = record {
     tells = counts.tells ∙ placed.only_reads.stays.tells;
     given = counts.given ∙ placed.only_reads.given;
     ends = counts.ends ∙ placed.only_reads.ends;
-    cause = whole_cause calm new e counts.cause counts.write_cause;
+    cause = (subst (λ (n : ℕ). Rose n new.faults) calm counts.cause, inr (subst (λ (n : ℕ). Rose n new.write_faults) placed.only_reads.write_faults counts.write_cause));
   }
 
   pub counts_done : mid.faults ≡ disk.faults → (new : Shown) → Counts mid new (Ok tt) → WholeCounts disk new (Ok tt)
@@ -236,44 +243,57 @@ module _ (disk : Shown) (pool : Pool) (states : States) (mid : Shown) (held : Po
 
   -- ---- room
 
-  -- with enough of it a point finds what it asks for
-  pub enough_left : (before : Machine) → IsHeld disk pool states before → HaveFullRoom pool states → (e : BlockFault) → LacksRoom held between e → IsNoDamage (of_block e)
-  enough_left before was room DiskFault lacks = tt
-  enough_left before was room Memory lacks = absurd lacks
-  enough_left before was room (Damaged at want found) lacks =
+  -- with enough of it a point finds what it asks for, and each leaf stands
+  pub enough_left : IsSlots held.containers → (before : Machine) → IsHeld disk pool states before → HaveFullRoom pool states → IsTrue mid.tells → (e : BlockFault) → LacksPoint mid held between e → IsNoDamage (of_block e)
+  enough_left few before was room tells DiskFault lacks = tt
+  enough_left few before was room tells Memory lacks = tt
+  enough_left few before was room tells (Damaged at want found) (inl lacks) =
       let spent = placed.spent before was (some_room pool states room) in
       let asked = placed.all in
       let blocks = room.blocks in
       absurd (omega (arith, lacks.1.0, lacks.1.1.0, lacks.1.1.1, asked_least between placed.fit.housed.long, spent.blocks, asked, blocks))
+  enough_left few before was room tells (Damaged at want found) (inr leaf) = absurd (none_damaged mid.reads held.containers at want found (lent_clean mid.reads held.found between held.containers few placed.fit.housed (placed.held before was).slots) (leaf tells))
 
-  -- why it wasn't done, with the files in their places
-  pub fails_left : (new : Shown) (left : Pool) (stay : States) (e : BlockFault) → LacksRoom held between e → LeavesAll mid held between new left stay e → WholeFails disk pool states left stay (of_block e)
-  fails_left new left stay DiskFault lacks leaves = tt
-  fails_left new left stay Memory lacks leaves = absurd lacks
-  fails_left new left stay (Damaged at want found) lacks leaves =
-      inl (subst (λ (p : Pool). LacksRoom p stay (Damaged at want found)) (sym leaves.1.0) (subst (λ (xs : States). LacksRoom held xs (Damaged at want found)) (sym leaves.1.1) lacks))
+  -- why it isn't prepared, with the files in their places, once leaves came into memory
+  pub fails_left : (new : Shown) (left : Pool) → LoadsPool mid held left → OnlyReads mid new → (e : BlockFault) → LacksPoint mid held between e → WholeFails disk pool states new left between (of_block e)
+  fails_left new left loads reads DiskFault lacks = tt
+  fails_left new left loads reads Memory lacks = tt
+  fails_left new left loads reads (Damaged at want found) (inl lacks) = inl (inl (
+    lacks.0 ∙ sym (ap (λ (f : Found). root_place f.slot) loads.found),
+    (lacks.1.0, (lacks.1.1.0 ∙ sym (ap free_blocks loads.map), lacks.1.1.1)),
+  ))
+  fails_left new left loads reads (Damaged at want found) (inr leaf) = inl (inr (λ tells. leaf_still mid.reads new.reads held.containers left.containers at want found reads.stays.reads loads.containers.maps (leaf (subst IsTrue reads.stays.tells tells))))
+
+-- the count of faults, where it stayed before
+pub block_cause : (first mid last : ℕ) (e : BlockFault) → mid ≡ first → HasBlockCause {T = Unit {0}} mid last (Err e) → HasBlockCause {T = Unit {0}} first last (Err e)
+block_cause first mid last DiskFault same cause = subst (λ (n : ℕ). Rose n last) same cause
+block_cause first mid last (Damaged at want found) same cause = cause ∙ same
+block_cause first mid last Memory same cause = cause ∙ same
+
+-- it rose where that fault is one of the disk
+pub failed_cause : (first last : ℕ) (e : BlockFault) → e ≡ DiskFault → HasBlockCause {T = Unit {0}} first last (Err e) → Rose first last
+failed_cause first last e failed cause = subst (λ (f : BlockFault). HasBlockCause {T = Unit {0}} first last (Err f)) failed cause
 
 -- ---- the files weren't placed
 
--- a flush fails by damage or for want of memory
-of_fault : (P : VolumeFault → Type 0) → ((at want found : ℕ) → P (volume.Damaged at want found)) → P volume.Memory → (e : VolumeFault) → IsPlaceFault e → P e
-of_fault P damaged memory (volume.Refused r) fault = absurd fault
-of_fault P damaged memory volume.DiskFault fault = absurd fault
-of_fault P damaged memory (volume.Damaged at want found) fault = damaged at want found
-of_fault P damaged memory volume.Memory fault = memory
-
 -- what was placed of the files stays
-pub still_placing : (disk : Shown) (pool : Pool) (states : States) (left : Pool) (stay : States) (e : VolumeFault) → IsPlaceFault e → StillHeld disk pool states disk left stay → IsStill disk pool states disk left stay e
-still_placing disk pool states left stay e fault still = of_fault (IsStill disk pool states disk left stay) (λ at want found. still) still e fault
+pub still_placing : (disk : Shown) (pool : Pool) (states : States) (after : Shown) (left : Pool) (stay : States) (e : VolumeFault) → IsPlaceFault disk after e → StillHeld disk pool states after left stay → IsStill disk pool states after left stay e
+still_placing disk pool states after left stay (volume.Refused r) fault still = absurd fault
+still_placing disk pool states after left stay volume.DiskFault fault still = inr still
+still_placing disk pool states after left stay (volume.Damaged at want found) fault still = still
+still_placing disk pool states after left stay volume.Memory fault still = still
 
-pub fails_placed : (disk : Shown) (pool : Pool) (states : States) (left : Pool) (stay : States) (e : VolumeFault) → IsPlaceFault e → (HaveNoFiles states → ⊥) → FailsToPlace disk pool states e → WholeFails disk pool states left stay e
-fails_placed disk pool states left stay (volume.Refused r) fault filed lacks = absurd fault
-fails_placed disk pool states left stay volume.DiskFault fault filed lacks = absurd fault
-fails_placed disk pool states left stay (volume.Damaged at want found) fault filed lacks = inr lacks
-fails_placed disk pool states left stay volume.Memory fault filed lacks = filed
+pub fails_placed : (disk : Shown) (pool : Pool) (states : States) (after : Shown) (left : Pool) (stay : States) (e : VolumeFault) → IsPlaceFault disk after e → FailsToPlace disk pool states after e → WholeFails disk pool states after left stay e
+fails_placed disk pool states after left stay (volume.Refused r) fault lacks = absurd fault
+fails_placed disk pool states after left stay volume.DiskFault fault lacks = tt
+fails_placed disk pool states after left stay (volume.Damaged at want found) fault lacks = inr lacks
+fails_placed disk pool states after left stay volume.Memory fault lacks = tt
 
-pub counts_placed : (disk : Shown) (e : VolumeFault) → IsPlaceFault e → WholeCounts disk disk (Err e)
-counts_placed disk e fault = record { tells = refl; given = refl; ends = refl; cause = of_fault (λ e. HasWholeCause disk disk (Err e)) (λ at want found. (refl, refl)) (refl, refl) e fault }
-
-pub no_damage : (e : VolumeFault) → e ≡ volume.Memory → IsNoDamage e
-no_damage e is = subst IsNoDamage (sym is) tt
+pub counts_placed : (disk after : Shown) (e : VolumeFault) → OnlyReads disk after → IsPlaceFault disk after e → WholeCounts disk after (Err e)
+counts_placed disk after e reads fault = record { tells = reads.stays.tells; given = reads.given; ends = reads.ends; cause = by e fault }
+  where
+    by : (e : VolumeFault) → IsPlaceFault disk after e → HasWholeCause disk after (Err e)
+    by (volume.Refused r) fault = absurd fault
+    by volume.DiskFault fault = (fault, inl reads.write_faults)
+    by (volume.Damaged at want found) fault = (fault, reads.write_faults)
+    by volume.Memory fault = (fault, reads.write_faults)

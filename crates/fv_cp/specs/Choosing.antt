@@ -43,9 +43,9 @@ abbrev pub greatest_number : ℕ
 greatest_number = 2 ^ 64 - 1
 
 -- The blocks that a volume claims by the space rule: twice its overhead, and the entries that it owns, which its ledger charges. What its
--- reserves need isn't claimed. The charge is just the entries of its own for each volume that isn't being split from its base. One that is being
--- split is charged for numbers of data that have no entry of their own yet, and those would have to be taken off; no volume of a session is being
--- split (`IsLabelled.form`).
+-- reserves need isn't claimed. The charge is just the entries of its own for each volume that isn't being split from its base. One that is
+-- being split is charged for numbers of data that have no entry of their own yet, and those would have to be taken off; no volume of a
+-- session is being split (`IsLabelled.form`).
 abbrev pub claimed_by : Option VolumeState → ℕ
 claimed_by None = 0
 claimed_by (Some x) = 2 * overhead x.span + x.ledger.charge
@@ -54,18 +54,18 @@ claimed_by (Some x) = 2 * overhead x.span + x.ledger.charge
 abbrev pub claimed : States → ℕ
 claimed states = sum_by claimed_by states
 
--- The blocks that the space rule lacks before any reclaim, where so many are wanted: what the volumes claim, what they have delayed and what
--- is wanted, less the blocks behind the fixed ones. A sum past 64 bits is taken for the greatest number of them.
+-- The blocks that the space rule lacks before any reclaim, where so many are wanted: what the volumes claim, what they have delayed and
+-- what is wanted, less the blocks behind the fixed ones. A sum past 64 bits is taken for the greatest number of them.
 unfoldable pub missing_for : Pool → States → ℕ → ℕ
 missing_for pool states want = min ((max 256 want + claimed states) + total (counts_of (holdings pool.containers states))) greatest_number - (pool.found.blocks - first_block pool.found.blocks)
 
--- What the space rule lacks for a view where so many blocks are wanted and so many entries are delayed: all overheads twice, the entries that are
--- the volumes' own, what is delayed and what is wanted, less the blocks behind the fixed ones.
+-- What the space rule lacks for a view where so many blocks are wanted and so many entries are delayed: all overheads twice, the entries
+-- that are the volumes' own, what is delayed and what is wanted, less the blocks behind the fixed ones.
 unfoldable pub lacking : View → ℕ → ℕ → ℕ
 lacking w delayed want = (2 * overheads w + own w + delayed + max 256 want) - (w.blocks - first_block w.blocks)
 
--- What is counted as missing by the ledgers of volumes is just what the space rule lacks by the entries of a view, with what the volumes have
--- delayed. Where less than 2^63 is wanted no sum passes 64 bits.
+-- What is counted as missing by the ledgers of volumes is just what the space rule lacks by the entries of a view, with what the volumes
+-- have delayed. Where less than 2^63 is wanted no sum passes 64 bits.
 abbrev pub CountsMissing : Pool → States → View → ℕ → Type 0
 CountsMissing pool states w want = want < 2 ^ 63 → missing_for pool states want ≡ lacking w (all_delayed (holdings pool.containers states)) want
 
@@ -120,8 +120,8 @@ pub record AreMarkedTo (marks : ℕ → Bool) (states now : States) (count : ℕ
 
 -- ---- what a point needs
 
--- What a point needs so that the space rule holds behind it: it is known of which volumes that haven't changed an entry may be delayed, and there is
--- room for the volumes that changed or have a region that is chosen.
+-- What a point needs so that the space rule holds behind it: it is known of which volumes that haven't changed an entry may be delayed,
+-- and there is room for the volumes that changed or have a region that is chosen.
 pub record CanChoose (disk : Shown) (pool : Pool) (states : States) (want : ℕ) (delays : List Bool) : Type 0 where
   pub known : AreKnown disk.reads pool.found delays
   pub room : asked_with (regions_chosen pool states want) states ≤ free_blocks pool.map

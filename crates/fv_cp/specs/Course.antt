@@ -14,10 +14,12 @@ use Rattle.fv_root.specs.Commits.{next_found}
 use Rattle.fv_store.specs.Held.{StandsOn}
 use Rattle.fv_container.specs.Clean.{IsCleanOn}
 use Rattle.fv_container.specs.Mapped.{IsMapped, Mapped}
-use Rattle.fv_container.specs.Chains.{Slots, container_at, slot_count, with_container}
+use Rattle.fv_container.specs.Paged.{Paged}
+use Rattle.fv_container.specs.Chains.{Slots, container_at, paged_at, slot_count, with_container}
 use Rattle.fv_container.specs.Leading.{HasEmptied}
 use Rattle.fv_aggmap.specs.Space.{Space, blocks_of, free_blocks}
-use Rattle.fv_delay.specs.Reclaims.{HasReclaimed, goes_with}
+use Rattle.fv_delay.specs.Delay.{IsHereIn}
+use Rattle.fv_delay.specs.Reclaims.{HasGivenSome, HasReclaimed, HasStayed, goes_with}
 use Rattle.fv_pool.specs.declared.pool.Pool.{Pool}
 use Rattle.fv_volume.specs.declared.state.VolumeState.{VolumeState}
 use Rattle.fv_pool.specs.Keeping.{seen}
@@ -25,27 +27,38 @@ use Rattle.fv_volume.specs.States.{States, state_at}
 use Rattle.fv_volume.specs.Stored.{AreSpacedIn, IsStored, is_map_written, place_at, stays}
 use Rattle.fv_volumes.specs.Housed.{AreHoused, as_written}
 use Rattle.fv_cp.specs.Lent.{IsLent, asked_by}
-use Rattle.fv_volume.specs.Writing.{HasOwnBlocks, IsTaken, IsWritten, on_disk}
+use Rattle.fv_volume.specs.Writing.{HasOwnBlocks, IsRightMemory, IsTaken, IsWritten, on_disk}
 
 -- ---- one slot
 
+-- the leaves of some regions of a container are in memory
+abbrev pub AreHereIn : (ℕ → Bool) → Paged → Type 0
+AreHereIn regions paged = (r : ℕ) → regions r ≡ true → IsHereIn paged r
+
+-- so it is with each container and the regions of its slot
+abbrev pub HaveHere : (ℕ → ℕ → Bool) → Slots → Type 0
+HaveHere regions containers = (s : ℕ) → s < 64 → IfSome (paged_at containers s) (AreHereIn (regions s))
+
 -- some regions of the slot's volume were reclaimed, then it was written, and the labels name it
 pub record IsSlotWritten (regions : ℕ → Bool) (x : VolumeState) (s : ℕ) (labels : List ℕ) (pool : Pool) (disk : Shown) (now : List ℕ) (left : Pool) (after : Shown) : Type 0 where
-  pub old : Mapped
-  pub there : container_at pool.containers s ≡ Some old
+  pub old : Paged
+  pub there : paged_at pool.containers s ≡ Some old
   pub few : length pool.containers.containers ≡ slot_count
   -- the container and the space once the regions were reclaimed
-  pub mid : Mapped
+  pub mid : Paged
   pub space : Space
-  pub reclaimed : HasReclaimed x.map regions old pool.map mid space
-  pub new : Mapped
-  pub long : length new.entries ≡ entry_count x.span
-  pub valid : IsMapped new
+  pub stayed : HasStayed old mid
+  pub given : HasGivenSome pool.map space
+  pub reclaimed : IsTrue disk.tells → IsCleanOn disk.reads old → AreHereIn regions old → HasReclaimed x.map regions old pool.map mid space
+  pub new : Paged
+  pub long : length new.map.entries ≡ entry_count x.span
+  pub valid : IsMapped new.map
   pub label : ℕ
   pub within : label < blocks_of pool.map
   pub named : now ≡ slice_set labels s label
   pub containers : left.containers ≡ with_container pool.containers s (Some new)
-  pub written : IsTrue disk.tells → HasOwnBlocks x mid space → IsCleanOn disk.reads mid → IsWritten x mid disk.reads space label new after.reads left.map
+  pub written : IsTrue disk.tells → HasOwnBlocks x mid.map space → IsCleanOn disk.reads mid → IsWritten x mid.map disk.reads space label new.map after.reads left.map
+  pub memory : IsTrue disk.tells → HasOwnBlocks x mid.map space → IsCleanOn disk.reads mid → IsRightMemory new
 
 -- nothing was written
 pub record IsPassed (labels : List ℕ) (pool : Pool) (disk : Shown) (now : List ℕ) (left : Pool) (after : Shown) : Type 0 where
@@ -68,22 +81,24 @@ found_with found labels = next_found found (record found.root { labels = labels 
 abbrev pub StaysFrom : VolumeState → Mapped → Image → Image → Type 0
 StaysFrom x map first i = (v : ℕ) → stays x v ≡ true → place_at map v ≢ 0 → i (place_at map v) ≡ first (place_at map v)
 
--- Some regions of a slot's volume were reclaimed, and then it was written. It stands in an image, where the entries that stay have the blocks
--- that they had in the first.
-pub record IsRenewed (regions : ℕ → Bool) (pool : Pool) (first : Image) (s : ℕ) (x : VolumeState) (label : ℕ) (container : Option Mapped) (i : Image) : Type 0 where
-  pub old : Mapped
-  pub was : container_at pool.containers s ≡ Some old
-  pub mid : Mapped
-  pub reclaimed : HasEmptied old (goes_with x.map old regions) mid
-  pub new : Mapped
+-- Some regions of a slot's volume were reclaimed, and then it was written. It stands in an image, where the entries that stay have the
+-- blocks that they had in the first.
+pub record IsRenewed (regions : ℕ → Bool) (pool : Pool) (first : Image) (s : ℕ) (x : VolumeState) (label : ℕ) (container : Option Paged) (i : Image) : Type 0 where
+  pub old : Paged
+  pub was : paged_at pool.containers s ≡ Some old
+  pub mid : Paged
+  pub reclaimed : HasEmptied old (goes_with x.map old.map regions) mid
+  pub new : Paged
   pub now : container ≡ Some new
-  pub valid : IsMapped new
-  pub stored : IsStored x mid label new i
-  pub stay : StaysFrom x old first i
+  pub valid : IsMapped new.map
+  pub stored : IsStored x mid.map label new.map i
+  pub memory : IsRightMemory new
+  pub stay : StaysFrom x old.map first i
   -- the blocks of the maps that were written have places that the root on the disk doesn't hold
-  pub fresh : (v : ℕ) → is_map_written x v ≡ true → is_member pool.map.committed (place_at new v) ≡ false
+  pub fresh : (v : ℕ) → is_map_written x v ≡ true → is_member pool.map.committed (place_at new.map v) ≡ false
 
--- the place of a label that the new root names before a point writes anything: that of the root on the disk, and none for a slot without a volume
+-- the place of a label that the new root names before a point writes anything: that of the root on the disk, and none for a slot without a
+-- volume
 abbrev pub label_lent : Option VolumeState → ℕ → ℕ
 label_lent None place = 0
 label_lent (Some x) place = place
@@ -102,15 +117,15 @@ pub record ClearedTo (states : States) (before now : List ℕ) (count : ℕ) : T
   pub rest : (s : ℕ) → count ≤ s → get_or now s 0 ≡ get_or before s 0
 
 -- the slot is as it was lent, and the entries that stay have the blocks that they had in the first image
-pub record IsAsLent (pool : Pool) (states : States) (first : Image) (s : ℕ) (now : Option VolumeState) (label : ℕ) (container : Option Mapped) (i : Image) : Type 0 where
+pub record IsAsLent (pool : Pool) (states : States) (first : Image) (s : ℕ) (now : Option VolumeState) (label : ℕ) (container : Option Paged) (i : Image) : Type 0 where
   pub state : now ≡ state_at states s
-  pub lies : container ≡ container_at pool.containers s
+  pub lies : container ≡ paged_at pool.containers s
   pub named : label ≡ label_lent (state_at states s) (get_or pool.found.root.labels s 0)
   pub stay : (x : VolumeState) (map : Mapped) → state_at states s ≡ Some x → container_at pool.containers s ≡ Some map → StaysFrom x map first i
 
 -- What a slot is in the course, by its volume, the place of its label and its container: its volume was written, if it is one of the first
 -- and it changed, and else the slot is as it was lent.
-pub data IsOnCourse (regions : ℕ → ℕ → Bool) (pool : Pool) (states : States) (first : Image) (count s : ℕ) (now : Option VolumeState) (label : ℕ) (container : Option Mapped) (i : Image) : Type 0 where
+pub data IsOnCourse (regions : ℕ → ℕ → Bool) (pool : Pool) (states : States) (first : Image) (count s : ℕ) (now : Option VolumeState) (label : ℕ) (container : Option Paged) (i : Image) : Type 0 where
   renewed : (x : VolumeState) → s < count → state_at states s ≡ Some x → x.changed ≡ true → now ≡ Some (as_written x label) → IsRenewed (regions s) pool first s x label container i → IsOnCourse regions pool states first count s now label container i
   as_lent : IfSome (state_at states s) (λ x. x.changed ≡ true → count ≤ s) → IsAsLent pool states first s now label container i → IsOnCourse regions pool states first count s now label container i
 
@@ -118,24 +133,25 @@ pub data IsOnCourse (regions : ℕ → ℕ → Bool) (pool : Pool) (states : Sta
 pub record IsCourse (regions : ℕ → ℕ → Bool) (pool : Pool) (states : States) (first : Image) (count : ℕ) (labels : List ℕ) (next : List Bool) (containers : Slots) (i : Image) : Type 0 where
   pub now : ℕ → Option VolumeState
   pub spaced : AreSpacedIn pool.found.blocks next now (container_at containers)
-  pub each : (s : ℕ) → s < 64 → IsOnCourse regions pool states first count s (now s) (get_or labels s 0) (container_at containers s) i
+  pub each : (s : ℕ) → s < 64 → IsOnCourse regions pool states first count s (now s) (get_or labels s 0) (paged_at containers s) i
 
 -- the blocks that the volumes of the slots from one on ask for
 abbrev pub asked_from : ℕ → States → ℕ
 asked_from slot states = sum_by asked_by (drop slot states)
 
--- The volumes of the first slots are written: what holds of any disk, and what holds of one on which they stood.
-pub record HasCome (regions : ℕ → ℕ → Bool) (disk : Shown) (pool : Pool) (states : States) (count : ℕ) (labels : List ℕ) (left : Pool) (now : Shown) : Type 0 where
+-- The volumes of the first slots are written: what holds of any disk, and what holds of one on which they stood, where what is told of the
+-- leaves in memory holds.
+pub record HasCome (regions : ℕ → ℕ → Bool) (told : Type 0) (disk : Shown) (pool : Pool) (states : States) (count : ℕ) (labels : List ℕ) (left : Pool) (now : Shown) : Type 0 where
   pub long : length labels ≡ 64
   pub places : All (λ place. place ≤ last_place) labels
   pub free : (s : ℕ) → s < 64 → state_at states s ≡ None → get_or labels s 0 ≡ 0
   pub stands : StandsOn now left.store.pairs
   pub housed : AreHoused left.containers states
   -- the containers of the other slots are as they were lent
-  pub rest : (s : ℕ) → count ≤ s → container_at left.containers s ≡ container_at pool.containers s
+  pub rest : (s : ℕ) → count ≤ s → paged_at left.containers s ≡ paged_at pool.containers s
   pub room : asked_from count states ≤ free_blocks left.map
   pub committed : left.map.committed ≡ pool.map.committed
   pub found : left.found ≡ pool.found
   pub kept : left.kept ≡ fin.empty
   pub spares : Spares (IsTaken (on_disk pool.map)) disk now (Ok tt)
-  pub written : IsTrue disk.tells → (before : Machine) → IsLent disk pool states before → IsCourse regions pool states (seen pool.kept disk.reads) count labels left.map.next left.containers now.reads
+  pub written : IsTrue disk.tells → (before : Machine) → IsLent disk pool states before → told → IsCourse regions pool states (seen pool.kept disk.reads) count labels left.map.next left.containers now.reads

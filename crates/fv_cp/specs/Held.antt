@@ -9,7 +9,7 @@ use Rattle.fv_image.specs.Held.{layout_at, AllKeep}
 use Rattle.fv_image.specs.WholeMachine.{Tells}
 use Rattle.fv_root.specs.Finding.{root_found}
 use Rattle.fv_root.specs.Commits.{IsFoundOn}
-use Rattle.fv_container.specs.Chains.{slot_count, container_at}
+use Rattle.fv_container.specs.Chains.{slot_count, container_at, paged_at}
 use Rattle.fv_pool.specs.declared.pool.Pool.{Pool}
 use Rattle.fv_volume.specs.Files.{AreNamed}
 pub use Rattle.fv_volume.specs.Held.{named_held, IsHeldIn}
@@ -26,7 +26,7 @@ pub record IsHeld (disk : Shown) (pool : Pool) (states : States) (before : Machi
   pub tells : Tells (layout_at (root_found pool.found) disk.reads) before
   pub keeps : AllKeep (root_found pool.found) disk.reads disk
   pub map : IsMapOf disk.reads pool.found pool.map
-  pub slots : (s : ℕ) → s < slot_count → IsLentAt disk.reads pool.found s (state_at states s) (container_at pool.containers s)
+  pub slots : (s : ℕ) → s < slot_count → IsLentAt disk.reads pool.found s (state_at states s) (paged_at pool.containers s)
   pub spaced : AreSpacedIn pool.found.blocks pool.map.next (state_at states) (container_at pool.containers)
   pub names : AreNamed states
   pub each : (s : ℕ) → IfSome (state_at states s) (IsHeldIn disk pool s)

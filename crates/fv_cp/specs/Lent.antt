@@ -9,7 +9,7 @@ use Rattle.fv_image.specs.Soundness.{AreTables}
 use Rattle.fv_image.specs.WholeMachine.{Tells, is_built}
 use Rattle.fv_root.specs.Finding.{root_found, IsInRange}
 use Rattle.fv_root.specs.Commits.{IsFoundOn}
-use Rattle.fv_container.specs.Chains.{slot_count, container_at}
+use Rattle.fv_container.specs.Chains.{slot_count, container_at, paged_at}
 use Rattle.fv_aggmap.specs.Space.{blocks_of}
 use Rattle.fv_volmap.specs.Slots.{stored_count}
 use Rattle.fv_pool.specs.declared.pool.Pool.{Pool}
@@ -47,7 +47,7 @@ pub record IsLent (disk : Shown) (pool : Pool) (lent : States) (before : Machine
   pub tells : Tells (layout_at (root_found pool.found) disk.reads) before
   pub keeps : AllKeep (root_found pool.found) disk.reads disk
   pub map : IsMapOf disk.reads pool.found pool.map
-  pub slots : (s : ℕ) → s < slot_count → IsLentAt disk.reads pool.found s (state_at lent s) (container_at pool.containers s)
+  pub slots : (s : ℕ) → s < slot_count → IsLentAt disk.reads pool.found s (state_at lent s) (paged_at pool.containers s)
   pub spaced : AreSpacedIn pool.found.blocks pool.map.next (state_at lent) (container_at pool.containers)
   pub states : AreStates (view_over pool lent disk.reads) no_trees lent
   pub built : is_built (view_over pool lent disk.reads) ≡ true

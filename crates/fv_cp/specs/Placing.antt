@@ -14,7 +14,8 @@ use Rattle.fv_pool.specs.declared.pool.Pool.{Pool}
 use Rattle.fv_volume.specs.declared.state.VolumeState.{VolumeState}
 use Rattle.fv_aggmap.specs.Space.{Space, blocks_of, free_blocks}
 use Rattle.fv_volmap.specs.Slots.{empty_volume}
-pub use Rattle.fv_volume.specs.Held.{core_of, pending_by, HasNoFiles, HasNumbers, HasSpent, HasWholeMap, IsPlaceFault, IsPlacedAs, IsReadyIn, MayFail}
+pub use Rattle.fv_volume.specs.Held.{core_of, pending_by, HasNoFiles, HasNumbers, HasPlaceCause, HasSpent, HasWholeMap, IsPlaceFault, IsPlacedAs, IsReadyIn, MayFail}
+use Rattle.fv_pool.specs.BlocksOver.{LoadsPool}
 use Rattle.fv_pool.specs.Placing.{KeepsUnused}
 use Rattle.fv_volume.specs.SnapRecords.{hole}
 use Rattle.fv_volume.specs.States.{States, state_at, with_state}
@@ -78,6 +79,10 @@ PlacesEntries space old new = (s v : ℕ) → (own_entry (container_at new s) v 
 abbrev pub but_placed : VolumeState → VolumeState
 but_placed x = record x { active = record { levels = 0; root = hole }; map = empty_volume 0; files = None }
 
+-- without a file in memory nothing changed, and no call was made of the disk
+abbrev pub IsIdle : {D : Type 0} → D → Pool → States → D → Pool → States → Type 0
+IsIdle disk pool states after left stay = HaveNoFiles states → (left ≡ pool) × ((stay ≡ states) × (after ≡ disk))
+
 -- the volumes are as they were but for that
 abbrev pub AreButPlaced : States → States → Type 0
 AreButPlaced states stay = (s : ℕ) → option_map but_placed (state_at stay s) ≡ option_map but_placed (state_at states s)
@@ -90,8 +95,8 @@ RestsPlaced pool states left stay = (s : ℕ) → HasNoFiles (state_at states s)
 abbrev pub LeavesUnused : Pool → Pool → States → Type 0
 LeavesUnused pool left stay = (s : ℕ) → IfSome (state_at stay s) (λ y. KeepsUnused pool.containers left.containers s y.map)
 
--- What changed of the files of volumes was placed, or a part of it. The volumes are what they were between points, and stand for the machine
--- that they stood for. The disk was only read.
+-- What changed of the files of volumes was placed, or a part of it. The volumes are what they were between points, and stand for the
+-- machine that they stood for. The disk was only read.
 pub record ArePlaced (disk : Shown) (pool : Pool) (states : States) (after : Shown) (left : Pool) (stay : States) : Type 0 where
   pub held : (before : Machine) → IsHeld disk pool states before → IsHeld after left stay before
   pub machine : (before : Machine) → IsHeld disk pool states before → machine_held after left stay ≡ machine_held disk pool states
@@ -111,7 +116,8 @@ pub record ArePlaced (disk : Shown) (pool : Pool) (states : States) (after : Sho
   -- a volume without files in memory stays, and so does its container
   pub rest : RestsPlaced pool states left stay
   pub only_reads : OnlyReads disk after
-  pub idle : HaveNoFiles states → (left ≡ pool) × (stay ≡ states)
+  -- without a file in memory only leaves came into memory
+  pub idle : HaveNoFiles states → LoadsPool disk pool left × (stay ≡ states)
 
 -- ---- why it isn't done
 
@@ -119,13 +125,13 @@ pub record ArePlaced (disk : Shown) (pool : Pool) (states : States) (after : Sho
 abbrev pub HaveNoneBefore : States → ℕ → Type 0
 HaveNoneBefore states slot = (s : ℕ) → s < slot → HasNoFiles (state_at states s)
 
--- The files of the volume of a slot weren't placed, once those of the slots before it were: `mid` is the pool then, and `between` are the volumes.
--- No slot before it has files in memory then. The volume, each one behind it and their containers are as they were, and where none of those slots
--- has files in memory all is.
-pub record FailsToPlace (disk : Shown) (pool : Pool) (states : States) (e : VolumeFault) : Type 0 where
+-- The files of the volume of a slot weren't placed, once those of the slots before it were: `mid` is the pool then, and `between` are the
+-- volumes. No slot before it has files in memory then. The volume, each one behind it and their containers are as they were, and where
+-- none of those slots has files in memory all is. `after` is the disk behind the failure.
+pub record FailsToPlace (disk : Shown) (pool : Pool) (states : States) (after : Shown) (e : VolumeFault) : Type 0 where
   pub mid : Pool
   pub between : States
-  pub placed : ArePlaced disk pool states disk mid between
+  pub placed : ArePlaced disk pool states after mid between
   pub slot : ℕ
   pub entries : container_at mid.containers slot ≡ container_at pool.containers slot
   pub state : VolumeState
@@ -134,4 +140,4 @@ pub record FailsToPlace (disk : Shown) (pool : Pool) (states : States) (e : Volu
   pub done : HaveNoneBefore between slot
   pub ahead : (s : ℕ) → slot ≤ s → (state_at between s ≡ state_at states s) × (container_at mid.containers s ≡ container_at pool.containers s)
   pub first : HaveNoneBefore states slot → (mid ≡ pool) × (between ≡ states)
-  pub fails : MayFail disk mid (Some state) e
+  pub fails : MayFail after mid (Some state) e

@@ -1,14 +1,21 @@
 -- What a point reclaims, by a threshold in front of each volume, and what is known of delayed entries then.
-use Rattle.std.specs.Prelude.{◌≡◌, ◌≢◌, ◌≤◌, ◌<◌, ◌⊎◌, ℕ, Bool, true, false, ◌&&◌, List, [], ◌++◌, Option, Some, None, IfSome, get_or, replicate}
-use Rattle.fv_container.specs.Chains.{Slots}
+use Rattle.std.specs.Prelude.{◌≡◌, ◌≢◌, ◌≤◌, ◌<◌, ◌⊎◌, ℕ, Bool, true, false, ◌&&◌, ◌||◌, List, [], ◌++◌, Option, Some, None, IfSome, get_or, replicate}
+use Rattle.fv_aggmap.specs.Space.{free_blocks}
+use Rattle.fv_container.specs.Chains.{Slots, paged_at}
+use Rattle.fv_container.specs.Paged.{Paged}
 use Rattle.fv_delay.specs.declared.counts.Count.{Count}
 use Rattle.fv_delay.specs.declared.threshold.Table.{Table}
 use Rattle.fv_delay.specs.declared.threshold.Threshold.{Threshold}
-use Rattle.fv_delay.specs.ByThreshold.{IsTable, TakesAll, behind, counts_before, taken_in, takes_some}
-use Rattle.fv_delay.specs.Holding.{Holding}
+use Rattle.fv_delay.specs.ByThreshold.{AreTakenHere, IsTable, TakesAll, behind, counts_before, taken_in, takes_some, threshold_for}
+use Rattle.fv_delay.specs.Delay.{AreKnown, AreSure}
+use Rattle.fv_delay.specs.Holding.{Holding, counts_of}
+use Rattle.fv_pool.specs.declared.pool.Pool.{Pool}
+use Rattle.fv_volume.specs.declared.state.VolumeState.{VolumeState}
 use Rattle.fv_volume.specs.States.{States, state_at}
+use Rattle.fv_volmap.specs.Slots.{Volume}
+use Rattle.fv_volume.specs.Writing.{HasMapLeaves}
 use Rattle.fv_cp.specs.declared.planning.Plan.{Plan}
-use Rattle.fv_cp.specs.Choosing.{counts_at, holdings}
+use Rattle.fv_cp.specs.Choosing.{asked_with, counts_at, holdings, missing_for, regions_chosen}
 
 -- whether a slot is marked in a list
 abbrev pub is_set : List Bool → ℕ → Bool
@@ -34,6 +41,25 @@ AreTables volumes tables = (s : ℕ) → s < 64 → IsTable (get_or tables s no_
 abbrev pub no_holding : ℕ → Option Holding
 no_holding s = None
 
+-- whether the volume of a slot is counted: it changed, or an entry of it may be delayed
+abbrev pub is_counted : Bool → Option VolumeState → Bool
+is_counted may_delay None = false
+is_counted may_delay (Some x) = may_delay || x.changed
+
+-- Of a container whose volume is counted it is known which entries are holes.
+abbrev pub IsSlotKnown : Slots → States → ℕ → Bool → Type 0
+IsSlotKnown containers states s may_delay = is_counted may_delay (state_at states s) ≡ true → IfSome (paged_at containers s) AreKnown
+
+abbrev pub AreSlotsKnown : Slots → States → List Bool → Type 0
+AreSlotsKnown containers states delays = (s : ℕ) → s < 64 → IsSlotKnown containers states s (get_or delays s true)
+
+-- What is known so is as the container's map says.
+abbrev pub IsSlotSure : Slots → States → ℕ → Bool → Type 0
+IsSlotSure containers states s may_delay = is_counted may_delay (state_at states s) ≡ true → IfSome (paged_at containers s) AreSure
+
+abbrev pub AreSlotsSure : Slots → States → List Bool → Type 0
+AreSlotsSure containers states delays = (s : ℕ) → s < 64 → IsSlotSure containers states s (get_or delays s true)
+
 -- A volume that isn't counted, since it hasn't changed and no entry of it may be delayed, has no delayed entry.
 abbrev pub IsSlotCounted : Slots → States → ℕ → Bool → Type 0
 IsSlotCounted containers states s may_delay = may_delay ≡ false → IfSome (state_at states s) (λ x. x.changed ≡ false) → counts_at s (holdings containers states s) ≡ []
@@ -58,6 +84,35 @@ pub record IsPlan (volumes : ℕ → Option Holding) (threshold : Threshold) (pl
   pub starts : (s : ℕ) → s < 64 → start_at plan s ≡ behind threshold (counts_before volumes s)
   pub due : (s : ℕ) → s < 64 → is_set plan.due s ≡ takes_some (behind threshold (counts_before volumes s)) (counts_at s (volumes s))
   pub delays : (s : ℕ) → s < 64 → get_or plan.delays s true ≡ false → counts_at s (volumes s) ≡ []
+
+-- A plan for what the space rule lacks where so many blocks are wanted: by the threshold for the regions that are chosen where the volumes
+-- with them ask for no more blocks than are free, and else by none. Each volume with delayed entries is marked.
+pub record Plans (pool : Pool) (states : States) (want : ℕ) (delays : List Bool) (plan : Plan) : Type 0 where
+  pub planned : AreCounted pool.containers states delays → asked_with (regions_chosen pool states want) states ≤ free_blocks pool.map
+      → IsPlan (holdings pool.containers states) (threshold_for (counts_of (holdings pool.containers states)) (missing_for pool states want)) plan
+  pub flags : AreCounted pool.containers states delays → FlagsDelayed pool.containers states plan.delays
+  pub none : AreCounted pool.containers states delays → free_blocks pool.map < asked_with (regions_chosen pool states want) states
+      → (s : ℕ) → s < 64 → is_set plan.due s ≡ false
+
+-- ---- what is in memory
+
+-- What the writing of a volume by a plan needs of its container in memory: where a region is reclaimed it is known which entries are
+-- holes, and where the volume is written the leaves with the entries of its maps' blocks are there.
+pub record HasLeaves (plan : Plan) (s : ℕ) (x : VolumeState) (paged : Paged) : Type 0 where
+  pub known : is_set plan.due s ≡ true → AreKnown paged
+  pub maps : (is_set plan.due s || x.changed) ≡ true → HasMapLeaves x paged
+
+-- What is in memory of a container is as its map says, and the leaves of the regions that are taken are there.
+pub record IsReclaimable (plan : Plan) (s : ℕ) (map : Volume) (paged : Paged) : Type 0 where
+  pub sure : is_set plan.due s ≡ true → AreSure paged
+  pub taken : is_set plan.due s ≡ true → AreTakenHere (start_at plan s) map paged
+
+-- so it is of a slot that has a volume
+abbrev pub HasLeavesAt : Plan → ℕ → Option VolumeState → Option Paged → Type 0
+HasLeavesAt plan s state container = IfSome state (λ x. IfSome container (HasLeaves plan s x))
+
+abbrev pub HaveLeaves : Plan → Slots → States → Type 0
+HaveLeaves plan containers states = (s : ℕ) → s < 64 → HasLeavesAt plan s (state_at states s) (paged_at containers s)
 
 -- whether a plan takes a region of the volume of a slot
 abbrev pub takes_of : Plan → ℕ → Option Holding → ℕ → Bool

@@ -3,7 +3,6 @@ use Rattle.std.specs.Prelude.{◌≡◌, ◌<◌, ◌≤◌, ◌+◌, ◌%◌, �
 use Rattle.std.specs.Option.{option_map}
 use Rattle.std.specs.FinMap as fin
 use Rattle.fv_disk.specs.Shown.{Image, Shown, IsSettled}
-use Rattle.fv_disk.specs.DiskCalls.{OnlyReads}
 use Rattle.fv_disk.specs.Faults.{HasBlockCause}
 use Rattle.fv_disk.specs.Sparing.{LeftBefore}
 use Rattle.fv_bits.specs.Members.{is_member}
@@ -26,6 +25,7 @@ use Rattle.fv_delay.specs.Holding.{has_region}
 use Rattle.fv_delay.specs.Reclaims.{goes_with}
 use Rattle.fv_aggmap.specs.Loading.{IsLoaded as IsMapLoaded}
 use Rattle.fv_aggmap.specs.Space.{blocks_of, free_blocks}
+use Rattle.fv_pool.specs.BlocksOver.{LacksLeaf}
 use Rattle.fv_pool.specs.declared.pool.Pool.{Pool}
 use Rattle.fv_volume.specs.declared.state.VolumeState.{VolumeState}
 use Rattle.fv_volume.specs.Stored.{is_map_written, map_entry}
@@ -46,8 +46,8 @@ machine_lent disk pool states = told (view_over pool states disk.reads)
 abbrev pub IsOnDisk : Pool → ℕ → Type 0
 IsOnDisk pool b = (first_block pool.found.blocks ≤ b) × (is_member pool.map.committed b ≡ true)
 
--- The old side: an image stands for the machine of the last point, and each block that the root on the disk holds is as in an image that a crash
--- before might have left. So of what that root holds nothing that was given back is written over before another root counts.
+-- The old side: an image stands for the machine of the last point, and each block that the root on the disk holds is as in an image that a
+-- crash before might have left. So of what that root holds nothing that was given back is written over before another root counts.
 pub record IsOld (disk : Shown) (pool : Pool) (before : Machine) (c : Image) : Type 0 where
   pub stands : machine_of c ≡ Some before
   pub left : LeftBefore (IsOnDisk pool) disk c
@@ -62,8 +62,8 @@ pub record IsNew (pool : Pool) (m : Machine) (c : Image) : Type 0 where
 abbrev pub OldOrLent : Shown → Pool → States → Machine → Image → List ℕ → Type 0
 OldOrLent disk pool states before c g = (IsOld disk pool before c ⊎ IsNew pool (machine_lent disk pool states) c) × (g ≡ disk.given)
 
--- What a point makes of the container of a volume that it writes, some regions of which it reclaims: each delayed entry of these regions is a
--- hole now, the blocks of the maps that are written have new places, and every other entry stays.
+-- What a point makes of the container of a volume that it writes, some regions of which it reclaims: each delayed entry of these regions
+-- is a hole now, the blocks of the maps that are written have new places, and every other entry stays.
 pub record LeavesEntries (set : List Bool) (regions : ℕ → Bool) (x : VolumeState) (old new : Mapped) : Type 0 where
   pub reclaimed : (v : ℕ) → is_map_written x v ≡ false → entry_under new v ≡ (if goes_with x.map old regions v then None else entry_under old v)
   pub written : (v : ℕ) → is_map_written x v ≡ true → entry_under new v ≡ Some (map_entry (place_at new v))
@@ -94,7 +94,8 @@ pub record IsPoint (old : Shown) (pool : Pool) (states : States) (want : ℕ) (n
   pub missing : CountsMissing pool states (view_at (root_found left.found) new.reads) want
   -- the volumes with delayed entries are marked
   pub delays : AreKnown new.reads left.found marks
-  -- of a volume that was written the entries are as the writing leaves them, once its chosen regions were reclaimed; another keeps its container
+  -- of a volume that was written the entries are as the writing leaves them, once its chosen regions were reclaimed; another keeps its
+  -- container
   pub entries : (s : ℕ) (x : VolumeState) (before : Mapped) → s < slot_count → state_at states s ≡ Some x → is_due (regions_chosen pool states want) s x ≡ true → container_at pool.containers s ≡ Some before
       → (after : Mapped) × ((container_at left.containers s ≡ Some after) × LeavesEntries pool.map.committed (has_region (regions_chosen pool states want) s) x before after)
   pub containers : (s : ℕ) → s < slot_count → IfSome (state_at states s) (λ x. is_due (regions_chosen pool states want) s x ≡ false) → container_at left.containers s ≡ container_at pool.containers s
@@ -140,11 +141,11 @@ LacksRoom pool states DiskFault = Unit {0}
 LacksRoom pool states (Damaged at want found) = (at ≡ root_place pool.found.slot) × ((want ≡ blocks_asked states) × ((found ≡ free_blocks pool.map) × (found < want)))
 LacksRoom pool states Memory = ⊥
 
--- a point that lacked room changed nothing
-abbrev pub LeavesAll : Shown → Pool → States → Shown → Pool → States → BlockFault → Type 0
-LeavesAll old pool states new left stay DiskFault = Unit {0}
-LeavesAll old pool states new left stay (Damaged at want found) = OnlyReads old new × ((left ≡ pool) × (stay ≡ states))
-LeavesAll old pool states new left stay Memory = OnlyReads old new × ((left ≡ pool) × (stay ≡ states))
+-- Why a point isn't prepared: that; or a leaf of a container doesn't stand where it has to, or wasn't read; or memory ran out.
+abbrev pub LacksPoint : Shown → Pool → States → BlockFault → Type 0
+LacksPoint disk pool states DiskFault = Unit {0}
+LacksPoint disk pool states (Damaged at want found) = LacksRoom pool states (Damaged at want found) ⊎ LacksLeaf disk pool.containers at want found
+LacksPoint disk pool states Memory = Unit {0}
 
 -- both counts of faults rose where a write or barrier failed, and stay elsewhere
 pub record Counts (old new : Shown) (result : Result (Unit {0}) BlockFault) : Type 0 where
@@ -153,9 +154,3 @@ pub record Counts (old new : Shown) (result : Result (Unit {0}) BlockFault) : Ty
   pub ends : new.ends ≡ old.ends
   pub cause : HasBlockCause old.faults new.faults result
   pub write_cause : HasBlockCause old.write_faults new.write_faults result
-
--- what stays where a fault is answered that isn't one of the disk
-abbrev pub IsCalm : {T : Type 0} → T → T → BlockFault → Type 0
-IsCalm old new DiskFault = Unit {0}
-IsCalm old new (Damaged at want found) = new ≡ old
-IsCalm old new Memory = new ≡ old

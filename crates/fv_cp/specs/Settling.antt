@@ -15,6 +15,8 @@ use Rattle.fv_aggmap.specs.Space.{free_blocks}
 use Rattle.fv_pool.specs.declared.fault.VolumeFault.{VolumeFault}
 use Rattle.fv_pool.specs.declared.fault.VolumeFault.TheVariants.{Refused, DiskFault, Damaged, Memory}
 use Rattle.fv_pool.specs.declared.pool.Pool.{Pool}
+use Rattle.fv_pool.specs.BlocksOver.{LacksLeaf}
+pub use Rattle.fv_pool.specs.Causes.{IsNoDamage}
 use Rattle.fv_volume.specs.declared.state.VolumeState.{VolumeState}
 use Rattle.fv_volumes.specs.Housed.{AreHoused}
 use Rattle.fv_volume.specs.States.{States, state_at}
@@ -30,9 +32,9 @@ use Rattle.fv_cp.specs.Points.{IsNew, IsNextRoot, IsOld, LacksRoom, LeavesContai
 abbrev pub OldOrHeld : Shown → Pool → States → Machine → Image → List ℕ → Type 0
 OldOrHeld disk pool states before c g = (IsOld disk pool before c ⊎ IsNew pool (machine_held disk pool states) c) × (g ≡ disk.given)
 
--- What the placing of files and a point make of the entries of volumes. First each stays or leads to a block that the root on the disk doesn't
--- hold. Then regions are chosen by what the volumes are, with the maps that they have behind the point, and it leaves each entry as one that reclaims
--- these regions does.
+-- What the placing of files and a point make of the entries of volumes. First each stays or leads to a block that the root on the disk
+-- doesn't hold. Then regions are chosen by what the volumes are, with the maps that they have behind the point, and it leaves each entry
+-- as one that reclaims these regions does.
 pub record LeavesPlaced (pool : Pool) (states : States) (want : ℕ) (left : Pool) (stay : States) : Type 0 where
   -- the pool and the volumes between the two
   pub mid : Pool
@@ -48,8 +50,8 @@ pub record LeavesPlaced (pool : Pool) (states : States) (want : ℕ) (left : Poo
   pub chosen : regions_chosen mid between want ≡ regions_chosen pool stay want
   pub containers : LeavesContainers pool.map.committed (regions_chosen mid between want) between mid.containers left.containers
 
--- What such a point that was done leaves: a settled disk that stands for the machine of the session, which still stands for it, with nothing in
--- memory that isn't on the disk, and the space rule holds.
+-- What such a point that was done leaves: a settled disk that stands for the machine of the session, which still stands for it, with
+-- nothing in memory that isn't on the disk, and the space rule holds.
 pub record IsHeldPoint (old : Shown) (pool : Pool) (states : States) (want : ℕ) (new : Shown) (left : Pool) (stay : States) (marks : List Bool) : Type 0 where
   pub settled : IsSettled new
   pub stands : machine_of new.reads ≡ Some (machine_held old pool states)
@@ -65,9 +67,9 @@ pub record IsHeldPoint (old : Shown) (pool : Pool) (states : States) (want : ℕ
   -- the new root names no label for a slot without a volume
   pub free : (s : ℕ) → s < slot_count → state_at stay s ≡ None → label_place (root_found left.found) s ≡ 0
 
--- What it leaves of any disk, and of any volumes: the cache tells what the disk reads, the root and the map in memory are those of the new root,
--- all fits together as the next point needs it, no file is in memory and nothing of a volume waits to be written, calls can be made on each
--- volume, and of each only that is new which placing and a point change.
+-- What it leaves of any disk, and of any volumes: the cache tells what the disk reads, the root and the map in memory are those of the new
+-- root, all fits together as the next point needs it, no file is in memory and nothing of a volume waits to be written, calls can be made
+-- on each volume, and of each only that is new which placing and a point change.
 pub record GoesOnWhole (old : Shown) (pool : Pool) (states : States) (new : Shown) (left : Pool) (stay : States) : Type 0 where
   pub stands : StandsOn new left.store.pairs
   -- the point was made: another root counts
@@ -85,33 +87,35 @@ pub record GoesOnWhole (old : Shown) (pool : Pool) (states : States) (new : Show
   pub parents : (s : ℕ) → parent_at left.containers s ≡ parent_at pool.containers s
   pub blocks : left.found.blocks ≡ pool.found.blocks
 
--- What is left where it wasn't done for want of blocks, numbers or memory: some files may have been placed. The volumes are what they were.
+-- What is left where it wasn't done, and no write failed: some files may have been placed. The volumes are what they were.
 pub record StillHeld (old : Shown) (pool : Pool) (states : States) (new : Shown) (left : Pool) (stay : States) : Type 0 where
   pub placed : ArePlaced old pool states new left stay
   pub stands : StandsOn new left.store.pairs
   pub ready : AreReady new left stay
 
--- So it is after each fault but one of the disk.
+-- So it is after each fault but that of a write or a barrier.
 abbrev pub IsStill : Shown → Pool → States → Shown → Pool → States → VolumeFault → Type 0
 IsStill old pool states new left stay (Refused r) = ⊥
-IsStill old pool states new left stay DiskFault = Unit {0}
+IsStill old pool states new left stay DiskFault = Rose old.write_faults new.write_faults ⊎ StillHeld old pool states new left stay
 IsStill old pool states new left stay (Damaged at want found) = StillHeld old pool states new left stay
 IsStill old pool states new left stay Memory = StillHeld old pool states new left stay
 
--- Both counts of faults rose where a write or barrier failed, and stay elsewhere. Nothing is refused.
+-- The count of faults rose where a read, a write or a barrier failed, and stays elsewhere; that of writes stays but for those. Nothing is
+-- refused.
 abbrev pub HasWholeCause : Shown → Shown → Result Unit VolumeFault → Type 0
 HasWholeCause old new (Ok done) = (new.faults ≡ old.faults) × (new.write_faults ≡ old.write_faults)
 HasWholeCause old new (Err (Refused r)) = ⊥
-HasWholeCause old new (Err DiskFault) = Rose old.faults new.faults × Rose old.write_faults new.write_faults
+HasWholeCause old new (Err DiskFault) = Rose old.faults new.faults × ((new.write_faults ≡ old.write_faults) ⊎ Rose old.write_faults new.write_faults)
 HasWholeCause old new (Err (Damaged at want found)) = (new.faults ≡ old.faults) × (new.write_faults ≡ old.write_faults)
 HasWholeCause old new (Err Memory) = (new.faults ≡ old.faults) × (new.write_faults ≡ old.write_faults)
 
--- Why such a point isn't done. Fewer blocks are free than it asks for, with the files in their places; or a file was in memory that wasn't placed.
-abbrev pub WholeFails : Shown → Pool → States → Pool → States → VolumeFault → Type 0
-WholeFails disk pool states left stay (Refused r) = ⊥
-WholeFails disk pool states left stay DiskFault = Unit {0}
-WholeFails disk pool states left stay (Damaged at want found) = LacksRoom left stay (block.Damaged at want found) ⊎ FailsToPlace disk pool states (Damaged at want found)
-WholeFails disk pool states left stay Memory = HaveNoFiles states → ⊥
+-- Why such a point isn't done. Fewer blocks are free than it asks for, with the files in their places; or a leaf of a container doesn't
+-- stand where it has to; or a file was in memory that wasn't placed.
+abbrev pub WholeFails : Shown → Pool → States → Shown → Pool → States → VolumeFault → Type 0
+WholeFails disk pool states new left stay (Refused r) = ⊥
+WholeFails disk pool states new left stay DiskFault = Unit {0}
+WholeFails disk pool states new left stay (Damaged at want found) = (LacksRoom left stay (block.Damaged at want found) ⊎ LacksLeaf new left.containers at want found) ⊎ FailsToPlace disk pool states new (Damaged at want found)
+WholeFails disk pool states new left stay Memory = Unit {0}
 
 -- what is told and given and the ends of a host stay
 pub record WholeCounts (old new : Shown) (result : Result Unit VolumeFault) : Type 0 where
@@ -125,9 +129,3 @@ pub record HaveFullRoom (pool : Pool) (states : States) : Type 0 where
   pub numbers : (s : ℕ) → HasNumbers (state_at states s)
   pub free : pending_files states < free_blocks pool.map
   pub blocks : asked_all states + pending_files states ≤ free_blocks pool.map
-
-abbrev pub IsNoDamage : VolumeFault → Type 0
-IsNoDamage (Refused r) = Unit {0}
-IsNoDamage DiskFault = Unit {0}
-IsNoDamage (Damaged at want found) = ⊥
-IsNoDamage Memory = Unit {0}

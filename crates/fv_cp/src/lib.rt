@@ -8,9 +8,14 @@ mod full;
 mod placing;
 mod planning;
 mod point;
+mod preparing;
 mod reclaiming;
+mod slots;
 
 pub use fault::CpFault;
 pub use full::full_point;
 pub use placing::flush;
+pub use planning::Plan;
 pub use point::consistency_point;
+pub use preparing::prepare;
+pub use slots::known_slots;

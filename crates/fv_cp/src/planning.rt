@@ -18,7 +18,7 @@ ghost use Rattle.fv_volume.specs.Loading.{Houses};
 ghost use Rattle.fv_volume.specs.States.{state_at};
 ghost use Rattle.fv_cp.specs.Lent.{blocks_asked};
 ghost use Rattle.fv_cp.specs.Choosing.{asked_marked, asked_with, claimed, claimed_by, counts_at, greatest_number, holdings, missing_for, regions_chosen};
-ghost use Rattle.fv_cp.specs.Planning.{AreCounted, AreTables, FlagsDelayed, IsAdded, IsPlan, IsSlotCounted, is_set, no_holding};
+ghost use Rattle.fv_cp.specs.Planning.{AreCounted, AreSlotsKnown, AreSlotsSure, AreTables, FlagsDelayed, IsAdded, IsPlan, IsSlotCounted, IsSlotKnown, IsSlotSure, is_set, no_holding};
 
 use crate::asking::blocks_asked;
 use fv_charge::overhead;
@@ -34,7 +34,7 @@ const LEAST: u64 = 256;
 
 /// What a consistency point reclaims, by slot.
 #[derive(Drop)]
-pub(crate) struct Plan {
+pub struct Plan {
     /// Whether a region of its volume is reclaimed.
     pub(crate) due: [bool; 64],
     /// The threshold in front of its volume's first region.
@@ -45,7 +45,7 @@ pub(crate) struct Plan {
 
 impl Plan {
     /// The plan by which nothing is reclaimed.
-    pub(crate) fn new() -> Plan
+    pub fn new() -> Plan
         ensures { (s : ℕ) → s < slot_count → is_set result.due s ≡ false }
     {
         Plan {
@@ -58,9 +58,10 @@ impl Plan {
 
 /// Plans what a point reclaims where an event wants so many blocks: the regions that are chosen for what the space rule lacks, or none
 /// where with these the volumes ask for more blocks than are free. Each volume with delayed entries is told of in the plan, also where none
-/// is reclaimed. Only of volumes that changed, or of which `delays` says that an entry may be delayed, the entries are counted.
+/// is reclaimed. Only of volumes that changed, or of which `delays` says that an entry may be delayed, the entries are counted; of these
+/// it is known which are holes.
 ///
-/// It takes no memory. Costs a step for each entry of these volumes, and up to 25 more for one that is no hole.
+/// It takes no memory and reads nothing. Costs a step for each entry of these volumes, and up to 25 more for one that is no hole.
 pub(crate) fn choose(
     volumes: &Volumes,
     pool: &Pool,
@@ -70,11 +71,12 @@ pub(crate) fn choose(
 )
     requires range { IsInRange pool.now.found }
     requires housed { AreHoused pool.now.containers volumes.now }
-    ensures planned { AreCounted pool.now.containers volumes.now delays.now → asked_with (regions_chosen pool.now volumes.now want) volumes.now ≤ free_blocks pool.now.map
+    requires known { AreSlotsKnown pool.now.containers volumes.now delays.now }
+    ensures planned { AreSlotsSure pool.now.containers volumes.now delays.now → AreCounted pool.now.containers volumes.now delays.now → asked_with (regions_chosen pool.now volumes.now want) volumes.now ≤ free_blocks pool.now.map
         → IsPlan (holdings pool.now.containers volumes.now) (threshold_for (counts_of (holdings pool.now.containers volumes.now)) (missing_for pool.now volumes.now want)) plan.new }
     ensures fits { free_blocks pool.now.map < asked_marked (is_set plan.new.due) volumes.now → asked_marked (is_set plan.new.due) volumes.now ≡ blocks_asked volumes.now }
-    ensures flags { AreCounted pool.now.containers volumes.now delays.now → FlagsDelayed pool.now.containers volumes.now plan.new.delays }
-    ensures none { AreCounted pool.now.containers volumes.now delays.now → free_blocks pool.now.map < asked_with (regions_chosen pool.now volumes.now want) volumes.now
+    ensures flags { AreSlotsSure pool.now.containers volumes.now delays.now → AreCounted pool.now.containers volumes.now delays.now → FlagsDelayed pool.now.containers volumes.now plan.new.delays }
+    ensures none { AreSlotsSure pool.now.containers volumes.now delays.now → AreCounted pool.now.containers volumes.now delays.now → free_blocks pool.now.map < asked_with (regions_chosen pool.now volumes.now want) volumes.now
         → (s : ℕ) → s < slot_count → is_set plan.new.due s ≡ false }
 {
     plan_for(volumes, pool, delays, want, plan);
@@ -85,12 +87,13 @@ pub(crate) fn choose(
 
 /// Plans what a point reclaims, whatever is free.
 ///
-/// The threshold comes of all regions. So they are counted first, in a table for each slot, and asked by these tables then. The tables stand
-/// in the frame of this call and are lent: each is filled where it stands.
+/// The threshold comes of all regions. So they are counted first, in a table for each slot, and asked by these tables then. The tables
+/// stand in the frame of this call and are lent: each is filled where it stands.
 fn plan_for(volumes: &Volumes, pool: &Pool, delays: &[bool; 64], want: u64, plan: &mut Plan)
     requires range { IsInRange pool.now.found }
     requires housed { AreHoused pool.now.containers volumes.now }
-    ensures { AreCounted pool.now.containers volumes.now delays.now
+    requires known { AreSlotsKnown pool.now.containers volumes.now delays.now }
+    ensures { AreSlotsSure pool.now.containers volumes.now delays.now → AreCounted pool.now.containers volumes.now delays.now
         → IsPlan (holdings pool.now.containers volumes.now) (threshold_for (counts_of (holdings pool.now.containers volumes.now)) (missing_for pool.now volumes.now want)) plan.new }
 {
     let mut tables = [Table::new(); 64];
@@ -142,9 +145,10 @@ fn count_all(
 )
     requires volumes { (s : ℕ) → IfSome (state_at volumes.now s) (IsLabelled s) }
     requires housed { (s : ℕ) → Houses (state_at volumes.now s) (container_at containers.now s) }
+    requires known { AreSlotsKnown containers.now volumes.now delays.now }
     requires empty { AreTables no_holding tables.old }
-    ensures each { AreCounted containers.now volumes.now delays.now → AreTables (holdings containers.now volumes.now) tables.new }
-    ensures all { AreCounted containers.now volumes.now delays.now → IsTable all.old [] → IsTable all.new (counts_of (holdings containers.now volumes.now)) }
+    ensures each { AreSlotsSure containers.now volumes.now delays.now → AreCounted containers.now volumes.now delays.now → AreTables (holdings containers.now volumes.now) tables.new }
+    ensures all { AreSlotsSure containers.now volumes.now delays.now → AreCounted containers.now volumes.now delays.now → IsTable all.old [] → IsTable all.new (counts_of (holdings containers.now volumes.now)) }
 {
     for slot in 0..SLOTS {
         let at = slot as usize;
@@ -164,7 +168,8 @@ fn count_slot(
     requires slot { slot < slot_count }
     requires labelled { IfSome (state_at volumes.now slot) (IsLabelled slot) }
     requires housed { Houses (state_at volumes.now slot) (container_at containers.now slot) }
-    ensures { IsSlotCounted containers.now volumes.now slot may_delay → IsTable table.old []
+    requires known { IsSlotKnown containers.now volumes.now slot may_delay }
+    ensures { IsSlotSure containers.now volumes.now slot may_delay → IsSlotCounted containers.now volumes.now slot may_delay → IsTable table.old []
         → IsAdded (counts_at slot (holdings containers.now volumes.now slot)) table.new all.old all.new }
 {
     let Some(state) = volumes.get(slot) else {
@@ -207,8 +212,8 @@ fn add_claims(first: u64, volumes: &Volumes) -> u64
     sum
 }
 
-/// What the volume of a slot claims by the space rule: twice its overhead, and the entries that it owns, which its ledger charges. Of a volume
-/// that is being split from its base the charge would be too much.
+/// What the volume of a slot claims by the space rule: twice its overhead, and the entries that it owns, which its ledger charges. Of a
+/// volume that is being split from its base the charge would be too much.
 fn claim_of(state: Option<&VolumeState>) -> u64
     requires { IfSome (option_copied state) (λ x. x.span ≤ greatest_span) }
     ensures { result ≡ claimed_by (option_copied state.entry) }

@@ -1,103 +1,89 @@
 //! The whole of a consistency point.
 
-ghost use Rattle.std.specs.Prelude.{All, ◌≡◌, ◌≤◌, ◌<◌, ◌+◌, ℕ, IsTrue, OnOk, OnErr, IfErr, IfSome, option_copied, length};
+ghost use Rattle.std.specs.Prelude.{All, ◌≡◌, ◌≤◌, ◌<◌, ◌+◌, ℕ, Bool, List, IsTrue, OnOk, OnErr, IfErr, IfSome, option_copied, length};
 ghost use Rattle.std.specs.Option.{option_map};
 ghost use Rattle.fv_disk.specs.Crash.{Leaves};
 ghost use Rattle.fv_disk.specs.DiskCalls.{Counted};
 ghost use Rattle.fv_disk.specs.Sparing.{Spares};
 ghost use Rattle.fv_codec.specs.Blocks.{IsRoot};
 ghost use Rattle.fv_model.specs.Machines.{Machine};
-ghost use Rattle.fv_model.specs.Numbers.{greatest_span};
 ghost use Rattle.fv_root.specs.Finding.{IsInRange};
 ghost use Rattle.fv_root.specs.Commits.{IsCommitted, IsFoundOn, OldOrNew};
 ghost use Rattle.fv_store.specs.Held.{StandsOn};
-ghost use Rattle.fv_container.specs.Chains.{slot_count};
+ghost use Rattle.fv_disk.specs.declared.fault.BlockFault.TheVariants.{DiskFault};
+ghost use Rattle.fv_container.specs.Chains.{paged_at, slot_count};
+ghost use Rattle.fv_container.specs.Clean.{IsCleanOn};
 ghost use Rattle.fv_aggmap.specs.Space.{blocks_of, free_blocks};
-ghost use Rattle.fv_volume.specs.Files.{IsLabelled};
 ghost use Rattle.fv_volume.specs.States.{state_at, with_state};
 ghost use Rattle.fv_volumes.specs.Housed.{AreHoused, settled_as, settled_at};
 ghost use Rattle.fv_cp.specs.Lent.{AreKept, FitTogether, IsLent, asked_by, blocks_asked};
-ghost use Rattle.fv_cp.specs.Points.{Counts, GoesOn, IsCalm, IsPoint, IsSwitched, LacksRoom, LeavesAll, OldOrLent};
+ghost use Rattle.fv_cp.specs.Points.{Counts, GoesOn, IsPoint, IsSwitched, OldOrLent};
 ghost use Rattle.fv_volume.specs.Writing.{IsTaken, on_disk};
 ghost use Rattle.fv_codec.specs.Blocks.{last_place};
-ghost use Rattle.fv_cp.specs.Course.{AreNamedFor, GoesPast, HasCome, label_lent};
-ghost use Rattle.fv_cp.specs.Choosing.{CanChoose, asked_with, holdings, regions_chosen};
-ghost use Rattle.fv_cp.specs.Planning.{AreCounted, FlagsDelayed, LeaveDelays, LeavesDelays, taken};
+ghost use Rattle.fv_cp.specs.Course.{AreHereIn, AreNamedFor, GoesPast, HasCome, HaveHere, label_lent};
+ghost use Rattle.fv_cp.specs.Choosing.{CanChoose, asked_marked, asked_with, holdings, regions_chosen};
+ghost use Rattle.fv_cp.specs.Planning.{AreCounted, FlagsDelayed, HaveLeaves, HasLeavesAt, LeaveDelays, LeavesDelays, Plans, is_set, taken};
 
-use crate::asking::blocks_asked;
 use crate::fault::CpFault;
-use crate::planning::{Plan, choose};
+use crate::planning::Plan;
 use crate::reclaiming::{mark, reclaim_due};
 use fv_codec::{Root, SLOTS};
 use fv_disk::{Disk, Failed};
-use fv_root::{commit, first_block, next_found, root_place};
+use fv_root::{commit, first_block, next_found};
 use fv_volume::{Pool, VolumeState};
 use fv_volumes::{Volumes, write_volume};
 
 /// Writes what changed in the volumes and makes a root count that names it, past the point's last barrier: the kept blocks are written
-/// to their places, then each volume that changed in the order of slots, to blocks that were free, and then the root is committed. The
-/// blocks of files stay where they are. A volume without changes isn't written. What changed of files in memory isn't either: `full_point`
-/// places it first, and then it waits among the kept blocks. `want` is the room in blocks that the event needs which asked for
-/// the point.
+/// to their places, then each volume that changed or is due by the plan in the order of slots, to blocks that were free, and then the root
+/// is committed. The blocks of files stay where they are. A volume without changes isn't written. What changed of files in memory isn't
+/// either: `full_point` places it first, and then it waits among the kept blocks. The plan is one that `prepare` made of these volumes,
+/// since when neither they nor the pool changed.
 ///
-/// Of the containers it reclaims the regions with 64 or more delayed entries, and then those with most while the space rule lacks blocks for
-/// what is used, delayed and wanted; a volume with such a region is written, too. Where with these the volumes ask for more blocks than are
-/// free it reclaims none, and still marks each volume with delayed entries. `delays` says by slot of which volumes an entry may be delayed
-/// though they haven't changed, and after `Ok` of which one may be that the new root names. Where no point is done it stays.
+/// Of the containers it reclaims the regions of the plan. After `Ok` `delays` says by slot of which volumes an entry may be delayed that
+/// the new root names. Where no point is done it stays.
 ///
-/// Where `delays` is right and there is room for the volumes that changed or have a chosen region, a crash at any moment leaves an image that
-/// stands for the machine of before, with each block that the root on the disk holds as it was; or one in which the new root counts and that stands
-/// for the machine of the volumes lent. After `Ok` it is the latter, on a settled disk. On any disk another root counts then, in the other slot and
-/// one generation on, also where nothing changed. Each slot keeps its parent in the chain of containers. It takes no memory, and reads nothing.
+/// Where the plan is for what is wanted, and there is room for the volumes that changed or have a chosen region, a crash at any moment
+/// leaves an image that stands for the machine of before, with each block that the root on the disk holds as it was; or one in which the
+/// new root counts and that stands for the machine of the volumes lent. After `Ok` it is the latter, on a settled disk. On any disk
+/// another root counts then, in the other slot and one generation on, also where nothing changed. Each slot keeps its parent in the chain
+/// of containers. It takes no memory, and reads nothing.
 ///
 /// # Errors
-/// `Damaged` comes only where fewer blocks are free than the volumes ask for that changed: at the place of the root that
-/// counts, with both numbers. Nothing changes then. `DiskFault` comes only where a write or a barrier failed in this call; of what is
-/// in memory nothing is said then, of images as above. `Memory` doesn't come.
+/// `DiskFault` comes only where a write or a barrier failed in this call; of what is in memory nothing is said then, of images as above. No
+/// other error comes.
 ///
-/// Costs a step for each entry of each volume that changed or of which `delays` says that one may be delayed, and up to 25 more for one that
-/// is no hole, and so again for each volume of which a region is chosen, twice in these regions; a write for each kept block, and for each volume
-/// that is written a step for each entry and a write for each of at most as many blocks as it asks for; beside that a commit, a step for each
-/// fixed block, and one for each 64 blocks.
+/// Costs a step for each entry of each volume of which a region is reclaimed, and up to 25 more for one that is no hole, twice in these
+/// regions; a write for each kept block, and for each volume that is written a step for each node of its container and each entry of a
+/// dirty leaf and a write for each of at most as many blocks as it asks for; beside that a commit, a step for each fixed block, and one
+/// for each 64 blocks.
 pub fn consistency_point<D: Disk>(
     volumes: &mut Volumes,
     pool: &mut Pool,
     disk: &mut D,
+    plan: &Plan,
     delays: &mut [bool; 64],
-    want: u64,
 ) -> Result<(), CpFault>
     requires stands { StandsOn (D.shown disk.old) pool.old.store.pairs }
     requires found { IsTrue (D.shown disk.old).tells → IsFoundOn (D.shown disk.old) pool.old.found }
     requires fit { FitTogether pool.old volumes.old }
-    ensures any_moment { IsTrue (D.shown disk.old).tells → (before : Machine) → IsLent (D.shown disk.old) pool.old volumes.old before → CanChoose (D.shown disk.old) pool.old volumes.old want delays.old
-        → Leaves (D.shown disk.old) (D.shown disk.new) (OldOrLent (D.shown disk.old) pool.old volumes.old before) }
-    ensures point { IsTrue (D.shown disk.old).tells → (before : Machine) → IsLent (D.shown disk.old) pool.old volumes.old before → CanChoose (D.shown disk.old) pool.old volumes.old want delays.old
-        → OnOk result (IsPoint (D.shown disk.old) pool.old volumes.old want (D.shown disk.new) pool.new volumes.new delays.new) }
+    requires leaves { HaveLeaves plan.now pool.old.containers volumes.old }
+    requires room { asked_marked (is_set plan.now.due) volumes.old ≤ free_blocks pool.old.map }
+    ensures any_moment { IsTrue (D.shown disk.old).tells → (before : Machine) → IsLent (D.shown disk.old) pool.old volumes.old before → (want : ℕ) (marks : List Bool) → CanChoose (D.shown disk.old) pool.old volumes.old want marks
+        → Plans pool.old volumes.old want marks plan.now → HaveHere (taken plan.now (holdings pool.old.containers volumes.old)) pool.old.containers → Leaves (D.shown disk.old) (D.shown disk.new) (OldOrLent (D.shown disk.old) pool.old volumes.old before) }
+    ensures point { IsTrue (D.shown disk.old).tells → (before : Machine) → IsLent (D.shown disk.old) pool.old volumes.old before → (want : ℕ) (marks : List Bool) → CanChoose (D.shown disk.old) pool.old volumes.old want marks
+        → Plans pool.old volumes.old want marks plan.now → HaveHere (taken plan.now (holdings pool.old.containers volumes.old)) pool.old.containers → OnOk result (IsPoint (D.shown disk.old) pool.old volumes.old want (D.shown disk.new) pool.new volumes.new delays.new) }
     ensures goes_on { OnOk result (GoesOn (D.shown disk.old) pool.old volumes.old (D.shown disk.new) pool.new volumes.new) }
-    ensures room { IfErr result (LacksRoom pool.old volumes.old) }
-    ensures lacking { IfErr result (LeavesAll (D.shown disk.old) pool.old volumes.old (D.shown disk.new) pool.new volumes.new) }
-    ensures calm { IfErr result (IsCalm disk.old disk.new) }
+    ensures fault { IfErr result (λ e. e ≡ DiskFault) }
     ensures counts { Counts (D.shown disk.old) (D.shown disk.new) result }
     ensures delays { OnErr result (delays.new ≡ delays.old) }
-    ensures flags { AreCounted pool.old.containers volumes.old delays.old → free_blocks pool.old.map < asked_with (regions_chosen pool.old volumes.old want) volumes.old
-        → OnOk result (FlagsDelayed pool.old.containers volumes.old delays.new) }
+    ensures flags { IsTrue (D.shown disk.old).tells → (before : Machine) → IsLent (D.shown disk.old) pool.old volumes.old before → (want : ℕ) (marks : List Bool) → Plans pool.old volumes.old want marks plan.now → HaveHere (taken plan.now (holdings pool.old.containers volumes.old)) pool.old.containers → AreCounted pool.old.containers volumes.old marks
+        → free_blocks pool.old.map < asked_with (regions_chosen pool.old volumes.old want) volumes.old → OnOk result (FlagsDelayed pool.old.containers volumes.old delays.new) }
 {
-    let mut plan = Plan::new();
-    choose(volumes, pool, delays, want, &mut plan);
-    let asked = blocks_asked(volumes, &plan.due);
-    let free = u64::from(pool.map.free_count());
-    if free < asked {
-        return Err(CpFault::Damaged {
-            at: root_place(pool.found.slot),
-            want: asked,
-            found: free,
-        });
-    }
     mark(volumes, &plan.due);
     let mut root = pool.found.root;
     let mut left = plan.delays;
     clear_free(volumes, &mut root.labels);
-    write_volumes(volumes, &plan, pool, disk, &mut root.labels, &mut left)?;
+    write_volumes(volumes, plan, pool, disk, &mut root.labels, &mut left)?;
     switch(pool, disk, &root)?;
     settle(volumes, &root.labels);
     *delays = left;
@@ -140,9 +126,11 @@ fn write_volumes<D: Disk>(
     requires housed { AreHoused pool.old.containers volumes.now }
     requires map { blocks_of pool.old.map ≡ pool.old.found.blocks }
     requires kept { AreKept pool.old }
+    requires leaves { HaveLeaves plan.now pool.old.containers volumes.now }
     requires room { blocks_asked volumes.now ≤ free_blocks pool.old.map }
-    ensures come { OnOk result (HasCome (taken plan.now (holdings pool.old.containers volumes.now)) (D.shown disk.old) pool.old volumes.now slot_count labels.new pool.new (D.shown disk.new)) }
-    ensures delays { OnOk result (LeaveDelays plan.now (holdings pool.old.containers volumes.now) slot_count delays.old delays.new) }
+    ensures come { OnOk result (HasCome (taken plan.now (holdings pool.old.containers volumes.now)) (HaveHere (taken plan.now (holdings pool.old.containers volumes.now)) pool.old.containers) (D.shown disk.old) pool.old volumes.now slot_count labels.new pool.new (D.shown disk.new)) }
+    ensures delays { IsTrue (D.shown disk.old).tells → (before : Machine) → IsLent (D.shown disk.old) pool.old volumes.now before → HaveHere (taken plan.now (holdings pool.old.containers volumes.now)) pool.old.containers
+        → OnOk result (LeaveDelays plan.now (holdings pool.old.containers volumes.now) slot_count delays.old delays.new) }
     ensures spares { Spares (IsTaken (on_disk pool.old.map)) (D.shown disk.old) (D.shown disk.new) result }
 {
     pool.write_kept(disk)?;
@@ -165,9 +153,11 @@ fn write_slot<D: Disk>(
     requires slot { slot < slot_count }
     requires stands { StandsOn (D.shown disk.old) pool.old.store.pairs }
     requires housed { AreHoused pool.old.containers volumes.now }
+    requires leaves { HasLeavesAt plan.now slot (state_at volumes.now slot) (paged_at pool.old.containers slot) }
     requires room { asked_by (state_at volumes.now slot) ≤ free_blocks pool.old.map }
     ensures past { OnOk result (GoesPast (taken plan.now (holdings pool.old.containers volumes.now)) (state_at volumes.now slot) slot labels.old pool.old (D.shown disk.old) labels.new pool.new (D.shown disk.new)) }
-    ensures delays { OnOk result (LeavesDelays plan.now slot (holdings pool.old.containers volumes.now slot) delays.old delays.new) }
+    ensures delays { IsTrue (D.shown disk.old).tells → IfSome (paged_at pool.old.containers slot) (IsCleanOn (D.shown disk.old).reads)
+        → IfSome (paged_at pool.old.containers slot) (AreHereIn (taken plan.now (holdings pool.old.containers volumes.now) slot)) → OnOk result (LeavesDelays plan.now slot (holdings pool.old.containers volumes.now slot) delays.old delays.new) }
     ensures count { OnOk result (free_blocks pool.old.map ≤ free_blocks pool.new.map + asked_by (state_at volumes.now slot)) }
     ensures spares { Spares (IsTaken (on_disk pool.old.map)) (D.shown disk.old) (D.shown disk.new) result }
     ensures committed { pool.new.map.committed ≡ pool.old.map.committed }

@@ -1,14 +1,15 @@
 //! Reclaiming the regions of a plan.
 
-ghost use Rattle.std.specs.Prelude.{◌≡◌, ◌≤◌, ◌<◌, ℕ, Some, length};
+ghost use Rattle.std.specs.Prelude.{◌≡◌, ◌≤◌, ◌<◌, ℕ, Some, length, true};
 ghost use Rattle.fv_model.specs.Numbers.{greatest_span};
 ghost use Rattle.fv_image.specs.Views.{entry_count};
 ghost use Rattle.fv_container.specs.Chains.{slot_count};
 ghost use Rattle.fv_delay.specs.Holding.{held_by};
-ghost use Rattle.fv_delay.specs.Reclaims.{HasReclaimed};
+ghost use Rattle.fv_delay.specs.Delay.{AreKnown};
+ghost use Rattle.fv_delay.specs.Reclaims.{HasGivenSome, HasReclaimed, HasStayed};
 ghost use Rattle.fv_volume.specs.States.{state_at, with_state};
 ghost use Rattle.fv_cp.specs.Choosing.{marked_at};
-ghost use Rattle.fv_cp.specs.Planning.{LeavesDelays, is_set, takes_of};
+ghost use Rattle.fv_cp.specs.Planning.{IsReclaimable, LeavesDelays, is_set, takes_of};
 
 use crate::planning::Plan;
 use fv_aggmap::AggMap;
@@ -44,10 +45,11 @@ fn mark_slot(volumes: &mut Volumes, due: bool, slot: u8)
 
 /// Reclaims the regions of a plan in the container of the volume of a slot: their delayed entries become holes, and their blocks are given
 /// back, so that the next root won't hold them. Every other entry stays. The container has an entry for each VVBN of the maps' span and for
-/// each block of 25 maps. Where the volume is due, `delays` says of its slot whether an entry is delayed then.
+/// each block of 25 maps. Where the volume is due, it is known which entries are holes, the leaves of the regions that are taken are in
+/// memory, and `delays` says of its slot whether an entry is delayed then.
 ///
-/// It takes no memory. Costs a step for each entry of a volume that is due, and up to 25 more for one that is no hole, a map slot each;
-/// twice in a region that is taken.
+/// It takes no memory and reads nothing. Costs a step for each entry of a volume that is due, and up to 25 more for one that is no hole, a
+/// map slot each; twice in a region that is taken.
 pub(crate) fn reclaim_due(
     plan: &Plan,
     slot: u8,
@@ -58,9 +60,14 @@ pub(crate) fn reclaim_due(
 )
     requires slot { slot < slot_count }
     requires span { map.now.span ≤ greatest_span }
-    requires entries { length container.old.entries ≡ entry_count map.now.span }
-    ensures reclaimed { HasReclaimed map.now (takes_of plan.now slot (Some (held_by map.now container.old))) container.old pool_map.old container.new pool_map.new }
-    ensures delays { LeavesDelays plan.now slot (Some (held_by map.now container.old)) delays.old delays.new }
+    requires entries { length container.old.map.entries ≡ entry_count map.now.span }
+    requires known { is_set plan.now.due slot ≡ true → AreKnown container.old }
+    ensures reclaimed { IsReclaimable plan.now slot map.now container.old
+        → HasReclaimed map.now (takes_of plan.now slot (Some (held_by map.now container.old.map))) container.old pool_map.old container.new pool_map.new }
+    ensures delays { IsReclaimable plan.now slot map.now container.old
+        → LeavesDelays plan.now slot (Some (held_by map.now container.old.map)) delays.old delays.new }
+    ensures stayed { HasStayed container.old container.new }
+    ensures given { HasGivenSome pool_map.old pool_map.new }
 {
     let at = slot as usize;
     if plan.due[at] {

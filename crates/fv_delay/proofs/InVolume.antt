@@ -12,6 +12,7 @@ use Rattle.fv_image.specs.Containers.{level_width}
 use Rattle.fv_image.specs.Views.{slots}
 use Rattle.fv_aggmap.specs.Space.{Space}
 use Rattle.fv_container.specs.Mapped.{Mapped}
+use Rattle.fv_container.specs.Paged.{Paged}
 use Rattle.fv_delay.specs.declared.counts.Count.{Count}
 use Rattle.fv_delay.specs.declared.threshold.Table.{Table}
 use Rattle.fv_delay.specs.declared.threshold.Threshold.{Threshold}
@@ -121,12 +122,12 @@ module _ (volumes : ℕ → Option Holding) (s : ℕ) (x : Holding) where
       ∙ chosen_region volumes s x r missing is inside within
 
   -- So the reclaim of the regions that are taken is one of those that are chosen.
-  pub chosen_reclaimed : (missing : ℕ) → volumes s ≡ Some x → s < 64 → (new : Mapped) (space left : Space)
-      → HasReclaimed x.map (taken_in (behind (threshold_for (counts_of volumes) missing) (counts_before volumes s)) x) x.container space new left
-      → HasReclaimed x.map (has_region (regions_counted (chosen (counts_of volumes) missing)) s) x.container space new left
-  chosen_reclaimed missing is inside new space left has =
+  pub chosen_reclaimed : (missing : ℕ) → volumes s ≡ Some x → s < 64 → (old new : Paged) → old.map ≡ x.container → (space left : Space)
+      → HasReclaimed x.map (taken_in (behind (threshold_for (counts_of volumes) missing) (counts_before volumes s)) x) old space new left
+      → HasReclaimed x.map (has_region (regions_counted (chosen (counts_of volumes) missing)) s) old space new left
+  chosen_reclaimed missing is inside old new same space left has =
       reclaimed_same x.map (taken_in (behind (threshold_for (counts_of volumes) missing) (counts_before volumes s)) x) (has_region (regions_counted (chosen (counts_of volumes) missing)) s)
-      x.container new space left (λ r within. sym (taken_chosen r missing is inside within)) has
+      old new space left (λ r within. sym (taken_chosen r missing is inside (subst (λ (m : Mapped). r < level_width (length m.entries) 0) same within))) has
 
   -- the counts of the slots behind
   abbrev past : List Count

@@ -8,15 +8,16 @@ use Rattle.fv_image.specs.Containers.{fan}
 use Rattle.fv_image.proofs.Counts.{none_between}
 use Rattle.fv_aggmap.specs.Space.{Space}
 use Rattle.fv_container.specs.Mapped.{Mapped, entry_under}
+use Rattle.fv_container.specs.Paged.{Paged}
 use Rattle.fv_volmap.specs.Slots.{Volume}
 use Rattle.fv_delay.specs.Delay.{delayed_in, delayed_of, is_delayed, is_held, region_of}
-use Rattle.fv_delay.specs.Holding.{Holding, IsLeft}
+use Rattle.fv_delay.specs.Holding.{Holding, IsLeft, held_by}
 use Rattle.fv_delay.specs.Reclaims.{HasReclaimed, goes_with}
 use Rattle.fv_delay.proofs.Reclaimed.{delayed_now}
 
 -- a reclaim leaves a volume so
-pub left_by : (x : Holding) (regions : ℕ → Bool) (space left : Space) (new : Mapped) → HasReclaimed x.map regions x.container space new left → IsLeft regions x (record { map = x.map; container = new })
-left_by x regions space left new has = record { long = has.entries.long; delayed = delayed_now x.map regions x.container new has.entries }
+pub left_by : (map : Volume) (regions : ℕ → Bool) (space left : Space) (old new : Paged) → HasReclaimed map regions old space new left → IsLeft regions (held_by map old.map) (held_by map new.map)
+left_by map regions space left old new has = record { long = has.entries.long; delayed = delayed_now map regions old new has.entries }
 
 -- it is left so still where only entries change whose VVBNs are held, as those of a map's blocks are
 pub left_still : (regions : ℕ → Bool) (x : Holding) (map : Volume) (mid new : Mapped) → IsLeft regions x (record { map = map; container = mid }) → length new.entries ≡ length mid.entries

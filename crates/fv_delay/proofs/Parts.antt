@@ -23,6 +23,10 @@ regions_are entries = omega arith
 pub region_within : (entries v : ℕ) → v < entries → v / fan < level_width entries 0
 region_within entries v within = omega (arith, within)
 
+-- and has it
+pub region_has : (entries v : ℕ) → v < entries → fan * (v / 256) < entries
+region_has entries v within = omega (arith, within)
+
 -- behind the last entry none is delayed
 pub none_past : (map : Volume) (container : Mapped) (v : ℕ) → length container.entries ≤ v → is_delayed map container v ≡ false
 none_past map container v past = ap (λ entry. is_some entry && not (is_held map v)) (get_or_past container.entries v None past)
@@ -114,6 +118,10 @@ pub byte_is : (t : Bool) → from_bool t ≡ cond t 1 0
 byte_is true = refl
 byte_is false = refl
 
+pub byte_most : (t : Bool) → from_bool t ≤ 1
+byte_most true = omega arith
+byte_most false = omega arith
+
 pub the_end : (entries first end v : ℕ) → end ≡ first + min (entries - first) fan → (first ≤ end → v ≤ end) → end ≤ v → v ≡ end
 the_end entries first end v stop most least = let le : v ≤ end = most (omega (arith, stop)) in omega (arith, le, least)
 
@@ -127,6 +135,13 @@ region_walked p region known entries first end v count long none start stop most
     let stops : end ≡ first + min (entries - first) fan = stop ∙ ap (λ (n : ℕ). first + min (n - first) fan) long in
     counted ∙ ap (λ (n : ℕ). passing p first (n - first)) (the_end entries first end v stops most least)
     ∙ region_passing p region entries first end none (start ∙ ap (λ (n : ℕ). min (fan * region) n) long) stops
+
+-- A number between the first VVBN of a region and its end is one of the region, which has an entry then.
+pub inside_region : (entries region first end v : ℕ) → first ≡ min (fan * region) entries → end ≡ first + min (entries - first) fan → first ≤ v → v < end → (v / 256 ≡ region) × (fan * region < entries)
+inside_region entries region first end v start stop low high =
+    let some : fan * region < entries = omega (arith, start, stop, low, high) in
+    let from : first ≡ fan * region = omega (arith, start, some) in
+    (omega (arith, from, stop, low, high), some)
 
 -- ---- all regions
 

@@ -5,7 +5,7 @@ use Rattle.std.proofs.lemmas.Bool.{and_left, cases_eq, true≢false}
 use Rattle.std.proofs.lemmas.Bool.Decides.{nat_tests}
 use Rattle.fv_image.specs.Containers.{level_width}
 use Rattle.fv_aggmap.specs.Space.{Space}
-use Rattle.fv_container.specs.Mapped.{Mapped}
+use Rattle.fv_container.specs.Paged.{Paged}
 use Rattle.fv_volmap.specs.Slots.{Volume}
 use Rattle.fv_delay.specs.declared.counts.Count.{Count}
 use Rattle.fv_delay.specs.declared.threshold.Table.{Table}
@@ -67,29 +67,47 @@ up_to_off p end off r = ⊎_elim here other (cases_eq r end)
 
 -- ---- the walk
 
-module _ (map : Volume) (old : Mapped) (start : Threshold) where
+-- The regions in front of one were asked of: the threshold is behind them, those that are taken are reclaimed, and it is known whether others
+-- have delayed entries.
+pub record HasAsked (map : Volume) (old : Paged) (start : Threshold) (r : ℕ) (threshold : Threshold) (space : Space) (mid : Paged) (meanwhile : Space) (is_left : Bool) : Type 0 where
+  pub passed : threshold ≡ behind start (counts_front 0 (held_by map old.map) r)
+  pub reclaimed : HasReclaimed map (up_to (taken_in start (held_by map old.map)) r) old space mid meanwhile
+  pub rest : is_left ≡ false → (k : ℕ) → k < r → 0 < delayed_in map old.map k → taken_in start (held_by map old.map) k ≡ true
+  pub left : is_left ≡ true → ((k : ℕ) → k < r → 0 < delayed_in map old.map k → taken_in start (held_by map old.map) k ≡ true) → ⊥
+
+-- a test that the other one follows from
+pub and_so : (t h : Bool) → (t ≡ true → h ≡ true) → (t && h) ≡ t
+and_so true h so = so refl
+and_so false h so = refl
+
+-- the second of two
+pub and_second : (t h : Bool) → (t && h) ≡ true → h ≡ true
+and_second true h is = is
+and_second false h is = absurd (true≢false (sym is))
+
+module _ (map : Volume) (old : Paged) (start : Threshold) where
   abbrev taken : ℕ → Bool
-  taken = taken_in start (held_by map old)
+  taken = taken_in start (held_by map old.map)
 
   -- The threshold in front of a region, the regions that are taken being reclaimed as far as that.
-  module _ (threshold : Threshold) (mid : Mapped) (space between : Space) (r count : ℕ) (at : threshold ≡ behind start (counts_front 0 (held_by map old) r))
-      (has : HasReclaimed map (up_to taken r) old space mid between) (counts : count ≡ delayed_in map mid r) where
+  module _ (threshold : Threshold) (mid : Paged) (space between : Space) (r count : ℕ) (at : threshold ≡ behind start (counts_front 0 (held_by map old.map) r))
+      (has : HasReclaimed map (up_to taken r) old space mid between) (counts : count ≡ delayed_in map mid.map r) where
     -- the region has what it had
-    pub asked_count : count ≡ delayed_in map old r
+    pub asked_count : count ≡ delayed_in map old.map r
     asked_count =
         let same : nat_lt r r ≡ false = grind (arith, nat_tests) in
-        counts ∙ others_left (up_to taken r) (held_by map old) (held_by map mid) (left_by (held_by map old) (up_to taken r) space between mid has) r (and_left (nat_lt r r) (taken r) same)
+        counts ∙ others_left (up_to taken r) (held_by map old.map) (held_by map mid.map) (left_by map (up_to taken r) space between old mid has) r (and_left (nat_lt r r) (taken r) same)
 
     -- so it is asked of rightly,
     pub asked_taken : takes threshold count ≡ taken r
     unfolding taken_in
     asked_taken = ap₂ takes at asked_count
 
-    pub asked_passed : passed threshold count ≡ behind start (counts_front 0 (held_by map old) (r + 1))
-    asked_passed = ap₂ passed at asked_count ∙ sym (behind_front start 0 (held_by map old) r)
+    pub asked_passed : passed threshold count ≡ behind start (counts_front 0 (held_by map old.map) (r + 1))
+    asked_passed = ap₂ passed at asked_count ∙ sym (behind_front start 0 (held_by map old.map) r)
 
     -- reclaimed where it is taken,
-    pub asked_on : takes threshold count ≡ true → (new : Mapped) (left : Space) → HasReclaimed map (λ k. k == r) mid between new left → HasReclaimed map (up_to taken (r + 1)) old space new left
+    pub asked_on : takes threshold count ≡ true → (new : Paged) (left : Space) → HasReclaimed map (λ k. k == r) mid between new left → HasReclaimed map (up_to taken (r + 1)) old space new left
     asked_on on new left then = reclaimed_then map (up_to taken r) (λ k. k == r) (up_to taken (r + 1)) (up_to_on taken r (sym asked_taken ∙ on)) old mid new space between left has then
 
     -- and left where it isn't.
@@ -97,14 +115,14 @@ module _ (map : Volume) (old : Mapped) (start : Threshold) where
     asked_off off = reclaimed_same map (up_to taken r) (up_to taken (r + 1)) old mid space between (λ k lt. up_to_off taken r (sym asked_taken ∙ off) k) has
 
     -- Whether all with delayed entries are taken as far as the next one.
-    pub asked_rest : ((k : ℕ) → k < r → 0 < delayed_in map old k → taken k ≡ true) → (0 < count → takes threshold count ≡ true) → (k : ℕ) → k < r + 1 → 0 < delayed_in map old k → taken k ≡ true
+    pub asked_rest : ((k : ℕ) → k < r → 0 < delayed_in map old.map k → taken k ≡ true) → (0 < count → takes threshold count ≡ true) → (k : ℕ) → k < r + 1 → 0 < delayed_in map old.map k → taken k ≡ true
     asked_rest before here k lt some = ⊎_elim
-        (λ (e : k ≡ r). ap taken e ∙ sym asked_taken ∙ here (subst (λ (n : ℕ). 0 < n) (ap (delayed_in map old) e ∙ sym asked_count) some))
+        (λ (e : k ≡ r). ap taken e ∙ sym asked_taken ∙ here (subst (λ (n : ℕ). 0 < n) (ap (delayed_in map old.map) e ∙ sym asked_count) some))
         (λ (ne : k ≢ r). before k (omega (arith, lt, ne)) some)
         (cases_eq k r)
 
     -- Where the next one has delayed entries and isn't taken, not all are.
-    pub asked_left : 0 < count → takes threshold count ≡ false → ((k : ℕ) → k < r + 1 → 0 < delayed_in map old k → taken k ≡ true) → ⊥
+    pub asked_left : 0 < count → takes threshold count ≡ false → ((k : ℕ) → k < r + 1 → 0 < delayed_in map old.map k → taken k ≡ true) → ⊥
     asked_left some off all =
         let here : taken r ≡ true = all r (omega arith) (subst (λ (n : ℕ). 0 < n) asked_count some) in
         true≢false (sym here ∙ sym asked_taken ∙ off)
@@ -117,7 +135,7 @@ module _ (map : Volume) (old : Mapped) (start : Threshold) where
       none k = and_left (nat_lt k 0) (taken k) (let test : nat_lt k 0 ≡ false = grind (arith, nat_tests) in test)
 
   -- All are.
-  pub asked_all : (new : Mapped) (space left : Space) (end : ℕ) → level_width (length old.entries) 0 ≤ end → HasReclaimed map (up_to taken end) old space new left → HasReclaimed map taken old space new left
+  pub asked_all : (new : Paged) (space left : Space) (end : ℕ) → level_width (length old.map.entries) 0 ≤ end → HasReclaimed map (up_to taken end) old space new left → HasReclaimed map taken old space new left
   asked_all new space left end past has = reclaimed_same map (up_to taken end) taken old new space left (λ k lt. all k (let below : k < end = omega (arith, past, lt) in below)) has
     where
       all : (k : ℕ) → k < end → taken k ≡ up_to taken end k

@@ -8,8 +8,10 @@ use Rattle.fv_delay.specs.declared.counts.Count.{Count}
 use Rattle.fv_delay.specs.declared.threshold.Threshold.{Threshold}
 use Rattle.fv_delay.specs.declared.threshold.Table.{Table}
 use Rattle.fv_delay.specs.Choice.{full_count, is_full, total}
-use Rattle.fv_delay.specs.Delay.{delayed_in}
-use Rattle.fv_delay.specs.Holding.{Holding, counted, counts_in, has_some}
+use Rattle.fv_container.specs.Paged.{Paged}
+use Rattle.fv_volmap.specs.Slots.{Volume}
+use Rattle.fv_delay.specs.Delay.{IsHereIn, delayed_in}
+use Rattle.fv_delay.specs.Holding.{Holding, counted, counts_in, has_some, held_by}
 
 -- ---- what a threshold takes
 
@@ -83,6 +85,10 @@ taken_in t x region = takes (behind t (counts_front 0 x region)) (delayed_in x.m
 -- It takes each region of a volume that has delayed entries.
 abbrev pub TakesAll : Threshold → Holding → Type 0
 TakesAll t x = (region : ℕ) → region < level_width (length x.container.entries) 0 → 0 < delayed_in x.map x.container region → taken_in t x region ≡ true
+
+-- The leaves of the regions that it takes are in memory.
+abbrev pub AreTakenHere : Threshold → Volume → Paged → Type 0
+AreTakenHere t map paged = (region : ℕ) → taken_in t (held_by map paged.map) region ≡ true → IsHereIn paged region
 
 -- ---- the table
 

@@ -1,10 +1,11 @@
 -- Delayed entries: those whose block was freed in its volume and not yet in the aggregate. And the regions of a container.
-use Rattle.std.specs.Prelude.{ℕ, ◌-◌, ◌*◌, ◌/◌, Bool, not, ◌&&◌, ◌||◌, ◌==◌, List, length, take, count_by, nat_lt, if◌then◌else◌}
+use Rattle.std.specs.Prelude.{◌≡◌, ◌<◌, true, ℕ, ◌-◌, ◌*◌, ◌/◌, Bool, not, ◌&&◌, ◌||◌, ◌==◌, List, length, take, count_by, nat_lt, if◌then◌else◌}
 use Rattle.std.specs.List.{list_any, range_with_len}
 use Rattle.std.specs.Option.{is_some}
 use Rattle.fv_model.specs.Space.{map_blocks}
 use Rattle.fv_image.specs.Containers.{fan}
 use Rattle.fv_container.specs.Mapped.{Mapped, entry_under}
+use Rattle.fv_container.specs.Paged.{Paged, is_here, is_known, is_sure}
 use Rattle.fv_volmap.specs.Slots.{Volume, slot_at, stored_count, taken_in}
 
 -- whether a slot is in use; that of the active table always is
@@ -45,3 +46,23 @@ delayed_in map container region = count_by (is_delayed map container) (vvbns_in 
 -- the delayed entries of a container
 unfoldable pub delayed_of : Volume → Mapped → ℕ
 delayed_of map container = count_by (is_delayed map container) (range_with_len 0 (length container.entries))
+
+-- ---- what is in memory
+
+-- Of a region that has entries it is known which of them are holes; its leaf is in memory; what is in memory of it is as the map says. Where the
+-- container is clean on the disk, what is known and what is in memory is so.
+abbrev pub IsKnownIn : Paged → ℕ → Type 0
+IsKnownIn paged region = fan * region < length paged.map.entries → is_known paged region ≡ true
+
+abbrev pub IsHereIn : Paged → ℕ → Type 0
+IsHereIn paged region = fan * region < length paged.map.entries → is_here paged region ≡ true
+
+abbrev pub IsSureIn : Paged → ℕ → Type 0
+IsSureIn paged region = fan * region < length paged.map.entries → is_sure paged region ≡ true
+
+-- so it is of all regions
+abbrev pub AreKnown : Paged → Type 0
+AreKnown paged = (region : ℕ) → IsKnownIn paged region
+
+abbrev pub AreSure : Paged → Type 0
+AreSure paged = (region : ℕ) → IsSureIn paged region

@@ -1,10 +1,11 @@
 //! Which entries of a container are delayed.
 
-ghost use Rattle.std.specs.Prelude.{◌≡◌, ◌<◌, ◌≤◌, ◌*◌, ◌+◌, ◌-◌, length, min};
+ghost use Rattle.std.specs.Prelude.{◌≡◌, ◌<◌, ◌≤◌, ◌*◌, ◌+◌, ◌-◌, ◌/◌, true, length, min};
 ghost use Rattle.fv_image.specs.Containers.{fan, level_width, most_entries};
 ghost use Rattle.fv_image.specs.Views.{entry_count};
 ghost use Rattle.fv_model.specs.Numbers.{greatest_span};
-ghost use Rattle.fv_delay.specs.Delay.{delayed_in, has_delayed, is_delayed, is_held, is_used};
+ghost use Rattle.fv_container.specs.Paged.{is_known, is_sure};
+ghost use Rattle.fv_delay.specs.Delay.{AreKnown, AreSure, IsKnownIn, IsSureIn, delayed_in, has_delayed, is_delayed, is_held, is_used};
 
 use fv_container::Container;
 use fv_model::map_blocks;
@@ -15,13 +16,15 @@ const STORED: u32 = 25;
 
 /// How many entries of a region of a volume's container are delayed: they aren't holes, and their VVBNs are held neither by the active map nor
 /// by a snapshot's. The VVBN of a block of a map is held exactly while its slot is in use. The container has an entry for each VVBN
-/// of the map's span and for each block of 25 maps. From its last region on none is delayed.
+/// of the map's span and for each block of 25 maps, and it is known which entries of the region are holes. From its last region on none is
+/// delayed.
 ///
-/// Costs a step for each of the at most 256 entries and each slot. It takes no memory.
+/// Costs a step for each of the at most 256 entries and each slot. It takes no memory and makes no disk call.
 pub fn delayed_by_region(container: &Container, map: &VolMap, region: u32) -> u32
     requires span { map.now.span ≤ greatest_span }
-    requires entries { length container.now.entries ≡ entry_count map.now.span }
-    ensures { result ≡ delayed_in map.now container.now region }
+    requires entries { length container.now.map.entries ≡ entry_count map.now.span }
+    requires known { IsKnownIn container.now region }
+    ensures { IsSureIn container.now region → result ≡ delayed_in map.now container.now.map region }
 {
     let entries = entry_count(map);
     let first = first_of(region, entries);
@@ -44,13 +47,14 @@ pub fn region_count(map: &VolMap) -> u32
 }
 
 /// Whether an entry of a volume's container is delayed: there is something to give back. The container has an entry for each VVBN of the
-/// map's span and for each block of 25 maps.
+/// map's span and for each block of 25 maps, and it is known of all regions which entries are holes.
 ///
-/// Costs a step for a hole, and one for each slot for another entry. It takes no memory.
+/// Costs a step for a hole, and one for each slot for another entry. It takes no memory and makes no disk call.
 pub fn has_delayed(container: &Container, map: &VolMap) -> bool
     requires span { map.now.span ≤ greatest_span }
-    requires entries { length container.now.entries ≡ entry_count map.now.span }
-    ensures { result ≡ has_delayed map.now container.now }
+    requires entries { length container.now.map.entries ≡ entry_count map.now.span }
+    requires known { AreKnown container.now }
+    ensures { AreSure container.now → result ≡ has_delayed map.now container.now.map }
 {
     for vvbn in 0..entry_count(map) {
         if is_delayed(container, map, vvbn) {
@@ -60,13 +64,14 @@ pub fn has_delayed(container: &Container, map: &VolMap) -> bool
     false
 }
 
-/// Whether the entry of a VVBN is delayed.
+/// Whether the entry of a VVBN is delayed, where it is known which entries of its region are holes.
 fn is_delayed(container: &Container, map: &VolMap, vvbn: u32) -> bool
-    requires within { vvbn < length container.now.entries }
-    requires entries { length container.now.entries ≡ entry_count map.now.span }
-    ensures { result ≡ is_delayed map.now container.now vvbn }
+    requires within { vvbn < length container.now.map.entries }
+    requires entries { length container.now.map.entries ≡ entry_count map.now.span }
+    requires known { is_known container.now (vvbn / 256) ≡ true }
+    ensures { is_sure container.now (vvbn / 256) ≡ true → result ≡ is_delayed map.now container.now.map vvbn }
 {
-    container.entry_at(vvbn).is_some() && !is_held(map, vvbn)
+    container.has_entry(vvbn) && !is_held(map, vvbn)
 }
 
 /// Whether a VVBN is held.

@@ -20,5 +20,5 @@ pub use delayed::{delayed_by_region, has_delayed, region_count};
 pub use listed::Listed;
 pub use reclaiming::reclaim;
 pub use regions::{Region, Regions};
-pub use taken::{reclaim_taken, table_of};
+pub use taken::{mark_taken, reclaim_taken, table_of};
 pub use threshold::{Table, Threshold};

@@ -1,11 +1,14 @@
 //! The regions of a volume's container, counted in one walk, and those of them reclaimed that a threshold takes.
 
-ghost use Rattle.std.specs.Prelude.{◌≡◌, ◌≤◌, ℕ, true, false, length};
+ghost use Rattle.std.specs.Prelude.{◌≡◌, ◌≢◌, ◌<◌, ◌≤◌, ◌&&◌, ◌||◌, ℕ, true, false, length, get_or};
+ghost use Rattle.fv_image.specs.Containers.{level_width};
+ghost use Rattle.fv_container.specs.Paged.{is_here};
 ghost use Rattle.fv_image.specs.Views.{entry_count};
 ghost use Rattle.fv_model.specs.Numbers.{greatest_span};
-ghost use Rattle.fv_delay.specs.ByThreshold.{IsTable, TakesAll, taken_in};
+ghost use Rattle.fv_delay.specs.ByThreshold.{AreTakenHere, IsTable, TakesAll, passed, taken_in, takes};
+ghost use Rattle.fv_delay.specs.Delay.{AreKnown, AreSure};
 ghost use Rattle.fv_delay.specs.Holding.{counts_in, held_by};
-ghost use Rattle.fv_delay.specs.Reclaims.{HasReclaimed};
+ghost use Rattle.fv_delay.specs.Reclaims.{HasGivenSome, HasReclaimed, HasStayed};
 
 use crate::counts::Count;
 use crate::delayed::{delayed_by_region, region_count};
@@ -16,13 +19,14 @@ use fv_container::Container;
 use fv_volmap::VolMap;
 
 /// The table of a volume's regions with delayed entries. The container has an entry for each VVBN of the map's span and for each block of 25
-/// maps.
+/// maps, and it is known of all regions which entries are holes.
 ///
-/// It takes no memory. Costs a step for each entry, and up to 25 more for one that is no hole.
+/// It takes no memory and makes no disk call. Costs a step for each entry, and up to 25 more for one that is no hole.
 pub fn table_of(container: &Container, map: &VolMap) -> Table
     requires span { map.now.span ≤ greatest_span }
-    requires entries { length container.now.entries ≡ entry_count map.now.span }
-    ensures { (slot : ℕ) → IsTable result (counts_in slot (held_by map.now container.now)) }
+    requires entries { length container.now.map.entries ≡ entry_count map.now.span }
+    requires known { AreKnown container.now }
+    ensures { AreSure container.now → (slot : ℕ) → IsTable result (counts_in slot (held_by map.now container.now.map)) }
 {
     let mut table = Table::new();
     for region in 0..region_count(map) {
@@ -38,11 +42,48 @@ pub fn table_of(container: &Container, map: &VolMap) -> Table
     table
 }
 
+/// Marks in a plan the regions of a volume's container that a threshold takes, asked of all in the order of their numbers: those whose leaves
+/// `reclaim_taken` needs in memory. A mark that is there stays. The container has an entry for each VVBN of the map's span and for each block
+/// of 25 maps, it is known of all regions which entries are holes, and the plan has a mark for each region. Marks behind them stay.
+///
+/// It takes no memory and makes no disk call. Costs a step for each entry, and up to 25 more for one that is no hole.
+pub fn mark_taken(start: Threshold, container: &Container, map: &VolMap, plan: &mut [bool])
+    requires span { map.now.span ≤ greatest_span }
+    requires entries { length container.now.map.entries ≡ entry_count map.now.span }
+    requires known { AreKnown container.now }
+    requires long { level_width (length container.now.map.entries) 0 ≤ length plan.old }
+    ensures long { length plan.new ≡ length plan.old }
+    ensures marked { AreSure container.now → (region : ℕ) → region < level_width (length container.now.map.entries) 0
+        → get_or plan.new region false ≡ (taken_in start (held_by map.now container.now.map) region || get_or plan.old region false) }
+    ensures others { (k : ℕ) → level_width (length container.now.map.entries) 0 ≤ k → get_or plan.new k false ≡ get_or plan.old k false }
+{
+    let mut threshold = start;
+    for region in 0..region_count(map) {
+        let count = delayed_by_region(container, map, region);
+        let is_taken = threshold.takes(count);
+        mark(plan, region as usize, is_taken);
+    }
+}
+
+/// Marks a region where it is taken.
+fn mark(plan: &mut [bool], region: usize, is_taken: bool)
+    requires within { region < length plan.old }
+    ensures long { length plan.new ≡ length plan.old }
+    ensures here { get_or plan.new region false ≡ (is_taken || get_or plan.old region false) }
+    ensures others { (k : ℕ) → k ≢ region → get_or plan.new k false ≡ get_or plan.old k false }
+{
+    if is_taken {
+        plan[region] = true;
+    }
+}
+
 /// Reclaims those regions of a volume's container that a threshold takes, asked of all in the order of their numbers, and says exactly whether
 /// a region with delayed entries is left. Every other entry stays. The container has an entry for each VVBN of the map's span and for each block
-/// of 25 maps.
+/// of 25 maps, and it is known of all regions which entries are holes. The leaves of the regions that are taken are in memory; a region whose
+/// leaf isn't stays as it is.
 ///
-/// It takes no memory. Costs a step for each entry, and up to 25 more for one that is no hole, twice in a region that is taken.
+/// It takes no memory and makes no disk call. Costs a step for each entry, and up to 25 more for one that is no hole, twice in a region that is
+/// taken.
 pub fn reclaim_taken(
     start: Threshold,
     container: &mut Container,
@@ -50,20 +91,34 @@ pub fn reclaim_taken(
     pool_map: &mut AggMap,
 ) -> bool
     requires span { map.now.span ≤ greatest_span }
-    requires entries { length container.old.entries ≡ entry_count map.now.span }
-    ensures reclaimed { HasReclaimed map.now (taken_in start (held_by map.now container.old)) container.old pool_map.old container.new pool_map.new }
-    ensures rest { result ≡ false → TakesAll start (held_by map.now container.old) }
-    ensures left { result ≡ true → TakesAll start (held_by map.now container.old) → ⊥ }
+    requires entries { length container.old.map.entries ≡ entry_count map.now.span }
+    requires known { AreKnown container.old }
+    ensures reclaimed { AreSure container.old → AreTakenHere start map.now container.old
+        → HasReclaimed map.now (taken_in start (held_by map.now container.old.map)) container.old pool_map.old container.new pool_map.new }
+    ensures rest { AreSure container.old → AreTakenHere start map.now container.old
+        → result ≡ false → TakesAll start (held_by map.now container.old.map) }
+    ensures left { AreSure container.old → AreTakenHere start map.now container.old
+        → result ≡ true → TakesAll start (held_by map.now container.old.map) → ⊥ }
+    ensures stayed { HasStayed container.old container.new }
+    ensures given { HasGivenSome pool_map.old pool_map.new }
 {
     let mut threshold = start;
     let mut is_left = false;
     for region in 0..region_count(map) {
         let count = delayed_by_region(container, map, region);
-        if threshold.takes(count) {
+        if takes_here(&mut threshold, container, region, count) {
             reclaim(container, map, region, pool_map);
         } else if count != 0 {
             is_left = true;
         }
     }
     is_left
+}
+
+/// Whether a threshold takes the next region, which has so many delayed entries, and its leaf is in memory.
+fn takes_here(threshold: &mut Threshold, container: &Container, region: u32, count: u32) -> bool
+    ensures taken { result ≡ (takes threshold.old count && is_here container.now region) }
+    ensures passed { threshold.new ≡ passed threshold.old count }
+{
+    threshold.takes(count) && container.is_here(region)
 }

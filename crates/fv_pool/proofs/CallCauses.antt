@@ -67,7 +67,8 @@ module _ (narrow wide : Type 0) (widens : narrow → wide) (old : Lent) (faults 
   reads_narrow : (t : Rooted) (e : BlockFault) → ReadFails wide t old faults e → ReadFails narrow t old faults e
   reads_narrow t block.DiskFault fails = fails
   reads_narrow t (block.Damaged at want found) (same, inl hole) = (same, inl (hole.0, λ told. hole.1 (widens told)))
-  reads_narrow t (block.Damaged at want found) (same, inr node) = (same, inr (λ told. node (widens told)))
+  reads_narrow t (block.Damaged at want found) (same, inr (inl node)) = (same, inr (inl (λ told. node (widens told))))
+  reads_narrow t (block.Damaged at want found) (same, inr (inr leaf)) = (same, inr (inr leaf))
   reads_narrow t block.Memory fails = fails
 
   inodes_narrow : (t : Rooted) (e : BlockFault) → IsBadInodes wide t old faults e → IsBadInodes narrow t old faults e

@@ -25,7 +25,7 @@ use Rattle.fv_pool.specs.Calls.{BlockCause, GivesUp, Reads, TableFails}
 use Rattle.fv_pool.specs.Dropping.{DropsOver}
 use Rattle.fv_pool.specs.Keeping.{Blocks}
 use Rattle.fv_pool.specs.Lending.{Lent, ReadFails, lent_by, place_or_none, shown_over}
-use Rattle.fv_pool.proofs.Failing.{inode_damage, node_damage, noted_hole}
+use Rattle.fv_pool.proofs.Failing.{hole_fails, inode_damage, node_damage, noted_hole}
 use Rattle.fv_pool.proofs.Shows.{get_held}
 
 -- a block that is held is that of the entry along the chain
@@ -75,9 +75,9 @@ module _ (old new : Lent) (drops : DropsOver old new) (held : (shown_over new).h
   module _ (told : Type 0) (none : old.noted.count ≡ 0) where
     loads_fail : (t : Rooted) (e : BlockFault) → Fails told t (shown_over old) (shown_over new) e → ReadFails told t old new.disk.faults e
     loads_fail t block.DiskFault cause = cause.0
-    loads_fail t (block.Damaged at want found) (faults, inl (was, lacks)) = (faults, inl (noted_hole old new none drops.noted at want found was, lacks))
+    loads_fail t (block.Damaged at want found) (faults, inl (was, lacks)) = hole_fails told t old new.disk.faults at want found faults lacks (noted_hole old new none drops.noted at want found was)
     loads_fail t (block.Damaged at want found) (faults, inr (same, node)) =
-        (faults, inr (λ is. node_damage t (shown_over old) (shown_over new) (shown_over old) (shown_over old) at want found (λ p content lies. (lies, read_there p content lies)) (node is)))
+        (faults, inr (inl (λ is. node_damage t (shown_over old) (shown_over new) (shown_over old) (shown_over old) at want found (λ p content lies. (lies, read_there p content lies)) (node is))))
     loads_fail t block.Memory cause = cause.faults
 
     inodes_fail : (x : Standing) → x.inode.under ≡ under (shown_over old) → (e : BlockFault) → InodeFails told x.inode (shown_over old) (shown_over new) e → TableFails told x old new.disk.faults e

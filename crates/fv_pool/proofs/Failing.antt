@@ -10,7 +10,7 @@ use Rattle.fv_tables.specs.Spelled.{block_at}
 use Rattle.fv_tree.specs.Reading.{cell_read_at}
 use Rattle.fv_tree.specs.Sources.{Damage, IsUntouched, Shown, WasDamaged}
 use Rattle.fv_tree.specs.Spelled.{Rooted, Under, pointer_at}
-use Rattle.fv_tree.specs.Standing.{under, Fails, IsBlockDamage, IsNodeDamage}
+use Rattle.fv_tree.specs.Standing.{under, Fails, IsBlockDamage, IsNodeDamage, LacksBlock}
 use Rattle.fv_inode.specs.Failing.{IsInodeDamage}
 use Rattle.fv_pool.specs.declared.blocks.Home.{Home}
 use Rattle.fv_pool.specs.declared.noted.Noted.{Noted}
@@ -18,8 +18,8 @@ use Rattle.fv_pool.specs.declared.pool.Pool.{Pool}
 use Rattle.fv_container.specs.Chains.{Slots}
 use Rattle.fv_volmap.specs.Slots.{Volume}
 use Rattle.fv_pool.specs.Keeping.{Blocks}
-use Rattle.fv_pool.specs.BlocksOver.{LeavesPool, block_of, held_entry, place_read, IsRightPlace}
-use Rattle.fv_pool.specs.Lending.{IsHole, LacksOne, Lent, ReadFails, ReadsOver, WasHole, WasLack, below, lent_by, place_or_none, shown_over, use_under}
+use Rattle.fv_pool.specs.BlocksOver.{LacksLeaf, LeavesPool, block_of, held_entry, place_read, IsRightPlace}
+use Rattle.fv_pool.specs.Lending.{IsHole, LacksOne, Lent, ReadFails, ReadsOver, WasHole, WasLack, WasLeaf, below, lent_by, place_or_none, shown_over, use_under}
 
 -- a count that stays at 0 hasn't risen
 pub still_none : (before now : ℕ) → before ≡ 0 → now ≡ before → Rose before now → ⊥
@@ -32,12 +32,22 @@ hole_is label noted at want found is hole = subst (λ (d : Damage). IsHole label
 pub lacks_is : (label root : ℕ) (noted : Noted) (at want found : ℕ) → ◌≡◌ {A = Damage} (record { at = noted.at; want = noted.want; found = noted.found }) (record { at = at; want = want; found = found }) → WasLack label root noted → LacksOne label root at want found
 lacks_is label root noted at want found is lacks = subst (λ (d : Damage). LacksOne label root d.at d.want d.found) is lacks
 
--- a damage that was counted since is that of a VVBN that isn't held
-pub noted_hole : (old new : Lent) → old.noted.count ≡ 0 → (new.noted ≡ old.noted) ⊎ WasHole old.home.label new.noted → (at want found : ℕ) → WasDamaged (shown_over old) (shown_over new) at want found → IsHole old.home.label at want found
+pub leaf_is : (disk : Disk) (slots : Slots) (noted : Noted) (at want found : ℕ) → ◌≡◌ {A = Damage} (record { at = noted.at; want = noted.want; found = noted.found }) (record { at = at; want = want; found = found }) → WasLeaf disk slots noted → LacksLeaf disk slots at want found
+leaf_is disk slots noted at want found is leaf = subst (λ (d : Damage). LacksLeaf disk slots d.at d.want d.found) is leaf
+
+-- a damage that was counted since is that of a VVBN that isn't held, or of a leaf of a container
+pub noted_hole : (old new : Lent) → old.noted.count ≡ 0 → (new.noted ≡ old.noted) ⊎ (WasHole old.home.label new.noted ⊎ WasLeaf old.disk old.pool.containers new.noted) → (at want found : ℕ) → WasDamaged (shown_over old) (shown_over new) at want found
+    → IsHole old.home.label at want found ⊎ LacksLeaf old.disk old.pool.containers at want found
 noted_hole old new none noted at want found was = ⊎_elim
     (λ same. absurd (still_none old.noted.count new.noted.count none (ap (λ (n : Noted). n.count) same) was.0))
-    (λ hole. hole_is old.home.label new.noted at want found was.1 hole)
+    (λ cause. ⊎_elim (λ hole. inl (hole_is old.home.label new.noted at want found was.1 hole)) (λ leaf. inr (leaf_is old.disk old.pool.containers new.noted at want found was.1 leaf)) cause)
     noted
+
+-- as a cause of a call that only loads
+pub hole_fails : (told : Type 0) (t : Rooted) (old : Lent) (faults at want found : ℕ) → faults ≡ old.disk.faults → (told → LacksBlock t) → IsHole old.home.label at want found ⊎ LacksLeaf old.disk old.pool.containers at want found
+    → ReadFails told t old faults (Damaged at want found)
+hole_fails told t old faults at want found calm lacks (inl hole) = (calm, inl (hole, lacks))
+hole_fails told t old faults at want found calm lacks (inr leaf) = (calm, inr (inr leaf))
 
 -- So is the damage of a node, where its block lies as before and is read where it was,
 block_damage : (a b c d : Shown) (p : Pointer) (at want found : ℕ) → ((content : List ℕ) → under a p.vvbn ≡ Some content → (under c p.vvbn ≡ Some content) × (b.read_at p ≡ d.read_at p))
@@ -71,9 +81,9 @@ same_place old new reads p = (λ j. place_or_none (place_read (held_entry (reads
 
 pub read_fails : (told : Type 0) (t : Rooted) (old new : Lent) (e : BlockFault) → ReadsOver old new → old.noted.count ≡ 0 → Fails told t (shown_over old) (shown_over new) e → ReadFails told t old new.disk.faults e
 read_fails told t old new DiskFault reads none cause = cause.0
-read_fails told t old new (Damaged at want found) reads none (faults, inl (was, lacks)) = (faults, inl (noted_hole old new none reads.noted at want found was, lacks))
+read_fails told t old new (Damaged at want found) reads none (faults, inl (was, lacks)) = hole_fails told t old new.disk.faults at want found faults lacks (noted_hole old new none reads.noted at want found was)
 read_fails told t old new (Damaged at want found) reads none (faults, inr (same, node)) =
-    (faults, inr (λ is. node_damage t (shown_over old) (shown_over new) (shown_over old) (shown_over old) at want found (λ p content lies. (lies, same_place old new reads p)) (node is)))
+    (faults, inr (inl (λ is. node_damage t (shown_over old) (shown_over new) (shown_over old) (shown_over old) at want found (λ p content lies. (lies, same_place old new reads p)) (node is))))
 read_fails told t old new Memory reads none cause = cause.faults
 
 -- what a tree sees after a block was read, whatever was counted

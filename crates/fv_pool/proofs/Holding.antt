@@ -8,17 +8,17 @@ use Rattle.std.specs.FinMap as fin
 use Rattle.std.proofs.lemmas.Bool.{cases_eq}
 use Rattle.std.proofs.lemmas.Bool.Decides.{nat_tests}
 use Rattle.std.proofs.lemmas.List.Elements.{All-get_or}
-use Rattle.fv_disk.specs.Shown.{Image}
+use Rattle.fv_disk.specs.Shown.{Image, Shown as Disk}
 use Rattle.fv_aggmap.specs.Space.{Space, is_held}
 use Rattle.fv_bits.specs.Members.{is_member}
 use Rattle.fv_container.specs.declared.entry.Entry.{Entry}
-use Rattle.fv_container.specs.Chains.{IsSlots, Slots, along, chain_entry, container_at, or_else, own_entry, parent_at, with_container}
-use Rattle.fv_container.specs.Mapped.{Mapped, with_entry}
+use Rattle.fv_container.specs.Chains.{Slots, along, chain_entry, container_at, or_else, own_entry, parent_at}
+use Rattle.fv_container.specs.Mapped.{Mapped}
 use Rattle.fv_volmap.specs.Slots.{Allocates, IsVolume, Slot, Volume, active_of, has, map_or_empty, slot_at, taken_in}
 use Rattle.fv_tree.specs.declared.blocks.Placed.{Placed}
 use Rattle.fv_pool.specs.declared.pool.Pool.{Pool}
 use Rattle.fv_pool.specs.Keeping.{Blocks, kept_or, seen}
-use Rattle.fv_pool.specs.BlocksOver.{AreApart, HoldsMore, IsKeptBack, OtherPlace, PlacesBlock, given_back, block_of, entries_in, held_entry}
+use Rattle.fv_pool.specs.BlocksOver.{AreApart, HoldsMore, IsKeptBack, KeepsMaps, OtherPlace, PlacesBlock, SetsEntry, TellsEntries, given_back, block_of, held_entry}
 
 -- ---- the container
 
@@ -27,29 +27,34 @@ unfolding along
 along_step slots zero slot v some = absurd (omega (arith, some))
 along_step slots (suc n) slot v some = let e : suc n - 1 ≡ n = omega arith in rw e refl
 
-module _ (slots new : Slots) (slot v : ℕ) (e : Entry) (c : Mapped) (there : container_at slots slot ≡ Some c) (inside : slot < length slots.containers) (within : v < length c.entries)
-    (put : new ≡ with_container slots slot (Some (with_entry c v (Some e)))) where
-  pub own_new : own_entry (container_at new slot) v ≡ Some e
-  own_new = ap (λ (s : Slots). own_entry (container_at s slot) v) put
-      ∙ (ap (λ (m : Option Mapped). own_entry m v) (get_or-set_same slots.containers slot (Some (with_entry c v (Some e))) None inside)
-      ∙ get_or-set_same c.entries v (Some e) None within)
-
-  pub own_other : (at w : ℕ) → w ≢ v → own_entry (container_at new at) w ≡ own_entry (container_at slots at) w
-  own_other at w other = ap (λ (s : Slots). own_entry (container_at s at) w) put ∙ elim (cases_eq at slot) [
-    | inl same ↦ subst (λ (n : ℕ). own_entry (container_at (with_container slots slot (Some (with_entry c v (Some e)))) n) w ≡ own_entry (container_at slots n) w) (sym same)
-        (ap (λ (m : Option Mapped). own_entry m w) (get_or-set_same slots.containers slot (Some (with_entry c v (Some e))) None inside)
-        ∙ (get_or-set_other c.entries v w (Some e) None other ∙ sym (ap (λ (m : Option Mapped). own_entry m w) there)))
-    | inr differs ↦ ap (λ (m : Option Mapped). own_entry m w) (get_or-set_other slots.containers slot at (Some (with_entry c v (Some e))) None differs)
+module _ (disk : Disk) (slots new : Slots) (slot v : ℕ) (e : Entry) (sets : SetsEntry disk slots slot v e new) where
+  own_other : (at w : ℕ) → w ≢ v → own_entry (container_at new at) w ≡ own_entry (container_at slots at) w
+  own_other at w other = elim (cases_eq at slot) [
+    | inl same ↦ subst (λ (n : ℕ). own_entry (container_at new n) w ≡ own_entry (container_at slots n) w) (sym same) (sets.rest w other)
+    | inr differs ↦ ap (λ (m : Option Mapped). own_entry m w) (sets.others at differs)
   ]
 
   along_other : (n : ℕ) (at : Option ℕ) (w : ℕ) → w ≢ v → along new n at w ≡ along slots n at w
   unfolding along
   along_other zero at w other = refl
   along_other (suc n) None w other = refl
-  along_other (suc n) (Some at) w other = ap₂ or_else (own_other at w other) (ap (λ (s : Slots). along new n (parent_at s at) w) put ∙ along_other n (parent_at slots at) w other)
+  along_other (suc n) (Some at) w other =
+      ap₂ or_else (own_other at w other) (ap (λ (parents : List (Option ℕ)). along new n (slice_index_or parents at None) w) sets.parents ∙ along_other n (parent_at slots at) w other)
 
   chain_new : chain_entry new slot v ≡ Some e
-  chain_new = along_step new 64 slot v (omega arith) ∙ ap (λ o. or_else o (along new (64 - 1) (parent_at new slot) v)) own_new
+  chain_new = along_step new 64 slot v (omega arith) ∙ ap (λ o. or_else o (along new (64 - 1) (parent_at new slot) v)) sets.here
+
+-- leaves that came into memory change no entry
+along_kept : (disk : Disk) (slots new : Slots) → KeepsMaps disk slots new → (n : ℕ) (at : Option ℕ) (w : ℕ) → along new n at w ≡ along slots n at w
+unfolding along
+along_kept disk slots new kept zero at w = refl
+along_kept disk slots new kept (suc n) None w = refl
+along_kept disk slots new kept (suc n) (Some at) w =
+    ap₂ or_else (ap (λ (m : Option Mapped). own_entry m w) (kept.maps at)) (ap (λ (parents : List (Option ℕ)). along new n (slice_index_or parents at None) w) kept.parents ∙ along_kept disk slots new kept n (parent_at slots at) w)
+
+pub held_kept : (disk : Disk) (map : Volume) (slots new : Slots) (slot w : ℕ) → KeepsMaps disk slots new → held_entry map new slot w ≡ held_entry map slots slot w
+unfolding held_entry
+held_kept disk map slots new slot w kept = ap (λ o. cond (nat_le w 1048575 && taken_in map.slots w) o None) (along_kept disk slots new kept 64 (Some slot) w)
 
 -- ---- the maps
 
@@ -244,30 +249,27 @@ module _ (old new : Space) (b v kind : ℕ) (own own_after family after : ℕ �
 
 -- ---- together
 
-module _ (old : Pool) (map : Volume) (slot kind : ℕ) (block : List ℕ) (new : Pool) (after : Volume) (placed : Placed) (places : PlacesBlock old map slot kind block new after placed)
-    (is : IsVolume map) (few : map.span ≤ 1048576) (c : Mapped) (there : container_at old.containers slot ≡ Some c) (inside : slot < length old.containers.containers) (within : placed.vvbn < length c.entries) where
+module _ (disk : Disk) (old : Pool) (map : Volume) (slot kind : ℕ) (block : List ℕ) (new : Pool) (after : Volume) (placed : Placed) (places : PlacesBlock disk old map slot kind block new after placed)
+    (is : IsVolume map) (few : map.span ≤ 1048576) where
   abbrev entry_of : Entry
   entry_of = record { pvbn = placed.pvbn; kind = kind }
 
-  put : new.containers ≡ with_container old.containers slot (Some (with_entry c placed.vvbn (Some entry_of)))
-  put = subst (λ (m : Option Mapped). IfSome m (λ container. new.containers ≡ with_container old.containers slot (Some (with_entry container placed.vvbn (Some entry_of))))) there places.entry
-
   entry_new : held_entry after new.containers slot placed.vvbn ≡ Some entry_of
   entry_new = held_some after new.containers slot placed.vvbn (omega (arith, few, places.takes.number.within)) (own_taken map after placed.vvbn is places.takes.number)
-      ∙ chain_new old.containers new.containers slot placed.vvbn entry_of c there inside within put
+      ∙ chain_new disk old.containers new.containers slot placed.vvbn entry_of places.entry
 
   entry_other : (w : ℕ) → w ≢ placed.vvbn → held_entry after new.containers slot w ≡ held_entry map old.containers slot w
   entry_other w other = held_same map after old.containers new.containers slot w (others_taken map after placed.vvbn is places.takes.number w other)
-      (along_other old.containers new.containers slot placed.vvbn entry_of c there inside within put 64 (Some slot) w other)
+      (along_other disk old.containers new.containers slot placed.vvbn entry_of places.entry 64 (Some slot) w other)
 
-  space_is : new.map ≡ given_back (record old.map { next = slice_set old.map.next placed.pvbn true }) (own_entry (container_at old.containers slot) placed.vvbn)
-  space_is = places.space ∙ ap (λ (s : Space). given_back s (own_entry (container_at old.containers slot) placed.vvbn)) places.takes.taken
+  space_is : TellsEntries disk old.containers → new.map ≡ given_back (record old.map { next = slice_set old.map.next placed.pvbn true }) (own_entry (container_at old.containers slot) placed.vvbn)
+  space_is tells = places.space ∙ ap₂ given_back places.takes.taken (places.told tells)
 
   own_is : own_entry (container_at new.containers slot) placed.vvbn ≡ Some entry_of
-  own_is = own_new old.containers new.containers slot placed.vvbn entry_of c there inside within put
+  own_is = places.entry.here
 
   own_others : (w : ℕ) → w ≢ placed.vvbn → own_entry (container_at new.containers slot) w ≡ own_entry (container_at old.containers slot) w
-  own_others w other = own_other old.containers new.containers slot placed.vvbn entry_of c there inside within put slot w other
+  own_others = places.entry.rest
 
   abbrev owned : ℕ → Option Entry
   owned = own_entry (container_at old.containers slot)
@@ -287,32 +289,23 @@ module _ (old : Pool) (map : Volume) (slot kind : ℕ) (block : List ℕ) (new :
   holds : AreApart old map slot → IsFamily old.map owned held
   holds apart = record { back = λ v. as_if (held v) (apart.held v); apart = λ v w other. as_ifs (owned v) (held w) (apart.held_apart v w other) }
 
-  stays_apart : AreApart old map slot → AreApart new after slot
-  stays_apart apart =
+  stays_apart : TellsEntries disk old.containers → AreApart old map slot → AreApart new after slot
+  stays_apart tells apart =
       let own_back : (v : ℕ) → IfSome (owned v) (IsKeptBack old.map) = λ v. as_if (owned v) (apart.own v) in
       record {
-        own = λ v. as_for (IsKeptBack new.map) (owned_after v) (kept_back old.map new.map placed.pvbn placed.vvbn kind owned owned_after owned owned_after places.takes.free.free places.takes.within space_is own_back own_is own_others own_is own_others (owns apart) v);
-        held = λ v. as_for (IsKeptBack new.map) (held_after v) (kept_back old.map new.map placed.pvbn placed.vvbn kind owned owned_after held held_after places.takes.free.free places.takes.within space_is own_back own_is own_others entry_new entry_other (holds apart) v);
-        own_apart = λ v w other. as_fors OtherPlace (owned_after v) (owned_after w) (still_apart old.map new.map placed.pvbn placed.vvbn kind owned owned_after owned owned_after places.takes.free.free places.takes.within space_is own_back own_is own_others own_is own_others (owns apart) v w other);
-        held_apart = λ v w other. as_fors OtherPlace (owned_after v) (held_after w) (still_apart old.map new.map placed.pvbn placed.vvbn kind owned owned_after held held_after places.takes.free.free places.takes.within space_is own_back own_is own_others entry_new entry_other (holds apart) v w other);
+        own = λ v. as_for (IsKeptBack new.map) (owned_after v) (kept_back old.map new.map placed.pvbn placed.vvbn kind owned owned_after owned owned_after places.takes.free.free places.takes.within (space_is tells) own_back own_is own_others own_is own_others (owns apart) v);
+        held = λ v. as_for (IsKeptBack new.map) (held_after v) (kept_back old.map new.map placed.pvbn placed.vvbn kind owned owned_after held held_after places.takes.free.free places.takes.within (space_is tells) own_back own_is own_others entry_new entry_other (holds apart) v);
+        own_apart = λ v w other. as_fors OtherPlace (owned_after v) (owned_after w) (still_apart old.map new.map placed.pvbn placed.vvbn kind owned owned_after owned owned_after places.takes.free.free places.takes.within (space_is tells) own_back own_is own_others own_is own_others (owns apart) v w other);
+        held_apart = λ v w other. as_fors OtherPlace (owned_after v) (held_after w) (still_apart old.map new.map placed.pvbn placed.vvbn kind owned owned_after held held_after places.takes.free.free places.takes.within (space_is tells) own_back own_is own_others entry_new entry_other (holds apart) v w other);
       }
 
-  holds_more : HoldsMore old map slot kind block new after placed
-  holds_more = record {
+  pub holds_placed : HoldsMore disk old map slot kind block new after placed
+  holds_placed = record {
     fresh = held_none map old.containers slot placed.vvbn places.takes.number.free;
     entry = entry_new;
     others = entry_other;
     content = λ i. ap (block_of new.kept i) entry_new ∙ ap Some (ap (λ k. seen k i placed.pvbn) places.kept ∙ seen_new old.kept placed.pvbn block i);
     contents = λ apart i w other. ap (block_of new.kept i) (entry_other w other) ∙ (ap (λ k. block_of k i (held_entry map old.containers slot w)) places.kept
         ∙ block_other old.kept placed.pvbn block i old.map (held_entry map old.containers slot w) places.takes.free.free (as_if (held w) (apart.held w)));
-    apart = λ apart. stays_apart apart;
+    apart = stays_apart;
   }
-
-module _ (old : Pool) (map : Volume) (slot kind : ℕ) (block : List ℕ) (new : Pool) (after : Volume) (placed : Placed) (places : PlacesBlock old map slot kind block new after placed) where
-  with_some : (container : Option Mapped) → container_at old.containers slot ≡ container → map.span ≤ length (entries_in container) → IsVolume map → map.span ≤ 1048576 → slot < length old.containers.containers
-      → HoldsMore old map slot kind block new after placed
-  with_some None there room is few inside = absurd (omega (arith, room, places.takes.number.within))
-  with_some (Some c) there room is few inside = holds_more old map slot kind block new after placed places is few c there inside (omega (arith, room, places.takes.number.within))
-
-  pub holds_placed : map.span ≤ length (entries_in (container_at old.containers slot)) → IsVolume map → map.span ≤ 1048576 → IsSlots old.containers → slot < 64 → HoldsMore old map slot kind block new after placed
-  holds_placed room is few slots inside = with_some (container_at old.containers slot) refl room is few (omega (arith, slots.containers, inside))

@@ -1,17 +1,18 @@
 -- The blocks of one volume over what a session lends.
-use Rattle.std.proofs.Common.{◌≡◌, ℕ, zero, suc, ◌+◌, Bool, true, false, ◌||◌, List, [], ◌∷◌, length, refl, sym, ap, ◌∙◌, arith, inl, inr}
-use Rattle.std.specs.Prelude.{set, slice_set, ◌≤◌, ◌≢◌, IfSome, unwrap_or, ◌&&◌, ◌==◌, not, cond, is_some, nat_le, take, slice_index_or, Option, Some, None}
+use Rattle.std.proofs.Common.{◌≡◌, ℕ, zero, suc, ◌+◌, Result, Ok, Err, Bool, true, false, ◌||◌, List, [], ◌∷◌, length, refl, sym, ap, ◌∙◌, arith, inl, inr}
+use Rattle.std.specs.Prelude.{set, slice_set, ◌≤◌, ◌≢◌, IfOk, IfSome, unwrap_or, ◌&&◌, ◌==◌, not, cond, is_some, nat_le, take, slice_index_or, Option, Some, None}
 use Rattle.std.specs.List.{list_any}
 use Rattle.std.proofs.lemmas.Bool.Decides.{nat_tests}
 use Rattle.std.proofs.lemmas.List.{set-set, set-get_or}
 use Rattle.fv_aggmap.specs.Space.{Space, IsFree}
 use Rattle.fv_bits.specs.Members.{is_member}
-use Rattle.fv_disk.specs.Shown.{Image}
-use Rattle.fv_disk.specs.declared.fault.BlockFault.TheVariants.{Damaged}
+use Rattle.fv_disk.specs.Shown.{Image, Shown as Disk}
+use Rattle.fv_disk.specs.declared.fault.BlockFault.{BlockFault}
+use Rattle.fv_disk.specs.declared.fault.BlockFault.TheVariants.{DiskFault, Damaged, Memory}
 use Rattle.fv_container.specs.declared.entry.Entry.{Entry}
 use Rattle.fv_container.specs.Chains.{Slots, chain_entry}
 use Rattle.fv_pool.specs.Keeping.{Blocks, seen}
-use Rattle.fv_pool.specs.BlocksOver.{block_of, held_entry, place_of, place_or, place_read, place_told, steps_by, IsLooseFault, IsRightPlace}
+use Rattle.fv_pool.specs.BlocksOver.{block_of, held_entry, place_of, place_or, place_read, place_told, steps_by, IsEntryFault, IsLooseFault, IsRightPlace, TellsEntries}
 use Rattle.fv_volmap.specs.Slots.{Volume, IsVolume, Slot, Allocates, stored_count, has, slot_at, active_of, map_or_empty, taken_in, with_slot}
 
 either_again : (a b c : Bool) → ((a || b) || c) ≡ (a || (b || c))
@@ -72,6 +73,11 @@ pub of_some : {A : Type 0} (o : Option A) (P : Type 0) → P → IfSome o (λ x.
 of_some None P is = tt
 of_some (Some x) P is = is
 
+-- so does what holds of what a look-up answers
+pub of_found : {A E : Type 0} (r : Result (Option A) E) (P : Type 0) → P → IfOk r (λ o. IfSome o (λ x. P))
+of_found (Ok o) P is = of_some o P is
+of_found (Err e) P is = tt
+
 pub of_place : (entry : Option Entry) (P : Type 0) → IfSome entry (λ e. P) → IfSome (place_of entry) (λ place. P)
 of_place None P is = tt
 of_place (Some e) P is = is
@@ -121,8 +127,14 @@ nowhere entry hint none = by (place_told hint) refl entry none
     by None at None none = refl
     by None at (Some e) none = let wrong : None ≡ Some e.pvbn = none ∙ ap (λ o. place_or o (Some e.pvbn)) at in absurd cc
 
-pub is_loose : (entry : Option Entry) (hint label at : ℕ) → at ≡ label → None ≡ place_read entry hint → IsLooseFault entry label (Damaged at 1 0)
-is_loose entry hint label at same none = record { none = nowhere entry hint none; at_is = same; want_is = refl; found_is = refl }
+pub is_loose : (disk : Disk) (slots : Slots) (entry : Option Entry) (hint label at : ℕ) → at ≡ label → (TellsEntries disk slots → None ≡ place_read entry hint) → IsLooseFault disk slots entry label (Damaged at 1 0)
+is_loose disk slots entry hint label at same none = inl (record { none = λ tells. nowhere entry hint (none tells); at_is = same; want_is = refl; found_is = refl })
+
+-- why an entry wasn't read is why its block wasn't
+pub entry_loose : (disk : Disk) (slots : Slots) (entry : Option Entry) (label : ℕ) (fault : BlockFault) → IsEntryFault disk slots fault → IsLooseFault disk slots entry label fault
+entry_loose disk slots entry label DiskFault bad = tt
+entry_loose disk slots entry label (Damaged at want found) bad = inr bad
+entry_loose disk slots entry label Memory bad = absurd bad
 
 -- ---- numbers that are given back
 

@@ -1,9 +1,11 @@
 mod Writing
 mod Lent
+mod Setting
 pub mod Holding
 pub mod Shows
 mod PlaceShown
-mod Going
+mod Fields
+pub mod Going
 pub mod Failing
 pub mod CallCauses
 mod TableCauses

@@ -1,7 +1,11 @@
--- What loading a block, placing one and giving one up show to a tree, whether the disk is asked or not.
-use Rattle.std.proofs.Common.{rules, Result, ◌≤◌, ◌+◌, ◌≡◌, ◌≢◌, ℕ, false, true, List, Option, Some, Ok, Err, slice_set, refl, sym, ap, subst, ◌∙◌, ⊎_elim, arith}
+-- What loading a block, placing one and giving one up show to a tree.
+use Rattle.std.proofs.Common.{rules, Result, ◌≤◌, ◌+◌, ◌≡◌, ◌≢◌, ℕ, false, true, cond, List, Option, Some, None, Ok, Err, slice_set, refl, sym, ap, subst, ◌∙◌, ⊎_elim, arith}
+use Rattle.std.specs.Prelude.{IsTrue}
+use Rattle.std.specs.Coded.{Coded-set, coded_list, coded_option, coded_ℕ}
+use Rattle.std.proofs.Math.Logic.{∥∥₁_elim, ∥∥₁_map}
 use Rattle.fv_disk.specs.Shown.{Rose, Shown as Disk}
 use Rattle.fv_disk.specs.DiskCalls.{OnlyReads}
+use Rattle.fv_disk.specs.Faults.{HasBlockCause}
 use Rattle.fv_disk.specs.declared.fault.BlockFault.{BlockFault}
 use Rattle.fv_disk.specs.declared.fault.BlockFault.TheVariants.{DiskFault, Damaged, Memory}
 use Rattle.fv_bits.specs.Members.{is_member}
@@ -10,19 +14,31 @@ use Rattle.fv_image.specs.Layout.{root_place}
 use Rattle.fv_codec.specs.Blocks.{last_place}
 use Rattle.fv_codec.specs.declared.pointer.Pointer.{Pointer}
 use Rattle.fv_container.specs.declared.entry.Entry.{Entry}
-use Rattle.fv_container.specs.Chains.{Slots}
+use Rattle.fv_container.specs.Chains.{AreCleanOn, Slots}
+use Rattle.fv_container.proofs.Damage.{none_damaged}
 use Rattle.fv_volmap.specs.Slots.{IsVolume, Volume, active_of, with_slot}
 use Rattle.fv_tree.specs.declared.blocks.Placed.{Placed}
 use Rattle.fv_tree.specs.Sources.{Counts, Drops, HasCause, IsDamaged, IsUntouched, Loads, Places, Shown}
 use Rattle.fv_pool.specs.declared.blocks.Home.{Home}
 use Rattle.fv_pool.specs.declared.noted.Noted.{Noted}
 use Rattle.fv_pool.specs.declared.pool.Pool.{Pool}
-use Rattle.fv_pool.specs.BlocksOver.{AreApart, HoldsMore, IsLooseFault, LacksPlace, LeavesPool, PlacesBlock, block_of, free_numbers, held_block, held_entry, place_read, steps_by, IsRightPlace}
-use Rattle.fv_pool.specs.Lending.{Notes, lent_by, place_or_none, shown_over}
+use Rattle.fv_pool.specs.BlocksOver.{AreApart, HoldsMore, IsLooseFault, LacksPlace, LeavesPool, LoadsPool, PlacesBlock, TellsEntries, block_of, free_numbers, held_block, held_entry, place_read, steps_by, IsRightPlace}
+use Rattle.fv_pool.specs.Lending.{Notes, blocks_held, lent_by, place_or_none, shown_over, use_of}
 use Rattle.fv_pool.specs.Putting.{trusting}
 use Rattle.fv_pool.proofs.Failing.{still_shown}
-use Rattle.fv_pool.proofs.Going.{place_lacks}
-use Rattle.fv_pool.proofs.Shows.{get_held, held_gone, held_more, loose_none, not_active, unused_member, use_gone, use_none, use_placed, used_member}
+use Rattle.fv_pool.proofs.Going.{room_lacks}
+use Rattle.fv_pool.proofs.Holding.{held_kept}
+use Rattle.fv_pool.proofs.Shows.{get_held, held_gone, held_more, held_same_map, loose_none, not_active, unused_member, use_gone, use_none, use_placed, used_member}
+
+block_prop : {a b : Option (List ℕ)} → IsProp (a ≡ b)
+block_prop = Coded-set (coded_option (coded_list coded_ℕ)) _ _
+
+number_prop : {a b : ℕ} → IsProp (a ≡ b)
+number_prop = Coded-set coded_ℕ _ _
+
+-- entries are told where the containers are clean on the disk
+pub entries_told : (disk : Disk) (slots : Slots) → IsTrue disk.tells → ∥ AreCleanOn disk.reads slots ∥₁ → ∥ TellsEntries disk slots ∥₁
+entries_told disk slots tells clean = ∥∥₁_map clean (λ was. (tells, was))
 
 module _ (map : Volume) (pool after : Pool) (disk later : Disk) (steps made : ℕ) (home : Home) (room strays : ℕ) (noted last : Noted) (told : Type 0) (pointer : Pointer) (block : List ℕ) (leaves : LeavesPool pool after) (reads : OnlyReads disk later) where
   abbrev unloaded : Shown
@@ -34,77 +50,102 @@ module _ (map : Volume) (pool after : Pool) (disk later : Disk) (steps made : �
   abbrev entry : Option Entry
   entry = held_entry map pool.containers home.slot pointer.vvbn
 
-  pub loaded_shown : (pvbn : ℕ) → (told → IsRightPlace entry pointer.pvbn → held_block map pool home.slot disk.reads pointer.vvbn ≡ Some block) → place_read entry pointer.pvbn ≡ Some pvbn → pvbn ≤ last_place → made ≡ steps + steps_by pointer.pvbn
+  pub loaded_shown : (told → ∥ TellsEntries disk pool.containers ∥₁) → (pvbn : ℕ) → (TellsEntries disk pool.containers → IsRightPlace entry pointer.pvbn → held_block map pool home.slot disk.reads pointer.vvbn ≡ Some block)
+      → (TellsEntries disk pool.containers → place_read entry pointer.pvbn ≡ Some pvbn) → pvbn ≤ last_place → made ≡ steps + steps_by pointer.pvbn
       → Counts {T = ℕ} {E = BlockFault} unloaded loaded (Ok pvbn) → Loads told unloaded pointer loaded block (Ok pvbn)
-  loaded_shown pvbn gives place range spent counts = record {
+  loaded_shown tells pvbn gives place range spent counts = record {
     untouched = still_shown map pool after disk later steps made home room strays noted last leaves reads;
-    gives = λ told right. get_held map pool home.slot disk.reads pointer.vvbn ∙ gives told right;
-    answers = sym (ap place_or_none place) ∙ ap (λ (s : Slots). place_or_none (place_read (held_entry map s home.slot pointer.vvbn) pointer.pvbn)) (sym leaves.containers);
+    gives = λ is right. ∥∥₁_elim (tells is) block_prop (λ entries. get_held map pool home.slot disk.reads pointer.vvbn ∙ gives entries right);
+    answers = λ is. ∥∥₁_elim (tells is) number_prop (λ entries.
+        sym (ap place_or_none (place entries)) ∙ ap (λ (s : Slots). place_or_none (place_read (held_entry map s home.slot pointer.vvbn) pointer.pvbn)) (sym leaves.containers));
     range = range;
     spent = spent;
     counts = counts;
     cause = tt;
-    loose = tt;
+    loose = λ _. tt;
   }
 
-  pub failed_shown : (e fault : BlockFault) → e ≡ fault → IsLooseFault entry home.label fault → Counts {T = ℕ} unloaded loaded (Err e) → HasCause unloaded loaded e → Loads told unloaded pointer loaded block (Err e)
-  failed_shown e fault same loose counts cause = record {
+  pub failed_shown : (told → ∥ TellsEntries disk pool.containers ∥₁) → (e fault : BlockFault) → e ≡ fault → IsLooseFault disk pool.containers entry home.label fault → Counts {T = ℕ} unloaded loaded (Err e) → HasCause unloaded loaded e
+      → Loads told unloaded pointer loaded block (Err e)
+  failed_shown tells e fault same loose counts cause = record {
     untouched = still_shown map pool after disk later steps made home room strays noted last leaves reads;
     gives = λ _ _. tt;
-    answers = tt;
+    answers = λ _. tt;
     range = tt;
     spent = tt;
     counts = counts;
     cause = cause;
-    loose = λ damaged. get_held map pool home.slot disk.reads pointer.vvbn ∙ ap (block_of pool.kept disk.reads) (loose_none entry home.label fault loose (subst IsDamaged same damaged));
+    loose = λ is damaged. ∥∥₁_elim (tells is) block_prop (λ entries.
+        get_held map pool home.slot disk.reads pointer.vvbn
+        ∙ ap (block_of pool.kept disk.reads) (loose_none disk pool.containers entry home.label fault entries loose (subst IsDamaged same damaged)));
   }
 
-module _ (pool new : Pool) (map after : Volume) (disk : Disk) (steps : ℕ) (home : Home) (room less strays : ℕ) (noted : Noted) (told : Type 0) (apart : told → AreApart pool map home.slot)
-    (kind : ℕ) (block : List ℕ) (placed : Placed) (valid : IsVolume map) (places : PlacesBlock pool map home.slot kind block new after placed) (holds : HoldsMore pool map home.slot kind block new after placed)
-    (within : placed.vvbn ≤ last_place) (fewer : room ≤ less + 1) where
-  pub placed_shown : Places told (shown_over (lent_by pool map disk steps home room strays noted)) kind block (shown_over (lent_by new after disk steps home less strays noted)) (Ok placed)
+module _ (pool new : Pool) (map after : Volume) (disk later : Disk) (steps : ℕ) (home : Home) (room less strays : ℕ) (noted : Noted) (told : Type 0) (apart : told → AreApart pool map home.slot)
+    (kind : ℕ) (block : List ℕ) (placed : Placed) (valid : IsVolume map) (places : PlacesBlock disk pool map home.slot kind block new after placed) (holds : HoldsMore disk pool map home.slot kind block new after placed)
+    (within : placed.vvbn ≤ last_place) (fewer : room ≤ less + 1) (reads : OnlyReads disk later) (calm : later.faults ≡ disk.faults) where
+  pub placed_shown : Places told (shown_over (lent_by pool map disk steps home room strays noted)) kind block (shown_over (lent_by new after later steps home less strays noted)) (Ok placed)
   placed_shown = record {
     fresh = get_held map pool home.slot disk.reads placed.vvbn ∙ ap (block_of pool.kept disk.reads) holds.fresh;
     unused = use_none map pool.containers home.slot placed.vvbn (not_active map placed.vvbn valid places.takes.number.free);
-    held = λ is. held_more map after pool new home.slot disk.reads placed.vvbn block (holds.content disk.reads) (λ w other. holds.contents (apart is) disk.reads w other);
+    held = λ is. ap (blocks_held after new home.slot) reads.stays.reads
+        ∙ held_more map after pool new home.slot disk.reads placed.vvbn block (holds.content disk.reads) (λ w other. holds.contents (apart is) disk.reads w other);
     used = use_placed map after placed.vvbn valid places.takes.number pool.containers new.containers home.slot (record { pvbn = placed.pvbn; kind = kind }) holds.entry holds.others;
     vvbn = within;
     pvbn = places.takes.greatest;
     strays = refl;
     room = fewer;
-    enough = λ _. tt;
+    enough = λ _ _. tt;
     spent = refl;
     failed = tt;
-    counts = record { faults = omega arith; damages = omega arith; spent = omega arith; calm = record { faults = refl; damages = refl; spent = omega arith } };
+    counts = record { faults = omega (arith, calm); damages = omega arith; spent = omega arith; calm = record { faults = calm; damages = refl; spent = omega arith } };
     cause = tt;
   }
 
 -- a placement that failed, and left what is shown but the counts
-unplaced : (told : Type 0) (old new : Shown) (kind : ℕ) (block : List ℕ) (e : BlockFault) → IsUntouched old new → new.spent ≡ old.spent → (old.room ≢ 0 → IsDamaged e → ⊥) → Counts {T = Placed} old new (Err e)
+unplaced : (told : Type 0) (old new : Shown) (kind : ℕ) (block : List ℕ) (e : BlockFault) → IsUntouched old new → new.spent ≡ old.spent → (told → old.room ≢ 0 → IsDamaged e → ⊥) → Counts {T = Placed} old new (Err e)
     → HasCause old new e → Places told old kind block new (Err e)
 unplaced told old new kind block e untouched spent enough counts cause = record { fresh = tt; unused = tt; held = λ _. tt; used = tt; vvbn = tt; pvbn = tt; strays = untouched.strays; room = tt; enough = enough; spent = spent; failed = untouched; counts = counts; cause = cause }
 
-module _ (pool : Pool) (map : Volume) (disk : Disk) (steps : ℕ) (home : Home) (room strays : ℕ) (noted after : Noted) (told : Type 0) (kind : ℕ) (block : List ℕ) where
-  abbrev shown_with : Noted → Shown
-  shown_with n = shown_over (lent_by pool map disk steps home room strays n)
+module _ (pool new : Pool) (map : Volume) (disk later : Disk) (steps : ℕ) (home : Home) (room strays : ℕ) (noted after : Noted) (told : Type 0) (kind : ℕ) (block : List ℕ) (loads : LoadsPool disk pool new) (reads : OnlyReads disk later) where
+  abbrev before : Shown
+  before = shown_over (lent_by pool map disk steps home room strays noted)
 
-  still : (n : Noted) → IsUntouched (shown_with noted) (shown_with n)
-  still n = record { held = refl; used = refl; strays = refl; room = refl; cost = refl; right = λ v pvbn is. is }
+  abbrev behind : Noted → Shown
+  behind n = shown_over (lent_by new map later steps home room strays n)
 
-  pub unplaced_shown : (fault : BlockFault) → LacksPlace pool.map map (root_place pool.found.slot) home.label fault → Notes noted fault after → room ≤ free_numbers map → room ≤ free_blocks pool.map
-      → Places told (shown_over (lent_by pool map disk steps home room strays noted)) kind block (shown_over (lent_by pool map disk steps home room strays after)) (Err fault)
-  unplaced_shown DiskFault lacks notes numbers blocks = absurd lacks
-  unplaced_shown (Damaged at want found) lacks notes numbers blocks =
-      let cause : HasCause (shown_with noted) (shown_with after) (Damaged at want found) = search rules in
-      unplaced told (shown_with noted) (shown_with after) kind block (Damaged at want found) (still after) refl
-      (λ some damaged. some (⊎_elim (λ none. omega (arith, none, numbers)) (λ none. omega (arith, none, blocks))
-      (place_lacks pool.map map (root_place pool.found.slot) home.label (Damaged at want found) lacks damaged)))
-      (record { faults = omega arith; damages = notes.1; spent = omega arith; calm = tt })
-      cause
-  unplaced_shown Memory lacks notes numbers blocks = subst (λ (n : Noted). Places told (shown_with noted) kind block (shown_with n) (Err Memory)) (sym notes)
-      (unplaced told (shown_with noted) (shown_with noted) kind block Memory (still noted) refl (λ _ damaged. absurd damaged)
-      (record { faults = omega arith; damages = omega arith; spent = omega arith; calm = tt })
-      (record { faults = refl; damages = refl; spent = omega arith }))
+  same_entries : (w : ℕ) → held_entry map new.containers home.slot w ≡ held_entry map pool.containers home.slot w
+  same_entries w = held_kept disk map pool.containers new.containers home.slot w loads.containers
+
+  still : (n : Noted) → IsUntouched before (behind n)
+  still n = record {
+    held = ap (blocks_held map new home.slot) reads.stays.reads ∙ held_same_map map map pool new home.slot disk.reads
+        (λ w. ap (block_of new.kept disk.reads) (same_entries w) ∙ ap (λ k. block_of k disk.reads (held_entry map pool.containers home.slot w)) loads.kept);
+    used = λ j. λ v. cond (is_member (active_of map) v) (Some (use_of (same_entries v j))) None;
+    strays = refl;
+    room = refl;
+    cost = refl;
+    right = λ v pvbn is. subst (λ o. IsRightPlace o pvbn) (sym (same_entries v)) is;
+  }
+
+  pub unplaced_shown : (told → ∥ TellsEntries disk pool.containers ∥₁) → (fault : BlockFault) → LacksPlace disk pool.containers pool.map map (root_place pool.found.slot) home.label fault → Notes noted fault after → room ≤ free_numbers map → room ≤ free_blocks pool.map
+      → HasBlockCause {T = Placed} disk.faults later.faults (Err fault) → Places told before kind block (behind after) (Err fault)
+  unplaced_shown tells DiskFault lacks notes numbers blocks cause = subst (λ (n : Noted). Places told before kind block (behind n) (Err DiskFault)) (sym notes)
+      (unplaced told before (behind noted) kind block DiskFault (still noted) refl (λ _ _ damaged. absurd damaged)
+      (record { faults = reads.faults; damages = omega arith; spent = omega arith; calm = tt })
+      (cause, refl))
+  unplaced_shown tells (Damaged at want found) lacks notes numbers blocks cause =
+      let why : HasCause before (behind after) (Damaged at want found) = search rules in
+      unplaced told before (behind after) kind block (Damaged at want found) (still after) refl
+      (λ is some damaged. ⊎_elim
+      (λ room_is. some (⊎_elim (λ none. omega (arith, none, numbers)) (λ none. omega (arith, none, blocks)) (room_lacks pool.map map (root_place pool.found.slot) home.label at want found room_is)))
+      (λ leaf. ∥∥₁_elim (tells is) (λ x y. absurd x) (λ entries. none_damaged disk.reads pool.containers at want found entries.1 (leaf entries.0)))
+      lacks)
+      (record { faults = reads.faults; damages = notes.1; spent = omega arith; calm = tt })
+      why
+  unplaced_shown tells Memory lacks notes numbers blocks cause = subst (λ (n : Noted). Places told before kind block (behind n) (Err Memory)) (sym notes)
+      (unplaced told before (behind noted) kind block Memory (still noted) refl (λ _ _ damaged. absurd damaged)
+      (record { faults = reads.faults; damages = omega arith; spent = omega arith; calm = tt })
+      (record { faults = cause; damages = refl; spent = omega arith }))
 
 module _ (pool : Pool) (map after : Volume) (disk : Disk) (steps : ℕ) (home : Home) (room strays more : ℕ) (noted : Noted) (v : ℕ) (valid : IsVolume map)
     (released : after ≡ with_slot map 0 (Some (slice_set (active_of map) v false))) (named : is_member (active_of map) v ≡ true → more ≡ strays) (stray : is_member (active_of map) v ≡ false → Rose strays more) where

@@ -5,15 +5,15 @@ use Rattle.fv_tables.specs.Spelled.{pointer_at}
 use Rattle.fv_tree.specs.Flushing.{Loaded}
 use Rattle.fv_files.specs.Apart.{Trees}
 use Rattle.fv_files.specs.Altering.{PlacesIn, PlacesTrees}
-use Rattle.fv_pool.specs.BlocksOver.{held_block, AreApart}
+use Rattle.fv_pool.specs.BlocksOver.{held_block, AreApart, TellsEntries}
 use Rattle.fv_pool.specs.Lending.{blocks_held, GoesOver, Lent}
 use Rattle.fv_pool.specs.Placing.{IsInNoSnap}
 use Rattle.fv_pool.proofs.Shows.{get_held}
 
 -- Where at some moment no block was held under a VVBN, no other slot had one under it.
-pub was_unkept : (old moment : Lent) → GoesOver old moment → AreApart old.pool old.map old.home.slot → (v : ℕ) → fin.get (blocks_held moment.map moment.pool moment.home.slot moment.disk.reads) v ≡ None → IsInNoSnap old.disk old.pool old.map old.home.slot v
-was_unkept old moment goes apart v free k other here =
-    sym ((goes.keeps apart).blocks k v other here old.disk.reads)
+pub was_unkept : (old moment : Lent) → GoesOver old moment → TellsEntries old.disk old.pool.containers → AreApart old.pool old.map old.home.slot → (v : ℕ) → fin.get (blocks_held moment.map moment.pool moment.home.slot moment.disk.reads) v ≡ None → IsInNoSnap old.disk old.pool old.map old.home.slot v
+was_unkept old moment goes tells apart v free k other here =
+    sym ((goes.keeps tells apart).blocks k v other here old.disk.reads)
     ∙ (λ i. held_block moment.map moment.pool (sym goes.home i).slot (sym goes.only_reads.stays.reads i) v)
     ∙ sym (get_held moment.map moment.pool moment.home.slot moment.disk.reads v) ∙ free
 

@@ -9,7 +9,7 @@ use Rattle.std.proofs.lemmas.Bool.{cases_Bool, cases_eq, cases_lt}
 use Rattle.std.proofs.lemmas.Bool.Decides.{nat_tests}
 use Rattle.std.proofs.lemmas.List.{get_or_past}
 use Rattle.std.proofs.lemmas.List.Elements.{All-get_or}
-use Rattle.fv_disk.specs.Shown.{Image}
+use Rattle.fv_disk.specs.Shown.{Image, Shown as Disk}
 use Rattle.fv_disk.specs.declared.fault.BlockFault.{BlockFault}
 use Rattle.fv_disk.specs.declared.fault.BlockFault.TheVariants.{DiskFault, Damaged, Memory}
 use Rattle.fv_bits.specs.Members.{is_member}
@@ -18,10 +18,11 @@ use Rattle.fv_bits.proofs.Laws.{is_member_past}
 use Rattle.fv_image.proofs.Counts.{listed_within, none_between, within_two}
 use Rattle.fv_container.specs.declared.entry.Entry.{Entry}
 use Rattle.fv_container.specs.Chains.{Slots, chain_entry}
+use Rattle.fv_container.proofs.Damage.{none_damaged}
 use Rattle.fv_tree.specs.Sources.{IsDamaged}
 use Rattle.fv_volmap.specs.Slots.{Allocates, IsVolume, Slot, Volume, active_of, has, map_or_empty, slot_at, taken_in, with_slot}
 use Rattle.fv_pool.specs.declared.pool.Pool.{Pool}
-use Rattle.fv_pool.specs.BlocksOver.{AreApart, IsLooseFault, block_of, free_numbers, held_block, held_entry}
+use Rattle.fv_pool.specs.BlocksOver.{AreApart, IsLooseFault, TellsEntries, block_of, free_numbers, held_block, held_entry}
 use Rattle.fv_pool.specs.Lending.{below, blocks_held, use_of, use_under, with_block}
 use Rattle.fv_pool.proofs.Holding.{held_none, others_taken}
 
@@ -151,11 +152,12 @@ unused_member map slots slot v none = from (is_member (active_of map) v) none
     from true none = let wrong : true ≡ false = ap is_some none in wrong
     from false none = refl
 
--- damage of a load comes where there is no entry
-pub loose_none : (entry : Option Entry) (label : ℕ) (e : BlockFault) → IsLooseFault entry label e → IsDamaged e → entry ≡ None
-loose_none entry label DiskFault loose damaged = absurd damaged
-loose_none entry label (Damaged at want found) loose damaged = loose.none
-loose_none entry label Memory loose damaged = absurd damaged
+-- damage of a load comes where there is no entry, as far as entries are told
+pub loose_none : (disk : Disk) (slots : Slots) (entry : Option Entry) (label : ℕ) (e : BlockFault) → TellsEntries disk slots → IsLooseFault disk slots entry label e → IsDamaged e → entry ≡ None
+loose_none disk slots entry label DiskFault tells loose damaged = absurd damaged
+loose_none disk slots entry label (Damaged at want found) tells (inl hole) damaged = hole.none tells
+loose_none disk slots entry label (Damaged at want found) tells (inr leaf) damaged = absurd (none_damaged disk.reads slots at want found tells.1 (leaf tells.0))
+loose_none disk slots entry label Memory tells loose damaged = absurd damaged
 
 use_same : (map after : Volume) (slots new : Slots) (slot v : ℕ) → is_member (active_of after) v ≡ is_member (active_of map) v → held_entry after new slot v ≡ held_entry map slots slot v
     → use_under after new slot v ≡ use_under map slots slot v

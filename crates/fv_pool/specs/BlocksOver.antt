@@ -1,17 +1,20 @@
 -- The blocks of one volume over what a session lends: which VVBNs are held and where their blocks lie, and what reading a block does.
-use Rattle.std.specs.Prelude.{◌≡◌, ◌≤◌, ◌<◌, ◌⊎◌, ◌≢◌, ℕ, true, false, cond, nat_le, ◌&&◌, not, ◌==◌, ◌+◌, List, [], length, count_by, slice_set, Option, Some, None, IfSome}
+use Rattle.std.specs.Prelude.{◌≡◌, ◌≤◌, ◌<◌, ◌⊎◌, ◌≢◌, ◌/◌, ℕ, true, false, cond, nat_le, ◌&&◌, not, ◌==◌, ◌+◌, List, [], length, count_by, slice_set, Option, Some, None, is_some, IfSome, IsTrue}
 use Rattle.std.specs.Option.{ForSome, option_map}
 use Rattle.std.specs.List.{range_with_len}
 use Rattle.std.specs.FinMap as fin
-use Rattle.fv_disk.specs.Shown.{Image}
+use Rattle.fv_disk.specs.Shown.{Image, Shown as Disk}
 use Rattle.fv_disk.specs.declared.fault.BlockFault.{BlockFault}
 use Rattle.fv_disk.specs.declared.fault.BlockFault.TheVariants.{DiskFault, Damaged, Memory}
 use Rattle.fv_codec.specs.Blocks.{last_place}
 use Rattle.fv_aggmap.specs.Space.{Space, IsFree, IsFull, free_blocks}
 use Rattle.fv_bits.specs.Members.{is_member}
 use Rattle.fv_container.specs.declared.entry.Entry.{Entry}
-use Rattle.fv_container.specs.Chains.{Slots, chain_entry, container_at, own_entry, with_container}
-use Rattle.fv_container.specs.Mapped.{Mapped, with_entry}
+pub use Rattle.fv_container.specs.Chains.{KeepsMaps, TellsEntries}
+use Rattle.fv_container.specs.Chains.{AreCleanOn, IsLeafDamage, Slots, chain_entry, container_at, own_entry, paged_at, with_container}
+use Rattle.fv_container.specs.Loading.{HasPut}
+use Rattle.fv_container.specs.Mapped.{Mapped}
+use Rattle.fv_container.specs.Paged.{Paged, is_here}
 use Rattle.fv_tree.specs.declared.blocks.Placed.{Placed}
 use Rattle.fv_volmap.specs.Slots.{Allocates, Volume, taken_in}
 use Rattle.fv_pool.specs.declared.pool.Pool.{Pool}
@@ -51,17 +54,35 @@ IsRightPlace entry hint = (hint ≡ 0) ⊎ (place_of entry ≡ Some hint)
 abbrev pub steps_by : ℕ → ℕ
 steps_by hint = cond (hint == 0) 1 0
 
--- a pointer leads to a VVBN that isn't held; the place of the volume's label is told, with 1 for the one block that has to stand there
-pub record IsLoose (entry : Option Entry) (label at want found : ℕ) : Type 0 where
-  pub none : entry ≡ None
+-- a pointer leads to a VVBN that isn't held, as far as entries are told; the place of the volume's label is told, with 1 for the one block that
+-- has to stand there
+pub record IsLoose (told : Type 0) (entry : Option Entry) (label at want found : ℕ) : Type 0 where
+  pub none : told → entry ≡ None
   pub at_is : at ≡ label
   pub want_is : want ≡ 1
   pub found_is : found ≡ 0
 
-abbrev pub IsLooseFault : Option Entry → ℕ → BlockFault → Type 0
-IsLooseFault entry label (Damaged at want found) = IsLoose entry label at want found
-IsLooseFault entry label DiskFault = Unit {0}
-IsLooseFault entry label Memory = ⊥
+-- a leaf of a container doesn't stand where it has to, where the disk tells what it reads
+abbrev pub LacksLeaf : Disk → Slots → ℕ → ℕ → ℕ → Type 0
+LacksLeaf disk slots at want found = IsTrue disk.tells → IsLeafDamage disk.reads slots at want found
+
+-- why the entry of a VVBN isn't read
+abbrev pub IsEntryFault : Disk → Slots → BlockFault → Type 0
+IsEntryFault disk slots (Damaged at want found) = LacksLeaf disk slots at want found
+IsEntryFault disk slots DiskFault = Unit {0}
+IsEntryFault disk slots Memory = ⊥
+
+-- why a leaf isn't held in memory
+abbrev pub IsHoldFault : Disk → Slots → BlockFault → Type 0
+IsHoldFault disk slots (Damaged at want found) = LacksLeaf disk slots at want found
+IsHoldFault disk slots DiskFault = Unit {0}
+IsHoldFault disk slots Memory = Unit {0}
+
+-- why the block of a pointer isn't read
+abbrev pub IsLooseFault : Disk → Slots → Option Entry → ℕ → BlockFault → Type 0
+IsLooseFault disk slots entry label (Damaged at want found) = IsLoose (TellsEntries disk slots) entry label at want found ⊎ LacksLeaf disk slots at want found
+IsLooseFault disk slots entry label DiskFault = Unit {0}
+IsLooseFault disk slots entry label Memory = ⊥
 
 -- Nothing of a pool changed but its cache.
 pub record LeavesPool (old new : Pool) : Type 0 where
@@ -86,9 +107,42 @@ pub record Takes (space : Space) (map : Volume) (placed : Placed) (space_after :
   pub greatest : placed.pvbn ≤ last_place
   pub within : placed.pvbn < length space.next
 
--- an entry is set in the container of a slot, which has one
-abbrev pub SetsEntry : Slots → ℕ → ℕ → Entry → Slots → Type 0
-SetsEntry old slot v entry new = IfSome (container_at old slot) (λ container. new ≡ with_container old slot (Some (with_entry container v (Some entry))))
+-- the places of the nodes of a container's tree on the disk
+abbrev pub tree_in : Option Mapped → List ℕ
+tree_in None = []
+tree_in (Some container) = container.tree
+
+-- a container has as many entries as before, and the same tree on the disk
+pub record HasShapeOf (old new : Option Mapped) : Type 0 where
+  pub there : is_some new ≡ is_some old
+  pub count : length (entries_in new) ≡ length (entries_in old)
+  pub tree : tree_in new ≡ tree_in old
+
+-- An entry is set in the container of a slot, which has one. Its leaf came into memory, and all else stays; what was clean is clean.
+pub record SetsEntry (disk : Disk) (old : Slots) (slot v : ℕ) (entry : Entry) (new : Slots) : Type 0 where
+  pub here : own_entry (container_at new slot) v ≡ Some entry
+  pub rest : (w : ℕ) → w ≢ v → own_entry (container_at new slot) w ≡ own_entry (container_at old slot) w
+  pub others : (s : ℕ) → s ≢ slot → container_at new s ≡ container_at old s
+  pub parents : new.parents ≡ old.parents
+  pub shape : HasShapeOf (container_at old slot) (container_at new slot)
+  pub clean : TellsEntries disk old → AreCleanOn disk.reads new
+
+-- An entry is put into the container of a slot, whose leaf is in memory.
+pub record PutsIn (old : Slots) (slot v : ℕ) (entry : Entry) (was : Paged) (new : Slots) : Type 0 where
+  pub now : Paged
+  pub puts : HasPut v (Some entry) was now
+  pub set : new ≡ with_container old slot (Some now)
+
+abbrev pub PutsEntry : Slots → ℕ → ℕ → Entry → Slots → Type 0
+PutsEntry old slot v entry new = IfSome (paged_at old slot) (λ was. PutsIn old slot v entry was new)
+
+-- Nothing can fail behind this: the leaf of a number is in memory, and the block that is placed under it is kept.
+pub record IsPrepared (disk : Disk) (old : Pool) (slot : ℕ) (placed : Placed) (block : List ℕ) (new : Pool) : Type 0 where
+  pub map : new.map ≡ old.map
+  pub found : new.found ≡ old.found
+  pub kept : new.kept ≡ fin.insert old.kept placed.pvbn block
+  pub containers : KeepsMaps disk old.containers new.containers
+  pub here : IfSome (paged_at new.containers slot) (λ paged. is_here paged (placed.vvbn / 256) ≡ true)
 
 -- the next root won't hold the block of an entry
 abbrev pub given_back : Space → Option Entry → Space
@@ -96,23 +150,41 @@ given_back space None = space
 given_back space (Some entry) = record space { next = slice_set space.next entry.pvbn false }
 
 -- A block of a kind is kept under a PVBN that was free, and the entry of a VVBN that no slot had leads to it. Where that VVBN had an
--- entry still, the block of that is given back. All else stays.
-pub record PlacesBlock (old : Pool) (map : Volume) (slot kind : ℕ) (block : List ℕ) (new : Pool) (map_after : Volume) (placed : Placed) : Type 0 where
+-- entry still, the block of that is given back: the one that the leaf in memory has, which is the container's as far as entries are told. All
+-- else stays.
+pub record PlacesBlock (disk : Disk) (old : Pool) (map : Volume) (slot kind : ℕ) (block : List ℕ) (new : Pool) (map_after : Volume) (placed : Placed) : Type 0 where
   pub taken : Space
   pub takes : Takes old.map map placed taken map_after
-  pub space : new.map ≡ given_back taken (own_entry (container_at old.containers slot) placed.vvbn)
-  pub entry : SetsEntry old.containers slot placed.vvbn (record { pvbn = placed.pvbn; kind = kind }) new.containers
+  pub before : Option Entry
+  pub space : new.map ≡ given_back taken before
+  pub told : TellsEntries disk old.containers → before ≡ own_entry (container_at old.containers slot) placed.vvbn
+  pub entry : SetsEntry disk old.containers slot placed.vvbn (record { pvbn = placed.pvbn; kind = kind }) new.containers
   pub kept : new.kept ≡ fin.insert old.kept placed.pvbn block
-  pub store : new.store ≡ old.store
   pub found : new.found ≡ old.found
 
--- Why no block was placed: a slot has each number, told at the place of the volume's label; or no block is free, told at the place of
--- the root; or memory ran out. One was wanted and none found.
-abbrev pub LacksPlace : Space → Volume → ℕ → ℕ → BlockFault → Type 0
-LacksPlace space map root label (Damaged at want found) = (want ≡ 1) × (found ≡ 0) ×
+-- No block was placed: leaves may have come into memory, and nothing else of a pool changed but its cache.
+pub record LoadsPool (disk : Disk) (old new : Pool) : Type 0 where
+  pub map : new.map ≡ old.map
+  pub kept : new.kept ≡ old.kept
+  pub found : new.found ≡ old.found
+  pub containers : KeepsMaps disk old.containers new.containers
+
+-- Why no number and no block were taken: a slot has each number, told at the place of the volume's label; or no block is free, told at the
+-- place of the root. One was wanted and none found.
+abbrev pub LacksRoom : Space → Volume → ℕ → ℕ → ℕ → ℕ → ℕ → Type 0
+LacksRoom space map root label at want found = (want ≡ 1) × (found ≡ 0) ×
     (((at ≡ label) × ((v : ℕ) → v < map.span → taken_in map.slots v ≡ true)) ⊎ ((at ≡ root) × IsFull space))
-LacksPlace space map root label DiskFault = ⊥
-LacksPlace space map root label Memory = Unit {0}
+
+abbrev pub LacksNumbers : Space → Volume → ℕ → ℕ → BlockFault → Type 0
+LacksNumbers space map root label (Damaged at want found) = LacksRoom space map root label at want found
+LacksNumbers space map root label DiskFault = ⊥
+LacksNumbers space map root label Memory = ⊥
+
+-- Why no block was placed: these; or a leaf doesn't stand where it has to, or wasn't read; or memory ran out.
+abbrev pub LacksPlace : Disk → Slots → Space → Volume → ℕ → ℕ → BlockFault → Type 0
+LacksPlace disk slots space map root label (Damaged at want found) = LacksRoom space map root label at want found ⊎ LacksLeaf disk slots at want found
+LacksPlace disk slots space map root label DiskFault = Unit {0}
+LacksPlace disk slots space map root label Memory = Unit {0}
 
 -- how many numbers below the span no slot has
 unfoldable pub free_numbers : Volume → ℕ
@@ -149,11 +221,11 @@ pub record AreApart (pool : Pool) (map : Volume) (slot : ℕ) : Type 0 where
   pub held_apart : (v w : ℕ) → w ≢ v → ForSome (own_entry (container_at pool.containers slot) v) (λ e. ForSome (held_entry map pool.containers slot w) (OtherPlace e))
 
 -- A placed block's VVBN wasn't held before. It leads to the block, and each other VVBN to the block that it led to, where the
--- volume's entries lie apart.
-pub record HoldsMore (old : Pool) (map : Volume) (slot kind : ℕ) (block : List ℕ) (new : Pool) (map_after : Volume) (placed : Placed) : Type 0 where
+-- volume's entries lie apart. They do afterwards, where entries are told.
+pub record HoldsMore (disk : Disk) (old : Pool) (map : Volume) (slot kind : ℕ) (block : List ℕ) (new : Pool) (map_after : Volume) (placed : Placed) : Type 0 where
   pub fresh : held_entry map old.containers slot placed.vvbn ≡ None
   pub entry : held_entry map_after new.containers slot placed.vvbn ≡ Some (record { pvbn = placed.pvbn; kind = kind })
   pub others : (w : ℕ) → w ≢ placed.vvbn → held_entry map_after new.containers slot w ≡ held_entry map old.containers slot w
   pub content : (i : Image) → held_block map_after new slot i placed.vvbn ≡ Some block
   pub contents : AreApart old map slot → (i : Image) (w : ℕ) → w ≢ placed.vvbn → held_block map_after new slot i w ≡ held_block map old slot i w
-  pub apart : AreApart old map slot → AreApart new map_after slot
+  pub apart : TellsEntries disk old.containers → AreApart old map slot → AreApart new map_after slot

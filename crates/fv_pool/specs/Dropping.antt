@@ -3,7 +3,7 @@ use Rattle.std.specs.Prelude.{◌≡◌, ◌≢◌, ◌≤◌, ◌⊎◌, ℕ}
 use Rattle.fv_disk.specs.DiskCalls.{OnlyReads}
 use Rattle.fv_volmap.specs.Slots.{slot_at}
 use Rattle.fv_pool.specs.BlocksOver.{free_numbers}
-use Rattle.fv_pool.specs.Lending.{Lent, WasHole}
+use Rattle.fv_pool.specs.Lending.{Lent, WasHole, WasLeaf}
 
 -- Blocks were read and numbers given up. Of the pool nothing changed but the cache, and of the volume's maps only the active one, which has
 -- as many free numbers at least.
@@ -16,7 +16,7 @@ pub record DropsOver (old new : Lent) : Type 0 where
   pub room : new.room ≡ old.room
   pub steps : old.steps ≤ new.steps
   pub only_reads : OnlyReads old.disk new.disk
-  pub noted : (new.noted ≡ old.noted) ⊎ WasHole old.home.label new.noted
+  pub noted : (new.noted ≡ old.noted) ⊎ (WasHole old.home.label new.noted ⊎ WasLeaf old.disk old.pool.containers new.noted)
   pub span : new.map.span ≡ old.map.span
   pub snapshots : (s : ℕ) → s ≢ 0 → slot_at new.map s ≡ slot_at old.map s
   pub numbers : free_numbers old.map ≤ free_numbers new.map

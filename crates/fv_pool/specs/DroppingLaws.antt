@@ -22,7 +22,7 @@ pub drops_then : (old mid new : Lent) → DropsOver old mid → DropsOver mid ne
 drops_then old mid new first second =
     let steps : old.steps ≤ new.steps = omega (arith, first.steps, second.steps) in
     let only_reads = disk_then old.disk mid.disk new.disk first.only_reads second.only_reads in
-    let noted = hole_then old mid new first.home first.noted second.noted in
+    let noted = hole_then old mid new first.home first.containers first.only_reads first.noted second.noted in
     let snapshots : (s : ℕ) → s ≢ 0 → slot_at new.map s ≡ slot_at old.map s = (λ s other. second.snapshots s other ∙ first.snapshots s other) in
     let numbers : free_numbers old.map ≤ free_numbers new.map = omega (arith, first.numbers, second.numbers) in
     search (first, second, joined, steps, only_reads, noted, snapshots, numbers)

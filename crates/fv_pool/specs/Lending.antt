@@ -1,5 +1,5 @@
 -- One volume's blocks over what a session lends: what they show to a tree, and what the calls of a tree leave of all that was lent.
-use Rattle.std.specs.Prelude.{◌≡◌, ◌≢◌, ◌<◌, ◌≤◌, ◌+◌, ◌⊎◌, ◌==◌, ◌||◌, ℕ, zero, suc, true, false, cond, List, [], length, Option, Some, None, IfSome, is_some, IsTrue}
+use Rattle.std.specs.Prelude.{◌≡◌, ◌≢◌, ◌<◌, ◌≤◌, ◌+◌, ◌⊎◌, ◌==◌, ◌||◌, ℕ, zero, suc, true, false, cond, List, length, Option, Some, None, IsTrue}
 use Rattle.std.specs.Ordering.{nat_cmp}
 use Rattle.std.specs.FinMap as fin
 use Rattle.fv_disk.specs.Shown.{Rose, Image, Shown as Disk}
@@ -12,9 +12,7 @@ use Rattle.fv_image.specs.Layout.{root_place}
 use Rattle.fv_image.specs.Reclaimed.{IsAllocatable}
 use Rattle.fv_aggmap.specs.Space.{Space, blocks_of, free_blocks, is_held}
 use Rattle.fv_container.specs.declared.entry.Entry.{Entry}
-use Rattle.fv_container.specs.Clean.{IsCleanOn}
-use Rattle.fv_container.specs.Chains.{Slots, container_at, own_entry, slot_count}
-use Rattle.fv_container.specs.Mapped.{Mapped}
+use Rattle.fv_container.specs.Chains.{AreCleanOn, Slots, container_at, own_entry, slot_count}
 use Rattle.fv_store.specs.Held.{StandsOn}
 use Rattle.fv_tree.specs.Sources.{Shown, Use}
 use Rattle.fv_tree.specs.Spelled.{Rooted}
@@ -23,7 +21,8 @@ use Rattle.fv_volmap.specs.Slots.{Volume, active_of, has, slot_at}
 use Rattle.fv_pool.specs.declared.blocks.Home.{Home}
 use Rattle.fv_pool.specs.declared.noted.Noted.{Noted}
 use Rattle.fv_pool.specs.declared.pool.Pool.{Pool}
-use Rattle.fv_pool.specs.BlocksOver.{AreApart, entries_in, free_numbers, held_block, held_entry, place_read, steps_by, IsRightPlace}
+pub use Rattle.fv_pool.specs.BlocksOver.{HasShapeOf, TellsEntries, tree_in}
+use Rattle.fv_pool.specs.BlocksOver.{AreApart, LacksLeaf, entries_in, free_numbers, held_block, held_entry, place_read, steps_by, IsRightPlace}
 
 -- What a session lends for one volume: the pool, the volume's maps, the disk, and the counter of steps; with the volume that is
 -- meant, the room that was made for its blocks, the strays, and the damages that were answered.
@@ -91,7 +90,7 @@ shown_over l = record {
   faults = l.disk.faults;
   damages = l.noted.count;
   last = record { at = l.noted.at; want = l.noted.want; found = l.noted.found };
-  is_damage = λ d. LacksOne l.home.label (root_place l.pool.found.slot) d.at d.want d.found;
+  is_damage = λ d. ∥ (LacksOne l.home.label (root_place l.pool.found.slot) d.at d.want d.found ⊎ LacksLeaf l.disk l.pool.containers d.at d.want d.found) ∥₁;
 }
 
 -- ---- damages
@@ -115,10 +114,18 @@ WasHole label noted = IsHole label noted.at noted.want noted.found
 abbrev pub WasLack : ℕ → ℕ → Noted → Type 0
 WasLack label root noted = LacksOne label root noted.at noted.want noted.found
 
+-- or a leaf of a container that has to stand there
+abbrev pub WasLeaf : Disk → Slots → Noted → Type 0
+WasLeaf disk slots noted = LacksLeaf disk slots noted.at noted.want noted.found
+
+-- what the last damage is where any was answered
+abbrev pub WasDamage : Disk → Pool → Home → Noted → Type 0
+WasDamage disk pool home noted = WasLack home.label (root_place pool.found.slot) noted ⊎ WasLeaf disk pool.containers noted
+
 -- ---- what calls leave
 
 -- Blocks were read. Nothing changed but the cache, the steps, the disk's time and count of faults, and the damages; one that came
--- is that of a VVBN that isn't held.
+-- is that of a VVBN that isn't held, or of a leaf of a container.
 pub record ReadsOver (old new : Lent) : Type 0 where
   pub home : new.home ≡ old.home
   pub map : new.map ≡ old.map
@@ -130,7 +137,7 @@ pub record ReadsOver (old new : Lent) : Type 0 where
   pub strays : new.strays ≡ old.strays
   pub steps : old.steps ≤ new.steps
   pub only_reads : OnlyReads old.disk new.disk
-  pub noted : (new.noted ≡ old.noted) ⊎ WasHole old.home.label new.noted
+  pub noted : (new.noted ≡ old.noted) ⊎ (WasHole old.home.label new.noted ⊎ WasLeaf old.disk old.pool.containers new.noted)
 
 -- an entry of a slot's own container leads to a block
 pub record IsOwn (slots : Slots) (slot b : ℕ) : Type 0 where
@@ -139,30 +146,18 @@ pub record IsOwn (slots : Slots) (slot b : ℕ) : Type 0 where
   pub stands : own_entry (container_at slots slot) vvbn ≡ Some entry
   pub leads : entry.pvbn ≡ b
 
--- a block that calls for a slot's volume may take: it lies where a volume's can, the root on the disk doesn't hold it, and it is free, or
--- an entry of the volume leads to it, which may be replaced
-pub record MayTake (space : Space) (slots : Slots) (slot b : ℕ) : Type 0 where
+-- a block that calls for a slot's volume may take: it lies where a volume's can, the root on the disk doesn't hold it, and, as far as entries
+-- are told, it is free, or an entry of the volume leads to it, which may be replaced
+pub record MayTake (told : Type 0) (space : Space) (slots : Slots) (slot b : ℕ) : Type 0 where
   pub lies : IsAllocatable (blocks_of space) b
   pub spare : is_member space.committed b ≡ false
-  pub free : (is_held space.committed space.next b ≡ false) ⊎ IsOwn slots slot b
+  pub free : told → (is_held space.committed space.next b ≡ false) ⊎ IsOwn slots slot b
 
 -- a VVBN has an entry now that leads to a block that could be taken
-pub record IsNewEntry (space : Space) (slots new : Slots) (slot v : ℕ) : Type 0 where
+pub record IsNewEntry (told : Type 0) (space : Space) (slots new : Slots) (slot v : ℕ) : Type 0 where
   pub entry : Entry
   pub stands : own_entry (container_at new slot) v ≡ Some entry
-  pub takes : MayTake space slots slot entry.pvbn
-
--- the places of the nodes of a container's tree on the disk
-abbrev pub tree_in : Option Mapped → List ℕ
-tree_in None = []
-tree_in (Some container) = container.tree
-
--- a container has as many entries as before, and the same tree on the disk; what was clean of it is clean
-pub record HasShapeOf (old new : Option Mapped) : Type 0 where
-  pub there : is_some new ≡ is_some old
-  pub count : length (entries_in new) ≡ length (entries_in old)
-  pub tree : tree_in new ≡ tree_in old
-  pub clean : (i : Image) → IfSome old (IsCleanOn i) → IfSome new (IsCleanOn i)
+  pub takes : MayTake told space slots slot entry.pvbn
 
 -- the last damage came for want of a number or a block, and the room that was made is used up
 pub record IsOutOfRoom (old new : Lent) : Type 0 where
@@ -181,8 +176,8 @@ pub record KeepsSlots (slot : ℕ) (old new : Lent) : Type 0 where
   pub entries : (k v : ℕ) → k ≢ 0 → has v (slot_at old.map k) ≡ true → held_entry new.map new.pool.containers slot v ≡ held_entry old.map old.pool.containers slot v
   pub blocks : (k v : ℕ) → k ≢ 0 → has v (slot_at old.map k) ≡ true → (i : Image) → held_block new.map new.pool slot i v ≡ held_block old.map old.pool slot i v
 
--- Blocks were read, placed and given up for one volume. The disk is only read, and the root on it holds what it held. A block
--- that the next root held it goes on holding unless an entry of the volume led to it, and what it holds anew is an entry's. No
+-- Blocks were read, placed and given up for one volume. The disk is only read, and the root on it holds what it held. Where entries are
+-- told, a block that the next root held it goes on holding unless an entry of the volume led to it, and what it holds anew is an entry's. No
 -- block is kept anew, and no entry leads to a block, that couldn't be taken. The entries behind the span stay, and all of other volumes. While
 -- some of the room is left, it tells what was taken.
 pub record GoesOver (old new : Lent) : Type 0 where
@@ -192,21 +187,22 @@ pub record GoesOver (old new : Lent) : Type 0 where
   pub spends : 0 < new.room → Spends old new
   pub steps : old.steps ≤ new.steps
   pub only_reads : OnlyReads old.disk new.disk
-  pub noted : (new.noted ≡ old.noted) ⊎ (WasHole old.home.label new.noted ⊎ IsOutOfRoom old new)
+  pub noted : (new.noted ≡ old.noted) ⊎ (WasHole old.home.label new.noted ⊎ (IsOutOfRoom old new ⊎ WasLeaf old.disk old.pool.containers new.noted))
   pub committed : new.pool.map.committed ≡ old.pool.map.committed
-  pub loses : (b : ℕ) → is_member old.pool.map.next b ≡ true → is_member new.pool.map.next b ≡ false → IsOwn old.pool.containers old.home.slot b
-  pub gains : (b : ℕ) → is_member new.pool.map.next b ≡ true → IsOwn new.pool.containers old.home.slot b
+  pub loses : TellsEntries old.disk old.pool.containers → (b : ℕ) → is_member old.pool.map.next b ≡ true → is_member new.pool.map.next b ≡ false → IsOwn old.pool.containers old.home.slot b
+  pub gains : TellsEntries old.disk old.pool.containers → (b : ℕ) → is_member new.pool.map.next b ≡ true → IsOwn new.pool.containers old.home.slot b
       ⊎ ((is_member old.pool.map.next b ≡ true) × (IsOwn old.pool.containers old.home.slot b → IsOwn new.pool.containers old.home.slot b))
   pub entries : (v : ℕ) → (own_entry (container_at new.pool.containers old.home.slot) v ≡ own_entry (container_at old.pool.containers old.home.slot) v)
-      ⊎ IsNewEntry old.pool.map old.pool.containers new.pool.containers old.home.slot v
+      ⊎ IsNewEntry (TellsEntries old.disk old.pool.containers) old.pool.map old.pool.containers new.pool.containers old.home.slot v
   pub beyond : (v : ℕ) → old.map.span ≤ v → own_entry (container_at new.pool.containers old.home.slot) v ≡ own_entry (container_at old.pool.containers old.home.slot) v
-  pub kept : (b : ℕ) → (fin.get new.pool.kept b ≡ fin.get old.pool.kept b) ⊎ MayTake old.pool.map old.pool.containers old.home.slot b
+  pub kept : (b : ℕ) → (fin.get new.pool.kept b ≡ fin.get old.pool.kept b) ⊎ MayTake (TellsEntries old.disk old.pool.containers) old.pool.map old.pool.containers old.home.slot b
   pub shape : HasShapeOf (container_at old.pool.containers old.home.slot) (container_at new.pool.containers old.home.slot)
   pub others : (s : ℕ) → s ≢ old.home.slot → container_at new.pool.containers s ≡ container_at old.pool.containers s
   pub parents : new.pool.containers.parents ≡ old.pool.containers.parents
   pub span : new.map.span ≡ old.map.span
   pub snapshots : (s : ℕ) → s ≢ 0 → slot_at new.map s ≡ slot_at old.map s
-  pub keeps : AreApart old.pool old.map old.home.slot → KeepsSlots old.home.slot old new
+  pub clean : TellsEntries old.disk old.pool.containers → AreCleanOn new.disk.reads new.pool.containers
+  pub keeps : TellsEntries old.disk old.pool.containers → AreApart old.pool old.map old.home.slot → KeepsSlots old.home.slot old new
 
 -- ---- calls on a tree
 
@@ -218,9 +214,9 @@ pub record CanLend (pool : Pool) (map : Volume) (disk : Disk) (slot : ℕ) : Typ
   pub few : map.span ≤ last_place + 1
   pub entries : map.span ≤ length (entries_in (container_at pool.containers slot))
 
--- Content is told: the disk tells what it reads, and the entries of the volume lie apart.
+-- Content is told: the disk tells what it reads, the entries of the volume lie apart, and the containers are clean on the disk.
 abbrev pub IsTold : Disk → Pool → Volume → ℕ → Type 0
-IsTold disk pool map slot = IsTrue disk.tells × AreApart pool map slot
+IsTold disk pool map slot = IsTrue disk.tells × AreApart pool map slot × AreCleanOn disk.reads pool.containers
 
 -- A new ledger is one of a name that is cut into parts, of which it has some. It counts the steps of a call.
 pub record IsLedger (blank_name blank_parts of_name of_parts : ℕ) : Type 0 where
@@ -250,17 +246,17 @@ pub record GoesLent (old : Lent) (pool : Pool) (map : Volume) (disk : Disk) (ste
   pub goes : GoesOver old (lent_by pool map disk steps old.home room strays noted)
 
 -- Why a call that only loads failed: a read failed; or a pointer of the tree leads to a VVBN that isn't held, or, where content is told,
--- the block of a node of the tree hasn't its shape; or memory ran out.
+-- the block of a node of the tree hasn't its shape, or a leaf of a container doesn't stand where it has to; or memory ran out.
 abbrev pub ReadFails : Type 0 → Rooted → Lent → ℕ → BlockFault → Type 0
 ReadFails told t old faults DiskFault = Rose old.disk.faults faults
 ReadFails told t old faults (Damaged at want found) = (faults ≡ old.disk.faults)
-    × ((IsHole old.home.label at want found × (told → LacksBlock t)) ⊎ (told → IsNodeDamage t (shown_over old) (shown_over old) at want found))
+    × ((IsHole old.home.label at want found × (told → LacksBlock t)) ⊎ ((told → IsNodeDamage t (shown_over old) (shown_over old) at want found) ⊎ LacksLeaf old.disk old.pool.containers at want found))
 ReadFails told t old faults Memory = faults ≡ old.disk.faults
 
 -- Why a call that places failed: a read failed; or a pointer's VVBN isn't held, or the room is used up and a number or a block is
--- lacking; or memory ran out.
+-- lacking, or a leaf of a container doesn't stand where it has to; or memory ran out.
 abbrev pub GoesFails : Lent → ℕ → ℕ → BlockFault → Type 0
 GoesFails old faults room DiskFault = Rose old.disk.faults faults
 GoesFails old faults room (Damaged at want found) =
-    (faults ≡ old.disk.faults) × (IsHole old.home.label at want found ⊎ ((room ≡ 0) × LacksOne old.home.label (root_place old.pool.found.slot) at want found))
+    (faults ≡ old.disk.faults) × (IsHole old.home.label at want found ⊎ (((room ≡ 0) × LacksOne old.home.label (root_place old.pool.found.slot) at want found) ⊎ LacksLeaf old.disk old.pool.containers at want found))
 GoesFails old faults room Memory = faults ≡ old.disk.faults

@@ -1,6 +1,6 @@
 -- What the flush of a table over what a session lends leaves, and why it isn't done.
-use Rattle.std.specs.Prelude.{◌≡◌, ◌≢◌, ◌≤◌, ◌+◌, ℕ, true, false, Option, None, Result, IfErr, IfOk, OnOk}
-use Rattle.fv_disk.specs.Shown.{Shown as Disk}
+use Rattle.std.specs.Prelude.{◌≡◌, ◌≢◌, ◌≤◌, ◌+◌, ◌⊎◌, ℕ, true, false, Option, None, Result, Ok, Err, IfErr, IfOk, OnOk}
+use Rattle.fv_disk.specs.Shown.{Rose, Shown as Disk}
 use Rattle.fv_disk.specs.declared.fault.BlockFault.{BlockFault}
 use Rattle.fv_disk.specs.declared.fault.BlockFault.TheVariants as block
 use Rattle.fv_codec.specs.declared.pointer.Pointer.{Pointer}
@@ -9,7 +9,7 @@ use Rattle.fv_image.specs.Layout.{root_place}
 use Rattle.fv_tables.specs.Kept.{IsPlacedTable}
 use Rattle.fv_tables.specs.Spelled.{Under}
 use Rattle.fv_tables.specs.Told.{standing_at}
-use Rattle.fv_tree.specs.Sources.{Shown, Use}
+use Rattle.fv_tree.specs.Sources.{IsDamaged, Shown, Use}
 use Rattle.fv_tree.specs.Standing.{under}
 use Rattle.fv_files.specs.declared.files.Files.{Files}
 use Rattle.fv_files.specs.Pending.{pending_in}
@@ -23,7 +23,7 @@ use Rattle.fv_pool.specs.declared.fault.VolumeFault.{VolumeFault}
 use Rattle.fv_pool.specs.declared.fault.VolumeFault.TheVariants.{Refused, DiskFault, Damaged, Memory}
 use Rattle.fv_pool.specs.declared.pool.Pool.{Pool}
 use Rattle.fv_files.specs.Altering.{AreLaid, PlacesTrees}
-use Rattle.fv_pool.specs.BlocksOver.{held_block}
+use Rattle.fv_pool.specs.BlocksOver.{LacksLeaf, held_block}
 use Rattle.fv_pool.specs.Lending.{Lent, GoesLent, LacksOne}
 
 -- Under a VVBN no slot of a volume's maps but the active one has a block.
@@ -56,22 +56,33 @@ pub record Goes (old : Lent) (pool : Pool) (map : Volume) (disk : Disk) (room : 
 abbrev pub KeepsUnused : Slots → Slots → ℕ → Volume → Type 0
 KeepsUnused old new slot map = (v : ℕ) → is_member (active_of map) v ≡ false → own_entry (container_at new slot) v ≡ own_entry (container_at old slot) v
 
--- Nothing is read. Damage of a table that stands is for want of a number or a block, with the room used up.
-abbrev pub PlaceFails : Type 0 → Lent → ℕ → BlockFault → Type 0
-PlaceFails told old room block.DiskFault = ⊥
-PlaceFails told old room (block.Damaged at want found) = told → (room ≡ 0) × LacksOne old.home.label (root_place old.pool.found.slot) at want found
-PlaceFails told old room block.Memory = Unit {0}
+-- Leaves of the container alone are read. Damage of a table that stands is for want of a number or a block, with the room used up, or that of a
+-- leaf.
+abbrev pub PlaceFails : Type 0 → Lent → ℕ → ℕ → BlockFault → Type 0
+PlaceFails told old faults room block.DiskFault = Rose old.disk.faults faults
+PlaceFails told old faults room (block.Damaged at want found) = (faults ≡ old.disk.faults)
+    × (told → ((room ≡ 0) × LacksOne old.home.label (root_place old.pool.found.slot) at want found) ⊎ LacksLeaf old.disk old.pool.containers at want found)
+PlaceFails told old faults room block.Memory = faults ≡ old.disk.faults
 
 -- So a flush of a volume fails. It refuses nothing.
-abbrev pub FlushFails : Type 0 → Lent → ℕ → VolumeFault → Type 0
-FlushFails told old room (Refused r) = ⊥
-FlushFails told old room DiskFault = PlaceFails told old room block.DiskFault
-FlushFails told old room (Damaged at want found) = PlaceFails told old room (block.Damaged at want found)
-FlushFails told old room Memory = PlaceFails told old room block.Memory
+abbrev pub FlushFails : Type 0 → Lent → ℕ → ℕ → VolumeFault → Type 0
+FlushFails told old faults room (Refused r) = ⊥
+FlushFails told old faults room DiskFault = PlaceFails told old faults room block.DiskFault
+FlushFails told old faults room (Damaged at want found) = PlaceFails told old faults room (block.Damaged at want found)
+FlushFails told old faults room Memory = PlaceFails told old faults room block.Memory
+
+-- where it was done the disk's count of faults stays
+abbrev pub PlaceCause : {T : Type 0} → Type 0 → Lent → ℕ → ℕ → Result T BlockFault → Type 0
+PlaceCause told old faults room (Ok x) = faults ≡ old.disk.faults
+PlaceCause told old faults room (Err e) = PlaceFails told old faults room e
+
+abbrev pub FlushCause : {T : Type 0} → Type 0 → Lent → ℕ → ℕ → Result T VolumeFault → Type 0
+FlushCause told old faults room (Ok x) = faults ≡ old.disk.faults
+FlushCause told old faults room (Err fault) = FlushFails told old faults room fault
 
 -- What was placed of a table took no more of the room than of what was pending, and all of that once it was placed whole. With room for all of it
--- memory alone can be lacking.
+-- no damage comes.
 pub record TakesRoom (told : Type 0) (f g : Files) (room rest : ℕ) (result : Result Pointer BlockFault) : Type 0 where
   pub nothing : OnOk result (pending_in g ≡ 0)
   pub fits : told → (pending_in g ≤ pending_in f) × (room + pending_in g ≤ rest + pending_in f)
-  pub enough : told → pending_in f ≤ room → IfErr result (λ e. e ≡ block.Memory)
+  pub enough : told → pending_in f ≤ room → IfErr result (λ e. IsDamaged e → ⊥)

@@ -1,21 +1,22 @@
 //! The blocks of one volume, over what a session lends.
 
-ghost use Rattle.std.specs.Prelude.{◌≡◌, ◌<◌, ◌≤◌, ◌+◌, None, Some, false, true, length, slice_set, IsTrue, IfOk, IfErr, IfSome, OnOk, OnErr, option_copied};
+ghost use Rattle.std.specs.Prelude.{◌≡◌, ◌<◌, ◌≤◌, ◌+◌, ◌*◌, ◌/◌, None, Some, false, true, length, slice_set, IfOk, IfErr, IfSome, OnOk, OnErr, option_copied};
 ghost use Rattle.fv_aggmap.specs.Space.{blocks_of, free_blocks};
 ghost use Rattle.fv_bits.specs.Members.{is_member};
 ghost use Rattle.fv_codec.specs.Blocks.{last_place};
 ghost use Rattle.fv_codec.specs.Forms.{has_form};
-ghost use Rattle.fv_container.specs.Chains.{IsSlots, container_at, own_entry, slot_count};
-ghost use Rattle.fv_container.specs.Mapped.{IsEntry, IsHeld};
+ghost use Rattle.fv_container.specs.Chains.{container_at, paged_at, slot_count};
+ghost use Rattle.fv_container.specs.Mapped.{IsEntry, IsHeld, entry_under};
+ghost use Rattle.fv_container.specs.Paged.{is_here, is_sure};
 ghost use Rattle.fv_disk.specs.DiskCalls.{OnlyReads};
 ghost use Rattle.fv_disk.specs.Faults.{HasBlockCause};
 ghost use Rattle.fv_disk.specs.Shown.{Rose};
-ghost use Rattle.fv_disk.specs.declared.fault.BlockFault.TheVariants.{Damaged, DiskFault};
+ghost use Rattle.fv_disk.specs.declared.fault.BlockFault.TheVariants.{Damaged};
 ghost use Rattle.fv_image.specs.Layout.{root_place};
 ghost use Rattle.fv_store.specs.Held.{StandsOn};
 ghost use Rattle.fv_tree.specs.Sources.{IsKind};
 ghost use Rattle.fv_volmap.specs.Slots.{IsVolume, active_of, has, taken_in, with_slot};
-ghost use Rattle.fv_pool.specs.BlocksOver.{HoldsMore, IsLooseFault, LacksPlace, LeavesPool, LeavesRoom, PlacesBlock, SetsEntry, Takes, IsRightPlace, block_of, entries_in, given_back, held_entry, place_of, place_read, place_told, steps_by};
+ghost use Rattle.fv_pool.specs.BlocksOver.{HoldsMore, IsEntryFault, IsHoldFault, IsLooseFault, IsPrepared, KeepsMaps, LacksNumbers, LacksPlace, LeavesPool, LeavesRoom, LoadsPool, PlacesBlock, PutsEntry, Takes, TellsEntries, IsRightPlace, block_of, entries_in, given_back, held_entry, place_of, place_read, place_told, steps_by};
 
 use crate::known::known_maps;
 use crate::pool::Pool;
@@ -25,6 +26,7 @@ use fv_codec::{Form, Pointer};
 use fv_container::{Containers, Entry, Steps};
 use fv_disk::{Block, BlockFault, Disk};
 use fv_root::root_place;
+use fv_store::Store;
 use fv_tree::Placed;
 use fv_volmap::VolMap;
 use std::sync::ledger::Ledger;
@@ -52,7 +54,8 @@ pub struct Home {
 /// # Errors
 ///
 /// `DiskFault` only where a read failed in this call, and `Damaged` only where the VVBN isn't held: the place of the
-/// volume's label, 1 and 0. `Memory` never comes. Costs at most one block.
+/// volume's label, 1 and 0; or where a leaf of a container doesn't stand where it has to. `Memory` never comes. Costs at most
+/// one block, and a leaf of a container for each volume of the chain where the pointer tells no place.
 #[tactic(auto, using(crate::proofs::Lent::right_block))]
 pub fn read_pointed<D: Disk, L: Ledger>(
     pool: &mut Pool,
@@ -65,13 +68,13 @@ pub fn read_pointed<D: Disk, L: Ledger>(
 ) -> Result<u32, BlockFault>
     requires slot { home.now.slot < slot_count }
     requires stands { StandsOn (D.shown disk.old) pool.old.store.pairs }
-    ensures block { IsTrue (D.shown disk.old).tells → IsRightPlace (held_entry map.now pool.old.containers home.now.slot pointer.now.vvbn) pointer.now.pvbn
+    ensures block { TellsEntries (D.shown disk.old) pool.old.containers → IsRightPlace (held_entry map.now pool.old.containers home.now.slot pointer.now.vvbn) pointer.now.pvbn
         → OnOk result (block_of pool.old.kept (D.shown disk.old).reads (held_entry map.now pool.old.containers home.now.slot pointer.now.vvbn) ≡ Some into.new) }
-    ensures place { IfOk result (λ pvbn. place_read (held_entry map.now pool.old.containers home.now.slot pointer.now.vvbn) pointer.now.pvbn ≡ Some pvbn) }
+    ensures place { TellsEntries (D.shown disk.old) pool.old.containers → IfOk result (λ pvbn. place_read (held_entry map.now pool.old.containers home.now.slot pointer.now.vvbn) pointer.now.pvbn ≡ Some pvbn) }
     ensures range { IfOk result (λ pvbn. pvbn ≤ last_place) }
     ensures step { OnOk result (steps.new ≡ steps.old + steps_by pointer.now.pvbn) }
     ensures later { steps.old ≤ steps.new }
-    ensures loose { IfErr result (IsLooseFault (held_entry map.now pool.old.containers home.now.slot pointer.now.vvbn) home.now.label) }
+    ensures loose { IfErr result (IsLooseFault (D.shown disk.old) pool.old.containers (held_entry map.now pool.old.containers home.now.slot pointer.now.vvbn) home.now.label) }
     ensures leaves { LeavesPool pool.old pool.new }
     ensures stands { StandsOn (D.shown disk.new) pool.new.store.pairs }
     ensures only_reads { OnlyReads (D.shown disk.old) (D.shown disk.new) }
@@ -109,13 +112,13 @@ pub fn read_pointed_as<D: Disk, L: Ledger>(
     requires slot { home.now.slot < slot_count }
     requires stands { StandsOn (D.shown disk.old) pool.old.store.pairs }
     ensures form { OnOk result (has.new ≡ has_form form into.new) }
-    ensures block { IsTrue (D.shown disk.old).tells → IsRightPlace (held_entry map.now pool.old.containers home.now.slot pointer.now.vvbn) pointer.now.pvbn
+    ensures block { TellsEntries (D.shown disk.old) pool.old.containers → IsRightPlace (held_entry map.now pool.old.containers home.now.slot pointer.now.vvbn) pointer.now.pvbn
         → OnOk result (block_of pool.old.kept (D.shown disk.old).reads (held_entry map.now pool.old.containers home.now.slot pointer.now.vvbn) ≡ Some into.new) }
-    ensures place { IfOk result (λ pvbn. place_read (held_entry map.now pool.old.containers home.now.slot pointer.now.vvbn) pointer.now.pvbn ≡ Some pvbn) }
+    ensures place { TellsEntries (D.shown disk.old) pool.old.containers → IfOk result (λ pvbn. place_read (held_entry map.now pool.old.containers home.now.slot pointer.now.vvbn) pointer.now.pvbn ≡ Some pvbn) }
     ensures range { IfOk result (λ pvbn. pvbn ≤ last_place) }
     ensures step { OnOk result (steps.new ≡ steps.old + steps_by pointer.now.pvbn) }
     ensures later { steps.old ≤ steps.new }
-    ensures loose { IfErr result (IsLooseFault (held_entry map.now pool.old.containers home.now.slot pointer.now.vvbn) home.now.label) }
+    ensures loose { IfErr result (IsLooseFault (D.shown disk.old) pool.old.containers (held_entry map.now pool.old.containers home.now.slot pointer.now.vvbn) home.now.label) }
     ensures leaves { LeavesPool pool.old pool.new }
     ensures stands { StandsOn (D.shown disk.new) pool.new.store.pairs }
     ensures only_reads { OnlyReads (D.shown disk.old) (D.shown disk.new) }
@@ -139,11 +142,14 @@ pub fn read_pointed_as<D: Disk, L: Ledger>(
 /// # Errors
 ///
 /// `Damaged` only where each VVBN is taken, at the place of the volume's label, or where no block is free, at the
-/// place of the root; it wants 1 and finds 0. `Memory` where there is no memory to keep the block. Nothing changes then.
+/// place of the root, where it wants 1 and finds 0; or where the leaf of the container that has the VVBN doesn't stand where it has
+/// to. `DiskFault` only where a read failed in this call. `Memory` where there is no memory to keep the block or the leaf. Nothing
+/// but what is in memory of leaves changes then.
 ///
-/// It makes no disk call. Costs a step for each word of 64 numbers or blocks that is passed.
-pub fn place_block(
+/// Costs a step for each word of 64 numbers or blocks that is passed, and a read where the leaf isn't in memory.
+pub fn place_block<D: Disk>(
     pool: &mut Pool,
+    disk: &mut D,
     map: &mut VolMap,
     home: &Home,
     kind: u8,
@@ -153,20 +159,24 @@ pub fn place_block(
     requires kind { IsKind kind }
     requires few { map.old.span ≤ last_place + 1 }
     requires room { map.old.span ≤ length (entries_in (container_at pool.old.containers home.now.slot)) }
-    ensures placed { IfOk result (PlacesBlock pool.old map.old home.now.slot kind block.now pool.new map.new) }
-    ensures holds { IfOk result (HoldsMore pool.old map.old home.now.slot kind block.now pool.new map.new) }
+    requires stands { StandsOn (D.shown disk.old) pool.old.store.pairs }
+    ensures placed { IfOk result (PlacesBlock (D.shown disk.old) pool.old map.old home.now.slot kind block.now pool.new map.new) }
+    ensures holds { IfOk result (HoldsMore (D.shown disk.old) pool.old map.old home.now.slot kind block.now pool.new map.new) }
     ensures vvbn { IfOk result (λ placed. placed.vvbn ≤ last_place) }
-    ensures failed { OnErr result (pool.new ≡ pool.old) }
+    ensures failed { OnErr result (LoadsPool (D.shown disk.old) pool.old pool.new) }
     ensures failed_map { OnErr result (map.new ≡ map.old) }
-    ensures fault { IfErr result (LacksPlace pool.old.map map.old (root_place pool.old.found.slot) home.now.label) }
+    ensures fault { IfErr result (LacksPlace (D.shown disk.old) pool.old.containers pool.old.map map.old (root_place pool.old.found.slot) home.now.label) }
     ensures leaves { IfOk result (λ placed. LeavesRoom pool.old.map map.old pool.new.map map.new) }
     ensures valid { IsVolume map.old }
+    ensures stands { StandsOn (D.shown disk.new) pool.new.store.pairs }
+    ensures only_reads { OnlyReads (D.shown disk.old) (D.shown disk.new) }
+    ensures cause { HasBlockCause (D.shown disk.old).faults (D.shown disk.new).faults result }
 {
     let root = root_place(pool.found.slot);
     let placed = take_numbers(&mut pool.map, map, root, home.label)?;
-    if let Err(fault) = pool.keep(placed.pvbn, block) {
+    if let Err(fault) = prepare_place(pool, disk, home.slot, &placed, block) {
         return_numbers(&mut pool.map, map, &placed);
-        return Err(fault.into());
+        return Err(fault);
     }
     let entry = Entry {
         pvbn: placed.pvbn,
@@ -175,6 +185,59 @@ pub fn place_block(
     let before = set_entry(&mut pool.containers, home.slot, placed.vvbn, entry);
     give_back(&mut pool.map, before);
     Ok(placed)
+}
+
+/// Holds the leaf of a VVBN of a slot in memory, and keeps a block. Nothing can fail behind that.
+fn prepare_place<D: Disk>(
+    pool: &mut Pool,
+    disk: &mut D,
+    slot: u8,
+    placed: &Placed,
+    block: &Block,
+) -> Result<(), BlockFault>
+    requires slot { slot < slot_count }
+    requires within { placed.now.vvbn < length (entries_in (container_at pool.old.containers slot)) }
+    requires stands { StandsOn (D.shown disk.old) pool.old.store.pairs }
+    ensures ready { OnOk result (IsPrepared (D.shown disk.old) pool.old slot placed.now block.now pool.new) }
+    ensures failed { OnErr result (LoadsPool (D.shown disk.old) pool.old pool.new) }
+    ensures fault { IfErr result (IsHoldFault (D.shown disk.old) pool.old.containers) }
+    ensures stands { StandsOn (D.shown disk.new) pool.new.store.pairs }
+    ensures only_reads { OnlyReads (D.shown disk.old) (D.shown disk.new) }
+    ensures cause { HasBlockCause (D.shown disk.old).faults (D.shown disk.new).faults result }
+{
+    load_leaf(
+        &mut pool.containers,
+        &mut pool.store,
+        disk,
+        slot,
+        placed.vvbn / 256,
+    )?;
+    pool.keep(placed.pvbn, block)?;
+    Ok(())
+}
+
+/// Holds the leaf of a region of a slot in memory.
+fn load_leaf<D: Disk>(
+    containers: &mut Containers,
+    store: &mut Store,
+    disk: &mut D,
+    slot: u8,
+    region: u32,
+) -> Result<(), BlockFault>
+    requires slot { slot < slot_count }
+    requires within { 256 * region < length (entries_in (container_at containers.old slot)) }
+    requires stands { StandsOn (D.shown disk.old) store.old.pairs }
+    ensures maps { KeepsMaps (D.shown disk.old) containers.old containers.new }
+    ensures here { OnOk result (IfSome (paged_at containers.new slot) (λ paged. is_here paged region ≡ true)) }
+    ensures fault { IfErr result (IsHoldFault (D.shown disk.old) containers.old) }
+    ensures stands { StandsOn (D.shown disk.new) store.new.pairs }
+    ensures only_reads { OnlyReads (D.shown disk.old) (D.shown disk.new) }
+    ensures cause { HasBlockCause (D.shown disk.old).faults (D.shown disk.new).faults result }
+{
+    let Some(container) = containers.get_mut(slot) else {
+        return Ok(());
+    };
+    container.load(store, disk, region)
 }
 
 /// Takes a VVBN and a free block.
@@ -188,7 +251,7 @@ fn take_numbers(
     ensures within { IfOk result (λ placed. placed.pvbn < blocks_of space.new) }
     ensures failed { OnErr result (space.new ≡ space.old) }
     ensures failed_map { OnErr result (map.new ≡ map.old) }
-    ensures fault { IfErr result (LacksPlace space.old map.old root label) }
+    ensures fault { IfErr result (LacksNumbers space.old map.old root label) }
     ensures leaves { IfOk result (λ placed. LeavesRoom space.old map.old space.new map.new) }
     ensures valid { IsVolume map.old }
 {
@@ -224,14 +287,14 @@ fn return_numbers(space: &mut AggMap, map: &mut VolMap, placed: &Placed)
     map.release(placed.vvbn);
 }
 
-/// Sets the entry of a VVBN of a slot, and answers the one that stood there.
+/// Sets the entry of a VVBN of a slot whose leaf is in memory, and answers the one that stood there.
 fn set_entry(containers: &mut Containers, slot: u8, vvbn: u32, entry: Entry) -> Option<Entry>
     requires slot { slot < slot_count }
     requires within { vvbn < length (entries_in (container_at containers.old slot)) }
+    requires here { IfSome (paged_at containers.old slot) (λ paged. is_here paged (vvbn / 256) ≡ true) }
     requires entry { IsEntry entry }
-    ensures before { result ≡ own_entry (container_at containers.old slot) vvbn }
-    ensures set { SetsEntry containers.old slot vvbn entry containers.new }
-    ensures valid { IsSlots containers.old }
+    ensures before { IfSome (paged_at containers.old slot) (λ paged. is_sure paged (vvbn / 256) ≡ true → result ≡ entry_under paged.map vvbn) }
+    ensures set { PutsEntry containers.old slot vvbn entry containers.new }
 {
     let Some(container) = containers.get_mut(slot) else {
         return None;
@@ -279,11 +342,11 @@ fn find_place<D: Disk, L: Ledger>(
 ) -> Result<Option<u32>, BlockFault>
     requires slot { slot < slot_count }
     requires stands { StandsOn (D.shown disk.old) pool.old.store.pairs }
-    ensures place { IfOk result (λ place. place ≡ place_read (held_entry map.now pool.old.containers slot pointer.now.vvbn) pointer.now.pvbn) }
+    ensures place { TellsEntries (D.shown disk.old) pool.old.containers → IfOk result (λ place. place ≡ place_read (held_entry map.now pool.old.containers slot pointer.now.vvbn) pointer.now.pvbn) }
     ensures range { IfOk result (λ place. IfSome place (λ pvbn. pvbn ≤ last_place)) }
     ensures step { IfOk result (λ place. IfSome place (λ pvbn. steps.new ≡ steps.old + steps_by pointer.now.pvbn)) }
     ensures later { steps.old ≤ steps.new }
-    ensures fault { IfErr result (λ fault. fault ≡ DiskFault) }
+    ensures fault { IfErr result (IsEntryFault (D.shown disk.old) pool.old.containers) }
     ensures leaves { LeavesPool pool.old pool.new }
     ensures stands { StandsOn (D.shown disk.new) pool.new.store.pairs }
     ensures only_reads { OnlyReads (D.shown disk.old) (D.shown disk.new) }
@@ -324,7 +387,7 @@ fn place_of(entry: Option<Entry>) -> Option<u32>
 
 /// The entry of the VVBN of a pointer; `None` exactly where it isn't held. It takes a step for a pointer with a PVBN of 0; another one
 /// comes here only with a PVBN that is no place.
-#[tactic(auto, unfolding(crate::specs::BlocksOver::held_entry), using(crate::proofs::Lent::no_step, crate::proofs::Lent::one_step, crate::proofs::Lent::of_some))]
+#[tactic(auto, unfolding(crate::specs::BlocksOver::held_entry), using(crate::proofs::Lent::no_step, crate::proofs::Lent::one_step, crate::proofs::Lent::of_some, crate::proofs::Lent::of_found, crate::proofs::Setting::entry_fault))]
 fn find_entry<D: Disk, L: Ledger>(
     pool: &mut Pool,
     disk: &mut D,
@@ -335,11 +398,11 @@ fn find_entry<D: Disk, L: Ledger>(
 ) -> Result<Option<Entry>, BlockFault>
     requires slot { slot < slot_count }
     requires stands { StandsOn (D.shown disk.old) pool.old.store.pairs }
-    ensures entry { IfOk result (λ entry. entry ≡ held_entry map.now pool.old.containers slot pointer.now.vvbn) }
+    ensures entry { TellsEntries (D.shown disk.old) pool.old.containers → IfOk result (λ entry. entry ≡ held_entry map.now pool.old.containers slot pointer.now.vvbn) }
     ensures held { IfOk result (λ entry. IfSome entry IsHeld) }
     ensures step { IfOk result (λ entry. IfSome entry (λ e. steps.new ≡ steps.old + steps_by pointer.now.pvbn)) }
     ensures later { steps.old ≤ steps.new }
-    ensures fault { IfErr result (λ fault. fault ≡ DiskFault) }
+    ensures fault { IfErr result (IsEntryFault (D.shown disk.old) pool.old.containers) }
     ensures leaves { LeavesPool pool.old pool.new }
     ensures stands { StandsOn (D.shown disk.new) pool.new.store.pairs }
     ensures only_reads { OnlyReads (D.shown disk.old) (D.shown disk.new) }
@@ -350,7 +413,9 @@ fn find_entry<D: Disk, L: Ledger>(
     }
     let vvbn = pointer.vvbn as u32;
     if pointer.pvbn != 0 {
-        return Ok(pool.containers.first_entry(slot, vvbn));
+        return pool
+            .containers
+            .first_entry(&mut pool.store, disk, slot, vvbn);
     }
     pool.containers
         .look_up_chain(&mut pool.store, disk, slot, vvbn, steps)

@@ -3,11 +3,10 @@
 ghost use Rattle.std.specs.Prelude.{◌≡◌, ◌≢◌, ◌<◌, ◌≤◌, ◌+◌, length, IsTrue};
 ghost use Rattle.fv_aggmap.specs.Space.{free_blocks};
 ghost use Rattle.fv_codec.specs.Blocks.{last_place};
-ghost use Rattle.fv_container.specs.Chains.{container_at, slot_count};
-ghost use Rattle.fv_image.specs.Layout.{root_place};
+ghost use Rattle.fv_container.specs.Chains.{AreCleanOn, container_at, slot_count};
 ghost use Rattle.fv_store.specs.Held.{StandsOn};
 ghost use Rattle.fv_pool.specs.BlocksOver.{AreApart, entries_in, free_numbers};
-ghost use Rattle.fv_pool.specs.Lending.{GoesOver, ReadsOver, WasLack, lent_by, shown_over};
+ghost use Rattle.fv_pool.specs.Lending.{GoesOver, ReadsOver, WasDamage, lent_by, shown_over};
 
 use crate::blocks::{Home, drop_number, place_block, read_pointed, read_pointed_as};
 use crate::noted::{Noted, note};
@@ -21,7 +20,8 @@ use std::marker::{Brand, PhantomData};
 use std::sync::ledger::Ledger;
 
 /// A statement under which content is told. It has no call, so a caller picks it: that the disk tells what it reads, that the
-/// entries of the volume lie apart, and, where a table is read, that its pointers tell no wrong places.
+/// entries of the volume lie apart, that the containers are clean on the disk, and, where a table is read, that its pointers tell no
+/// wrong places.
 pub trait Guard {
     /// The statement.
     ghost told: { Type 0 };
@@ -63,9 +63,10 @@ pub struct VolumeBlocks<'p, 'd, 'v, 's, K: Guard, D: Disk, L: Ledger> {
     ghost entries: { map.now.span ≤ length (entries_in (container_at pool.now.containers home.slot)) },
     ghost numbers: { room ≤ free_numbers map.now },
     ghost blocks: { room ≤ free_blocks pool.now.map },
-    ghost damage: { noted.count ≢ 0 → WasLack home.label (root_place pool.now.found.slot) noted },
+    ghost damage: { noted.count ≢ 0 → ∥ WasDamage (D.shown disk.now) pool.now home noted ∥₁ },
     ghost tells: { K.told → IsTrue (D.shown disk.now).tells },
     ghost apart: { K.told → AreApart pool.now map.now home.slot },
+    ghost clean: { K.told → ∥ AreCleanOn (D.shown disk.now).reads pool.now.containers ∥₁ },
 }
 
 /// The blocks of a volume over what a session lends, with room for no block and no damage so far. It is a macro and no function, so that a
@@ -150,7 +151,7 @@ impl<'p, 'd, 'v, 's, K: Guard, D: Disk, L: Ledger> Blocks
     }
 
     fn place(&mut self, kind: u8, block: &[u8; 4096]) -> Result<Placed, TreeFault> {
-        match place_block(self.pool, self.map, &self.home, kind, block) {
+        match place_block(self.pool, self.disk, self.map, &self.home, kind, block) {
             Ok(placed) => {
                 self.room = self.room.saturating_sub(1);
                 Ok(placed)

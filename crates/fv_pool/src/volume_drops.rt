@@ -2,12 +2,11 @@
 
 ghost use Rattle.std.specs.Prelude.{◌≡◌, ◌≢◌, ◌<◌, ◌≤◌, ◌+◌, length, IsTrue};
 ghost use Rattle.fv_codec.specs.Blocks.{last_place};
-ghost use Rattle.fv_container.specs.Chains.{container_at, slot_count};
-ghost use Rattle.fv_image.specs.Layout.{root_place};
+ghost use Rattle.fv_container.specs.Chains.{AreCleanOn, container_at, slot_count};
 ghost use Rattle.fv_store.specs.Held.{StandsOn};
 ghost use Rattle.fv_pool.specs.BlocksOver.{AreApart, entries_in};
 ghost use Rattle.fv_pool.specs.Dropping.{DropsOver};
-ghost use Rattle.fv_pool.specs.Lending.{ReadsOver, WasLack, lent_by, shown_over};
+ghost use Rattle.fv_pool.specs.Lending.{ReadsOver, WasDamage, lent_by, shown_over};
 
 use crate::blocks::{Home, drop_number, read_pointed, read_pointed_as};
 use crate::noted::{Noted, note};
@@ -45,9 +44,10 @@ pub struct VolumeDrops<'p, 'd, 'v, 's, K: Guard, D: Disk, L: Ledger> {
     ghost stands: { StandsOn (D.shown disk.now) pool.now.store.pairs },
     ghost few: { map.now.span ≤ last_place + 1 },
     ghost entries: { map.now.span ≤ length (entries_in (container_at pool.now.containers home.slot)) },
-    ghost damage: { noted.count ≢ 0 → WasLack home.label (root_place pool.now.found.slot) noted },
+    ghost damage: { noted.count ≢ 0 → ∥ WasDamage (D.shown disk.now) pool.now home noted ∥₁ },
     ghost tells: { K.told → IsTrue (D.shown disk.now).tells },
     ghost apart: { K.told → AreApart pool.now map.now home.slot },
+    ghost clean: { K.told → ∥ AreCleanOn (D.shown disk.now).reads pool.now.containers ∥₁ },
 }
 
 impl<'p, 'd, 'v, 's, K: Guard, D: Disk, L: Ledger> Blocks for VolumeDrops<'p, 'd, 'v, 's, K, D, L> {

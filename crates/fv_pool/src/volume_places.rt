@@ -1,14 +1,13 @@
-//! The blocks of one volume, as trees reach them that place blocks and give them up, and load none.
+//! The blocks of one volume, as trees reach them that place blocks and give them up, and load none of them.
 
-ghost use Rattle.std.specs.Prelude.{◌≡◌, ◌≢◌, ◌<◌, ◌≤◌, ◌+◌, length};
+ghost use Rattle.std.specs.Prelude.{◌≡◌, ◌≢◌, ◌<◌, ◌≤◌, ◌+◌, length, IsTrue};
 ghost use Rattle.fv_aggmap.specs.Space.{free_blocks};
 ghost use Rattle.fv_codec.specs.Blocks.{last_place};
-ghost use Rattle.fv_container.specs.Chains.{container_at, own_entry, slot_count};
-ghost use Rattle.fv_image.specs.Layout.{root_place};
+ghost use Rattle.fv_container.specs.Chains.{AreCleanOn, container_at, own_entry, slot_count};
 ghost use Rattle.fv_store.specs.Held.{StandsOn};
 ghost use Rattle.fv_pool.specs.BlocksOver.{AreApart, entries_in, free_numbers};
-ghost use Rattle.fv_pool.specs.Lending.{WasLack, lent_by, shown_over};
-ghost use Rattle.fv_pool.specs.Putting.{PutsOver, lent_unasked, trusting};
+ghost use Rattle.fv_pool.specs.Lending.{WasDamage, lent_by, shown_over};
+ghost use Rattle.fv_pool.specs.Putting.{PutsOver, trusting};
 
 use crate::blocks::{Home, drop_number, place_block};
 use crate::noted::{Noted, note};
@@ -20,9 +19,9 @@ use fv_tree::{Blocks, Placed, TreeFault};
 use fv_volmap::VolMap;
 use std::marker::PhantomData;
 
-/// The blocks of one volume, as `VolumeBlocks` shows them, for a flush. A table that stands is flushed without a load, so the disk is lent
-/// to be looked at alone, and nothing can be read from it: a `load` would answer `Memory` and change nothing. Under a VVBN under which
-/// nothing is placed the volume's own entry stays.
+/// The blocks of one volume, as `VolumeBlocks` shows them, for a flush. A table that stands is flushed without a load, so only leaves of the
+/// container are read: a `load` would answer `Memory` and change nothing. Under a VVBN under which nothing is placed the volume's own
+/// entry stays.
 ///
 /// The caller makes sure of `room` numbers and blocks, as for `VolumeBlocks`.
 #[derive(Drop)]
@@ -30,7 +29,7 @@ pub struct VolumePlaces<'p, 'd, 'v, K: Guard, D: Disk> {
     /// What the volumes share.
     pub pool: &'p mut Pool,
     /// The disk on which the pool's cache stands.
-    pub disk: &'d D,
+    pub disk: &'d mut D,
     /// The volume's maps.
     pub map: &'v mut VolMap,
     /// The volume.
@@ -49,8 +48,10 @@ pub struct VolumePlaces<'p, 'd, 'v, K: Guard, D: Disk> {
     ghost entries: { map.now.span ≤ length (entries_in (container_at pool.now.containers home.slot)) },
     ghost numbers: { room ≤ free_numbers map.now },
     ghost blocks: { room ≤ free_blocks pool.now.map },
-    ghost damage: { noted.count ≢ 0 → WasLack home.label (root_place pool.now.found.slot) noted },
+    ghost damage: { noted.count ≢ 0 → ∥ WasDamage (D.shown disk.now) pool.now home noted ∥₁ },
+    ghost tells: { K.told → IsTrue (D.shown disk.now).tells },
     ghost apart: { K.told → AreApart pool.now map.now home.slot },
+    ghost clean: { K.told → ∥ AreCleanOn (D.shown disk.now).reads pool.now.containers ∥₁ },
 }
 
 impl<'p, 'd, 'v, K: Guard, D: Disk> Blocks for VolumePlaces<'p, 'd, 'v, K, D> {
@@ -58,7 +59,7 @@ impl<'p, 'd, 'v, K: Guard, D: Disk> Blocks for VolumePlaces<'p, 'd, 'v, K, D> {
     ghost use Rattle.std.proofs.Common.{◌∙◌, ap, subst, sym};
     ghost use Rattle.fv_pool.specs.PuttingLaws.{puts_itself, puts_then};
 
-    ghost shown = { λ b. trusting (shown_over (lent_unasked (lent_by b.pool.now b.map.now (D.shown b.disk.now) 0 b.home b.room b.strays b.noted))) };
+    ghost shown = { λ b. trusting (shown_over (lent_by b.pool.now b.map.now (D.shown b.disk.now) 0 b.home b.room b.strays b.noted)) };
 
     ghost told = { K.told };
 
@@ -66,7 +67,7 @@ impl<'p, 'd, 'v, K: Guard, D: Disk> Blocks for VolumePlaces<'p, 'd, 'v, K, D> {
 
     ghost reads = { λ a b. b ≡ a };
 
-    ghost goes = { λ a b. (b.pool.ghost_name ≡ a.pool.ghost_name) × (b.disk ≡ a.disk) × (b.map.ghost_name ≡ a.map.ghost_name)
+    ghost goes = { λ a b. (b.pool.ghost_name ≡ a.pool.ghost_name) × (b.disk.ghost_name ≡ a.disk.ghost_name) × (b.map.ghost_name ≡ a.map.ghost_name)
         × PutsOver (lent_by a.pool.now a.map.now (D.shown a.disk.now) 0 a.home a.room a.strays a.noted) (lent_by b.pool.now b.map.now (D.shown b.disk.now) 0 b.home b.room b.strays b.noted) };
 
     ghost keeps = { λ v a b. own_entry (container_at b.pool.now.containers b.home.slot) v ≡ own_entry (container_at a.pool.now.containers a.home.slot) v };
@@ -79,7 +80,7 @@ impl<'p, 'd, 'v, K: Guard, D: Disk> Blocks for VolumePlaces<'p, 'd, 'v, K, D> {
 
     ghost reads_go = { λ a b reads. (
       ap (λ x. x.pool.ghost_name) reads,
-      ap (λ x. x.disk) reads,
+      ap (λ x. x.disk.ghost_name) reads,
       ap (λ x. x.map.ghost_name) reads,
       subst (λ x. PutsOver (lent_by a.pool.now a.map.now (D.shown a.disk.now) 0 a.home a.room a.strays a.noted) (lent_by x.pool.now x.map.now (D.shown x.disk.now) 0 x.home x.room x.strays x.noted)) (sym reads) (puts_itself _),
     ) };
@@ -107,7 +108,7 @@ impl<'p, 'd, 'v, K: Guard, D: Disk> Blocks for VolumePlaces<'p, 'd, 'v, K, D> {
     }
 
     fn place(&mut self, kind: u8, block: &[u8; 4096]) -> Result<Placed, TreeFault> {
-        match place_block(self.pool, self.map, &self.home, kind, block) {
+        match place_block(self.pool, self.disk, self.map, &self.home, kind, block) {
             Ok(placed) => {
                 self.room = self.room.saturating_sub(1);
                 Ok(placed)

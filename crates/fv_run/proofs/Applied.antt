@@ -165,6 +165,7 @@ unbuilt_asks session (Remove v f) e = absurd cc
 unbuilt_asks session (Ls v s) e = absurd cc
 unbuilt_asks session (SnapCreate v s) e = absurd cc
 unbuilt_asks session (SnapDelete v s) e = absurd cc
+unbuilt_asks session (VolDestroy v) e = absurd cc
 unbuilt_asks session Cp e = absurd cc
 unbuilt_asks session c e = refl
 

@@ -1,14 +1,19 @@
 -- The sessions of a run, one behind each line, and the images over which they stand.
-use Rattle.std.proofs.Common.{◌≡◌, ◌<◌, ◌+◌, ℕ, suc, zero, true, List, refl, sym, subst, ap, arith}
+use Rattle.std.proofs.Common.{◌≡◌, ◌<◌, ◌+◌, inl, ℕ, suc, zero, true, List, refl, sym, subst, ap, arith}
 use Rattle.std.specs.Prelude.{Ok, IsTrue}
 use Rattle.fv_disk.specs.Shown.{Image, Shown}
+use Rattle.fv_disk.specs.DiskCalls.{OnlyReads}
+use Rattle.fv_disk.proofs.Resting.{stays_itself}
 use Rattle.fv_model.specs.declared.answers.Reply.{Reply}
 use Rattle.fv_model.specs.declared.commands.Command.{Command}
+use Rattle.fv_model.specs.declared.commands.Command.TheVariants.{VolDestroy}
 use Rattle.fv_model.specs.Runs.{Line}
+use Rattle.fv_container.specs.Chains.{Slots, TellsEntries}
 use Rattle.fv_aggregate.specs.declared.session.Session.{Session}
 use Rattle.fv_aggregate.specs.Adding.{IsPointed}
 use Rattle.fv_aggregate.specs.Applying.{HasApplied}
 use Rattle.fv_aggregate.specs.Calls.{IsPlain, IsUntouched}
+use Rattle.fv_aggregate.specs.Managing.{IsCarriedOut, IsManaged}
 use Rattle.fv_aggregate.specs.Reading.{IsAsRead}
 use Rattle.fv_aggregate.specs.Standing.{StandsReady}
 use Rattle.fv_aggregate.proofs.Damages.{as_read, as_read_then}
@@ -41,24 +46,85 @@ read_of show d = (show d).reads
 untouched_over : {D : Type 0} (show : D → Shown) (before : D) (session : Session) (after : D) (next : Session) → IsUntouched before session after next → IsUntouched (show before).reads session (show after).reads next
 untouched_over show before session after next is = (ap (read_of show) is.0, is.1)
 
+-- what is told of a removal under one premise is told under another that gives it
+carried_over : (sure told : Type 0) (session : Session) (command : Command) (next : Session) → (told → sure) → IsCarriedOut sure session command next → IsCarriedOut told session command next
+carried_over sure told session (VolDestroy name) next gives is = record {
+  slot = is.slot;
+  within = is.within;
+  state = is.state;
+  there = is.there;
+  named = is.named;
+  map = is.map;
+  lies = is.lies;
+  gone = record {
+    row = is.gone.row;
+    containers = is.gone.containers;
+    some = is.gone.some;
+    given = λ so. is.gone.given (gives so);
+    kept = λ so. is.gone.kept (gives so);
+    fewer = is.gone.fewer;
+    found = is.gone.found;
+  };
+}
+carried_over sure told session command next gives is = is
+
+managed_over : (sure told : Type 0) (session : Session) (command : Command) (name : List ℕ) (next : Session) (reply : Reply) → (told → sure)
+    → IsManaged sure session command name next reply → IsManaged told session command name next reply
+managed_over sure told session command name next reply gives is = record {
+  far = is.far;
+  missing = is.missing;
+  told = is.told;
+  removed = is.removed;
+  answered = is.answered;
+  done = λ done. carried_over sure told session command next gives (is.done done);
+  stays = is.stays;
+  rest = is.rest;
+}
+
+-- a disk that shows an image and nothing else tells it
+tells_of : (disk : Shown) (slots : Slots) → IsTrue disk.tells → TellsEntries (still_disk disk.reads) slots → TellsEntries disk slots
+tells_of disk slots tells is = (tells, is.1)
+
+still_reads : (i j : Image) → j ≡ i → OnlyReads (still_disk i) (still_disk j)
+still_reads i j same = subst (λ (x : Image). OnlyReads (still_disk i) (still_disk x)) (sym same) (record {
+  stays = stays_itself (still_disk i);
+  time = record { later = omega arith; nothing_else = λ t c g le left. inl left; keeps = λ t c g le left. left };
+  given = refl;
+  ends = refl;
+  faults = omega arith;
+  write_faults = refl;
+})
+
 plain_over : {D : Type 0} (show : D → Shown) (command : Command) (before : D) (session : Session) (after : D) (next : Session) (reply : Reply) → IsTrue (show before).tells
     → IsPlain command (show before) before session (show after) after next (Ok reply)
     → IsPlain command (still_disk (show before).reads) (show before).reads session (still_disk (show after).reads) (show after).reads next (Ok reply)
 plain_over show command before session after next reply tells is = record {
   refused = λ refusal. untouched_over show before session after next (is.refused refusal);
-  calm = λ other within. ap (read_of show) (is.calm other within);
+  calm = λ other leaves within. ap (read_of show) (is.calm other leaves within);
   map = is.map;
-  wanting = λ other places within. tt;
+  wanting = λ other leaves within. tt;
   damage = tt;
   unbuilt = is.unbuilt;
   listed = is.listed;
   untouched = λ list. untouched_over show before session after next (is.untouched list);
   pointed = λ cp. pointed_on (show before) (still_disk (show before).reads) session next tells (is.pointed cp);
-  memory = λ cp none. tt;
-  managed = is.managed;
+  unpointed = λ cp lives. tt;
+  managed = λ fresh name managed stays. let told = is.managed fresh name managed stays in record {
+    reply = told.reply;
+    is = told.is;
+    managed = managed_over (TellsEntries (show before) slots) (TellsEntries (still_disk (show before).reads) slots) session command name next told.reply (tells_of (show before) slots tells) told.managed;
+  };
+  removed = λ fresh name destroys. let gone = is.removed fresh name destroys in record {
+    managed = managed_over (TellsEntries (show before) slots) (TellsEntries (still_disk (show before).reads) slots) session (VolDestroy name) name next reply (tells_of (show before) slots tells) gone.managed;
+    undone = tt;
+    only_reads = still_reads (show before).reads (show after).reads gone.only_reads.stays.reads;
+  };
   snapped = is.snapped;
   snapshots = λ fresh name list. let told = is.snapshots fresh name list in (untouched_over show before session after next told.0, told.1);
 }
+  where
+    slots : Slots
+    slots = session.pool.containers
 
 pub command_over : {D : Type 0} (show : D → Shown) (command : Command) (before : D) (session : Session) (start : ℕ) (after : D) (next : Session) (stop : ℕ) (reply : Reply)
     → HasApplied command (show before) before session start (show after) after next stop (Ok reply) → IsTrue (show before).tells → UndergoesCommand command (show before).reads session (show after).reads next reply

@@ -31,14 +31,14 @@ use Rattle.fv_run.specs.declared.ending.Fault.TheVariants.{Disk, Memory, Damaged
 use Rattle.fv_run.specs.Built.{built, lines_built}
 use Rattle.fv_run.specs.Endings.{count_of, IsWholeFault, of_session}
 use Rattle.fv_run.specs.Running.{HasChanged, IsAtRest, IsHurtBehind, IsOverLimit, KeepsUp, MeetsDamage, most_rooms, rooms_along, Survives, IsQuiet}
-use Rattle.fv_run.specs.Answering.{AsksFor, HasAnswered, IsAtEnd, IsEndOf, IsHurtBy, LacksSpace, IsLine, TellsLine, BeginsFor}
+use Rattle.fv_run.specs.Answering.{AsksFor, HasAnswered, IsAtEnd, IsEndOf, IsHurtBy, Lacks, LacksSpace, LosesLeaf, IsLine, TellsLine, BeginsFor}
 use Rattle.fv_run.proofs.Acked.{acked_all, acked_whole, up_to_take}
 use Rattle.fv_run.proofs.Courses.{undergoes_read}
 use Rattle.fv_run.proofs.Following.{follows_part, follows_whole, full}
 use Rattle.fv_run.proofs.KeepingUp.{keeps_up_between, none_before}
 use Rattle.fv_run.proofs.Limits.{all_read, same_behind}
 use Rattle.fv_run.proofs.Lines.{no_end, one_end}
-use Rattle.fv_run.proofs.Sessions.{hurt_by, hurt_last, images_stand, lacks, never_failed, reads_stand, rests_standing_for}
+use Rattle.fv_run.proofs.Sessions.{leaf_lost, hurt_by, hurt_last, images_stand, lacks, never_failed, reads_stand, rests_standing_for}
 use Rattle.fv_run.proofs.Surviving.{after_some, after_all, asked_for, part_of_one, rested}
 use Rattle.fv_run.proofs.Answered.{survives, followed}
 use Rattle.fv_run.proofs.Ran.{RanOpen}
@@ -285,11 +285,15 @@ module _ (limit : ℕ) (session : Session) (mid : Shown) (last : Session) (end :
     meets point keeps hurt tells,
     λ within none. ⊎_elim
         (λ (asks : AsksFor (lines_built mid.ends.left) end last).
-        let short = wants (end_told tells) asks.none asks.room asks.asks in
-        inl (record { room = asks.room; asks = asks.line; at = short.0; want = short.1; found = short.2; short = short.3 }))
+        ⊎_elim
+        (λ (short : Lacks asks.room point.reads). inl (record { room = asks.room; asks = asks.line; at = short.0; want = short.1; found = short.2; short = short.3 }))
+        (λ (loses : LosesLeaf end last point).
+        let read = at_end.stands.reads tells in
+        inr (inr (leaf_lost (lines_built mid.ends.left) count mid session end last point read.output (keeps.given ∙ read.given) read.answered (at_end.stands.course tells) loses)))
+        (wants (end_told tells) asks.none asks.room asks.asks))
         (λ (changed : HasChanged (lines_built mid.ends.left) count).
         let read = at_end.stands.reads tells in
-        inr (record { output = read.output; given = keeps.given ∙ read.given; line = inr (subst (λ (n : ℕ). HasChanged (lines_built mid.ends.left) n) (sym read.answered) changed) }))
+        inr (inl (record { output = read.output; given = keeps.given ∙ read.given; line = inr (subst (λ (n : ℕ). HasChanged (lines_built mid.ends.left) n) (sym read.answered) changed) })))
         (at_end.stands.asks tells within none),
   )
 

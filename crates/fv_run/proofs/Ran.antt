@@ -23,7 +23,7 @@ use Rattle.fv_run.specs.declared.ending.Fault.TheVariants.{Usage, Unsound, NotAg
 use Rattle.fv_run.specs.Built.{lines_built}
 use Rattle.fv_run.specs.Endings.{IsWholeFault, raised_by}
 use Rattle.fv_run.specs.Promises.{line_at}
-use Rattle.fv_run.specs.Running.{asks_behind, cps_behind, EndsInPoint, HasAnsweredAll, HasChanged, HasFollowed, HasReason, Holds, IsAskedFor, IsAtRest, IsFileDamage, IsHurtBehind, IsLacking, IsLastFor, IsOverLimit, IsPastLimit, KeepsUp, MeetsDamage, most_rooms, rooms_along, IsSessionDamage, Ran, reads_blocks, StandsOnImage, Survives, SurvivesFrom, AsksNone, IsQuiet}
+use Rattle.fv_run.specs.Running.{asks_behind, cps_behind, EndsInPoint, HasAnsweredAll, HasChanged, HasFollowed, HasReason, Holds, IsAskedFor, IsAtRest, IsFileDamage, IsHurtBehind, IsLacking, IsLeafLost, IsLastFor, IsOverLimit, IsPastLimit, KeepsUp, MeetsDamage, most_rooms, rooms_along, IsSessionDamage, Ran, reads_blocks, StandsOnImage, Survives, SurvivesFrom, AsksNone, IsQuiet, UndergoesLines}
 use Rattle.fv_run.specs.Answering.{IsEndOf, Stopped, BeginsFor}
 use Rattle.fv_run.proofs.Admitted.{image_is_admitted}
 use Rattle.fv_run.proofs.KeepingUp.{keeps_up_since}
@@ -141,14 +141,27 @@ module _ (limit : ℕ) (session : Session) (old mid new : Shown) (laws : IsDisk 
   open_counts : Counts old mid None
   open_counts = record { tells = unwritten.kept.tells; source = ap (λ (e : Ends). e.source_faults) unwritten.kept.ends; sink = ap (λ (e : Ends). e.sink_faults) unwritten.kept.ends; disk = calm.faults }
 
-  damage_since : IsSessionDamage (lines_built mid.ends.left) mid new → IsSessionDamage (lines_built old.ends.left) old new
+  damage_since : IsSessionDamage (lines_built mid.ends.left) session mid new → IsSessionDamage (lines_built old.ends.left) session old new
   damage_since is = ⊎_elim
       (λ (lacking : IsLacking (lines_built mid.ends.left) new.reads). inl (subst (λ (l : List ℕ). IsLacking (lines_built l) new.reads) same_left lacking))
-      (λ (file : IsFileDamage (lines_built mid.ends.left) mid new). inr (record {
+      (λ (other : IsFileDamage (lines_built mid.ends.left) mid new ⊎ IsLeafLost (lines_built mid.ends.left) session mid new). ⊎_elim
+      (λ (file : IsFileDamage (lines_built mid.ends.left) mid new). inr (inl (record {
         output = file.output;
         given = since_given file.output file.given;
         line = subst (λ (l : List ℕ). (reads_blocks (line_at (lines_built l) (whole file.output)) ≡ true) ⊎ HasChanged (lines_built l) (whole file.output)) same_left file.line;
-      }))
+      })))
+      (λ (leaf : IsLeafLost (lines_built mid.ends.left) session mid new). inr (inr (subst (λ (l : List ℕ). IsLeafLost (lines_built l) session old new) same_left (record {
+        output = leaf.output;
+        given = since_given leaf.output leaf.given;
+        session = leaf.session;
+        course = subst (λ (i : Image). UndergoesLines (lines_built mid.ends.left) (whole leaf.output) i session new.reads leaf.session) unwritten.reads leaf.course;
+        none = leaf.none;
+        at = leaf.at;
+        want = leaf.want;
+        found = leaf.found;
+        leaf = leaf.leaf;
+      }))))
+      other)
       is
 
   meets_since : MeetsDamage (lines_built mid.ends.left) session mid new → MeetsDamage (lines_built old.ends.left) session old new

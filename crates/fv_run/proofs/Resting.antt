@@ -9,7 +9,7 @@ use Rattle.fv_image.specs.Held.{Keeps, layout_at}
 use Rattle.fv_image.specs.Views.{slots}
 use Rattle.fv_image.specs.WholeMachine.{Tells}
 use Rattle.fv_root.specs.Finding.{IsFound, root_found}
-use Rattle.fv_container.specs.Chains.{container_at}
+use Rattle.fv_container.specs.Chains.{paged_at}
 use Rattle.fv_pool.specs.declared.pool.Pool.{Pool}
 use Rattle.fv_volume.specs.States.{States, state_at}
 use Rattle.fv_volumes.specs.UnderRoot.{IsLentAt, IsMapOf}
@@ -27,7 +27,7 @@ module _ (d e : Shown) (stays : Stays d e) (pool : Pool) (states : States) where
     tells = subst (λ (i : Image). Tells (layout_at (root_found pool.found) i) before) (sym stays.reads) held.tells;
     keeps = λ c now. subst (λ (i : Image). Keeps (root_found pool.found) i c) (sym stays.reads) (held.keeps c (stays.no_more c now));
     map = subst (λ (i : Image). IsMapOf i pool.found pool.map) (sym stays.reads) held.map;
-    slots = λ s below. subst (λ (i : Image). IsLentAt i pool.found s (state_at states s) (container_at pool.containers s)) (sym stays.reads) (held.slots s below);
+    slots = λ s below. subst (λ (i : Image). IsLentAt i pool.found s (state_at states s) (paged_at pool.containers s)) (sym stays.reads) (held.slots s below);
     spaced = held.spaced;
     names = held.names;
     each = λ s. held_rests d e stays pool s (state_at states s) (held.each s);

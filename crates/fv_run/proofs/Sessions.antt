@@ -1,6 +1,6 @@
 -- What a session on a disk stands for, and that it goes on doing so while the disk rests.
-use Rattle.std.proofs.Common.{◌≡◌, ◌<◌, ◌≤◌, inl, inr, ⊎_elim, ℕ, suc, zero, true, false, refl, sym, ap, subst, ◌∙◌, arith}
-use Rattle.std.specs.Prelude.{List, length, Some, None, Option, Result, Ok, Err, IsNone, IsOk, IsErr, IsTrue}
+use Rattle.std.proofs.Common.{◌≡◌, ◌⊎◌, ◌<◌, ◌≤◌, inl, inr, ⊎_elim, ℕ, suc, zero, true, false, refl, sym, ap, subst, ◌∙◌, arith}
+use Rattle.std.specs.Prelude.{◌++◌, List, length, Some, None, Option, Result, Ok, Err, IsNone, IsOk, IsErr, IsTrue}
 use Rattle.fv_disk.specs.Shown.{Image, Shown}
 use Rattle.fv_disk.specs.DiskCalls.{Stays}
 use Rattle.fv_disk.specs.HostCalls.{Rests}
@@ -9,7 +9,7 @@ use Rattle.fv_codec.specs.declared.superblock.Super.{Super}
 use Rattle.fv_codec.specs.declared.root.Root.{Root}
 use Rattle.fv_codec.specs.Blocks.{super_at, gate_open}
 use Rattle.fv_model.specs.Machines.{Machine}
-use Rattle.fv_model.specs.Runs.{Line}
+use Rattle.fv_model.specs.Runs.{Line, whole}
 use Rattle.fv_image.specs.Layout.{superblock, gate_place}
 use Rattle.fv_image.specs.NewerRoot.{behind, newer, taken_of, root_of}
 use Rattle.fv_image.specs.Held.{Layout, layout_at}
@@ -19,12 +19,13 @@ use Rattle.fv_root.specs.Commits.{IsFoundOn}
 use Rattle.fv_run.proofs.Resting.{all_ready_still, held_still, machine_rests}
 use Rattle.fv_root.specs.declared.find.Found.{Found}
 use Rattle.fv_root.specs.Finding.{IsDamaged, IsFound, IsNoAggregate, root_found}
+use Rattle.fv_container.specs.Chains.{IsLeafDamage, KeepsMaps, Slots}
 use Rattle.fv_aggregate.specs.declared.fault.OpenFault.TheVariants.{Damaged}
 use Rattle.fv_aggregate.specs.declared.session.Session.{Session}
 use Rattle.fv_aggregate.specs.declared.fault.Fault.TheVariants as session_fault
 use Rattle.fv_aggregate.specs.Standing.{taken_since, StandsAfter, StandsFor, StandsReady}
 use Rattle.fv_aggregate.specs.Asking.{AsksWithin, IsShort}
-use Rattle.fv_aggregate.specs.Calls.{LacksBlocks, HasFilesToPlace}
+use Rattle.fv_aggregate.specs.Calls.{LacksBlocks, HasFilesToPlace, HasLostLeaf}
 use Rattle.fv_aggregate.specs.Commands.{asked_by, Asked, AsksPoint, room_by}
 use Rattle.fv_aggregate.specs.Damages.{HasDamage}
 use Rattle.fv_aggregate.specs.Reading.{IsAsRead}
@@ -32,8 +33,8 @@ use Rattle.fv_aggregate.specs.Calls as calls
 use Rattle.fv_aggregate.specs.Causes.{IsOpenFault, IsUnder}
 use Rattle.fv_aggregate.proofs.Clear.{none_taken}
 use Rattle.fv_run.specs.Promises.{line_at}
-use Rattle.fv_run.specs.Running.{asked_in, IsHurt, IsHurtBehind, only_asks, room_in, UndergoesLines}
-use Rattle.fv_run.specs.Answering.{IsHurtBy, LacksSpace}
+use Rattle.fv_run.specs.Running.{asked_in, IsHurt, IsHurtBehind, IsLeafLost, only_asks, room_in, UndergoesLines}
+use Rattle.fv_run.specs.Answering.{IsHurtBy, LacksSpace, LosesLeaf}
 
 abbrev nothing_behind : Option (Result Root Shape)
 nothing_behind = None
@@ -198,11 +199,41 @@ as_read_itself session = record { pool = record { map = refl; containers = refl;
 
 -- ---- points that lack blocks
 
--- where nothing of files waits, a point that lacks blocks lacks them in the image
+-- a leaf isn't there that a container has by its map, also where other leaves came into memory
+leaf_kept : (disk : Shown) (i : Image) (old new : Slots) (at want found : ℕ) → KeepsMaps disk old new → IsLeafDamage i new at want found → IsLeafDamage i old at want found
+leaf_kept disk i old new at want found keeps is = record { slot = is.slot; map = is.map; there = sym (keeps.maps is.slot) ∙ is.there; leaf = is.leaf }
+
+-- where nothing of files waits, a point that lacks blocks lacks them in the image; or a leaf isn't there
 pub lacks : (old new : Shown) (session new_session : Session) (at want found : ℕ) → calls.IsForWant old session new new_session (session_fault.Damaged at want found) → LacksSpace old session new
 lacks old new session new_session at want found is tells none room asks = ⊎_elim
     (λ (short : LacksBlocks old session new_session at want found).
-    let same : taken_since new_session.pool.map ≡ 0 = ap (λ (s : Session). taken_since s.pool.map) (short.same none.none) ∙ none_taken session.pool.map none.taken in
-    (at, want, found, subst (λ (i : Image). IsShort i room 0 at want found) (sym is.0.stays.reads) (subst (λ (n : ℕ). IsShort old.reads room n at want found) same (short.image tells room asks))))
+    let same : taken_since new_session.pool.map ≡ 0 = (λ j. taken_since ((short.same none.none).0.map j)) ∙ none_taken session.pool.map none.taken in
+    inl (at, want, found, subst (λ (i : Image). IsShort i room 0 at want found) (sym is.0.stays.reads) (subst (λ (n : ℕ). IsShort old.reads room n at want found) same (short.image tells room asks))))
+    (λ (other : HasFilesToPlace old session at want found ⊎ HasLostLeaf new session new_session at want found). ⊎_elim
     (λ (place : HasFilesToPlace old session at want found). absurd (place.files none.none))
+    (λ (lost : HasLostLeaf new session new_session at want found). inr (record {
+      still = is.0.stays.reads;
+      none = none;
+      at = at;
+      want = want;
+      found = found;
+      leaf = leaf_kept new new.reads session.pool.containers new_session.pool.containers at want found (lost.same none.none).0.containers (lost.leaf (rw is.0.stays.tells tells));
+    }))
+    other)
     is.1
+
+-- the session at work behind `count` lines that are answered lost a leaf
+pub leaf_lost : (lines : List Line) (count : ℕ) (old : Shown) (first : Session) (before : Shown) (session : Session) (end : Shown) (output : List ℕ) → end.given ≡ old.given ++ output → whole output ≡ count
+    → UndergoesLines lines count old.reads first before.reads session → LosesLeaf before session end → IsLeafLost lines first old end
+leaf_lost lines count old first before session end output given answered course loses = record {
+  output = output;
+  given = given;
+  session = session;
+  course = subst (λ (i : Image). UndergoesLines lines (whole output) old.reads first i session) (sym loses.still)
+      (subst (λ (n : ℕ). UndergoesLines lines n old.reads first before.reads session) (sym answered) course);
+  none = loses.none;
+  at = loses.at;
+  want = loses.want;
+  found = loses.found;
+  leaf = loses.leaf;
+}

@@ -30,7 +30,7 @@ use Rattle.fv_run.specs.Built.{built, lines_built}
 use Rattle.fv_run.specs.Endings.{count_of, IsWholeFault}
 use Rattle.fv_run.specs.Promises.{line_at}
 use Rattle.fv_run.specs.Running.{asked_in, begun, changes_volumes, HasChanged, Holds, IsOverLimit, IsHurtBehind, IsPastLimit, IsSessionDamage, KeepsUp, MeetsDamage, most_rooms, only_asks, reads_blocks, room_in, rooms_along, Survives, asks_point, pending_behind, IsQuiet}
-use Rattle.fv_run.specs.Answering.{Applies, AsksFor, BeginsFor, HasAnswered, HasRead, IsAtEnd, IsCounted, IsEndOf, IsHurtBy, LacksSpace, IsReady, IsSessionFault, StandsAt, Stopped, TellsLine}
+use Rattle.fv_run.specs.Answering.{Applies, AsksFor, BeginsFor, HasAnswered, HasRead, IsAtEnd, IsCounted, IsEndOf, IsHurtBy, Lacks, LacksSpace, LosesLeaf, IsReady, IsSessionFault, StandsAt, Stopped, TellsLine}
 use Rattle.fv_run.proofs.Following.{left_next, line_behind}
 use Rattle.fv_run.proofs.KeepingUp.{keeps_up_source, keeps_up_limit, keeps_up_line, next_most, next_all, end_most, knows_on}
 use Rattle.fv_run.proofs.Lines.{no_end, one_end}
@@ -38,7 +38,7 @@ use Rattle.fv_run.proofs.Limits.{all_read, ends_before, ends_all, past_limit, sa
 use Rattle.fv_run.proofs.Counted.{bound_for, bound_most, calm_next, counted_next, counted_none, counted_still, quiet_next, quiet_still}
 use Rattle.fv_run.proofs.Rooms.{first_in, later_in, greater_room, room_of_line}
 use Rattle.fv_run.proofs.Courses.{undergoes_next, undergoes_none, undergoes_read, undergoes_still}
-use Rattle.fv_run.proofs.Sessions.{hurt_behind, rests_asking, rests_standing}
+use Rattle.fv_run.proofs.Sessions.{leaf_lost, hurt_behind, rests_asking, rests_standing}
 use Rattle.fv_run.proofs.Answered.{none_answered, followed, rested_here, asked, crash_asked, left_as, crash_applied, rested_unapplied, crash_told, followed_part, rested_part, answered_one}
 
 -- before the first line
@@ -292,14 +292,14 @@ module _ (limit : ℕ) (first : Session) (old : Shown) (held : Held) (session : 
           let all : new.given ≡ old.given ++ (read.output ++ bytes) = since ∙ ap (λ (l : List ℕ). l ++ bytes) (finds.asks.given ∙ read.given) ∙ append_assoc old.given read.output bytes in
           ap whole (same_behind old.given output (read.output ++ bytes) (sym is ∙ all)) ∙ whole_append read.output bytes ∙ ap (λ (n : ℕ). n + whole bytes) read.answered
 
-      file_damage : end.given ≡ mid.given → IsTrue old.tells → (reads_blocks (line_at script count) ≡ true) ⊎ HasChanged script count → IsSessionDamage script old end
+      file_damage : end.given ≡ mid.given → IsTrue old.tells → (reads_blocks (line_at script count) ≡ true) ⊎ HasChanged script count → IsSessionDamage script first old end
       file_damage same tells line =
           let read = so_far.reads tells in
-          inr (record {
+          inr (inl (record {
             output = read.output;
             given = same ∙ finds.asks.given ∙ read.given;
             line = subst (λ (n : ℕ). (reads_blocks (line_at script n) ≡ true) ⊎ HasChanged script n) (sym read.answered) line;
-          })
+          }))
 
       meets : end.given ≡ mid.given → IsTrue old.tells → IsHurtBy (room_in (room_by session.volumes) (built (line_of bytes))) (asked_in (asked_by session.volumes) (built (line_of bytes))) session end → MeetsDamage script first old end
       meets same tells hurt =
@@ -325,8 +325,10 @@ module _ (limit : ℕ) (first : Session) (old : Shown) (held : Held) (session : 
             (λ (reads : reads_blocks (built (line_of bytes)) ≡ true). file_damage same tells (inl (ap reads_blocks (line_is tells) ∙ reads)))
             (λ (wants : LacksSpace mid session end). ⊎_elim
             (λ (asks : AsksFor script mid session).
-            let lacks = wants (mid_told tells) asks.none asks.room asks.asks in
-            inl (record { room = asks.room; asks = asks.line; at = lacks.0; want = lacks.1; found = lacks.2; short = lacks.3 }))
+            ⊎_elim
+            (λ (lacks : Lacks asks.room end.reads). inl (record { room = asks.room; asks = asks.line; at = lacks.0; want = lacks.1; found = lacks.2; short = lacks.3 }))
+            (λ (loses : LosesLeaf mid session end). let read = so_far.reads tells in inr (inr (leaf_lost script count old first mid session end read.output (same ∙ finds.asks.given ∙ read.given) read.answered (undergoes_still script count old.reads first now.reads mid.reads session finds.asks.rests.stays.reads (so_far.course tells)) loses)))
+            (wants (mid_told tells) asks.none asks.room asks.asks))
             (λ (changed : HasChanged script count). file_damage same tells (inr changed))
             (mid_asks tells within none))
             is.1,

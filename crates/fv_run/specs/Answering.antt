@@ -11,6 +11,7 @@ use Rattle.fv_script.specs.Telling.{Tells, unnamed}
 use Rattle.fv_lines.specs.Counts.{Counts}
 use Rattle.fv_lines.specs.Held.{Held}
 use Rattle.fv_lines.specs.Reading.{KnowsEnd, unread}
+use Rattle.fv_container.specs.Chains.{IsLeafDamage}
 use Rattle.fv_aggregate.specs.declared.session.Session.{Session}
 use Rattle.fv_aggregate.specs.Asking.{AsksWithin, IsShort}
 use Rattle.fv_aggregate.specs.Commands.{asked_by, Asked, room_by}
@@ -43,9 +44,19 @@ pub record TellsLine (old : Shown) (bytes : List ℕ) (new : Shown) (result : Re
 abbrev pub Lacks : ℕ → Image → Type 0
 Lacks room i = (at want found : ℕ) × IsShort i room 0 at want found
 
--- a consistency point lacks blocks, where nothing of files waits for it
+-- a call of a session with no file in memory left the disk as it was, on which a leaf isn't there that one of the session's containers
+-- has at `at`
+pub record LosesLeaf (old : Shown) (session : Session) (end : Shown) : Type 0 where
+  pub still : end.reads ≡ old.reads
+  pub none : IsWithoutFiles session
+  pub at : ℕ
+  pub want : ℕ
+  pub found : ℕ
+  pub leaf : IsLeafDamage end.reads session.pool.containers at want found
+
+-- a consistency point lacks blocks, where nothing of files waits for it, or a leaf of a container isn't there
 abbrev pub LacksSpace : Shown → Session → Shown → Type 0
-LacksSpace old session new = IsTrue old.tells → IsWithoutFiles session → (room : ℕ) → AsksWithin old session room → Lacks room new.reads
+LacksSpace old session new = IsTrue old.tells → IsWithoutFiles session → (room : ℕ) → AsksWithin old session room → Lacks room new.reads ⊎ LosesLeaf old session new
 
 -- a call of a session that asks for this met damage, and left it standing
 abbrev pub IsHurtBy : ℕ → Asked → Session → Shown → Type 0
@@ -175,7 +186,7 @@ IsEndOf limit first old new Source = Unit {0}
 IsEndOf limit first old new Sink = Unit {0}
 IsEndOf limit first old new Disk = Unit {0}
 IsEndOf limit first old new Memory = Unit {0}
-IsEndOf limit first old new Damaged = IsTrue old.tells → MeetsDamage (lines_built old.ends.left) first old new × (AsksWithin old first 0 → IsWithoutFiles first → IsSessionDamage (lines_built old.ends.left) old new)
+IsEndOf limit first old new Damaged = IsTrue old.tells → MeetsDamage (lines_built old.ends.left) first old new × (AsksWithin old first 0 → IsWithoutFiles first → IsSessionDamage (lines_built old.ends.left) first old new)
 IsEndOf limit first old new Limit = IsTrue old.tells → IsPastLimit limit old new
 IsEndOf limit first old new fault = ⊥
 

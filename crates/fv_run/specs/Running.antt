@@ -11,6 +11,7 @@ use Rattle.fv_model.specs.Runs.{Line, Says, NoCommand, OutOfRange, after, Full, 
 use Rattle.fv_image.specs.WholeMachine.{machine_of}
 use Rattle.fv_root.specs.declared.find.Found.{Found}
 use Rattle.fv_root.specs.Finding.{IsFound, IsNoAggregate}
+use Rattle.fv_container.specs.Chains.{IsLeafDamage}
 use Rattle.fv_volumes.specs.UnderRoot.{IsMapOf}
 use Rattle.fv_aggregate.specs.declared.fault.OpenFault.TheVariants as opening
 use Rattle.fv_aggregate.specs.declared.session.Session.{Session}
@@ -269,10 +270,6 @@ pub record IsFileDamage (lines : List Line) (old end : Shown) : Type 0 where
   pub given : end.given ≡ old.given ++ output
   pub line : (reads_blocks (line_at lines (whole output)) ≡ true) ⊎ HasChanged lines (whole output)
 
--- what a session is damaged by: at the end a point lacks blocks, or its lines came to what volumes hold
-abbrev pub IsSessionDamage : List Line → Shown → Shown → Type 0
-IsSessionDamage lines old end = IsLacking lines end.reads ⊎ IsFileDamage lines old end
-
 -- whether a line only asks for files, which leaves the session but for its cache and the numbers of files in memory
 abbrev pub only_asks : Line → Bool
 only_asks (Says command) = is_some (volume_asked command)
@@ -317,9 +314,27 @@ abbrev pub UndergoesLines : List Line → ℕ → Image → Session → Image �
 UndergoesLines lines zero i first j session = (session ≡ first) × (j ≡ i)
 UndergoesLines lines (suc count) i first j session = (mid : Session) × (k : Image) × UndergoesLines lines count i first k mid × UndergoesLine (line_at lines count) k mid j session
 
+-- A leaf of the container of a volume isn't there. The session at work behind the lines that are answered, with no file in memory, has it
+-- at `at`, where the image at the end has another block. Those lines led to that session from the one that was opened, each over the
+-- image of its moment.
+pub record IsLeafLost (lines : List Line) (first : Session) (old end : Shown) : Type 0 where
+  pub output : List ℕ
+  pub given : end.given ≡ old.given ++ output
+  pub session : Session
+  pub course : UndergoesLines lines (whole output) old.reads first end.reads session
+  pub none : IsWithoutFiles session
+  pub at : ℕ
+  pub want : ℕ
+  pub found : ℕ
+  pub leaf : IsLeafDamage end.reads session.pool.containers at want found
+
+-- what a session is damaged by: at the end a point lacks blocks, or its lines came to what volumes hold, or to a leaf that isn't there
+abbrev pub IsSessionDamage : List Line → Session → Shown → Shown → Type 0
+IsSessionDamage lines first old end = IsLacking lines end.reads ⊎ (IsFileDamage lines old end ⊎ IsLeafLost lines first old end)
+
 -- A call of a session that may add `room` blocks, and asks for this, met damage, by what the disk shows at the end, and left the session
--- so: blocks are lacking, or the files of a volume couldn't be placed, where the call comes to a point or to placing; or the table that it
--- asks for isn't as it has to be, with room that passes the dirty limit also behind a point.
+-- so: blocks are lacking, or the files of a volume couldn't be placed, where the call comes to a point or to placing; or a leaf of a container
+-- isn't there, where it comes to that; or the table that it asks for isn't as it has to be, with room that passes the dirty limit also behind a point.
 pub record IsHurt (room : ℕ) (asked : Asked) (session : Session) (end : Shown) (left : Session) : Type 0 where
   pub at : ℕ
   pub want : ℕ
@@ -357,7 +372,7 @@ pub record IsDamagedOpen (old end : Shown) : Type 0 where
   pub first : Session
   pub opened : IsOpened old.reads first
   pub meets : MeetsDamage (lines_built old.ends.left) first old end
-  pub why : IsSessionDamage (lines_built old.ends.left) old end
+  pub why : IsSessionDamage (lines_built old.ends.left) first old end
 
 -- Opening found a block without the shape of its kind, or a number past its bound, and nothing was written or given; or the session that was
 -- opened is damaged.

@@ -27,7 +27,7 @@ use Rattle.fv_volume.specs.Snapshots.{IsLeastFree}
 use Rattle.fv_volume.specs.States.{head_in}
 use Rattle.fv_volume.proofs.MapSlots.{is_free}
 use Rattle.fv_volume.proofs.SnapSlots.{least_is_free}
-use Rattle.fv_snapshot.specs.Creating.{content_by, Creates, IsGranted, JudgesCreation, SnapFails, TellsCreation}
+use Rattle.fv_snapshot.specs.Creating.{content_by, Creates, IsGranted, JudgesCreation, TellsCreation}
 use Rattle.fv_snapshot.proofs.Judging.{create_change}
 use Rattle.fv_snapshot.proofs.Placing.{never_refused, none_placed, place_changes, place_fails, placed_held}
 use Rattle.fv_snapshot.proofs.Snapped.{snapped_held, snapped_ready, snapped_volume}
@@ -39,23 +39,36 @@ module _ (d : Disk) (p : Pool) (x : VolumeState) (others : ℕ) (name : List ℕ
   can_have held = record { reserves = held.stands.reserves; ledger = held.stands.ledger }
 
   -- It is refused,
-  pub refused_creates : (r : Refusal) → JudgesCreation x p.found.blocks others name (Err r) → Creates d p x others name p x (Err (Refused r))
+  pub refused_creates : (r : Refusal) → JudgesCreation x p.found.blocks others name (Err r) → Creates d p x others name d p x (Err (Refused r))
   refused_creates r judged =
       let changes : IsHeldIn d p x.slot x → Changes (HasBeside x.name (volume_for d p x) others p.found.blocks) (SnapCreate x.name name) x.name (volume_for d p x) (volume_for d p x) (Err (Refused r)) =
       λ held. record { agrees = λ m has. judged.agrees (table_for d p x) (blocks_in d p x) m (can_have held) (distinct_told x.snapshots held.stands.names) has; becomes = tt; stays = refl } in
-      record { changes = changes; done = tt; failed = none_placed d p x ready; refused = λ s e. (refl, refl); held = λ held. held; cause = tt }
+      record { changes = changes; done = tt; failed = none_placed d p x ready; refused = λ s e. (refl, refl); held = λ held. held; cause = refl; calm = tt }
 
-  module _ (left : Pool) (mid : VolumeState) (placed : IsPlacedAs d p x d left mid) where
-    -- or it isn't done,
-    lacks : (e : VolumeFault) → IsPlaceFault e → SnapFails d p x e → Creates d p x others name left mid (Err e)
-    lacks e calm cause = record { changes = λ held. place_changes _ (SnapCreate x.name name) x.name _ _ e calm (placed.volume held.stands); done = tt; failed = placed; refused = λ r is. absurd (never_refused e calm r is); held = placed_held d p left x mid placed; cause = cause }
+  module _ (e : Disk) (left : Pool) (mid : VolumeState) (placed : IsPlacedAs d p x e left mid) where
+    -- or it isn't done, since what changed of the files isn't placed,
+    pub failed_creates : (why : VolumeFault) → IsPlaceFault d e why → MayFail d p (Some x) why → Creates d p x others name e left mid (Err why)
+    failed_creates why cause may = record {
+      changes = λ held. place_changes _ (SnapCreate x.name name) x.name _ _ d e why cause (placed.volume held.stands);
+      done = tt;
+      failed = placed;
+      refused = λ r is. absurd (never_refused d e why cause r is);
+      held = placed_held d e p left x mid placed;
+      cause = place_fails d e p x why cause may;
+      calm = tt;
+    }
 
-    -- since what changed of the files isn't placed, or memory ran out.
-    pub failed_creates : (e : VolumeFault) → IsPlaceFault e → MayFail d p (Some x) e → Creates d p x others name left mid (Err e)
-    failed_creates e calm may = lacks e calm (place_fails d p x e calm may)
-
-    pub lacking_creates : Creates d p x others name left mid (Err Memory)
-    lacking_creates = lacks Memory tt tt
+    -- or memory ran out.
+    pub lacking_creates : e.faults ≡ d.faults → Creates d p x others name e left mid (Err Memory)
+    lacking_creates calm = record {
+      changes = λ held. place_changes _ (SnapCreate x.name name) x.name _ _ d e Memory calm (placed.volume held.stands);
+      done = tt;
+      failed = placed;
+      refused = λ r is. absurd (never_refused d e Memory calm r is);
+      held = placed_held d e p left x mid placed;
+      cause = calm;
+      calm = tt;
+    }
 
     module _ (none : mid.files ≡ None) (whole : IsVolume mid.map) (slot : ℕ) (granted : IsGranted x name slot) where
       same_snaps : mid.snapshots ≡ x.snapshots
@@ -82,12 +95,12 @@ module _ (d : Disk) (p : Pool) (x : VolumeState) (others : ℕ) (name : List ℕ
           omega (arith, was, charge, span, size)
 
       module _ (named : is_name name ≡ true) where
-        pub done_ready : IsReady d left (with_snapshot mid slot name)
-        done_ready = snapped_ready mid whole slot free name placed.ready.labelled named d left fits placed.ready
+        pub done_ready : IsReady e left (with_snapshot mid slot name)
+        done_ready = snapped_ready mid whole slot free name placed.ready.labelled named e left fits placed.ready
 
         -- Else it is made.
-        pub done_creates : JudgesCreation x p.found.blocks others name (Ok slot) → Creates d p x others name left (with_snapshot mid slot name) (Ok tt)
-        done_creates judged = record {
+        pub done_creates : e.faults ≡ d.faults → JudgesCreation x p.found.blocks others name (Ok slot) → Creates d p x others name e left (with_snapshot mid slot name) (Ok tt)
+        done_creates calm judged = record {
           changes = λ held. record {
             agrees = λ m has. judged.agrees (table_for d p x) (blocks_in d p x) m (can_have held) (distinct_told x.snapshots held.stands.names) has;
             becomes = λ m has. create_change m x.name (volume_for d p x) has name ∙ ap (λ (v : Volume). Becomes x.name v) (sym (after held));
@@ -96,30 +109,31 @@ module _ (d : Disk) (p : Pool) (x : VolumeState) (others : ℕ) (name : List ℕ
           done = record { mid = mid; placed = placed; none = none; slot = slot; free = granted.free; now = refl };
           failed = tt;
           refused = tt;
-          held = λ held. subst (λ (s : ℕ). IsHeldIn d left s (with_snapshot mid slot name)) at (snapped_held mid whole slot free name d left (there held) none other named fits);
+          held = λ held. subst (λ (s : ℕ). IsHeldIn e left s (with_snapshot mid slot name)) at (snapped_held mid whole slot free name e left (there held) none other named fits);
           cause = tt;
+          calm = calm;
         }
           where
             at : mid.slot ≡ x.slot
             at = ap (λ (z : VolumeState). z.slot) placed.keeps
 
-            there : IsHeldIn d p x.slot x → IsHeldIn d left mid.slot mid
-            there held = subst (λ (s : ℕ). IsHeldIn d left s mid) (sym at) (placed_held d p left x mid placed held)
+            there : IsHeldIn d p x.slot x → IsHeldIn e left mid.slot mid
+            there held = subst (λ (s : ℕ). IsHeldIn e left s mid) (sym at) (placed_held d e p left x mid placed held)
 
-            after : IsHeldIn d p x.slot x → volume_for d left (with_snapshot mid slot name) ≡ record (volume_for d p x) { snapshots = fin.insert (volume_for d p x).snapshots name (volume_for d p x).active }
+            after : IsHeldIn d p x.slot x → volume_for e left (with_snapshot mid slot name) ≡ record (volume_for d p x) { snapshots = fin.insert (volume_for d p x).snapshots name (volume_for d p x).active }
             after held =
-                snapped_volume mid whole slot free name d left (there held) none other
+                snapped_volume mid whole slot free name e left (there held) none other
                 ∙ ap (λ (v : Volume). record v { snapshots = fin.insert v.snapshots name v.active }) (placed.volume held.stands)
 
         -- It is made exactly where there was memory for it.
-        pub kept_creates : JudgesCreation x p.found.blocks others name (Ok slot) → (y : VolumeState) (r : Result Unit VolumeFault) → OnOk r (y ≡ with_snapshot mid slot name) → OnErr r (y ≡ mid) → IfErr r (λ e. e ≡ Memory) → Creates d p x others name left y r
-        kept_creates judged y (Ok done) now failed fault = subst (λ (z : VolumeState). Creates d p x others name left z (Ok done)) (sym now) (done_creates judged)
-        kept_creates judged y (Err e) now failed fault =
-            subst (λ (z : VolumeState). Creates d p x others name left z (Err e)) (sym failed) (subst (λ (e : VolumeFault). Creates d p x others name left mid (Err e)) (sym fault) lacking_creates)
+        pub kept_creates : e.faults ≡ d.faults → JudgesCreation x p.found.blocks others name (Ok slot) → (y : VolumeState) (r : Result Unit VolumeFault) → OnOk r (y ≡ with_snapshot mid slot name) → OnErr r (y ≡ mid) → IfErr r (λ why. why ≡ Memory) → Creates d p x others name e left y r
+        kept_creates calm judged y (Ok done) now failed fault = subst (λ (z : VolumeState). Creates d p x others name e left z (Ok done)) (sym now) (done_creates calm judged)
+        kept_creates calm judged y (Err why) now failed fault =
+            subst (λ (z : VolumeState). Creates d p x others name e left z (Err why)) (sym failed) (subst (λ (f : VolumeFault). Creates d p x others name e left mid (Err f)) (sym fault) (lacking_creates calm))
 
-        pub kept_ready : (y : VolumeState) (r : Result Unit VolumeFault) → OnOk r (y ≡ with_snapshot mid slot name) → OnErr r (y ≡ mid) → IsReady d left y
-        kept_ready y (Ok done) now failed = subst (IsReady d left) (sym now) done_ready
-        kept_ready y (Err e) now failed = subst (IsReady d left) (sym failed) placed.ready
+        pub kept_ready : (y : VolumeState) (r : Result Unit VolumeFault) → OnOk r (y ≡ with_snapshot mid slot name) → OnErr r (y ≡ mid) → IsReady e left y
+        kept_ready y (Ok done) now failed = subst (IsReady e left) (sym now) done_ready
+        kept_ready y (Err why) now failed = subst (IsReady e left) (sym failed) placed.ready
 
 -- ---- what is known in memory
 
@@ -142,8 +156,14 @@ module _ (p : Pool) (x : VolumeState) (others : ℕ) (name : List ℕ) where
       same r s e = cc
 
   -- and by nothing else.
-  pub failed_tells : (y : VolumeState) (e : VolumeFault) → IsPlaceFault e → TellsCreation p x others name y (Err e)
-  failed_tells y e calm = record { judged = λ r is. absurd (never_refused e calm r is); waits = tt }
+  pub failed_tells : (y : VolumeState) (d e : Disk) (why : VolumeFault) → IsPlaceFault d e why → TellsCreation p x others name y (Err why)
+  failed_tells y d e why cause = record { judged = λ r is. absurd (never_refused d e why cause r is); waits = tt }
+
+  pub lacking_tells : (y : VolumeState) → TellsCreation p x others name y (Err Memory)
+  lacking_tells y = record { judged = λ r is. absurd (isnt r is); waits = tt }
+    where
+      isnt : (r : Refusal) → Memory ≡ Refused r → ⊥
+      isnt r is = cc
 
   -- The map that was kept waits.
   pub kept_tells : (slot : ℕ) → IsLeastFree x.snapshots slot → (y : VolumeState) (r : Result Unit VolumeFault) → OnOk r (get_or y.fresh slot false ≡ true) → IfErr r (λ e. e ≡ Memory) → TellsCreation p x others name y r
@@ -151,4 +171,4 @@ module _ (p : Pool) (x : VolumeState) (others : ℕ) (name : List ℕ) where
     judged = tt;
     waits = λ k its. ap (λ (n : ℕ). get_or y.fresh n false) (least_one x.snapshots k slot its least) ∙ waits;
   }
-  kept_tells slot least y (Err e) waits fault = subst (λ (f : VolumeFault). TellsCreation p x others name y (Err f)) (sym fault) (failed_tells y Memory tt)
+  kept_tells slot least y (Err e) waits fault = subst (λ (f : VolumeFault). TellsCreation p x others name y (Err f)) (sym fault) (lacking_tells y)

@@ -61,16 +61,16 @@ few_left x a at n labelled now =
     omega (arith, few, less, same)
 
 -- A snapshot that was found stands in a slot from 1 to 24, also where files were placed since.
-pub index_slot : (d : Disk) (p : Pool) (x : VolumeState) (name : List ℕ) (left : Pool) (mid : VolumeState) → IsPlacedAs d p x d left mid → (at : ℕ) → FindsSnap x.snapshots name (Some at) → (snaps : List Snap) → snaps ≡ mid.snapshots
+pub index_slot : (d e : Disk) (p : Pool) (x : VolumeState) (name : List ℕ) (left : Pool) (mid : VolumeState) → IsPlacedAs d p x e left mid → (at : ℕ) → FindsSnap x.snapshots name (Some at) → (snaps : List Snap) → snaps ≡ mid.snapshots
     → (some : Snap) → (0 < (slice_index_or snaps at some).slot) × ((slice_index_or snaps at some).slot < 25)
-index_slot d p x name left mid placed at finds snaps same some =
+index_slot d e p x name left mid placed at finds snaps same some =
     let its : FindsSnap mid.snapshots name (Some at) = subst (λ (l : List Snap). FindsSnap l name (Some at)) (sym (ap (λ (z : VolumeState). z.snapshots) placed.keeps)) finds in
     let bounds = slot_there mid.snapshots at some placed.ready.labelled.snapshots.slots.within (found_within name mid.snapshots at its) in
     subst (λ (l : List Snap). (0 < (slice_index_or l at some).slot) × ((slice_index_or l at some).slot < 25)) (sym same) (bounds.0, bounds.1)
 
 module _ (d : Disk) (p : Pool) (x : VolumeState) (name : List ℕ) (ready : IsReady d p x) where
   -- no snapshot has the name,
-  pub refused_deletes : FindsSnap x.snapshots name None → Deletes d p x name p x (Err (Refused NoSnapshot))
+  pub refused_deletes : FindsSnap x.snapshots name None → Deletes d p x name d p x (Err (Refused NoSnapshot))
   refused_deletes nowhere = record {
     changes = λ held. record {
       agrees = λ m has. delete_by m x.name (volume_for d p x) has.there name
@@ -82,7 +82,8 @@ module _ (d : Disk) (p : Pool) (x : VolumeState) (name : List ℕ) (ready : IsRe
     failed = none_placed d p x ready;
     refused = λ s e. (refl, refl);
     held = λ held. held;
-    cause = tt;
+    cause = refl;
+    calm = tt;
     lost = record { lost = λ none. refl; only = λ r e. (refused_as r e, found_nowhere name x.snapshots nowhere) };
   }
     where
@@ -93,10 +94,19 @@ module _ (d : Disk) (p : Pool) (x : VolumeState) (name : List ℕ) (ready : IsRe
   never_lost : (at : ℕ) → FindsSnap x.snapshots name (Some at) → snap_named x.snapshots name ≡ None → ⊥
   never_lost at finds gone = true≢false (sym (found_there name x.snapshots at finds) ∙ ap (λ (o : Option Snap). is_some o) gone)
 
-  module _ (left : Pool) (mid : VolumeState) (placed : IsPlacedAs d p x d left mid) where
+  module _ (e : Disk) (left : Pool) (mid : VolumeState) (placed : IsPlacedAs d p x e left mid) where
     -- or what changed of the files isn't placed,
-    pub failed_deletes : (at : ℕ) → FindsSnap x.snapshots name (Some at) → (e : VolumeFault) → IsPlaceFault e → MayFail d p (Some x) e → Deletes d p x name left mid (Err e)
-    failed_deletes at finds e calm may = record { changes = λ held. place_changes _ (SnapDelete x.name name) x.name _ _ e calm (placed.volume held.stands); done = tt; failed = placed; refused = λ r is. absurd (never_refused e calm r is); held = placed_held d p left x mid placed; cause = place_fails d p x e calm may; lost = record { lost = λ gone. absurd (never_lost at finds gone); only = λ r is. absurd (never_refused e calm r is) } }
+    pub failed_deletes : (at : ℕ) → FindsSnap x.snapshots name (Some at) → (why : VolumeFault) → IsPlaceFault d e why → MayFail d p (Some x) why → Deletes d p x name e left mid (Err why)
+    failed_deletes at finds why cause may = record {
+      changes = λ held. place_changes _ (SnapDelete x.name name) x.name _ _ d e why cause (placed.volume held.stands);
+      done = tt;
+      failed = placed;
+      refused = λ r is. absurd (never_refused d e why cause r is);
+      held = placed_held d e p left x mid placed;
+      cause = place_fails d e p x why cause may;
+      calm = tt;
+      lost = record { lost = λ gone. absurd (never_lost at finds gone); only = λ r is. absurd (never_refused d e why cause r is) };
+    }
 
     module _ (none : mid.files ≡ None) (whole : IsVolume mid.map) (at : ℕ) (finds : FindsSnap x.snapshots name (Some at)) (some : Snap) (ledger : Ledger) where
       same_snaps : mid.snapshots ≡ x.snapshots
@@ -135,32 +145,32 @@ module _ (d : Disk) (p : Pool) (x : VolumeState) (name : List ℕ) (ready : IsRe
         booked : IsBooked left_volume
         booked = counted_booked left_volume counted_left labelled.map labelled.span few
 
-        pub done_ready : IsReady d left done
-        done_ready = subst (IsReady d left) same (without.unsnapped_ready mid whole labelled at some within ledger d left booked placed.ready)
+        pub done_ready : IsReady e left done
+        done_ready = subst (IsReady e left) same (without.unsnapped_ready mid whole labelled at some within ledger e left booked placed.ready)
 
         module _ (held : IsHeldIn d p x.slot x) where
           slot_is : mid.slot ≡ x.slot
           slot_is = ap (λ (z : VolumeState). z.slot) placed.keeps
 
-          there : IsHeldIn d left mid.slot mid
-          there = subst (λ (s : ℕ). IsHeldIn d left s mid) (sym slot_is) (placed_held d p left x mid placed held)
+          there : IsHeldIn e left mid.slot mid
+          there = subst (λ (s : ℕ). IsHeldIn e left s mid) (sym slot_is) (placed_held d e p left x mid placed held)
 
-          after : volume_for d left left_volume ≡ record (volume_for d p x) { snapshots = fin.remove (volume_for d p x).snapshots name }
+          after : volume_for e left left_volume ≡ record (volume_for d p x) { snapshots = fin.remove (volume_for d p x).snapshots name }
           after =
-              without.unsnapped_volume mid whole labelled at some within ledger d left there none name its
+              without.unsnapped_volume mid whole labelled at some within ledger e left there none name its
               ∙ ap (λ (v : Volume). record v { snapshots = fin.remove v.snapshots name }) (placed.volume held.stands)
 
-          right : IsLedgerOf (volume_for d left left_volume) ledger
-          right = recounted d left left_volume none
-              (without.root_now mid whole labelled at some within ledger d left there none) (without.kept_now mid whole labelled at some within ledger d left there none)
+          right : IsLedgerOf (volume_for e left left_volume) ledger
+          right = recounted e left left_volume none
+              (without.root_now mid whole labelled at some within ledger e left there none) (without.kept_now mid whole labelled at some within ledger e left there none)
               (without.unsnapped_labelled mid whole labelled at some within ledger booked.span) valid
-              (without.names_now mid whole labelled at some within ledger d left there none name its) (without.each_now mid whole labelled at some within ledger d left there none) ledger counted_left
+              (without.names_now mid whole labelled at some within ledger e left there none name its) (without.each_now mid whole labelled at some within ledger e left there none) ledger counted_left
 
           fits : ledger.charge ≤ mid.size
           fits =
-              let less = use_without_snapshot (volume_for d left mid) name in
-              let same_volume : use_of (volume_for d left left_volume) ≡ use_of (record (volume_for d left mid) { snapshots = fin.remove (volume_for d left mid).snapshots name }) =
-              ap use_of (without.unsnapped_volume mid whole labelled at some within ledger d left there none name its) in
+              let less = use_without_snapshot (volume_for e left mid) name in
+              let same_volume : use_of (volume_for e left left_volume) ≡ use_of (record (volume_for e left mid) { snapshots = fin.remove (volume_for e left mid).snapshots name }) =
+              ap use_of (without.unsnapped_volume mid whole labelled at some within ledger e left there none name its) in
               let charged = right.charged in
               let was = there.stands.ledger.charged in
               let need_was = there.stands.ledger.needed in
@@ -168,12 +178,12 @@ module _ (d : Disk) (p : Pool) (x : VolumeState) (name : List ℕ) (ready : IsRe
               let most = there.within in
               omega (arith, less, same_volume, charged, was, need_was, nothing, most)
 
-          held_now : IsHeldIn d left mid.slot left_volume
-          held_now = without.unsnapped_held mid whole labelled at some within ledger d left there none name its booked right fits
+          held_now : IsHeldIn e left mid.slot left_volume
+          held_now = without.unsnapped_held mid whole labelled at some within ledger e left there none name its booked right fits
 
         -- or it is removed.
-        pub done_deletes : Deletes d p x name left done (Ok tt)
-        done_deletes = subst (λ (z : VolumeState). Deletes d p x name left z (Ok tt)) same (record {
+        pub done_deletes : e.faults ≡ d.faults → Deletes d p x name e left done (Ok tt)
+        done_deletes calm = subst (λ (z : VolumeState). Deletes d p x name e left z (Ok tt)) same (record {
           changes = λ held. record {
             agrees = λ m has.
                 delete_by m x.name (volume_for d p x) has.there name
@@ -184,8 +194,9 @@ module _ (d : Disk) (p : Pool) (x : VolumeState) (name : List ℕ) (ready : IsRe
           done = record { mid = mid; placed = placed; none = none; at = at; finds = finds; within = subst (λ (snaps : List Snap). at < length snaps) same_snaps within; snap = slice_index_or mid.snapshots at some; there = λ other. ap (λ (snaps : List Snap). slice_index_or snaps at other) (sym same_snaps) ∙ same_at mid.snapshots at other some within; ledger = ledger; counted = counted_left; now = same };
           failed = tt;
           refused = tt;
-          held = λ held. subst (λ (s : ℕ). IsHeldIn d left s left_volume) (slot_is held) (held_now held);
+          held = λ held. subst (λ (s : ℕ). IsHeldIn e left s left_volume) (slot_is held) (held_now held);
           cause = tt;
+          calm = calm;
           lost = record { lost = λ gone. absurd (never_lost at finds gone); only = tt };
         })
           where
@@ -201,13 +212,13 @@ module _ (d : Disk) (p : Pool) (x : VolumeState) (name : List ℕ) (ready : IsRe
                 by (Some q) e is = some_found x name d p held.stands q e
 
     -- So the calls leave it.
-    pub removed_deletes : (none : mid.files ≡ None) (whole : IsVolume mid.map) (at : ℕ) (finds : FindsSnap x.snapshots name (Some at)) (some : Snap) (n : ℕ) → n ≡ (slice_index_or mid.snapshots at some).slot
+    pub removed_deletes : e.faults ≡ d.faults → (none : mid.files ≡ None) (whole : IsVolume mid.map) (at : ℕ) (finds : FindsSnap x.snapshots name (Some at)) (some : Snap) (n : ℕ) → n ≡ (slice_index_or mid.snapshots at some).slot
         → (a new : VolumeState) → a ≡ without_snapshot mid at n → IsVolume a.map → HasCounted a.map None (length a.snapshots) a.span a.size a.kind new.ledger → new ≡ record a { ledger = new.ledger }
-        → Deletes d p x name left new (Ok tt) × IsReady d left new
-    removed_deletes none whole at finds some n there a new gone valid counted now =
+        → Deletes d p x name e left new (Ok tt) × IsReady e left new
+    removed_deletes calm none whole at finds some n there a new gone valid counted now =
         let ledger : Ledger = new.ledger in
         let left_is : a ≡ without_snapshot mid at (slice_index_or mid.snapshots at some).slot = gone ∙ ap (without_snapshot mid at) there in
         let same : new ≡ done none whole at finds some ledger = now ∙ ap (λ (z : VolumeState). record z { ledger = ledger }) left_is in
         let right = subst (λ (z : VolumeState). HasCounted z.map None (length z.snapshots) z.span z.size z.kind ledger) left_is counted in
         let is = subst (λ (z : VolumeState). IsVolume z.map) left_is valid in
-        subst (λ (z : VolumeState). Deletes d p x name left z (Ok tt) × IsReady d left z) (sym same) (done_deletes none whole at finds some ledger is right, done_ready none whole at finds some ledger is right)
+        subst (λ (z : VolumeState). Deletes d p x name e left z (Ok tt) × IsReady e left z) (sym same) (done_deletes none whole at finds some ledger is right calm, done_ready none whole at finds some ledger is right)

@@ -21,8 +21,8 @@ use Rattle.fv_volume.specs.OneVolume.{home_in, IsReady}
 use Rattle.fv_snapshot.specs.Creating.{SnapFails}
 
 -- A volume between points is one still where what changed of its files was placed.
-pub placed_held : (d : Disk) (p q : Pool) (x y : VolumeState) → IsPlacedAs d p x d q y → IsHeldIn d p x.slot x → IsHeldIn d q x.slot y
-placed_held d p q x y placed held =
+pub placed_held : (d e : Disk) (p q : Pool) (x y : VolumeState) → IsPlacedAs d p x e q y → IsHeldIn d p x.slot x → IsHeldIn e q x.slot y
+placed_held d e p q x y placed held =
     let wide : x.most + 256 ≤ x.span = held.wide in
     let most : y.most ≡ x.most = ap (λ (z : VolumeState). z.most) placed.keeps in
     let span : y.span ≡ x.span = ap (λ (z : VolumeState). z.span) placed.keeps in
@@ -65,19 +65,19 @@ none_placed d p x ready = record {
 -- ---- why a step on snapshots wasn't done
 
 -- Placing refuses nothing,
-pub never_refused : (e : VolumeFault) → IsPlaceFault e → (r : Refusal) → e ≡ Refused r → ⊥
-never_refused e calm r is = subst IsPlaceFault is calm
+pub never_refused : (d e : Disk) (why : VolumeFault) → IsPlaceFault d e why → (r : Refusal) → why ≡ Refused r → ⊥
+never_refused d e why cause r is = subst (IsPlaceFault d e) is cause
 
 -- so what it fails for a step on snapshots fails for,
-pub place_fails : (d : Disk) (p : Pool) (x : VolumeState) (e : VolumeFault) → IsPlaceFault e → MayFail d p (Some x) e → SnapFails d p x e
-place_fails d p x (Refused r) calm may = absurd calm
-place_fails d p x DiskFault calm may = absurd calm
-place_fails d p x (Damaged at want found) calm may = may
-place_fails d p x Memory calm may = tt
+pub place_fails : (d e : Disk) (p : Pool) (x : VolumeState) (why : VolumeFault) → IsPlaceFault d e why → MayFail d p (Some x) why → SnapFails d e p x why
+place_fails d e p x (Refused r) cause may = absurd cause
+place_fails d e p x DiskFault cause may = (may, cause)
+place_fails d e p x (Damaged at want found) cause may = (may, cause)
+place_fails d e p x Memory cause may = cause
 
 -- and no machine is asked.
-pub place_changes : (has : Machine → Type 0) (command : Command) (name : List ℕ) (old new : Volume) (e : VolumeFault) → IsPlaceFault e → new ≡ old → Changes has command name old new (Err e)
-place_changes has command name old new (Refused r) calm same = absurd calm
-place_changes has command name old new DiskFault calm same = absurd calm
-place_changes has command name old new (Damaged at want found) calm same = record { agrees = λ m is. tt; becomes = tt; stays = same }
-place_changes has command name old new Memory calm same = record { agrees = λ m is. tt; becomes = tt; stays = same }
+pub place_changes : (has : Machine → Type 0) (command : Command) (name : List ℕ) (old new : Volume) (d e : Disk) (why : VolumeFault) → IsPlaceFault d e why → new ≡ old → Changes has command name old new (Err why)
+place_changes has command name old new d e (Refused r) cause same = absurd cause
+place_changes has command name old new d e DiskFault cause same = record { agrees = λ m is. tt; becomes = tt; stays = same }
+place_changes has command name old new d e (Damaged at want found) cause same = record { agrees = λ m is. tt; becomes = tt; stays = same }
+place_changes has command name old new d e Memory cause same = record { agrees = λ m is. tt; becomes = tt; stays = same }

@@ -1,7 +1,7 @@
 -- What making a snapshot answers and leaves.
 use Rattle.std.specs.Prelude.{Bool, cond, get_or, is_some, false, true, map, ◌≡◌, ◌≤◌, ◌+◌, ℕ, List, None, Option, Some, Result, Ok, Err, IfErr, IfOk, OnErr, OnOk}
 use Rattle.std.specs.List.{list_all, range_with_len}
-use Rattle.fv_disk.specs.Shown.{Shown as Disk}
+use Rattle.fv_disk.specs.Shown.{Rose, Shown as Disk}
 use Rattle.fv_charge.specs.declared.ledger.Ledger.{Ledger}
 use Rattle.fv_charge.specs.Changes.{admission}
 use Rattle.fv_model.specs.declared.answers.Refusal.{Refusal}
@@ -65,30 +65,32 @@ pub record IsGranted (x : VolumeState) (name : List ℕ) (slot : ℕ) : Type 0 w
   pub fits : x.ledger.charge + map_blocks x.span ≤ x.size
 
 -- What changed of a volume's files was placed, and then a snapshot of its active table was kept under the least free slot.
-pub record IsSnapped (disk : Disk) (pool : Pool) (x : VolumeState) (left : Pool) (name : List ℕ) (y : VolumeState) : Type 0 where
+pub record IsSnapped (disk : Disk) (pool : Pool) (x : VolumeState) (after : Disk) (left : Pool) (name : List ℕ) (y : VolumeState) : Type 0 where
   pub mid : VolumeState
-  pub placed : IsPlacedAs disk pool x disk left mid
+  pub placed : IsPlacedAs disk pool x after left mid
   pub none : mid.files ≡ None
   pub slot : ℕ
   pub free : IsLeastFree x.snapshots slot
   pub now : y ≡ with_snapshot mid slot name
 
--- why a step on snapshots wasn't done: it is refused, what changed of the files wasn't placed, or memory ran out
-abbrev pub SnapFails : Disk → Pool → VolumeState → VolumeFault → Type 0
-SnapFails disk pool x (Refused r) = Unit {0}
-SnapFails disk pool x DiskFault = ⊥
-SnapFails disk pool x (Damaged at want found) = MayFail disk pool (Some x) (Damaged at want found)
-SnapFails disk pool x Memory = Unit {0}
+-- Why a step on snapshots wasn't done: it is refused, what changed of the files wasn't placed, or memory ran out. The disk's count of faults rose where
+-- a read failed, and stays otherwise.
+abbrev pub SnapFails : Disk → Disk → Pool → VolumeState → VolumeFault → Type 0
+SnapFails disk after pool x (Refused r) = after.faults ≡ disk.faults
+SnapFails disk after pool x DiskFault = MayFail disk pool (Some x) DiskFault × Rose disk.faults after.faults
+SnapFails disk after pool x (Damaged at want found) = MayFail disk pool (Some x) (Damaged at want found) × (after.faults ≡ disk.faults)
+SnapFails disk after pool x Memory = after.faults ≡ disk.faults
 
 -- A snapshot of a name was made of a volume, or not. It is answered as in each machine that has the volume, and the volume is the one that it
 -- becomes there. Where it is refused nothing changed, and after another fault files were placed alone. The volume stays one between points.
-pub record Creates (disk : Disk) (pool : Pool) (x : VolumeState) (others : ℕ) (name : List ℕ) (left : Pool) (y : VolumeState) (result : Result Unit VolumeFault) : Type 0 where
-  pub changes : IsHeldIn disk pool x.slot x → Changes (HasBeside x.name (volume_for disk pool x) others pool.found.blocks) (SnapCreate x.name name) x.name (volume_for disk pool x) (volume_for disk left y) result
-  pub done : OnOk result (IsSnapped disk pool x left name y)
-  pub failed : OnErr result (IsPlacedAs disk pool x disk left y)
+pub record Creates (disk : Disk) (pool : Pool) (x : VolumeState) (others : ℕ) (name : List ℕ) (after : Disk) (left : Pool) (y : VolumeState) (result : Result Unit VolumeFault) : Type 0 where
+  pub changes : IsHeldIn disk pool x.slot x → Changes (HasBeside x.name (volume_for disk pool x) others pool.found.blocks) (SnapCreate x.name name) x.name (volume_for disk pool x) (volume_for after left y) result
+  pub done : OnOk result (IsSnapped disk pool x after left name y)
+  pub failed : OnErr result (IsPlacedAs disk pool x after left y)
   pub refused : IfErr result (λ e. (r : Refusal) → e ≡ Refused r → (left ≡ pool) × (y ≡ x))
-  pub held : IsHeldIn disk pool x.slot x → IsHeldIn disk left x.slot y
-  pub cause : IfErr result (SnapFails disk pool x)
+  pub held : IsHeldIn disk pool x.slot x → IsHeldIn after left x.slot y
+  pub cause : IfErr result (SnapFails disk after pool x)
+  pub calm : OnOk result (after.faults ≡ disk.faults)
 
 -- What is known of it in memory, whatever the volume stands for: it is refused only as it is judged, and the map that was kept waits to be written.
 pub record TellsCreation (pool : Pool) (x : VolumeState) (others : ℕ) (name : List ℕ) (y : VolumeState) (result : Result Unit VolumeFault) : Type 0 where

@@ -33,9 +33,9 @@ pub record RefusesNoSnapshot (snaps : List Snap) (name : List ℕ) (result : Res
   pub only : IfErr result (λ e. (r : Refusal) → e ≡ Refused r → (r ≡ NoSnapshot) × (snap_named snaps name ≡ None))
 
 -- What changed of a volume's files was placed, and then its snapshot of a name was removed, and the ledger was counted anew.
-pub record IsUnsnapped (disk : Disk) (pool : Pool) (x : VolumeState) (left : Pool) (name : List ℕ) (y : VolumeState) : Type 0 where
+pub record IsUnsnapped (disk : Disk) (pool : Pool) (x : VolumeState) (after : Disk) (left : Pool) (name : List ℕ) (y : VolumeState) : Type 0 where
   pub mid : VolumeState
-  pub placed : IsPlacedAs disk pool x disk left mid
+  pub placed : IsPlacedAs disk pool x after left mid
   pub none : mid.files ≡ None
   pub at : ℕ
   pub finds : FindsSnap x.snapshots name (Some at)
@@ -49,11 +49,12 @@ pub record IsUnsnapped (disk : Disk) (pool : Pool) (x : VolumeState) (left : Poo
 -- The snapshot of a name was removed from a volume, or not. It is answered as in each machine that has the volume and no clone on the snapshot, and
 -- the volume is the one that it becomes there. It is refused exactly where no snapshot has the name, whatever the disk holds. Nothing changed then,
 -- and after another fault files were placed alone. The volume stays one between points.
-pub record Deletes (disk : Disk) (pool : Pool) (x : VolumeState) (name : List ℕ) (left : Pool) (y : VolumeState) (result : Result Unit VolumeFault) : Type 0 where
-  pub changes : IsHeldIn disk pool x.slot x → Changes (HasUnused x.name (volume_for disk pool x) name) (SnapDelete x.name name) x.name (volume_for disk pool x) (volume_for disk left y) result
-  pub done : OnOk result (IsUnsnapped disk pool x left name y)
-  pub failed : OnErr result (IsPlacedAs disk pool x disk left y)
+pub record Deletes (disk : Disk) (pool : Pool) (x : VolumeState) (name : List ℕ) (after : Disk) (left : Pool) (y : VolumeState) (result : Result Unit VolumeFault) : Type 0 where
+  pub changes : IsHeldIn disk pool x.slot x → Changes (HasUnused x.name (volume_for disk pool x) name) (SnapDelete x.name name) x.name (volume_for disk pool x) (volume_for after left y) result
+  pub done : OnOk result (IsUnsnapped disk pool x after left name y)
+  pub failed : OnErr result (IsPlacedAs disk pool x after left y)
   pub refused : IfErr result (λ e. (r : Refusal) → e ≡ Refused r → (left ≡ pool) × (y ≡ x))
-  pub held : IsHeldIn disk pool x.slot x → IsHeldIn disk left x.slot y
-  pub cause : IfErr result (SnapFails disk pool x)
+  pub held : IsHeldIn disk pool x.slot x → IsHeldIn after left x.slot y
+  pub cause : IfErr result (SnapFails disk after pool x)
+  pub calm : OnOk result (after.faults ≡ disk.faults)
   pub lost : RefusesNoSnapshot x.snapshots name result

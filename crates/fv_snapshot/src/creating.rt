@@ -7,7 +7,8 @@ ghost use Rattle.fv_model.specs.Space.{map_blocks};
 ghost use Rattle.fv_model.specs.Spelling.{is_name};
 ghost use Rattle.fv_root.specs.Formatted.{IsSize};
 ghost use Rattle.fv_volmap.specs.Slots.{slot_at, stored_count};
-ghost use Rattle.fv_pool.specs.declared.fault.VolumeFault.TheVariants.{Memory};
+ghost use Rattle.fv_model.specs.declared.answers.Refusal.{Refusal};
+ghost use Rattle.fv_pool.specs.declared.fault.VolumeFault.TheVariants.{Memory, Refused};
 ghost use Rattle.fv_volume.specs.Files.{IsLabelled};
 ghost use Rattle.fv_volume.specs.OneVolume.{greatest_charge, IsBooked, IsReady};
 ghost use Rattle.fv_volume.specs.Snaps.{with_snapshot};
@@ -98,22 +99,23 @@ fn map_more(ledger: &Ledger, room: u32) -> Delta
 /// `others` is what the other volumes of the aggregate commit together, in blocks, at most 2^62.
 ///
 /// # Errors
-/// `Refused` as `judge_create` refuses; nothing changes then. `Damaged` and `Memory` as `make`. After each of them the volume stands for
-/// what it stood for.
+/// `Refused` as `judge_create` refuses; nothing changes then. `Damaged`, `DiskFault` and `Memory` as `make`. After each of them the volume
+/// stands for what it stood for.
 ///
-/// No call is made of the disk. Costs what both cost.
+/// Nothing is written to the disk. Costs what both cost.
 pub fn create<D: Disk>(
     volume: &mut VolumeState,
     pool: &mut Pool,
-    disk: &D,
+    disk: &mut D,
     others: u64,
     name: &Name,
 ) -> Result<(), VolumeFault>
-    requires ready { IsReady (D.shown disk.now) pool.old volume.old }
+    requires ready { IsReady (D.shown disk.old) pool.old volume.old }
     requires others { others ≤ 2 ^ 62 }
-    ensures creates { Creates (D.shown disk.now) pool.old volume.old others name.now pool.new volume.new result }
+    ensures creates { Creates (D.shown disk.old) pool.old volume.old others name.now (D.shown disk.new) pool.new volume.new result }
     ensures tells { TellsCreation pool.old volume.old others name.now volume.new result }
-    ensures ready { IsReady (D.shown disk.now) pool.new volume.new }
+    ensures refused { IfErr result (λ e. (r : Refusal) → e ≡ Refused r → disk.new ≡ disk.old) }
+    ensures ready { IsReady (D.shown disk.new) pool.new volume.new }
 {
     match judge_create(volume, pool.found.blocks, others, name) {
         Ok(granted) => make(volume, pool, disk, granted, name),
@@ -128,24 +130,25 @@ pub fn create<D: Disk>(
 /// refused.
 ///
 /// # Errors
-/// `Damaged` and `Memory` as `VolumeState::place_files`, and `Memory` where there is none for the snapshot. After each of them the volume
-/// stands for what it stood for.
+/// `Damaged`, `DiskFault` and `Memory` as `VolumeState::place_files`, and `Memory` where there is none for the snapshot. After each of them
+/// the volume stands for what it stood for.
 ///
-/// No call is made of the disk. Costs what `VolumeState::place_files` costs and a step for each word of 64 numbers of the span, whatever the
-/// number of files. Nothing is copied but the map.
+/// Nothing is written to the disk. Costs what `VolumeState::place_files` costs and a step for each word of 64 numbers of the span, whatever
+/// the number of files. Nothing is copied but the map.
 pub fn make<D: Disk>(
     volume: &mut VolumeState,
     pool: &mut Pool,
-    disk: &D,
+    disk: &mut D,
     granted: Granted,
     name: &Name,
 ) -> Result<(), VolumeFault>
-    requires ready { IsReady (D.shown disk.now) pool.old volume.old }
+    requires ready { IsReady (D.shown disk.old) pool.old volume.old }
     requires granted { IsGranted volume.old name.now granted.slot }
     ensures creates { (others : ℕ) → creation_refusal volume.old.snapshots volume.old.ledger pool.old.found.blocks others name.now ≡ None
-        → Creates (D.shown disk.now) pool.old volume.old others name.now pool.new volume.new result }
+        → Creates (D.shown disk.old) pool.old volume.old others name.now (D.shown disk.new) pool.new volume.new result }
     ensures tells { (others : ℕ) → TellsCreation pool.old volume.old others name.now volume.new result }
-    ensures ready { IsReady (D.shown disk.now) pool.new volume.new }
+    ensures accepted { IfErr result (λ e. (r : Refusal) → e ≡ Refused r → ⊥) }
+    ensures ready { IsReady (D.shown disk.new) pool.new volume.new }
 {
     volume.place_files(pool, disk)?;
     match volume.keep_snapshot(granted.slot, name) {

@@ -1,5 +1,8 @@
 //! Removing a snapshot.
 
+ghost use Rattle.std.specs.Prelude.{◌≡◌, IfErr};
+ghost use Rattle.fv_model.specs.declared.answers.Refusal.{Refusal};
+ghost use Rattle.fv_pool.specs.declared.fault.VolumeFault.TheVariants.{Refused};
 ghost use Rattle.fv_volume.specs.OneVolume.{IsReady};
 ghost use Rattle.fv_snapshot.specs.Deleting.{Deletes};
 
@@ -13,19 +16,20 @@ use fv_volume::{Pool, VolumeFault, VolumeState};
 ///
 /// # Errors
 /// `Refused` as the machine refuses `snap delete` where no clone stands on the snapshot: no snapshot has the name; nothing changes then.
-/// `Damaged` and `Memory` as `VolumeState::place_files`; the volume stands for what it stood for then.
+/// `Damaged`, `DiskFault` and `Memory` as `VolumeState::place_files`; the volume stands for what it stood for then.
 ///
-/// No call is made of the disk. Costs what `VolumeState::place_files` costs, and a step for each word of 64 numbers of each used slot, whatever
-/// the number of files.
+/// Nothing is written to the disk. Costs what `VolumeState::place_files` costs, and a step for each word of 64 numbers of each used slot,
+/// whatever the number of files.
 pub fn delete<D: Disk>(
     volume: &mut VolumeState,
     pool: &mut Pool,
-    disk: &D,
+    disk: &mut D,
     name: &Name,
 ) -> Result<(), VolumeFault>
-    requires ready { IsReady (D.shown disk.now) pool.old volume.old }
-    ensures deletes { Deletes (D.shown disk.now) pool.old volume.old name.now pool.new volume.new result }
-    ensures ready { IsReady (D.shown disk.now) pool.new volume.new }
+    requires ready { IsReady (D.shown disk.old) pool.old volume.old }
+    ensures deletes { Deletes (D.shown disk.old) pool.old volume.old name.now (D.shown disk.new) pool.new volume.new result }
+    ensures refused { IfErr result (λ e. (r : Refusal) → e ≡ Refused r → disk.new ≡ disk.old) }
+    ensures ready { IsReady (D.shown disk.new) pool.new volume.new }
 {
     let Some(at) = volume.snapshots.find(name) else {
         return Err(VolumeFault::Refused(Refusal::NoSnapshot));

@@ -237,14 +237,14 @@ removing_done {a = a} {b = b} count done counted owner room held calls calm = re
 -- ---- flushes
 
 -- no block was placed
-pub one_none : {T : Type 0} (known : Type 0) {going : Type 0} (a : Shown) (x : T) → going → PlacesOne known going a a (Ok x)
-one_none known a x calls = record { places = λ _ has. has; room = omega arith; enough = λ _. tt; spent = refl; untouched = tt; calls = calls; counts = counts_itself a (Ok x); cause = tt }
+pub one_none : {T : Type 0} (told known : Type 0) {going : Type 0} (a : Shown) (x : T) → going → PlacesOne told known going a a (Ok x)
+one_none told known a x calls = record { places = λ _ has. has; room = omega arith; enough = λ _ _. tt; spent = refl; untouched = tt; calls = calls; counts = counts_itself a (Ok x); cause = tt }
 
-pub one_ok : {T U : Type 0} {known going : Type 0} {a b : Shown} {x : T} (y : U) → PlacesOne known going a b (Ok x) → PlacesOne known going a b (Ok y)
+pub one_ok : {T U : Type 0} {told known going : Type 0} {a b : Shown} {x : T} (y : U) → PlacesOne told known going a b (Ok x) → PlacesOne told known going a b (Ok y)
 one_ok {a = a} {b = b} y did =
-    record { places = did.places; room = did.room; enough = λ _. tt; spent = did.spent; untouched = tt; calls = did.calls; counts = counts_calm a b (Ok y) did.counts.calm; cause = tt }
+    record { places = did.places; room = did.room; enough = λ _ _. tt; spent = did.spent; untouched = tt; calls = did.calls; counts = counts_calm a b (Ok y) did.counts.calm; cause = tt }
 
-pub one_err : {T U : Type 0} {known going : Type 0} {a b : Shown} {e : BlockFault} → PlacesOne {T = T} known going a b (Err e) → PlacesOne {T = U} known going a b (Err e)
+pub one_err : {T U : Type 0} {told known going : Type 0} {a b : Shown} {e : BlockFault} → PlacesOne {T = T} told known going a b (Err e) → PlacesOne {T = U} told known going a b (Err e)
 one_err did =
     record { places = did.places; room = tt; enough = did.enough; spent = did.spent; untouched = did.untouched; calls = did.calls; counts = counts_err did.counts; cause = did.cause }
 
@@ -267,7 +267,7 @@ module _ {B : Type 0} {told known : Type 0} {shown : B → Shown} {goes : B → 
   }
 
   -- a block wasn't placed
-  pub flushes_failed : {T : Type 0} {old new : B} {t u : Tree} {e : BlockFault} → PlacesOne {T = T} known (goes old new) (shown old) (shown new) (Err e) → u ≡ t
+  pub flushes_failed : {T : Type 0} {old new : B} {t u : Tree} {e : BlockFault} → PlacesOne {T = T} told known (goes old new) (shown old) (shown new) (Err e) → u ≡ t
       → (told → Stands (shown old) t → (v : ℕ) → (IsPlaced (loaded (shown old) t) (loaded (shown new) u) v → ⊥) → stays v old new) → pending t ≢ 0 → PlacesChanged {T = T} told known shown goes stays old new t u (Err e)
   flushes_failed {old = old} {new = new} {t = t} {u = u} did same keeps some = record {
     flushes = λ _ stands. flushes_still (shown old) (shown new) t u did.untouched.held did.untouched.used same stands;
@@ -275,7 +275,7 @@ module _ {B : Type 0} {told known : Type 0} {shown : B → Shown} {goes : B → 
     keeps = keeps;
     strays = λ _ _. did.untouched.strays;
     fits = λ _ _. fits_still (shown old) (shown new) t u same did.untouched.room;
-    enough = λ _ _ le. did.enough (λ none. some (omega (arith, le, none)));
+    enough = λ tells _ le. did.enough tells (λ none. some (omega (arith, le, none)));
     left = record { owner = ap (λ (w : Tree). w.owner) same; levels = ap (λ (w : Tree). w.levels) same; root = λ _. ap (λ (w : Tree). w.root) same; cells = (let held : cells_held u ≡ cells_held t = ap cells_held same in omega (arith, held)) };
     spent = did.spent;
     places = did.places;

@@ -50,10 +50,10 @@ lacks_block t level place high unread p is blocks over away =
     record { level = level; place = place; high = high; unread = unread; away = subst (LeadsAway t.under) is (subst (λ b. LeadsAway b p) (sym over) away) }
 
 -- a cell of the tree that wasn't loaded
-pub cell_fails : (told : Type 0) (t : Rooted) (old new : Shown) (index : ℕ) (p : Pointer) (e : BlockFault) → t.under ≡ under old → (told → p ≡ pointer_at t 0 index) → (is_some (t.cells index) ≡ true → ⊥) → PointerFails old new p e → Fails told t old new e
+pub cell_fails : (told : Type 0) (t : Rooted) (old new : Shown) (index : ℕ) (p : Pointer) (e : BlockFault) → t.under ≡ under old → (told → p ≡ pointer_at t 0 index) → (is_some (t.cells index) ≡ true → ⊥) → PointerFails told old new p e → Fails told t old new e
 cell_fails told t old new index p DiskFault held is fresh (cause, away) = cause
 cell_fails told t old new index p (Damaged at want found) held is fresh ((faults, was), away) =
-    (faults, inl (was, λ tells. lacks_block t 0 index (omega arith) (none_there (t.cells index) fresh) p (is tells) (under old) held (away tt)))
+    (faults, inl (was, λ tells. lacks_block t 0 index (omega arith) (none_there (t.cells index) fresh) p (is tells) (under old) held (away tells tt)))
 cell_fails told t old new index p Memory held is fresh (cause, away) = cause
 
 -- a node of the tree that wasn't loaded
@@ -61,7 +61,7 @@ pub node_fails : (told : Type 0) (t : Rooted) (old new : Shown) (level place : �
     → (IsDamaged e → is_some (t.nodes level place) ≡ true → ⊥) → LoadFails told old new p e → Fails told t old new e
 node_fails told t old new level place p DiskFault held low high is fresh h = h
 node_fails told t old new level place p (Damaged at want found) held low high is fresh (faults, inl h) =
-    (faults, inl (h.0, λ tells. lacks_block t level place high (node_unread t level place low (fresh tt)) p (sym (is tells)) (under old) held h.1))
+    (faults, inl (h.0, λ tells. lacks_block t level place high (node_unread t level place low (fresh tt)) p (sym (is tells)) (under old) held (h.1 tells)))
 node_fails told t old new level place p (Damaged at want found) held low high is fresh (faults, inr h) = (
   faults,
   inr (
@@ -137,11 +137,11 @@ fails_on told t old mid new (Err fault) e is calm untouched cause = subst (Fails
 
 -- a cell whose pointer was found before wasn't read
 pub pointed_fails : {T : Type 0} (told : Type 0) (old mid new : Shown) (t : Tree) (i : ℕ) (p : Pointer) (r : Result T BlockFault) → IsCalm old mid → mid.held ≡ old.held → (told → p ≡ pointer_at (standing (under old) t) 0 i)
-    → (is_some (cell_in t i) ≡ true → OnErr r ⊥) → IfErr r (PointerFails mid new p) → IfErr r (Fails told (standing (under old) t) old new)
+    → (is_some (cell_in t i) ≡ true → OnErr r ⊥) → IfErr r (PointerFails told mid new p) → IfErr r (Fails told (standing (under old) t) old new)
 pointed_fails told old mid new t i p r calm same pointer held cause =
     let at : under old ≡ under mid = ap (λ h v. fin.get h v) (sym same) in
-    IfErr-weaker r (λ e. (is_some (cell_in t i) ≡ true → ⊥) × PointerFails mid new p e) (Fails told (standing (under old) t) old new)
-    (λ e q. fails_later told (standing (under old) t) old mid new e calm same (cell_fails told (standing (under old) t) mid new i p e at pointer q.0 q.1)) (err_unless (is_some (cell_in t i) ≡ true) (PointerFails mid new p) r held cause)
+    IfErr-weaker r (λ e. (is_some (cell_in t i) ≡ true → ⊥) × PointerFails told mid new p e) (Fails told (standing (under old) t) old new)
+    (λ e q. fails_later told (standing (under old) t) old mid new e calm same (cell_fails told (standing (under old) t) mid new i p e at pointer q.0 q.1)) (err_unless (is_some (cell_in t i) ≡ true) (PointerFails told mid new p) r held cause)
 
 pub at_ok : {T E P : Type 0} (r : Result T E) → P → OnOk r P
 at_ok (Ok x) p = p

@@ -101,10 +101,10 @@ pub record ErasesCell (held : Under) (old new : Shown) (t u : Tree) (i start s g
 -- ---- flushes
 
 -- A call that places one block at most, and names at most one as gone.
-pub record PlacesOne {T : Type 0} (known going : Type 0) (old new : Shown) (result : Result T BlockFault) : Type 0 where
+pub record PlacesOne {T : Type 0} (told known going : Type 0) (old new : Shown) (result : Result T BlockFault) : Type 0 where
   pub places : known → KeepsPlaces old new
   pub room : OnOk result (old.room ≤ new.room + 1)
-  pub enough : old.room ≢ 0 → IfErr result (λ e. IsDamaged e → ⊥)
+  pub enough : told → old.room ≢ 0 → IfErr result (λ e. IsDamaged e → ⊥)
   pub spent : new.spent ≡ old.spent
   pub untouched : OnErr result (IsUntouched old new)
   pub calls : going

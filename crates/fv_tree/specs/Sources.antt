@@ -93,20 +93,21 @@ abbrev pub IsLoose : Shown → Pointer → BlockFault → Type 0
 IsLoose source p e = IsDamaged e → fin.get source.held p.vvbn ≡ None
 
 -- A load changes nothing but the count of look-ups, which rises by what it costs. From a source whose content is told it gives the block
--- under the VVBN of a pointer that is right: one that tells another place than its block's may give whatever lies there.
+-- under the VVBN of a pointer that is right: one that tells another place than its block's may give whatever lies there. Such a source says
+-- where it read, and answers damage only for a VVBN that isn't held.
 pub record Loads (told : Type 0) (old : Shown) (pointer : Pointer) (new : Shown) (block : List ℕ) (result : Result ℕ BlockFault) : Type 0 where
   pub untouched : IsUntouched old new
   pub gives : told → old.right pointer.vvbn pointer.pvbn → OnOk result (fin.get old.held pointer.vvbn ≡ Some block)
-  pub answers : IfOk result (λ pvbn. pvbn ≡ new.read_at pointer)
+  pub answers : told → IfOk result (λ pvbn. pvbn ≡ new.read_at pointer)
   pub range : IfOk result (λ pvbn. pvbn ≤ last_place)
   pub spent : OnOk result (new.spent ≡ old.spent + old.cost pointer)
   pub counts : Counts old new result
   pub cause : IfErr result (HasCause old new)
-  pub loose : IfErr result (IsLoose old pointer)
+  pub loose : told → IfErr result (IsLoose old pointer)
 
 -- A block of a kind is placed under a VVBN that was neither held nor in use, and comes into use with that kind and the PVBN that is
--- answered. A PVBN of 0 asks for an unknown pointer. Where a source's content is told, that block alone is new in the map. One fewer can
--- be placed afterwards at most, and while there is room no damage is answered. It makes no look-up.
+-- answered. A PVBN of 0 asks for an unknown pointer. Where a source's content is told, that block alone is new in the map, and while there
+-- is room no damage is answered. One fewer can be placed afterwards at most. It makes no look-up.
 pub record Places (told : Type 0) (old : Shown) (kind : ℕ) (block : List ℕ) (new : Shown) (result : Result Placed BlockFault) : Type 0 where
   pub fresh : IfOk result (λ placed. fin.get old.held placed.vvbn ≡ None)
   pub unused : IfOk result (λ placed. old.used placed.vvbn ≡ None)
@@ -116,7 +117,7 @@ pub record Places (told : Type 0) (old : Shown) (kind : ℕ) (block : List ℕ) 
   pub pvbn : IfOk result (λ placed. placed.pvbn ≤ last_place)
   pub strays : new.strays ≡ old.strays
   pub room : OnOk result (old.room ≤ new.room + 1)
-  pub enough : old.room ≢ 0 → IfErr result (λ e. IsDamaged e → ⊥)
+  pub enough : told → old.room ≢ 0 → IfErr result (λ e. IsDamaged e → ⊥)
   pub spent : new.spent ≡ old.spent
   pub failed : OnErr result (IsUntouched old new)
   pub counts : Counts old new result

@@ -97,15 +97,15 @@ pub record LacksBlock (t : Rooted) : Type 0 where
   pub away : LeadsAway t.under (pointer_at t level place)
 
 -- why a load of this pointer failed
-abbrev pub PointerFails : Shown → Shown → Pointer → BlockFault → Type 0
-PointerFails old new p e = HasCause old new e × (IsDamaged e → LeadsAway (under old) p)
+abbrev pub PointerFails : Type 0 → Shown → Shown → Pointer → BlockFault → Type 0
+PointerFails told old new p e = HasCause old new e × (told → IsDamaged e → LeadsAway (under old) p)
 
 -- Why the node to which this pointer leads wasn't loaded: as for the source, or its block was given and hasn't its shape.
 -- Which block that was is known where content is told.
 abbrev pub LoadFails : Type 0 → Shown → Shown → Pointer → BlockFault → Type 0
 LoadFails told old new p DiskFault = Rose old.faults new.faults × (new.damages ≡ old.damages)
 LoadFails told old new p (Damaged at want found) =
-    (new.faults ≡ old.faults) × ((WasDamaged old new at want found × LeadsAway (under old) p) ⊎ ((new.damages ≡ old.damages) × (told → IsBlockDamage old new p at want found)))
+    (new.faults ≡ old.faults) × ((WasDamaged old new at want found × (told → LeadsAway (under old) p)) ⊎ ((new.damages ≡ old.damages) × (told → IsBlockDamage old new p at want found)))
 LoadFails told old new p Memory = IsCalm old new
 
 -- Why a call of a tree failed, where `old` is what the source showed at the call and `new` what it shows afterwards. Where content is

@@ -58,8 +58,8 @@ pub trait Blocks {
     /// # Errors
     ///
     /// `DiskFault` only where the count of disk faults rose in the call, `Damaged` only where that of
-    /// damages rose, with the last damage, and the other count stays, and only where the VVBN isn't in the map;
-    /// `Memory` for want of memory alone, with both counts as before.
+    /// damages rose, with the last damage, and the other count stays, and where content is told only if the VVBN isn't in
+    /// the map; `Memory` for want of memory alone, with both counts as before.
     fn load(&mut self, pointer: &Pointer, into: &mut [u8; 4096]) -> Result<u32, TreeFault>
         ensures loads { Loads told (shown self.old) pointer.now (shown self.new) into.new result }
         ensures reads { reads self.old self.new };
@@ -84,7 +84,7 @@ pub trait Blocks {
     /// # Errors
     ///
     /// `DiskFault`, `Damaged` and `Memory` with the counts as for `load`; the map, what is in use and the strays
-    /// stay then.
+    /// stay then. Where content is told no damage comes while there is room.
     fn place(&mut self, kind: u8, block: &[u8; 4096]) -> Result<Placed, TreeFault>
         requires kind { IsKind kind }
         ensures places { Places told (shown self.old) kind block.now (shown self.new) result }

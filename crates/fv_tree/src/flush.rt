@@ -80,7 +80,7 @@ fn flush_cell<B: Blocks>(
     ensures changed { OnErr result (cell.now.changed ≡ true) }
     ensures changes { (cell.now.changed ≡ true → (pointer_in tree.old 0 cell.now.index).stamp ≢ 0 → 0 < tree.old.levels → changed_in tree.old.nodes 1 (cell.now.index / fan) ≡ true) → changes_in tree.new.nodes ≤ changes_in tree.old.nodes }
     ensures still_room { cell.now.changed ≡ false → (B.shown blocks.old).room ≤ (B.shown blocks.new).room }
-    ensures one { PlacesOne B.known (B.goes blocks.old blocks.new) (B.shown blocks.old) (B.shown blocks.new) result }
+    ensures one { PlacesOne B.told B.known (B.goes blocks.old blocks.new) (B.shown blocks.old) (B.shown blocks.new) result }
 {
     if cell.changed {
         replace(tree, blocks, (0, cell.index), block, cell.placed, true)
@@ -128,7 +128,7 @@ fn flush_node<B: Blocks>(
     ensures changes { (1 ≤ level → node.now.changed ≡ true → (pointer_in tree.old level place).stamp ≢ 0 → level < tree.old.levels → changed_in tree.old.nodes (level + 1) (place / fan) ≡ true) → changes_in tree.new.nodes ≤ changes_in tree.old.nodes }
     ensures own { changed_in tree.new.nodes level place ≡ changed_in tree.old.nodes level place }
     ensures still_room { node.now.changed ≡ false → (B.shown blocks.old).room ≤ (B.shown blocks.new).room }
-    ensures one { PlacesOne B.known (B.goes blocks.old blocks.new) (B.shown blocks.old) (B.shown blocks.new) result }
+    ensures one { PlacesOne B.told B.known (B.goes blocks.old blocks.new) (B.shown blocks.old) (B.shown blocks.new) result }
 {
     if node.changed && 1 <= level && level <= tree.levels {
         spell(tree.owner, level, place, node, block);

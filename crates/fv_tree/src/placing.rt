@@ -169,7 +169,7 @@ pub fn replace<B: Blocks>(
     ensures failed { OnErr result (tree.new ≡ tree.old) }
     ensures changes { ((pointer_in tree.old spot.0 spot.1).stamp ≢ 0 → spot.0 < tree.old.levels → changed_in tree.old.nodes (spot.0 + 1) (spot.1 / fan) ≡ true) → changes_in tree.new.nodes ≤ changes_in tree.old.nodes }
     ensures own { changed_in tree.new.nodes spot.0 spot.1 ≡ changed_in tree.old.nodes spot.0 spot.1 }
-    ensures one { PlacesOne B.known (B.goes blocks.old blocks.new) (B.shown blocks.old) (B.shown blocks.new) result }
+    ensures one { PlacesOne B.told B.known (B.goes blocks.old blocks.new) (B.shown blocks.old) (B.shown blocks.new) result }
 {
     let (level, place) = spot;
     let old = pointer_in(tree, level, place);
@@ -199,7 +199,7 @@ fn swap<B: Blocks>(
     ensures keeps { B.told → NamesUsed (B.shown blocks.old) placed old.now → KeepsOthers (λ v. B.keeps v blocks.old blocks.new) (B.shown blocks.old) (B.shown blocks.new) }
     ensures stamp { IfOk result (λ p. p.stamp ≡ old.now.stamp) }
     ensures pointer { IfOk result IsPointer }
-    ensures one { PlacesOne B.known (B.goes blocks.old blocks.new) (B.shown blocks.old) (B.shown blocks.new) result }
+    ensures one { PlacesOne B.told B.known (B.goes blocks.old blocks.new) (B.shown blocks.old) (B.shown blocks.new) result }
 {
     let at = blocks.place(kind, block)?;
     name_gone(blocks, placed, old.vvbn as u32);

@@ -95,7 +95,7 @@ pub fn read_pointed<B: Blocks>(
     ensures untouched { IsUntouched (B.shown blocks.old) (B.shown blocks.new) }
     ensures reads { B.reads blocks.old blocks.new }
     ensures counts { Counts (B.shown blocks.old) (B.shown blocks.new) result }
-    ensures cause { IfErr result (PointerFails (B.shown blocks.old) (B.shown blocks.new) pointer.now) }
+    ensures cause { IfErr result (PointerFails B.told (B.shown blocks.old) (B.shown blocks.new) pointer.now) }
 {
     if pointer.stamp == 0 {
         return Ok(None);
@@ -134,7 +134,7 @@ fn read_pointed_as<B: Blocks>(
     ensures untouched { IsUntouched (B.shown blocks.old) (B.shown blocks.new) }
     ensures reads { B.reads blocks.old blocks.new }
     ensures counts { Counts (B.shown blocks.old) (B.shown blocks.new) result }
-    ensures cause { IfErr result (PointerFails (B.shown blocks.old) (B.shown blocks.new) pointer.now) }
+    ensures cause { IfErr result (PointerFails B.told (B.shown blocks.old) (B.shown blocks.new) pointer.now) }
 {
     if pointer.stamp == 0 {
         return Ok(None);

@@ -4,6 +4,7 @@ use Rattle.std.specs.Prelude.{Result, Ok, Err}
 use Rattle.fv_disk.specs.declared.fault.BlockFault.{BlockFault}
 use Rattle.fv_disk.specs.declared.fault.BlockFault.TheVariants as block
 use Rattle.fv_disk.specs.Shown.{Rose, Shown as Disk}
+use Rattle.fv_disk.specs.DiskCalls.{Stays}
 use Rattle.fv_codec.specs.declared.pointer.Pointer.{Pointer}
 use Rattle.fv_tables.specs.Spelled.{Rooted, pointer_at}
 use Rattle.fv_tables.specs.Told.{Standing}
@@ -17,7 +18,9 @@ use Rattle.fv_volume.specs.declared.tables.TableAsked.TheVariants.{Active}
 use Rattle.fv_volume.specs.Asking.{TellsActive}
 use Rattle.fv_volume.specs.OneVolume.{home_in, standing_for}
 use Rattle.fv_pool.specs.Lending.{Lent, ReadFails, lent_for, place_or_none, shown_over}
-use Rattle.fv_pool.specs.BlocksOver.{held_entry, place_read}
+use Rattle.fv_pool.specs.BlocksOver.{LacksLeaf, held_entry, place_read}
+use Rattle.fv_pool.specs.LendingLaws.{leaf_before}
+use Rattle.fv_container.specs.Chains.{Slots}
 use Rattle.fv_volume.proofs.OneVolumes.{still_table, still_under}
 use Rattle.fv_volume.proofs.RightTables.{still_tells}
 use Rattle.fv_pool.proofs.CallCauses.{failed_cause}
@@ -33,6 +36,9 @@ module _ (d e : Disk) (p q : Pool) (reads : Reads d p e q) (x : VolumeState) (ca
   abbrev later : Lent
   later = lent_for q x.map e steps (home_in x) 0
 
+  abbrev stays : Stays d e
+  stays = reads.only_reads.stays
+
   read_there : (r : Pointer) → (shown_over later).read_at r ≡ (shown_over before).read_at r
   read_there r = λ j. place_or_none (place_read (held_entry x.map (reads.leaves.containers j) x.slot r.vvbn) r.pvbn)
 
@@ -46,7 +52,9 @@ module _ (d e : Disk) (p q : Pool) (reads : Reads d p e q) (x : VolumeState) (ca
   reads_fail : (t : Rooted) (faults : ℕ) (f : BlockFault) → ReadFails after t later faults f → ReadFails told t before faults f
   reads_fail t faults block.DiskFault fails = subst (λ n. Rose n faults) calm fails
   reads_fail t faults (block.Damaged at want found) (same, inl hole) = (same ∙ calm, inl (hole.0, λ is. hole.1 (still is)))
-  reads_fail t faults (block.Damaged at want found) (same, inr node) = (same ∙ calm, inr (λ is. node_there t at want found (node (still is))))
+  reads_fail t faults (block.Damaged at want found) (same, inr (inl node)) = (same ∙ calm, inr (inl (λ is. node_there t at want found (node (still is)))))
+  reads_fail t faults (block.Damaged at want found) (same, inr (inr leaf)) =
+      (same ∙ calm, inr (inr (leaf_before d e p.containers at want found stays.tells stays.reads (subst (λ (s : Slots). LacksLeaf e s at want found) reads.leaves.containers leaf))))
   reads_fail t faults block.Memory fails = fails ∙ calm
 
   inodes_bad : (t : Rooted) (faults : ℕ) (f : BlockFault) → IsBadInodes after t later faults f → IsBadInodes told t before faults f

@@ -11,7 +11,7 @@ use Rattle.fv_codec.specs.Blocks.{greatest_word, IsPointer}
 use Rattle.fv_model.specs.Spelling.{is_same_name}
 use Rattle.fv_tables.specs.Kept.{AgreeOnTree}
 use Rattle.fv_tables.specs.Spelled.{Rooted as Spelled, Under, pointer_at, stored}
-use Rattle.fv_tables.specs.Told.{Standing, file_at, standing_at, table_told}
+use Rattle.fv_tables.specs.Told.{Standing, file_at, standing_at}
 use Rattle.fv_tables.proofs.Tables.{same_record}
 use Rattle.fv_tree.specs.Beside.{loaded_on, unread, IsLaid}
 use Rattle.fv_tree.specs.Flushing.{Leads, IsNodeOf, IsSound, ReachesOnce}
@@ -22,7 +22,6 @@ use Rattle.fv_tree.proofs.Beside.{beside_alike, beside_leads, beside_pointers, b
 use Rattle.fv_inode.specs.declared.info.Info.{Info}
 use Rattle.fv_inode.proofs.Indexed.{alike_indexes}
 use Rattle.fv_files.specs.Apart.{StoredIn}
-use Rattle.fv_files.specs.Numbering.{AreNumbersIf}
 use Rattle.fv_files.specs.Tables.{tree_known, IsInfoOf}
 use Rattle.fv_files.proofs.Tables.{file_tree}
 use Rattle.fv_pool.specs.declared.pool.Pool.{Pool}
@@ -31,7 +30,7 @@ use Rattle.fv_volume.specs.declared.state.Snap.{Snap}
 use Rattle.fv_volume.specs.declared.state.VolumeState.{VolumeState}
 use Rattle.fv_volume.specs.declared.tables.TableAsked.{TableAsked}
 use Rattle.fv_volume.specs.declared.tables.TableAsked.TheVariants.{Active, Kept}
-use Rattle.fv_volume.specs.Asking.{numbers_asked, root_asked, snap_named, standing_asked, standing_of, standing_read, table_named, IsTableOf, TellsAsked, TellsRead}
+use Rattle.fv_volume.specs.Asking.{root_asked, snap_named, standing_asked, standing_of, standing_read, table_named, IsTableOf, TellsAsked, TellsRead}
 use Rattle.fv_pool.specs.Calls.{CallCause, Reads, TableFails}
 use Rattle.fv_pool.specs.Causes.{of_block}
 use Rattle.fv_pool.specs.declared.fault.VolumeFault.{VolumeFault}
@@ -41,7 +40,7 @@ use Rattle.fv_volume.specs.OneVolume.{blocks_in, home_in, shows, standing_for, u
 use Rattle.fv_volume.specs.Placing.{IsStoredWell}
 use Rattle.fv_volume.specs.SnapRecords.{IsSayableSnap}
 use Rattle.fv_volume.specs.States.{snap_in}
-use Rattle.fv_volume.proofs.OneVolumes.{levels_fit, root_fits, still_standing, still_table, still_under, stood_before}
+use Rattle.fv_volume.proofs.OneVolumes.{levels_fit, root_fits, still_standing, still_table, still_under}
 use Rattle.fv_volume.proofs.SnapReads.{found_among, slot_held}
 use Rattle.fv_volume.proofs.Undamaged.{active_holds, HoldsWell, TableHolds}
 

@@ -1,10 +1,10 @@
 -- What one volume is seen as once blocks were read.
 use Rattle.std.proofs.Common.{◌≡◌, ◌≢◌, ℕ, ◌≤◌, length, refl, sym, ap, subst, ◌∙◌, arith}
 use Rattle.std.specs.Prelude.{IsTrue, Option, Some, None, IfSome, is_some, cond, All}
-use Rattle.fv_disk.specs.Shown.{Shown as Disk}
+use Rattle.fv_disk.specs.Shown.{Image, Shown as Disk}
 use Rattle.fv_disk.specs.DiskCalls.{Stays}
 use Rattle.fv_disk.proofs.Resting.{reads_then as disk_then}
-use Rattle.fv_container.specs.Chains.{Slots, container_at}
+use Rattle.fv_container.specs.Chains.{AreCleanOn, Slots, container_at}
 use Rattle.fv_codec.specs.Blocks.{IsPointer}
 use Rattle.fv_root.specs.declared.find.Found.{Found}
 use Rattle.fv_root.specs.Formatted.{IsSize}
@@ -90,7 +90,8 @@ module _ (d e : Disk) (p q : Pool) (x : VolumeState) (spaces : q.map ≡ p.map) 
   same_volume = λ i. volume_as x (record { active = table_told (same_standing_for i); snapshots = snaps_by (same_slots i) x.snapshots })
 
   same_told : IsTold d p x.map x.slot → IsTold e q x.map x.slot
-  same_told told = (subst IsTrue (sym tells) told.0, apart_by p q x.map x.slot spaces slots told.1)
+  same_told told =
+      (subst IsTrue (sym tells) told.0, apart_by p q x.map x.slot spaces slots told.1, subst (λ (i : Image). AreCleanOn i q.containers) (sym reads) (subst (AreCleanOn d.reads) (sym slots) told.2))
 
   same_standing : IsStanding d p x → IsStanding e q x
   same_standing is = record {

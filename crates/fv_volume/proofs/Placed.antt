@@ -117,7 +117,7 @@ module _ (d : Disk) (p : Pool) (x : VolumeState) (f : Files) (held : x.files ≡
     -- what is under the numbers of its snapshots stays
     module _ (is : IsStanding d p x) where
       keeps : KeepsSlots x.slot (lent_for p x.map d 0 (home_in x) room) (lent_by q map e goes.steps (home_in x) less goes.goes.strays goes.goes.noted)
-      keeps = goes.goes.goes.keeps is.told.1
+      keeps = goes.goes.goes.keeps (is.told.0, is.told.2) is.told.1
 
       blocks : (k v : ℕ) → k ≢ 0 → has v (slot_at x.map k) ≡ true → held_block map q x.slot e.reads v ≡ held_block x.map p x.slot d.reads v
       blocks k v other here = ap (λ (i : Image). held_block map q x.slot i v) goes.goes.goes.only_reads.stays.reads ∙ keeps.blocks k v other here d.reads

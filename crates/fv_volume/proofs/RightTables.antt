@@ -170,11 +170,11 @@ module _ (d : Disk) (p : Pool) (x : VolumeState) where
 module _ (d : Disk) (p : Pool) (x : VolumeState) (is : IsStanding d p x) (well : IsStoredWell d p x) where
   -- no load for the active table answers damage
   pub no_damage : (steps faults at want found : ℕ) → TableFails (TellsActive d p x) (standing_for d p x) (lent_for p x.map d steps (home_in x) 0) faults (block.Damaged at want found) → ⊥
-  no_damage = none_damaged d p x (TellsActive d p x) (active_tells d p x is) (shows d p x).used (standing_for d p x) (active_holds d p x is well)
+  no_damage = none_damaged d p x (TellsActive d p x) (active_tells d p x is) (is.told.0, is.told.2) (shows d p x).used (standing_for d p x) (active_holds d p x is well)
 
   -- nor one for the table that a command reads
   pub read_undamaged : (s : Option (List ℕ)) (steps faults at want found : ℕ) → TableFails (TellsRead d p x s) (standing_read d p x s) (lent_for p x.map d steps (home_in x) 0) faults (block.Damaged at want found) → ⊥
-  read_undamaged s = let mine = read_holds d p x is well s in none_damaged d p x (TellsRead d p x s) (read_tells d p x is s) mine.uses (standing_read d p x s) mine.holds
+  read_undamaged s = let mine = read_holds d p x is well s in none_damaged d p x (TellsRead d p x s) (read_tells d p x is s) (is.told.0, is.told.2) mine.uses (standing_read d p x s) mine.holds
 
 -- ---- after reads
 

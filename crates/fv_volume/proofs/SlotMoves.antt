@@ -52,7 +52,7 @@ module _ (old new : Maps) (less : (v : ℕ) → taken_in new.slots v ≡ true �
 module _ (d : Disk) (p : Pool) (x y : VolumeState) (at : y.slot ≡ x.slot) where
   -- Where less is held all that is told stays told.
   pub less_told : ((v : ℕ) → taken_in y.map.slots v ≡ true → taken_in x.map.slots v ≡ true) → IsTold d p x.map x.slot → IsTold d p y.map y.slot
-  less_told less told = (told.0, subst (AreApart p y.map) (sym at) (less_apart x.map y.map less p.containers x.slot p refl told.1))
+  less_told less told = (told.0, subst (AreApart p y.map) (sym at) (less_apart x.map y.map less p.containers x.slot p refl told.1), told.2)
 
   module _ (k j : ℕ) (same : slot_at y.map k ≡ slot_at x.map j) where
     entry_moves : (v : ℕ) → has v (slot_at x.map j) ≡ true → held_entry y.map p.containers y.slot v ≡ held_entry x.map p.containers x.slot v

@@ -22,7 +22,8 @@ use Rattle.fv_files.specs.Tables.{file_loaded, tree_in}
 use Rattle.fv_pool.specs.declared.pool.Pool.{Pool}
 use Rattle.fv_volume.specs.declared.state.VolumeState.{VolumeState}
 use Rattle.fv_pool.specs.Calls.{FileFails, IsBadInodes, TableFails}
-use Rattle.fv_pool.specs.Lending.{Lent, ReadFails, lent_for, shown_over}
+use Rattle.fv_container.proofs.Damage.{none_damaged as no_leaf_damaged}
+use Rattle.fv_pool.specs.Lending.{Lent, ReadFails, TellsEntries, lent_for, shown_over}
 use Rattle.fv_pool.specs.Tables.{standing_by, AreSoundBy, AreStoredBy}
 use Rattle.fv_volume.specs.OneVolume.{home_in, shows, standing_for, IsStanding}
 use Rattle.fv_volume.specs.Placing.{IsStoredWell}
@@ -74,9 +75,10 @@ module _ (blocks : Under) (taken : ℕ → Option Use) (t : Rooted) (good : Hold
       let its = not_two (blocks v) node.block n.damage.block (ap (λ (u : Under). u v) (sym good.on) ∙ node.lies) (ap (λ (u : Under). u v) (sym same) ∙ n.damage.lies) in
       not_err (node_at node.block) _ _ node.spells (ap node_at its ∙ n.damage.fault)
 
-  pub no_read_damage : (told : Type 0) (old : Lent) (faults at want found : ℕ) → told → under (shown_over old) ≡ blocks → ReadFails told t old faults (block.Damaged at want found) → ⊥
-  no_read_damage told old faults at want found tells same (calm, inl hole) = lacks_none (subst LacksBlock (sym good.tree) (hole.1 tells))
-  no_read_damage told old faults at want found tells same (calm, inr node) =
+  pub no_read_damage : (told : Type 0) (old : Lent) (faults at want found : ℕ) → told → TellsEntries old.disk old.pool.containers → under (shown_over old) ≡ blocks → ReadFails told t old faults (block.Damaged at want found) → ⊥
+  no_read_damage told old faults at want found tells entries same (calm, inl hole) = lacks_none (subst LacksBlock (sym good.tree) (hole.1 tells))
+  no_read_damage told old faults at want found tells entries same (calm, inr (inr leaf)) = no_leaf_damaged old.disk.reads old.pool.containers at want found entries.1 (leaf entries.0)
+  no_read_damage told old faults at want found tells entries same (calm, inr (inl node)) =
       has_shape (shown_over old) (shown_over old) at want found same (subst (λ (u : Rooted). IsNodeDamage u (shown_over old) (shown_over old) at want found) (sym good.tree) (node tells))
 
 -- ---- the trees of a volume
@@ -123,7 +125,7 @@ module _ (d : Disk) (p : Pool) (x : VolumeState) where
   active_holds is well = record { inode = inode_by x.files is.trees well; files = file_by x.files is.trees well; names = names_by x.files well }
 
   -- where something is told that holds
-  module _ (told : Type 0) (tells : told) (uses : ℕ → Option Use) (t : Standing) (holds : TableHolds blocks uses t) where
+  module _ (told : Type 0) (tells : told) (entries : TellsEntries d p.containers) (uses : ℕ → Option Use) (t : Standing) (holds : TableHolds blocks uses t) where
     abbrev its : ℕ → Lent
     its steps = lent_for p x.map d steps (home_in x) 0
 
@@ -135,10 +137,10 @@ module _ (d : Disk) (p : Pool) (x : VolumeState) where
     file_whole : (steps faults at want found : ℕ) → FileFails told t (its steps) faults (block.Damaged at want found) → ⊥
     file_whole steps faults at want found fails =
         let of = fails.of_file tells in
-        no_read_damage blocks uses fails.tree (subst (HoldsWell blocks uses) (sym of.tree) (holds.files of.number of.file of.there)) told (its steps) faults at want found tells refl fails.fails
+        no_read_damage blocks uses fails.tree (subst (HoldsWell blocks uses) (sym of.tree) (holds.files of.number of.file of.there)) told (its steps) faults at want found tells entries refl fails.fails
 
     -- no load for a table answers damage
     pub none_damaged : (steps faults at want found : ℕ) → TableFails told t (its steps) faults (block.Damaged at want found) → ⊥
-    none_damaged steps faults at want found (inl fails) = no_read_damage blocks uses t.inode holds.inode told (its steps) faults at want found tells refl fails
+    none_damaged steps faults at want found (inl fails) = no_read_damage blocks uses t.inode holds.inode told (its steps) faults at want found tells entries refl fails
     none_damaged steps faults at want found (inr (inl bad)) = inodes_shaped steps faults (block.Damaged at want found) bad
     none_damaged steps faults at want found (inr (inr fails)) = file_whole steps faults at want found fails

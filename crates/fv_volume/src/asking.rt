@@ -37,13 +37,14 @@ impl VolumeState {
     ///
     /// `Refused` as the machine refuses `len`: a snapshot that isn't there, for which nothing is read; no file has the name. `DiskFault`
     /// only where a read failed in this call. `Damaged` for a pointer to a VVBN that isn't held, at the place of the volume's
-    /// label with 1 and 0, and for a node or an inode block without its shape: its place, and its first field that isn't as said. That is
-    /// proved of a disk that tells its content, where the volume's entries lie apart, the table's pointers tell no wrong places, and the
-    /// numbers of files in memory are the table's, whatever the volume stands for. `Memory` where memory ran out.
+    /// label with 1 and 0, and for a node, an inode block or a leaf of a container without its shape: its place, and its first field that
+    /// isn't as said. That is proved of a disk that tells its content, where the volume's entries lie apart, the containers are clean on
+    /// it, the table's pointers tell no wrong places, and the numbers of files in memory are the table's, whatever the volume stands for.
+    /// `Memory` where memory ran out.
     ///
     /// By the numbers of files in memory (`read_numbers`) it costs a block for the file's inode block and
-    /// for each node over it, and without them, as of a snapshot, one for each inode block before the file's, too. A snapshot is found by a
-    /// step for each there is. `docs/MACHINE.md` has the command.
+    /// for each node over it, and without them, as of a snapshot, one for each inode block before the file's, too. For a pointer that tells
+    /// no place a leaf of a container is read besides. A snapshot is found by a step for each there is. `docs/MACHINE.md` has the command.
     pub fn length<D: Disk>(
         &mut self,
         alloc: Global,

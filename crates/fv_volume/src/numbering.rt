@@ -32,8 +32,8 @@ impl VolumeState {
     /// # Errors
     ///
     /// `DiskFault` only where a read failed in this call. `Damaged` for a pointer to a VVBN that isn't held, at the place of the volume's
-    /// label with 1 and 0, and for a node or an inode block without its shape: its place, and its first field that isn't as said,
-    /// where `length` says so. `Memory` where memory ran out. Nothing changes then.
+    /// label with 1 and 0, and for a node, an inode block or a leaf of a container without its shape: its place, and its first field that
+    /// isn't as said, where `length` says so. `Memory` where memory ran out. Nothing changes then.
     ///
     /// Costs one step where the numbers are in memory, without a call of the disk and with no change of the pool. Else it costs a block for each
     /// inode block and each node over them, and memory for each name and for each free number below the greatest that is taken.

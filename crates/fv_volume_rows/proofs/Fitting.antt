@@ -16,7 +16,7 @@ use Rattle.fv_root.specs.Formatted.{IsSize}
 use Rattle.fv_image.specs.Views.{entry_count}
 use Rattle.fv_aggmap.specs.Space.{Space}
 use Rattle.fv_container.specs.Mapped.{Mapped}
-use Rattle.fv_container.specs.Chains.{Slots, container_at, parent_at, slot_count}
+use Rattle.fv_container.specs.Chains.{Slots, TellsEntries, container_at, paged_at, parent_at, slot_count}
 use Rattle.fv_pool.specs.declared.pool.Pool.{Pool}
 use Rattle.fv_volume.specs.declared.state.Base.{Base}
 use Rattle.fv_volume.specs.declared.state.VolumeState.{VolumeState}
@@ -130,7 +130,7 @@ placed_root d e p q x y room left goes = record {
   stays = over.only_reads.stays;
   found = over.found;
   committed = over.committed;
-  kept = λ b. ⊎_elim (λ still. inl still) (λ (may : MayTake p.map p.containers x.slot b). inr (λ taken. taken (record { after = may.lies.0; within = may.lies.1; free = or_from (is_member p.map.committed b) (is_member p.map.committed b) may.spare may.spare }))) (over.kept b);
+  kept = λ b. ⊎_elim (λ still. inl still) (λ (may : MayTake (TellsEntries d p.containers) p.map p.containers x.slot b). inr (λ taken. taken (record { after = may.lies.0; within = may.lies.1; free = or_from (is_member p.map.committed b) (is_member p.map.committed b) may.spare may.spare }))) (over.kept b);
   others = over.others;
   there = over.shape.there;
   count = over.shape.count;
@@ -183,13 +183,13 @@ fit_left d e p q xs slot x y was within there same labelled leaves = fit_with d 
 
 -- a new volume beside those that were, or none
 pub made_fit : {E : Type 0} (d : Disk) (p q : Pool) (xs ys : States) (name : List ℕ) (size : ℕ) (kind : Kind) (r : Result ℕ E) → AreFit d p xs → IfOk r (λ slot. IsMade xs slot name size kind ys)
-    → IfOk r (λ slot. IsNew (state_at ys slot) (container_at q.containers slot) name size kind) → IfOk r (λ slot. q ≡ with_holes p slot size) → OnOk r ((s : ℕ) → IfSome (state_at ys s) (IsLabelled s))
+    → IfOk r (λ slot. IsNew (state_at ys slot) (paged_at q.containers slot) name size kind) → IfOk r (λ slot. q ≡ with_holes p slot size) → OnOk r ((s : ℕ) → IfSome (state_at ys s) (IsLabelled s))
     → OnErr r ((ys ≡ xs) × (q ≡ p)) → AreFit d q ys
 made_fit d p q xs ys name size kind (Ok slot) was made new holes each same = subst (λ (w : Pool). AreFit d w ys) (sym holes) (record {
   fit = record {
     range = was.fit.range;
     size = was.fit.size;
-    housed = housed_with p xs ys slot name size kind made (subst (λ (w : Pool). IsNew (state_at ys slot) (container_at w.containers slot) name size kind) holes new) each was.fit.housed;
+    housed = housed_with p xs ys slot name size kind made (subst (λ (w : Pool). IsNew (state_at ys slot) (paged_at w.containers slot) name size kind) holes new) each was.fit.housed;
     kept = was.fit.kept;
   };
   root = was.root;

@@ -35,23 +35,23 @@ pub leaves_itself : (d : Disk) (p : Pool) (x : VolumeState) → LeavesPlace d d 
 leaves_itself d p x = record { place = place_itself x; root = root_itself d p x.slot }
 
 -- What changed of the files was placed, and then the volume changed, but not its place.
-placed_then : (d : Disk) (p q : Pool) (x mid y : VolumeState) → IsPlacedAs d p x d q mid → KeepsPlace mid y → LeavesPlace d d p q x y
-placed_then d p q x mid y placed then =
+placed_then : (d e : Disk) (p q : Pool) (x mid y : VolumeState) → IsPlacedAs d p x e q mid → KeepsPlace mid y → LeavesPlace d e p q x y
+placed_then d e p q x mid y placed then =
     let first = placed_place x mid placed.keeps in
     record {
       place = record { slot = then.slot ∙ first.slot; span = then.span ∙ first.span; base = then.base ∙ first.base };
-      root = placed_root d d p q x mid placed.room placed.rest placed.goes;
+      root = placed_root d e p q x mid placed.room placed.rest placed.goes;
     }
 
 -- A snapshot was made, or not.
-pub created_leaves : (d : Disk) (p q : Pool) (x y : VolumeState) (name : List ℕ) (r : Result Unit VolumeFault) → OnOk r (IsSnapped d p x q name y) → OnErr r (IsPlacedAs d p x d q y) → LeavesPlace d d p q x y
-created_leaves d p q x y name (Ok done) is failed = placed_then d p q x is.mid y is.placed (subst (KeepsPlace is.mid) (sym is.now) (record { slot = refl; span = refl; base = refl }))
-created_leaves d p q x y name (Err e) is failed = placed_then d p q x y y failed (place_itself y)
+pub created_leaves : (d e : Disk) (p q : Pool) (x y : VolumeState) (name : List ℕ) (r : Result Unit VolumeFault) → OnOk r (IsSnapped d p x e q name y) → OnErr r (IsPlacedAs d p x e q y) → LeavesPlace d e p q x y
+created_leaves d e p q x y name (Ok done) is failed = placed_then d e p q x is.mid y is.placed (subst (KeepsPlace is.mid) (sym is.now) (record { slot = refl; span = refl; base = refl }))
+created_leaves d e p q x y name (Err fault) is failed = placed_then d e p q x y y failed (place_itself y)
 
 -- One was removed, or not.
-pub deleted_leaves : (d : Disk) (p q : Pool) (x y : VolumeState) (name : List ℕ) (r : Result Unit VolumeFault) → OnOk r (IsUnsnapped d p x q name y) → OnErr r (IsPlacedAs d p x d q y) → LeavesPlace d d p q x y
-deleted_leaves d p q x y name (Ok done) is failed = placed_then d p q x is.mid y is.placed (subst (KeepsPlace is.mid) (sym is.now) (record { slot = refl; span = refl; base = refl }))
-deleted_leaves d p q x y name (Err e) is failed = placed_then d p q x y y failed (place_itself y)
+pub deleted_leaves : (d e : Disk) (p q : Pool) (x y : VolumeState) (name : List ℕ) (r : Result Unit VolumeFault) → OnOk r (IsUnsnapped d p x e q name y) → OnErr r (IsPlacedAs d p x e q y) → LeavesPlace d e p q x y
+deleted_leaves d e p q x y name (Ok done) is failed = placed_then d e p q x is.mid y is.placed (subst (KeepsPlace is.mid) (sym is.now) (record { slot = refl; span = refl; base = refl }))
+deleted_leaves d e p q x y name (Err fault) is failed = placed_then d e p q x y y failed (place_itself y)
 
 -- The table of one was made the active one, or not.
 pub restored_leaves : (d : Disk) (p : Pool) (x y : VolumeState) (name : List ℕ) (r : Result Unit VolumeFault) → OnOk r (IsTurned x name y) → OnErr r (y ≡ x) → LeavesPlace d d p p x y

@@ -35,8 +35,9 @@ use Rattle.fv_aggmap.specs.Loading.{IsLoaded as IsMapLoaded}
 use Rattle.fv_root.specs.declared.find.Found.{Found}
 use Rattle.fv_root.specs.Finding.{root_found}
 use Rattle.fv_container.specs.declared.entry.Entry.{Entry}
-use Rattle.fv_container.specs.Chains.{Slots, along, chain_entry, container_at, or_else, own_entry, parent_at, slot_count}
+use Rattle.fv_container.specs.Chains.{Slots, along, chain_entry, container_at, map_in, or_else, own_entry, parent_at, slot_count}
 use Rattle.fv_container.specs.Mapped.{IsHeld, Mapped, entry_under}
+use Rattle.fv_container.specs.Paged.{Paged}
 use Rattle.fv_container.specs.Spelled.{pair_of}
 use Rattle.fv_volmap.specs.Slots.{Volume, taken_in}
 use Rattle.fv_pool.specs.declared.pool.Pool.{Pool}
@@ -212,7 +213,7 @@ module _ (t : Taken) (i : Image) (containers : Slots) (are : AreContainers t i c
   own_has : (s v : ℕ) (e : Entry) → own_entry (container_at containers s) v ≡ Some e → HasEntry t i s v e
   own_has s v e own = ⊎_elim
       (λ (inside : s < 64). has_entry t i s v e (label_in (label_lying t i s)) (container_at containers s) refl (are.each s inside) own)
-      (λ (past : 64 ≤ s). absurd (nothing e (sym (ap (λ (c : Option Mapped). own_entry c v) (get_or_past containers.containers s None (omega (arith, past, are.few)))) ∙ own)))
+      (λ (past : 64 ≤ s). absurd (nothing e (sym (ap (λ (c : Option Paged). own_entry (map_in c) v) (get_or_past containers.containers s None (omega (arith, past, are.few)))) ∙ own)))
       (cases_lt s 64)
 
 -- Where an image holds no block twice and its map is true, the containers are those of its labels, and the next root will hold what its

@@ -1,16 +1,17 @@
 -- A volume that is removed: the blocks that it gives back, and what the machine says of it.
-use Rattle.std.proofs.Common.{◌≡◌, ◌≢◌, ◌⊎◌, inl, inr, ⊎_elim, ℕ, zero, suc, ◌+◌, ◌<◌, Bool, true, false, not, ◌&&◌, ◌||◌, cond, List, [], ◌∷◌, length, Option, Some, None, true≢false, refl, sym, ap, subst, ◌∙◌, arith}
-use Rattle.std.specs.Prelude.{Ok, Err, IfSome}
+use Rattle.std.proofs.Common.{◌≡◌, ◌≢◌, ◌⊎◌, inl, inr, ⊎_elim, ℕ, zero, suc, ◌+◌, ◌<◌, ◌≤◌, Bool, true, false, not, ◌&&◌, ◌||◌, cond, List, [], ◌∷◌, length, Option, Some, None, true≢false, refl, sym, ap, subst, ◌∙◌, arith}
+use Rattle.std.specs.Prelude.{Result, Ok, Err, IfSome, nat_lt, ◌==◌}
 use Rattle.std.specs.List.{list_any}
 use Rattle.std.specs.Option.{is_none, option_map_or}
 use Rattle.std.specs.FinMap as fin
 use Rattle.std.specs.Ordering.{nat_cmp, eq_by_cmp}
 use Rattle.std.specs.Cmp.{nat_cmp_total}
 use Rattle.std.proofs.Math.Seq.{take-length}
-use Rattle.std.proofs.lemmas.Bool.{cases_Bool, cases_eq}
+use Rattle.std.proofs.lemmas.Bool.{cases_Bool, cases_eq, cases_lt}
 use Rattle.std.proofs.Math.Bool.{or_comm}
 use Rattle.std.proofs.lemmas.Bool.Decides.{nat_tests}
 use Rattle.fv_bits.specs.Members.{is_member}
+use Rattle.fv_bits.proofs.Laws.{is_member_past}
 use Rattle.fv_model.specs.declared.answers.Refusal.TheVariants.{NoVolume, VolumeInUse}
 use Rattle.fv_model.specs.declared.commands.Command.TheVariants.{VolDestroy}
 use Rattle.fv_model.specs.Machines.{Machine}
@@ -31,9 +32,18 @@ use Rattle.fv_container.specs.Spelled.{is_at, names}
 use Rattle.fv_container.specs.Written.{HasReleased}
 use Rattle.fv_image.specs.Views.{entry_count}
 use Rattle.fv_pool.specs.declared.pool.Pool.{Pool}
+use Rattle.fv_disk.specs.Shown.{Shown as Disk}
+use Rattle.fv_disk.specs.declared.fault.BlockFault.{BlockFault}
+use Rattle.fv_disk.specs.declared.fault.BlockFault.TheVariants.{DiskFault, Damaged, Memory}
+use Rattle.fv_pool.specs.declared.fault.VolumeFault.{VolumeFault}
+use Rattle.fv_pool.specs.declared.fault.VolumeFault.TheVariants.{Refused}
+use Rattle.fv_pool.specs.BlocksOver.{IsHoldFault, LeavesPool, TellsEntries}
+use Rattle.fv_disk.specs.Faults.{HasBlockCause}
+use Rattle.fv_pool.specs.Causes.{HasVolumeCause, of_block}
+use Rattle.fv_delay.specs.Reclaims.{HasGivenSome}
 use Rattle.fv_volume.specs.declared.state.VolumeState.{VolumeState}
 use Rattle.fv_volume.specs.Calls.{Has}
-use Rattle.fv_volumes.specs.Destroying.{Destroys, EmptiesAt, GivesBackAt, HasForgotten}
+use Rattle.fv_volumes.specs.Destroying.{Destroys, EmptiesAt, GivesBackAt, HasForgotten, HasForgottenSome, MarksAt}
 use Rattle.fv_volumes.specs.Housed.{AreHoused}
 use Rattle.fv_pool.specs.Keeping.{Blocks}
 use Rattle.fv_volume.specs.Loading.{Houses}
@@ -41,21 +51,18 @@ use Rattle.fv_volume.specs.OneVolume.{volume_as, Content}
 use Rattle.fv_volume.specs.Promising.{HasVolumes}
 use Rattle.fv_volume.specs.Slots.{is_named, HasName, NoneHasName}
 use Rattle.fv_volume.specs.States.{States, state_at, with_state}
-use Rattle.fv_volume.specs.Stored.{is_of, leads, place_at}
+use Rattle.fv_volume.specs.Stored.{is_of, leads}
 use Rattle.fv_volume.specs.Writing.{HasGiven}
-use Rattle.fv_volumes.proofs.Drawing.{at_none, given_then, leads_more}
+use Rattle.fv_volumes.proofs.Drawing.{given_then, leads_where, not_so}
 
 -- ---- kept blocks
 
-pub forgotten_none : (kept : Blocks) (place : ℕ) → place ≡ 0 → HasForgotten kept (λ b. is_at b place) kept
-forgotten_none kept place nowhere b = ap (λ (t : Bool). cond t None (fin.get kept b)) (sym (at_none b) ∙ ap (is_at b) (sym nowhere))
-
-pub forgotten_one : (old new : Blocks) (place : ℕ) → place ≢ 0 → new ≡ fin.remove old place → HasForgotten old (λ b. is_at b place) new
-forgotten_one old new place some is b =
-    ap (λ (m : Blocks). fin.get m b) is ∙ fin.get-remove nat_cmp_total old place b ∙ ap (λ (t : Bool). cond t None (fin.get old b)) (same b place some)
+pub forgotten_one : (old new : Blocks) (place : ℕ) → new ≡ fin.remove old place → HasForgotten old (λ b. b == place) new
+forgotten_one old new place is b =
+    ap (λ (m : Blocks). fin.get m b) is ∙ fin.get-remove nat_cmp_total old place b ∙ ap (λ (t : Bool). cond t None (fin.get old b)) (same b place)
   where
-    same : (b place : ℕ) → place ≢ 0 → eq_by_cmp nat_cmp b place ≡ is_at b place
-    same b place some = grind (arith, nat_tests, some)
+    same : (b place : ℕ) → eq_by_cmp nat_cmp b place ≡ (b == place)
+    same b place = grind (arith, nat_tests)
 
 pub forgotten_then : (old mid new : Blocks) (f g both : ℕ → Bool) → ((b : ℕ) → both b ≡ (f b || g b)) → HasForgotten old f mid → HasForgotten mid g new → HasForgotten old both new
 forgotten_then old mid new f g both same first second b = second b ∙ ap (λ (o : Option (List ℕ)). cond (g b) None o) (first b) ∙ joined (f b) (g b) (fin.get old b) ∙ ap (λ (t : Bool). cond t None (fin.get old b)) (sym (same b))
@@ -70,6 +77,78 @@ forgotten_start kept gone none b = ap (λ (t : Bool). cond t None (fin.get kept 
 
 pub volume_forgotten : (x : VolumeState) (map : Mapped) (count : ℕ) (old new : Blocks) → count ≡ entry_count x.span → HasForgotten old (leads map count) new → HasForgotten old (leads map (entry_count x.span)) new
 volume_forgotten x map count old new same = subst (λ (n : ℕ). HasForgotten old (leads map n) new) same
+
+-- ---- marks
+
+-- the blocks below one that are marked
+abbrev pub marked_below : List Bool → ℕ → ℕ → Bool
+marked_below marks n b = nat_lt b n && is_member marks b
+
+and_off : (t : Bool) → (t && false) ≡ false
+and_off true = refl
+and_off false = refl
+
+pub below_none : (marks : List Bool) (b : ℕ) → marked_below marks 0 b ≡ false
+below_none marks b = let none : nat_lt b 0 ≡ false = grind (arith, nat_tests) in ap (λ (t : Bool). t && is_member marks b) none
+
+pub below_end : (marks : List Bool) (n b : ℕ) → length marks ≤ n → is_member marks b ≡ marked_below marks n b
+below_end marks n b end = ⊎_elim
+    (λ (low : b < length marks).
+    let under : b < n = omega (arith, low, end) in
+    let test : nat_lt b n ≡ true = grind (arith, nat_tests, under) in
+    sym (ap (λ (t : Bool). t && is_member marks b) test))
+    (λ (past : length marks ≤ b). is_member_past marks b past ∙ sym (ap (λ (t : Bool). nat_lt b n && t) (is_member_past marks b past) ∙ and_off (nat_lt b n)))
+    (cases_lt b (length marks))
+
+-- another block lies below the next one where it lies below this one
+same_below : (b n : ℕ) → b ≢ n → nat_lt b (n + 1) ≡ nat_lt b n
+same_below b n other = ⊎_elim
+    (λ (low : b < n). (let one : nat_lt b (n + 1) ≡ true = grind (arith, nat_tests, low) in one) ∙ sym (let two : nat_lt b n ≡ true = grind (arith, nat_tests, low) in two))
+    (λ (high : n ≤ b). (let one : nat_lt b (n + 1) ≡ false = grind (arith, nat_tests, high, other) in one) ∙ sym (let two : nat_lt b n ≡ false = grind (arith, nat_tests, high) in two))
+    (cases_lt b n)
+
+-- one that is marked more
+pub below_more : (marks : List Bool) (n b : ℕ) → is_member marks n ≡ true → marked_below marks (n + 1) b ≡ (marked_below marks n b || (b == n))
+below_more marks n b on = ⊎_elim
+    (λ (same : b ≡ n).
+    let low : nat_lt b (n + 1) ≡ true = grind (arith, nat_tests, same) in
+    let test : (b == n) ≡ true = grind (arith, nat_tests, same) in
+    (λ j. low j && (ap (is_member marks) same ∙ on) j) ∙ sym (ap (λ (t : Bool). marked_below marks n b || t) test ∙ or_comm (marked_below marks n b) true))
+    (λ (other : b ≢ n).
+    let test : (b == n) ≡ false = grind (arith, nat_tests, other) in
+    ap (λ (t : Bool). t && is_member marks b) (same_below b n other) ∙ sym (ap (λ (t : Bool). marked_below marks n b || t) test ∙ or_comm (marked_below marks n b) false))
+    (cases_eq b n)
+
+-- and one that isn't
+pub below_same : (marks : List Bool) (n b : ℕ) → is_member marks n ≡ false → marked_below marks (n + 1) b ≡ marked_below marks n b
+below_same marks n b off = ⊎_elim
+    (λ (same : b ≡ n).
+    let here : is_member marks b ≡ false = ap (is_member marks) same ∙ off in
+    ap (λ (t : Bool). nat_lt b (n + 1) && t) here ∙ and_off (nat_lt b (n + 1)) ∙ sym (ap (λ (t : Bool). nat_lt b n && t) here ∙ and_off (nat_lt b n)))
+    (λ (other : b ≢ n). ap (λ (t : Bool). t && is_member marks b) (same_below b n other))
+    (cases_eq b n)
+
+-- it is given back, as the first places that are marked were
+pub marked_given : (marks : List Bool) (n : ℕ) (old mid new : Space) → is_member marks 0 ≡ false → is_member marks n ≡ true → HasGiven old (marked_below marks n) mid → HasGiven mid (λ b. is_at b n) new → HasGiven old (marked_below marks (n + 1)) new
+marked_given marks n old mid new none on before gave =
+    let some : n ≢ 0 = λ first. true≢false (sym on ∙ ap (is_member marks) first ∙ none) in
+    given_then old mid new (marked_below marks n) (λ b. is_at b n) (marked_below marks (n + 1))
+    (λ b. below_more marks n b on ∙ ap (λ (t : Bool). marked_below marks n b || t) (at_same b n some)) before gave
+  where
+    at_same : (b n : ℕ) → n ≢ 0 → (b == n) ≡ is_at b n
+    at_same b n some = grind (arith, nat_tests, some)
+
+pub marked_forgotten : (marks : List Bool) (n : ℕ) (old mid new : Blocks) → is_member marks n ≡ true → HasForgotten old (marked_below marks n) mid → new ≡ fin.remove mid n → HasForgotten old (marked_below marks (n + 1)) new
+marked_forgotten marks n old mid new on before gone =
+    forgotten_then old mid new (marked_below marks n) (λ b. b == n) (marked_below marks (n + 1)) (λ b. below_more marks n b on) before (forgotten_one mid new n gone)
+
+-- by another test
+pub forgotten_same : (old new : Blocks) (f g : ℕ → Bool) → ((b : ℕ) → g b ≡ f b) → HasForgotten old f new → HasForgotten old g new
+forgotten_same old new f g same is b = is b ∙ ap (λ (t : Bool). cond t None (fin.get old b)) (sym (same b))
+
+-- no entry leads to 0
+pub leads_nowhere : (map : Mapped) (n : ℕ) → leads map n 0 ≡ false
+leads_nowhere map n = not_so (leads map n 0) (λ is. (leads_where map n 0 is).some refl)
 
 -- ---- blocks
 
@@ -91,13 +170,6 @@ nodes_given old new tree size is =
     turned false true = refl
     turned false false = refl
 
--- one entry more
-pub entry_given : (map : Mapped) (n place : ℕ) (old mid new : Space) → place ≡ place_at map n → HasGiven old (leads map n) mid → HasGiven mid (λ b. is_at b place) new → HasGiven old (leads map (n + 1)) new
-entry_given map n place old mid new at before gave = given_then old mid new (leads map n) (λ b. is_at b place) (leads map (n + 1)) (λ b. leads_more map n b ∙ ap (λ (p : ℕ). leads map n b || is_at b p) (sym at)) before gave
-
-pub entry_forgotten : (map : Mapped) (n place : ℕ) (old mid new : Blocks) → place ≡ place_at map n → HasForgotten old (leads map n) mid → HasForgotten mid (λ b. is_at b place) new → HasForgotten old (leads map (n + 1)) new
-entry_forgotten map n place old mid new at before gone = forgotten_then old mid new (leads map n) (λ b. is_at b place) (leads map (n + 1)) (λ b. leads_more map n b ∙ ap (λ (p : ℕ). leads map n b || is_at b p) (sym at)) before gone
-
 -- entries, nodes and label are all that a volume has
 pub volume_given : (x : VolumeState) (map : Mapped) (count : ℕ) (old mid later new : Space) → count ≡ entry_count x.span → HasGiven old (leads map count) mid → HasGiven mid (names map.tree) later → HasGiven later (λ b. is_at b x.label) new
     → HasGiven old (is_of x x.label map) new
@@ -111,17 +183,18 @@ volume_given x map count old mid later new same entries nodes label =
 
 -- ---- the slot
 
-pub emptied : (old : States) (pool : Pool) (slot : ℕ) (o : Option VolumeState) (c : Option Mapped) (mid : Pool) (new : States) (containers : Slots) → GivesBackAt pool o c mid → new ≡ with_state old slot None
-    → containers ≡ with_parent (with_container mid.containers slot None) slot None → EmptiesAt old pool slot o c new (record mid { containers = containers })
-emptied old pool slot None c mid new containers gives row removed = tt
-emptied old pool slot (Some x) None mid new containers gives row removed = tt
-emptied old pool slot (Some x) (Some map) mid new containers gives row removed = record {
+pub emptied : (marks : List Bool) (old : States) (pool : Pool) (slot : ℕ) (o : Option VolumeState) (c : Option Mapped) (mid : Pool) (new : States) (containers : Slots) → GivesBackAt marks pool o c mid → new ≡ with_state old slot None
+    → containers ≡ with_parent (with_container mid.containers slot None) slot None → EmptiesAt marks old pool slot o c new (record mid { containers = containers })
+emptied marks old pool slot None c mid new containers gives row removed = tt
+emptied marks old pool slot (Some x) None mid new containers gives row removed = tt
+emptied marks old pool slot (Some x) (Some map) mid new containers gives row removed = record {
   row = row;
   containers = removed ∙ ap (λ (p : Pool). with_parent (with_container p.containers slot None) slot None) gives.same;
+  some = gives.some;
   given = gives.given;
   kept = gives.kept;
+  fewer = gives.fewer;
   found = ap (λ (p : Pool). p.found) gives.same;
-  store = ap (λ (p : Pool). p.store) gives.same;
 }
 
 -- ---- what the machine says
@@ -177,30 +250,79 @@ module _ (old : States) (contents : ℕ → Content) (blocks : ℕ) (m : Machine
   unfolding conditions
   destroy_by name o is = λ j. first_of ((NoVolume, is_none (is j)) ∷ (VolumeInUse, no_parent name j) ∷ [])
 
-module _ (old : States) (pool : Pool) (name : List ℕ) where
-  pub destroy_missing : NoneHasName old name → Destroys old pool name old pool (Err NoVolume)
+-- a machine that has the volume of a slot doesn't refuse its removal
+said_none : (old : States) (contents : ℕ → Content) (blocks : ℕ) (m : Machine) → HasVolumes old contents blocks m → (name : List ℕ) (slot : ℕ) → HasName old slot name → refusal m (VolDestroy name) ≡ None
+said_none old contents blocks m its name slot has = by (state_at old slot) refl has.named (its.there slot)
+  where
+    by : (o : Option VolumeState) → state_at old slot ≡ o → is_named o name ≡ true → IfSome o (λ x. Has x.name (volume_as x (contents slot)) m) → refusal m (VolDestroy name) ≡ None
+    by None there named its_own = absurd (true≢false (sym named))
+    by (Some x) there named its_own =
+        destroy_by old contents blocks m its name (Some (volume_as x (contents slot))) (ap (fin.get m.volumes) (sym (same_name x.name name named)) ∙ its_own)
+
+-- a fault of a block is the volume's, and has its reason
+pub cause_of : (T : Type 0) (before now : ℕ) (e : BlockFault) (r : Result Unit VolumeFault) → r ≡ Err (of_block e) → HasBlockCause {T = T} before now (Err e) → HasVolumeCause before now r
+cause_of T before now e r is cause = subst (HasVolumeCause before now) (sym is) (by e cause)
+  where
+    by : (e : BlockFault) → HasBlockCause {T = T} before now (Err e) → HasVolumeCause {T = Unit {0}} before now (Err (of_block e))
+    by DiskFault cause = cause
+    by (Damaged at want found) cause = cause
+    by Memory cause = cause
+
+module _ (disk : Disk) (old : States) (pool : Pool) (name : List ℕ) where
+  pub destroy_missing : NoneHasName old name → Destroys disk old pool name old pool (Err (Refused NoVolume))
   destroy_missing none = record {
     agrees = λ contents blocks m has. destroy_by old contents blocks m has name None (has.none name none);
     missing = λ nowhere. refl;
-    there = λ slot small has. absurd (true≢false (sym has.named ∙ none.none slot small));
+    there = λ slot small has r is. absurd (true≢false (sym has.named ∙ none.none slot small));
     done = tt;
-    stays = (refl, refl);
+    stays = (refl, record { map = refl; containers = refl; kept = refl; found = refl });
+    fails = refl;
   }
 
-  pub destroys : (slot : ℕ) (new : States) (left : Pool) → slot < slot_count → AreHoused pool.containers old → HasName old slot name → EmptiesAt old pool slot (state_at old slot) (container_at pool.containers slot) new left
-      → Destroys old pool name new left (Ok tt)
-  destroys slot new left small housed has empties = by (state_at old slot) (container_at pool.containers slot) refl refl has.named (housed.each slot) empties
+  -- a leaf wasn't read, or memory ran out
+  pub destroy_failed : (slot : ℕ) → slot < slot_count → HasName old slot name → (left : Pool) → LeavesPool pool left → (e : BlockFault) → IsHoldFault disk pool.containers e → (r : Result Unit VolumeFault) → r ≡ Err (of_block e) → Destroys disk old pool name old left r
+  destroy_failed slot small has left leaves e fault r is = subst (Destroys disk old pool name old left) (sym is) (by e fault)
     where
-      by : (o : Option VolumeState) (c : Option Mapped) → state_at old slot ≡ o → container_at pool.containers slot ≡ c → is_named o name ≡ true → Houses o c → EmptiesAt old pool slot o c new left → Destroys old pool name new left (Ok tt)
-      by None c there lies named houses empties = absurd (true≢false (sym named))
-      by (Some x) None there lies named houses empties = absurd houses
-      by (Some x) (Some map) there lies named houses empties =
-          let called : x.name ≡ name = same_name x.name name named in
-          record {
-            agrees = λ contents blocks m its. destroy_by old contents blocks m its name (Some (volume_as x (contents slot)))
-                (ap (fin.get m.volumes) (sym called) ∙ subst (λ (o : Option VolumeState). IfSome o (λ x. Has x.name (volume_as x (contents slot)) m)) there (its.there slot));
-            missing = λ none. absurd (true≢false (sym has.named ∙ none.none slot small));
-            there = λ s low its. refl;
-            done = record { slot = slot; within = small; state = x; there = there; named = called; map = map; lies = lies; gone = empties };
-            stays = tt;
-          }
+      nobody : NoneHasName old name → ⊥
+      nobody none = true≢false (sym has.named ∙ none.none slot small)
+
+      by : (e : BlockFault) → IsHoldFault disk pool.containers e → Destroys disk old pool name old left (Err (of_block e))
+      by DiskFault fault = record { agrees = λ contents blocks m its. said_none old contents blocks m its name slot has; missing = λ none. absurd (nobody none); there = λ s low its r is. cc; done = tt; stays = (refl, leaves); fails = tt }
+      by (Damaged at want found) fault = record { agrees = λ contents blocks m its. said_none old contents blocks m its name slot has; missing = λ none. absurd (nobody none); there = λ s low its r is. cc; done = tt; stays = (refl, leaves); fails = fault }
+      by Memory fault = record { agrees = λ contents blocks m its. said_none old contents blocks m its name slot has; missing = λ none. absurd (nobody none); there = λ s low its r is. cc; done = tt; stays = (refl, leaves); fails = tt }
+
+  pub destroys : (slot : ℕ) (marks : List Bool) (mid : Pool) (new : States) (left : Pool) → slot < slot_count → AreHoused pool.containers old → HasName old slot name → LeavesPool pool mid
+      → (TellsEntries disk pool.containers → MarksAt marks (container_at pool.containers slot)) → EmptiesAt marks old mid slot (state_at old slot) (container_at mid.containers slot) new left → Destroys disk old pool name new left (Ok tt)
+  destroys slot marks mid new left small housed has leaves marked empties =
+      by (state_at old slot) (container_at pool.containers slot) refl refl has.named (housed.each slot) marked
+      (subst (λ (s : Slots). EmptiesAt marks old mid slot (state_at old slot) (container_at s slot) new left) leaves.containers empties)
+    where
+      by : (o : Option VolumeState) (c : Option Mapped) → state_at old slot ≡ o → container_at pool.containers slot ≡ c → is_named o name ≡ true → Houses o c → (TellsEntries disk pool.containers → MarksAt marks c) → EmptiesAt marks old mid slot o c new left
+          → Destroys disk old pool name new left (Ok tt)
+      by None c there lies named houses marked empties = absurd (true≢false (sym named))
+      by (Some x) None there lies named houses marked empties = absurd houses
+      by (Some x) (Some map) there lies named houses marked empties = record {
+        agrees = λ contents blocks m its. said_none old contents blocks m its name slot has;
+        missing = λ none. absurd (true≢false (sym has.named ∙ none.none slot small));
+        there = λ s low its r is. cc;
+        done = record {
+          slot = slot;
+          within = small;
+          state = x;
+          there = there;
+          named = same_name x.name name named;
+          map = map;
+          lies = lies;
+          gone = record {
+            row = empties.row;
+            containers = empties.containers ∙ ap (λ (s : Slots). with_parent (with_container s slot None) slot None) leaves.containers;
+            some = subst (λ (m : Space). HasGivenSome m left.map) leaves.map empties.some;
+            given = λ told. subst (λ (m : Space). HasGiven m (is_of x x.label map) left.map) leaves.map (empties.given (marked told));
+            kept = λ told. subst (λ (k : Blocks). HasForgotten k (leads map (entry_count x.span)) left.kept) leaves.kept (empties.kept (marked told));
+            fewer = subst (λ (k : Blocks). HasForgottenSome k left.kept) leaves.kept empties.fewer;
+            found = empties.found ∙ leaves.found;
+          };
+        };
+        stays = tt;
+        fails = tt;
+      }

@@ -3,15 +3,17 @@ use Rattle.std.proofs.Common.{◌≡◌, ◌≢◌, ⊎_elim, ℕ, ◌<◌, Bool
 use Rattle.std.specs.Prelude.{IfSome, cond}
 use Rattle.std.specs.FinMap as fin
 use Rattle.std.proofs.lemmas.Bool.{and_parts, cases_eq}
-use Rattle.fv_disk.specs.Shown.{Shown}
+use Rattle.fv_disk.specs.DiskCalls.{OnlyReads}
+use Rattle.fv_disk.specs.Shown.{Image, Shown}
 use Rattle.fv_bits.specs.Members.{is_member}
 use Rattle.fv_image.proofs.LoneTables.{form_base}
 use Rattle.fv_image.specs.Views.{entry_count}
 use Rattle.fv_container.specs.declared.entry.Entry.{Entry}
-use Rattle.fv_container.specs.Chains.{container_at, own_entry, parent_at, slot_count}
+use Rattle.fv_container.specs.Chains.{AreCleanOn, TellsEntries, container_at, own_entry, paged_at, parent_at, slot_count}
 use Rattle.fv_container.specs.Mapped.{Mapped}
 use Rattle.fv_container.specs.Spelled.{is_at, names}
 use Rattle.fv_pool.specs.declared.pool.Pool.{Pool}
+use Rattle.fv_store.specs.Held.{StandsOn}
 use Rattle.fv_volume.specs.declared.state.VolumeState.{VolumeState}
 use Rattle.fv_volumes.specs.Destroying.{IsDestroyed}
 use Rattle.fv_volume.specs.Held.{IsHeldIn}
@@ -27,9 +29,10 @@ use Rattle.fv_volumes.proofs.PlacedIn.{own_has}
 use Rattle.fv_volumes.proofs.Removed as removed
 use Rattle.fv_volumes.proofs.Told.{is_inside}
 
-module _ (disk : Shown) (pool : Pool) (states : States) (housed : AreHoused pool.containers states) (slots : (s : ℕ) → s < slot_count → IsLentAt disk.reads pool.found s (state_at states s) (container_at pool.containers s))
+module _ (disk : Shown) (pool : Pool) (states : States) (housed : AreHoused pool.containers states) (slots : (s : ℕ) → s < slot_count → IsLentAt disk.reads pool.found s (state_at states s) (paged_at pool.containers s))
     (spaced : AreSpacedIn pool.found.blocks pool.map.next (state_at states) (container_at pool.containers))
-    (slot : ℕ) (x : VolumeState) (map : Mapped) (there : state_at states slot ≡ Some x) (lies : container_at pool.containers slot ≡ Some map) (new : States) (left : Pool) (gone : IsDestroyed states pool slot x map new left) where
+    (slot : ℕ) (x : VolumeState) (map : Mapped) (there : state_at states slot ≡ Some x) (lies : container_at pool.containers slot ≡ Some map) (new : States) (left : Pool) (gone : IsDestroyed (TellsEntries disk pool.containers) states pool slot x map new left)
+    (after : Shown) (reads : OnlyReads disk after) (stands : StandsOn after left.store.pairs) where
   -- ---- the slots
 
   inside : slot < 64
@@ -50,18 +53,21 @@ module _ (disk : Shown) (pool : Pool) (states : States) (housed : AreHoused pool
   not_its : (k b : ℕ) → k < 64 → k ≢ slot → has_block (state_at states k) (container_at pool.containers k) b ≡ true → is_of x x.label map b ≡ false
   not_its k b low differ has = not_so (is_of x x.label map b) (λ its. spaced.apart k slot b low inside differ has ((λ j. has_block (there j) (lies j) b) ∙ its))
 
-  still_next : (k b : ℕ) → k < 64 → k ≢ slot → has_block (state_at states k) (container_at pool.containers k) b ≡ true → is_member left.map.next b ≡ true
-  still_next k b low differ has = gone.given.held b ∙ (λ j. (spaced.held k b low has).0 j && not (not_its k b low differ has j))
+  still_next : TellsEntries disk pool.containers → (k b : ℕ) → k < 64 → k ≢ slot → has_block (state_at states k) (container_at pool.containers k) b ≡ true → is_member left.map.next b ≡ true
+  still_next told k b low differ has = (gone.given told).held b ∙ (λ j. (spaced.held k b low has).0 j && not (not_its k b low differ has j))
 
-  still_kept : (k b : ℕ) → k < 64 → k ≢ slot → has_block (state_at states k) (container_at pool.containers k) b ≡ true → fin.get left.kept b ≡ fin.get pool.kept b
-  still_kept k b low differ has =
+  still_kept : TellsEntries disk pool.containers → (k b : ℕ) → k < 64 → k ≢ slot → has_block (state_at states k) (container_at pool.containers k) b ≡ true → fin.get left.kept b ≡ fin.get pool.kept b
+  still_kept told k b low differ has =
       let isnt = or_neither (is_at b x.label) (names map.tree b || leads map (entry_count x.span) b) (not_its k b low differ has) in
       let led = or_neither (names map.tree b) (leads map (entry_count x.span) b) isnt.1 in
-      gone.kept b ∙ ap (λ (t : Bool). cond t None (fin.get pool.kept b)) led.1
+      gone.kept told b ∙ ap (λ (t : Bool). cond t None (fin.get pool.kept b)) led.1
 
   -- ---- another volume
 
   module _ (y : VolumeState) (at : state_at states y.slot ≡ Some y) (differ : y.slot ≢ slot) (one : IsHeldIn disk pool y.slot y) where
+    told : TellsEntries disk pool.containers
+    told = (one.stands.told.0, one.stands.told.2)
+
     low : y.slot < 64
     low = is_inside states y.slot y housed.long at
 
@@ -78,32 +84,35 @@ module _ (disk : Shown) (pool : Pool) (states : States) (housed : AreHoused pool
     its v e here = own_has disk pool states housed slots y.slot y at e.pvbn (record { vvbn = v; entry = e; stands = here; leads = refl })
 
     kept : (v : ℕ) (e : Entry) → own_entry (container_at pool.containers y.slot) v ≡ Some e → fin.get left.kept e.pvbn ≡ fin.get pool.kept e.pvbn
-    kept v e here = still_kept y.slot e.pvbn low differ (its v e here)
+    kept v e here = still_kept told y.slot e.pvbn low differ (its v e here)
 
     next : (v : ℕ) (e : Entry) → own_entry (container_at pool.containers y.slot) v ≡ Some e → is_member left.map.next e.pvbn ≡ true
-    next v e here = still_next y.slot e.pvbn low differ (its v e here)
+    next v e here = still_next told y.slot e.pvbn low differ (its v e here)
+
+    clean : AreCleanOn after.reads left.containers
+    clean = subst (λ (i : Image). AreCleanOn i left.containers) (sym reads.stays.reads) (removed.clean_left pool states housed slot x map there new left gone disk.reads told.1)
 
     -- it stands for what it stood for
-    pub beside_volume : volume_for disk left y ≡ volume_for disk pool y
-    beside_volume = entries_volume disk disk pool left y alone still own refl refl kept next
+    pub beside_volume : volume_for after left y ≡ volume_for disk pool y
+    beside_volume = entries_volume disk after pool left y alone still own reads.stays.tells reads.stays.reads kept next
 
     -- and is one of the session still
-    pub beside_held : IsHeldIn disk left y.slot y
+    pub beside_held : IsHeldIn after left y.slot y
     beside_held = record {
       slot = refl;
-      ready = removed.beside_ready pool states housed slot x map there new left gone disk y differ one.ready;
-      stands = entries_standing disk disk pool left y alone still own refl refl kept next one.stands;
-      led = entries_led disk disk pool left y alone still own refl refl kept next one.led;
-      well = entries_well disk disk pool left y alone still own refl refl kept next one.well;
+      ready = removed.beside_ready pool states housed slot x map there new left gone disk after stands y differ one.ready;
+      stands = entries_standing disk after pool left y alone still own reads.stays.tells reads.stays.reads kept next clean one.stands;
+      led = entries_led disk after pool left y alone still own reads.stays.tells reads.stays.reads kept next one.led;
+      well = entries_well disk after pool left y alone still own reads.stays.tells reads.stays.reads kept next one.well;
       wide = one.wide;
       within = one.within;
     }
 
   -- so is the volume of each slot
-  pub held_left : ((s : ℕ) → IfSome (state_at states s) (IsHeldIn disk pool s)) → (s : ℕ) → IfSome (state_at new s) (IsHeldIn disk left s)
-  held_left = removed.each_left pool states housed slot x map there new left gone (IsHeldIn disk pool) (IsHeldIn disk left) (λ s y differ at is.
+  pub held_left : ((s : ℕ) → IfSome (state_at states s) (IsHeldIn disk pool s)) → (s : ℕ) → IfSome (state_at new s) (IsHeldIn after left s)
+  held_left = removed.each_left pool states housed slot x map there new left gone (IsHeldIn disk pool) (IsHeldIn after left) (λ s y differ at is.
       let same = is.slot in
-      subst (λ (n : ℕ). IsHeldIn disk left n y) same (beside_held y (ap (state_at states) same ∙ at) (λ e. differ (sym same ∙ e)) (subst (λ (n : ℕ). IsHeldIn disk pool n y) (sym same) is)))
+      subst (λ (n : ℕ). IsHeldIn after left n y) same (beside_held y (ap (state_at states) same ∙ at) (λ e. differ (sym same ∙ e)) (subst (λ (n : ℕ). IsHeldIn disk pool n y) (sym same) is)))
 
   -- ---- all volumes
 
@@ -114,12 +123,12 @@ module _ (disk : Shown) (pool : Pool) (states : States) (housed : AreHoused pool
       (cases_eq k slot)
 
   -- They are spaced: the next root will hold their blocks and no others.
-  pub spaced_left : AreSpacedIn pool.found.blocks left.map.next (state_at new) (container_at left.containers)
-  spaced_left = record {
+  pub spaced_left : TellsEntries disk pool.containers → AreSpacedIn pool.found.blocks left.map.next (state_at new) (container_at left.containers)
+  spaced_left told = record {
     apart = λ s k b first second differ one other. spaced.apart s k b first second differ (has_now s b one).1 (has_now k b other).1;
-    held = λ s b small has. (still_next s b small (has_now s b has).0 (has_now s b has).1, (spaced.held s b small (has_now s b has).1).1);
+    held = λ s b small has. (still_next told s b small (has_now s b has).0 (has_now s b has).1, (spaced.held s b small (has_now s b has).1).1);
     set = λ b is.
-        let parts = and_parts (is_member pool.map.next b) (not (is_of x x.label map b)) (sym (gone.given.held b) ∙ is) in
+        let parts = and_parts (is_member pool.map.next b) (not (is_of x x.label map b)) (sym ((gone.given told).held b) ∙ is) in
         let found = spaced.set b parts.0 in
         by b found.0 found.1 found.2 parts.1;
   }

@@ -42,7 +42,7 @@ use Rattle.fv_image.proofs.LoneTables.{form_base}
 use Rattle.fv_image.proofs.SameSeen.{seen_at}
 use Rattle.fv_root.specs.Finding.{root_found}
 use Rattle.fv_container.specs.declared.entry.Entry.{Entry}
-use Rattle.fv_container.specs.Chains.{container_at, own_entry, parent_at}
+use Rattle.fv_container.specs.Chains.{container_at, own_entry, paged_at, parent_at}
 use Rattle.fv_volmap.specs.Slots.{IsVolume, has, slot_at}
 use Rattle.fv_pool.specs.declared.pool.Pool.{Pool}
 use Rattle.fv_volume.specs.declared.state.Snap.{Snap}
@@ -123,7 +123,7 @@ commits_in_view pool states i long are =
 
 -- ---- a volume with nothing of it in memory
 
-module _ (disk : Shown) (pool : Pool) (states : States) (housed : AreHoused pool.containers states) (at_slots : (s : ℕ) → s < 64 → IsLentAt disk.reads pool.found s (state_at states s) (container_at pool.containers s)) (spaced : AreSpacedIn pool.found.blocks pool.map.next (state_at states) (container_at pool.containers))
+module _ (disk : Shown) (pool : Pool) (states : States) (housed : AreHoused pool.containers states) (at_slots : (s : ℕ) → s < 64 → IsLentAt disk.reads pool.found s (state_at states s) (paged_at pool.containers s)) (spaced : AreSpacedIn pool.found.blocks pool.map.next (state_at states) (container_at pool.containers))
     (x : VolumeState) (there : state_at states x.slot ≡ Some x) (one : IsHeldIn disk pool x.slot x) (no_files : x.files ≡ None) (whole : IsVolume x.map) where
   abbrev w : View
   w = view_over pool states disk.reads

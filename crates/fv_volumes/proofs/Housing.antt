@@ -7,8 +7,9 @@ use Rattle.std.proofs.lemmas.List.{get_or-set_other, get_or-set_same, get_or_pas
 use Rattle.fv_model.specs.declared.commands.Kind.{Kind}
 use Rattle.fv_model.specs.Space.{span_of}
 use Rattle.fv_image.specs.Views.{Head, entry_count}
-use Rattle.fv_container.specs.Mapped.{Mapped, empty_map}
-use Rattle.fv_container.specs.Chains.{Slots, container_at, parent_at, with_container}
+use Rattle.fv_container.specs.Mapped.{Mapped}
+use Rattle.fv_container.specs.Paged.{Paged, empty_paged}
+use Rattle.fv_container.specs.Chains.{Slots, container_at, map_in, paged_at, parent_at, with_container}
 use Rattle.fv_pool.specs.declared.pool.Pool.{Pool}
 use Rattle.fv_volume.specs.declared.state.Base.{Base}
 use Rattle.fv_volume.specs.declared.state.VolumeState.{VolumeState}
@@ -22,15 +23,15 @@ baseless : (b : Option Base) → option_map footing_in b ≡ None → option_map
 baseless None is = refl
 baseless (Some b) is = cc
 
-new_houses : (x : Option VolumeState) (c : Option Mapped) (name : List ℕ) (size : ℕ) (kind : Kind) → IsNew x c name size kind → Houses x c
-new_houses x c name size kind is = subst (λ (y : Option VolumeState). Houses y c) (sym is.state_is)
-    (subst (λ (d : Option Mapped). Houses (Some is.volume) d) (sym is.holes) (length-replicate (entry_count is.volume.span) None))
+new_houses : (x : Option VolumeState) (c : Option Paged) (name : List ℕ) (size : ℕ) (kind : Kind) → IsNew x c name size kind → Houses x (map_in c)
+new_houses x c name size kind is = subst (λ (y : Option VolumeState). Houses y (map_in c)) (sym is.state_is)
+    (subst (λ (d : Option Paged). Houses (Some is.volume) (map_in d)) (sym is.holes) (length-replicate (entry_count is.volume.span) None))
 
-new_parent : (x : Option VolumeState) (c : Option Mapped) (name : List ℕ) (size : ℕ) (kind : Kind) → IsNew x c name size kind → parent_in x ≡ None
+new_parent : (x : Option VolumeState) (c : Option Paged) (name : List ℕ) (size : ℕ) (kind : Kind) → IsNew x c name size kind → parent_in x ≡ None
 new_parent x c name size kind is = ap parent_in is.state_is ∙ baseless is.volume.base (ap (λ (h : Head). h.base) is.head)
 
 module _ (pool : Pool) (states new : States) (slot : ℕ) (name : List ℕ) (size : ℕ) (kind : Kind) (made : IsMade states slot name size kind new)
-    (is : IsNew (state_at new slot) (container_at (with_holes pool slot size).containers slot) name size kind) where
+    (is : IsNew (state_at new slot) (paged_at (with_holes pool slot size).containers slot) name size kind) where
   abbrev after : Slots
   after = (with_holes pool slot size).containers
 
@@ -38,7 +39,7 @@ module _ (pool : Pool) (states new : States) (slot : ℕ) (name : List ℕ) (siz
   state_elsewhere s ne = ap (λ (xs : States). state_at xs s) made.states ∙ get_or-set_other states slot s (Some made.state) None ne
 
   container_elsewhere : (s : ℕ) → s ≢ slot → container_at after s ≡ container_at pool.containers s
-  container_elsewhere s ne = get_or-set_other pool.containers.containers slot s (Some (empty_map (entry_count (span_of size 0 0)))) None ne
+  container_elsewhere s ne = ap map_in (get_or-set_other pool.containers.containers slot s (Some (empty_paged (entry_count (span_of size 0 0)))) None ne)
 
   parent_there : parent_at after slot ≡ None
   parent_there = ⊎_elim
@@ -54,28 +55,28 @@ module _ (pool : Pool) (states new : States) (slot : ℕ) (name : List ℕ) (siz
     long = ap (λ (xs : States). length xs) made.states ∙ length-set states slot (Some made.state) ∙ was.long;
     volumes = each;
     each = λ s. ⊎_elim
-        (λ (here : s ≡ slot). subst (λ (k : ℕ). Houses (state_at new k) (container_at after k)) (sym here) (new_houses (state_at new slot) (container_at after slot) name size kind is))
+        (λ (here : s ≡ slot). subst (λ (k : ℕ). Houses (state_at new k) (container_at after k)) (sym here) (new_houses (state_at new slot) (paged_at after slot) name size kind is))
         (λ (other : s ≢ slot). subst (λ (x : Option VolumeState). Houses x (container_at after s)) (sym (state_elsewhere s other))
         (subst (λ (c : Option Mapped). Houses (state_at states s) c) (sym (container_elsewhere s other)) (was.each s)))
         (cases_eq s slot);
     parents = λ s. ⊎_elim
-        (λ (here : s ≡ slot). ap (parent_at after) here ∙ parent_there ∙ sym (ap (λ (k : ℕ). parent_in (state_at new k)) here ∙ new_parent (state_at new slot) (container_at after slot) name size kind is))
+        (λ (here : s ≡ slot). ap (parent_at after) here ∙ parent_there ∙ sym (ap (λ (k : ℕ). parent_in (state_at new k)) here ∙ new_parent (state_at new slot) (paged_at after slot) name size kind is))
         (λ (other : s ≢ slot). get_or-set_other pool.containers.parents slot s None None other ∙ was.parents s ∙ ap parent_in (sym (state_elsewhere s other)))
         (cases_eq s slot);
   }
 
 -- a container with as many entries may take the place of a volume's
-pub housed_put : (containers : Slots) (states : States) (s : ℕ) (x : VolumeState) (map : Mapped) → s < length containers.containers → state_at states s ≡ Some x → length map.entries ≡ entry_count x.span → AreHoused containers states → AreHoused (with_container containers s (Some map)) states
-housed_put containers states s x map within there long is = record {
+pub housed_put : (containers : Slots) (states : States) (s : ℕ) (x : VolumeState) (paged : Paged) → s < length containers.containers → state_at states s ≡ Some x → length paged.map.entries ≡ entry_count x.span → AreHoused containers states → AreHoused (with_container containers s (Some paged)) states
+housed_put containers states s x paged within there long is = record {
   long = is.long;
   volumes = is.volumes;
   each = λ k. ⊎_elim
-      (λ (e : k ≡ s). subst (λ (n : ℕ). Houses (state_at states n) (container_at (with_container containers s (Some map)) n)) (sym e) here)
-      (λ (other : k ≢ s). subst (λ (c : Option Mapped). Houses (state_at states k) c) (sym (get_or-set_other containers.containers s k (Some map) None other)) (is.each k))
+      (λ (e : k ≡ s). subst (λ (n : ℕ). Houses (state_at states n) (container_at (with_container containers s (Some paged)) n)) (sym e) here)
+      (λ (other : k ≢ s). subst (λ (c : Option Paged). Houses (state_at states k) (map_in c)) (sym (get_or-set_other containers.containers s k (Some paged) None other)) (is.each k))
       (cases_eq k s);
   parents = is.parents;
 }
   where
-    here : Houses (state_at states s) (container_at (with_container containers s (Some map)) s)
-    here = subst (λ (o : Option VolumeState). Houses o (container_at (with_container containers s (Some map)) s)) (sym there)
-        (subst (λ (c : Option Mapped). Houses (Some x) c) (sym (get_or-set_same containers.containers s (Some map) None within)) long)
+    here : Houses (state_at states s) (container_at (with_container containers s (Some paged)) s)
+    here = subst (λ (o : Option VolumeState). Houses o (container_at (with_container containers s (Some paged)) s)) (sym there)
+        (subst (λ (c : Option Paged). Houses (Some x) (map_in c)) (sym (get_or-set_same containers.containers s (Some paged) None within)) long)

@@ -6,8 +6,9 @@ use Rattle.std.proofs.lemmas.List.{get_or_past}
 use Rattle.fv_disk.specs.Shown.{Image}
 use Rattle.fv_image.proofs.LoneTables.{form_base}
 use Rattle.fv_charge.specs.declared.ledger.Ledger.{Ledger}
-use Rattle.fv_container.specs.Chains.{Slots, container_at, slot_count}
+use Rattle.fv_container.specs.Chains.{Slots, container_at, paged_at, slot_count}
 use Rattle.fv_container.specs.Mapped.{Mapped}
+use Rattle.fv_container.specs.Paged.{Paged}
 use Rattle.fv_root.specs.declared.find.Found.{Found}
 use Rattle.fv_volume.specs.declared.state.VolumeState.{VolumeState}
 use Rattle.fv_volume.specs.Files.{IsLabelled}
@@ -62,7 +63,7 @@ module _ (s : ℕ) where
     label = is.label;
   })
 
-  loaded_still : (i : Image) (found : Found) (old new : Option VolumeState) (c : Option Mapped) → Counts old new → IsLoaded i found s old c → IsLoaded i found s new c
+  loaded_still : (i : Image) (found : Found) (old new : Option VolumeState) (c : Option Paged) → Counts old new → IsLoaded i found s old c → IsLoaded i found s new c
   loaded_still i found None new c counts is = subst (λ (o : Option VolumeState). IsLoaded i found s o c) (sym counts) is
   loaded_still i found (Some x) new c counts is = subst (λ (o : Option VolumeState). IsLoaded i found s o c) (sym counts.1.0) (record {
     head = is.head;
@@ -118,4 +119,4 @@ module _ (states now : States) (containers : Slots) (read : ReadTo slot_count st
 
   -- and the volumes are loaded.
   pub counted_loaded : (i : Image) (found : Found) → LoadedTo i found slot_count states containers → LoadedTo i found slot_count now containers
-  counted_loaded i found loaded = record { each = λ s inside. loaded_still s i found (state_at states s) (state_at now s) (container_at containers s) (each_counts s) (loaded.each s inside) }
+  counted_loaded i found loaded = record { each = λ s inside. loaded_still s i found (state_at states s) (state_at now s) (paged_at containers s) (each_counts s) (loaded.each s inside) }

@@ -12,10 +12,12 @@ pub mod LoadedStored
 mod Counting
 pub mod Drawing
 mod MapBlocks
+mod MapMarks
 pub mod SlotBlocks
 pub mod Renewing
 pub mod Sparing
 mod Spelling
+pub mod CleanSlots
 mod Storing
 pub mod Stored
 pub mod StoredSlot
@@ -54,6 +56,7 @@ pub mod Waiting
 pub mod PromisedOne
 pub mod PromisedAll
 pub mod Destroyed
+mod MarkedSlots
 pub mod Removed
 pub mod DestroyedOthers
 pub mod Emptied

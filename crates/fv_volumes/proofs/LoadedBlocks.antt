@@ -11,7 +11,9 @@ use Rattle.fv_image.specs.Held.{label_place, layout_at}
 use Rattle.fv_image.specs.Whole.{is_held_by}
 use Rattle.fv_image.proofs.HeldPlaces.{none_held}
 use Rattle.fv_container.specs.Mapped.{IsMapped, Mapped}
-use Rattle.fv_container.specs.Spelled.{Spelled}
+use Rattle.fv_container.specs.Chains.{map_in}
+use Rattle.fv_container.specs.Paged.{Paged}
+use Rattle.fv_container.specs.Spelled.{IsOpened}
 use Rattle.fv_root.specs.declared.find.Found.{Found}
 use Rattle.fv_root.specs.Finding.{root_found}
 use Rattle.fv_volume.specs.declared.state.VolumeState.{VolumeState}
@@ -29,8 +31,8 @@ module _ (f : Found) (i : Image) (s : ℕ) where
   u = root_found f
 
   -- the slot holds the blocks of its volume, where block 0 isn't held
-  pub loaded_holds : is_held_by (layout_at u i) s 0 ≡ false → (o : Option VolumeState) (c : Option Mapped) → IsLoaded i f s o c → (b : ℕ) → is_held_by (layout_at u i) s b ≡ has_block o c b
-  loaded_holds none o c is_loaded b = so (label_of f i s) refl o c is_loaded.head is_loaded.tree is_loaded.label
+  pub loaded_holds : is_held_by (layout_at u i) s 0 ≡ false → (o : Option VolumeState) (c : Option Paged) → IsLoaded i f s o c → (b : ℕ) → is_held_by (layout_at u i) s b ≡ has_block o (map_in c) b
+  loaded_holds none o c is_loaded b = so (label_of f i s) refl o (map_in c) is_loaded.head is_loaded.tree is_loaded.label
     where
       so : (l : Option Label) → label_of f i s ≡ l → (o : Option VolumeState) (c : Option Mapped) → option_map head_in o ≡ option_map head_of (label_of f i s) → IsContainerOf i (label_of f i s) c → label_in_state o ≡ label_place u s
           → is_held_by (layout_at u i) s b ≡ has_block o c b
@@ -39,6 +41,6 @@ module _ (f : Found) (i : Image) (s : ℕ) where
       so (Some l) there None c head tree label = absurd (none-some (head_of l) (head ∙ ap (option_map head_of) there))
       so (Some l) there (Some x) None head tree label = absurd (subst (λ (o : Option Label). IsContainerOf i o None) there tree)
       so (Some l) there (Some x) (Some map) head tree label =
-          let of : Spelled i l.container l.height map × ((length map.entries ≡ entry_count l.span) × IsMapped map) = subst (λ (o : Option Label). IsContainerOf i o (Some map)) there tree in
+          let of : IsOpened i l.container l.height map × ((length map.entries ≡ entry_count l.span) × IsMapped map) = subst (λ (o : Option Label). IsContainerOf i o (Some map)) there tree in
           let same : head_in x ≡ head_of l = same_Some (head_in x) (head_of l) (head ∙ ap (option_map head_of) there) in
           held_is_of u i s l x map there (span_of l x same) of.0 of.1.0 (entry_kinds map of.1.1) none b ∙ ap (λ (p : ℕ). is_of x p map b) (sym label)

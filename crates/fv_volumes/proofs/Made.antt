@@ -34,8 +34,8 @@ use Rattle.fv_image.specs.Volumes.{empty_volume_of, standing_of, table_at, volum
 use Rattle.fv_image.proofs.Uses.{uses_nothing}
 use Rattle.fv_charge.specs.declared.ledger.Ledger.{Ledger}
 use Rattle.fv_charge.specs.Ledgers.{IsLedgerOf}
-use Rattle.fv_container.specs.Chains.{Slots, container_at, own_entry, with_container, with_parent}
-use Rattle.fv_container.specs.Mapped.{Mapped, empty_map}
+use Rattle.fv_container.specs.Chains.{Slots, container_at, map_in, own_entry, with_container, with_parent}
+use Rattle.fv_container.specs.Paged.{Paged, empty_paged}
 use Rattle.fv_image.specs.Chains.{parent_in, under}
 use Rattle.fv_image.specs.Views.{Head, Placed, View, entry_count}
 use Rattle.fv_image.proofs.LoneTables.{form_base, no_parent, place_own}
@@ -288,7 +288,7 @@ pub record IsAdded (pool : Pool) (states : States) (slot : ℕ) (name : List ℕ
   pub kept : new_pool.kept ≡ pool.kept
   pub others : (s : ℕ) → s ≢ slot → container_at new_pool.containers s ≡ container_at pool.containers s
 
-pub added_by : (pool : Pool) (states : States) (slot : ℕ) (name : List ℕ) (size : ℕ) (kind : Kind) (span : ℕ) (y : VolumeState) (new_pool : Pool) (container : Mapped) → length states ≡ 64 → Admits states pool.found.blocks name size kind slot span
+pub added_by : (pool : Pool) (states : States) (slot : ℕ) (name : List ℕ) (size : ℕ) (kind : Kind) (span : ℕ) (y : VolumeState) (new_pool : Pool) (container : Paged) → length states ≡ 64 → Admits states pool.found.blocks name size kind slot span
     → y.slot ≡ slot → head_in y ≡ empty_head name size kind span → y.ledger ≡ ledger_of_empty size kind span → is_name name ≡ true → y.map ≡ no_numbers span → y.fresh ≡ replicate stored_count false
     → new_pool.found ≡ pool.found → new_pool.kept ≡ pool.kept → new_pool.containers ≡ with_parent (with_container pool.containers slot (Some container)) slot None → IsAdded pool states slot name size kind y new_pool
 added_by pool states slot name size kind span y new_pool container long is at head ledger named map settled found kept put = record {
@@ -299,7 +299,7 @@ added_by pool states slot name size kind span y new_pool container long is at he
   ledger = ledger ∙ ap (ledger_of_empty size kind) is.span_is;
   found = found;
   kept = kept;
-  others = λ s other. ap (λ (x : Slots). container_at x s) put ∙ get_or-set_other pool.containers.containers slot s (Some container) None other;
+  others = λ s other. ap (λ (x : Slots). container_at x s) put ∙ ap map_in (get_or-set_other pool.containers.containers slot s (Some container) None other);
 }
 
 module _ (pool : Pool) (states : States) (slot : ℕ) (name : List ℕ) (size : ℕ) (kind : Kind) (y : VolumeState) (new_pool : Pool) (is : IsAdded pool states slot name size kind y new_pool) (trees : Trees) (i : Image)
@@ -465,8 +465,8 @@ module _ (pool : Pool) (states : States) (slot : ℕ) (name : List ℕ) (size : 
       ∙ sym (ap (λ (r : Option Refusal). cond (is_some r) (machine_in pool states trees i) (effect (machine_in pool states trees i) (VolCreate name size kind))) (accepted pool states trees i is.long are name size kind slot is.admits.0 is.admits.1))
 
 -- the new volume as it lies in its slot
-pub is_new : (states : States) (slot : ℕ) (y : VolumeState) (container : Option Mapped) (name : List ℕ) (size : ℕ) (kind : Kind) (span : ℕ) → slot < length states → span ≡ span_of size 0 0 → head_in y ≡ empty_head name size kind span
-    → y.map ≡ no_numbers span → y.ledger ≡ ledger_of_empty size kind span → y.label ≡ 0 → y.changed ≡ true → y.files ≡ None → y.numbers ≡ None → container ≡ Some (empty_map (entry_count span)) → IsNew (state_at (with_state states slot (Some y)) slot) container name size kind
+pub is_new : (states : States) (slot : ℕ) (y : VolumeState) (container : Option Paged) (name : List ℕ) (size : ℕ) (kind : Kind) (span : ℕ) → slot < length states → span ≡ span_of size 0 0 → head_in y ≡ empty_head name size kind span
+    → y.map ≡ no_numbers span → y.ledger ≡ ledger_of_empty size kind span → y.label ≡ 0 → y.changed ≡ true → y.files ≡ None → y.numbers ≡ None → container ≡ Some (empty_paged (entry_count span)) → IsNew (state_at (with_state states slot (Some y)) slot) container name size kind
 is_new states slot y container name size kind span within is head map ledger label changed files numbers holes =
     let span_is : y.span ≡ span = ap (λ h. h.span) head in
     record {
@@ -479,5 +479,5 @@ is_new states slot y container name size kind span within is head map ledger lab
       changed = changed;
       files = files;
       numbers = numbers;
-      holes = holes ∙ ap (λ (n : ℕ). Some (empty_map (entry_count n))) (sym span_is);
+      holes = holes ∙ ap (λ (n : ℕ). Some (empty_paged (entry_count n))) (sym span_is);
     }

@@ -1,12 +1,14 @@
 -- A container that has the blocks of maps, one more after another.
-use Rattle.std.proofs.Common.{◌≡◌, ◌≢◌, ℕ, ◌+◌, ◌*◌, ◌<◌, ◌≤◌, length, replicate, Bool, true, false, ◌||◌, ◌&&◌, cond, refl, sym, ap, ◌∙◌, arith, ⊎_elim, inl, inr, Some, None}
+use Rattle.std.proofs.Common.{◌≡◌, ◌≢◌, ℕ, ◌+◌, ◌*◌, ◌<◌, ◌≤◌, length, replicate, Bool, true, false, ◌||◌, ◌&&◌, cond, refl, sym, ap, ◌∙◌, arith, ⊎_elim, inl, inr, List, Option, Some, None}
+use Rattle.std.specs.Prelude.{slice_index_or, slice_set}
 use Rattle.std.proofs.lemmas.Bool.{both_ways, cases_eq, true≢false}
 use Rattle.std.proofs.lemmas.List.{get_or-set_same, get_or-set_other, length-replicate}
 use Rattle.fv_bits.specs.Bits.{block_bits}
 use Rattle.fv_bits.specs.Members.{IsBlockOf, is_member}
 use Rattle.fv_bits.proofs.Laws.{is_member-replicate, zero_block}
 use Rattle.fv_disk.specs.Shown.{Image}
-use Rattle.fv_container.specs.Mapped.{Mapped, entry_under, with_entry}
+use Rattle.fv_container.specs.declared.entry.Entry.{Entry}
+use Rattle.fv_container.specs.Mapped.{Mapped, entry_under}
 use Rattle.fv_container.specs.Spelled.{is_at}
 use Rattle.fv_aggmap.specs.Space.{Space, IsFree}
 use Rattle.fv_volume.specs.declared.state.VolumeState.{VolumeState}
@@ -33,12 +35,12 @@ no_bits x map i v lt is = absurd (both_ways _ (written_low x v lt) is)
 
 -- ---- a block more
 
-module _ (x : VolumeState) (k place : ℕ) (old new : Mapped) (within : k < length old.entries) (set_so : new ≡ with_entry old k (Some (map_entry place))) where
+module _ (x : VolumeState) (k place : ℕ) (old new : Mapped) (within : k < length old.entries) (set_so : new.entries ≡ slice_set old.entries k (Some (map_entry place))) where
   there : entry_under new k ≡ Some (map_entry place)
-  there = ap (λ (m : Mapped). entry_under m k) set_so ∙ get_or-set_same old.entries k (Some (map_entry place)) None within
+  there = ap (λ (es : List (Option Entry)). slice_index_or es k None) set_so ∙ get_or-set_same old.entries k (Some (map_entry place)) None within
 
   elsewhere : (v : ℕ) → v ≢ k → entry_under new v ≡ entry_under old v
-  elsewhere v other = ap (λ (m : Mapped). entry_under m v) set_so ∙ get_or-set_other old.entries k v (Some (map_entry place)) None other
+  elsewhere v other = ap (λ (es : List (Option Entry)). slice_index_or es v None) set_so ∙ get_or-set_other old.entries k v (Some (map_entry place)) None other
 
   place_there : place_at new k ≡ place
   place_there = ap place_in there

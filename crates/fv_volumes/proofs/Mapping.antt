@@ -8,7 +8,7 @@ use Rattle.fv_image.specs.Views.{block_in, entry_count}
 use Rattle.fv_image.specs.Held.{entry_from}
 use Rattle.fv_container.specs.declared.entry.Entry.{Entry}
 use Rattle.fv_container.specs.Mapped.{IsMapped, Mapped, entry_under}
-use Rattle.fv_container.specs.Spelled.{Spelled}
+use Rattle.fv_container.specs.Spelled.{IsOpened}
 use Rattle.fv_root.specs.declared.find.Found.{Found}
 use Rattle.fv_pool.specs.Keeping.{Blocks, kept_or}
 use Rattle.fv_volume.specs.Loading.{entry_block, label_of}
@@ -26,8 +26,8 @@ same_block : (i : Image) (e : Option Entry) → block_in (placed_in nothing i e)
 same_block i None = refl
 same_block i (Some e) = ap (λ (o : Option (List ℕ)). kept_or o (i e.pvbn)) (nothing_kept e.pvbn)
 
-module _ (found : Found) (i : Image) (s : ℕ) (l : Label) (map : Mapped) (lies : label_of found i s ≡ Some l) (spelled : Spelled i l.container l.height map) (size : length map.entries ≡ entry_count l.span) (valid : IsMapped map) where
+module _ (found : Found) (i : Image) (s : ℕ) (l : Label) (map : Mapped) (lies : label_of found i s ≡ Some l) (opened : IsOpened i l.container l.height map) (size : length map.entries ≡ entry_count l.span) (valid : IsMapped map) where
   pub block_there : (v : ℕ) → entry_block i (entry_under map v) ≡ block_in (entry_from (label_of found i s) i v)
   block_there v =
       sym (same_block i (entry_under map v))
-      ∙ ap block_in (entry_of nothing i nothing_kept (Some l) (Some map) v (spelled, (size, valid)) ∙ ap (λ (o : Option Label). entry_from o i v) (sym lies))
+      ∙ ap block_in (entry_of nothing i nothing_kept (Some l) (Some map) v (opened, (size, valid)) ∙ ap (λ (o : Option Label). entry_from o i v) (sym lies))

@@ -31,7 +31,7 @@ use Rattle.fv_image.specs.Views.{Head}
 use Rattle.fv_charge.specs.Ledgers.{IsLedgerOf}
 use Rattle.fv_container.specs.declared.entry.Entry.{Entry}
 use Rattle.fv_container.specs.Mapped.{Mapped, empty_map}
-use Rattle.fv_container.specs.Chains.{container_at, own_entry, parent_at}
+use Rattle.fv_container.specs.Chains.{AreCleanOn, container_at, own_entry, parent_at}
 use Rattle.fv_files.specs.declared.numbers.FileNumbers.{FileNumbers}
 use Rattle.fv_files.specs.Numbering.{AreNumbersIf}
 use Rattle.fv_pool.specs.declared.pool.Pool.{Pool}
@@ -123,9 +123,9 @@ module _ (disk : Disk) (pool : Pool) (x : VolumeState) (size : ℕ) (kind : Kind
       }
 
   -- So calls can be made on it.
-  pub made_standing : x.numbers ≡ None → (entries : ℕ) → IsTrue disk.tells → container_at pool.containers x.slot ≡ Some (empty_map entries) → parent_at pool.containers x.slot ≡ None → IsStanding disk pool x
-  made_standing unnumbered entries tells holes alone = record {
-    told = (tells, apart_alone pool x.map x.slot alone (λ v e is. absurd (no_entry v e is)) (λ v w other e is f there. absurd (no_entry v e is)));
+  pub made_standing : x.numbers ≡ None → (entries : ℕ) → IsTrue disk.tells → AreCleanOn disk.reads pool.containers → container_at pool.containers x.slot ≡ Some (empty_map entries) → parent_at pool.containers x.slot ≡ None → IsStanding disk pool x
+  made_standing unnumbered entries tells clean holes alone = record {
+    told = (tells, apart_alone pool x.map x.slot alone (λ v e is. absurd (no_entry v e is)) (λ v w other e is f there. absurd (no_entry v e is)), clean);
     table = subst (IsWellTable x.now) (sym made_table) (empty_well x.now);
     reserves = subst HasNoReserve (sym made_table) no_reserve;
     kept = none_kept (IsKeptTable disk pool x) x.snapshots no_snapshots;

@@ -15,7 +15,7 @@ use Rattle.fv_tree.specs.Standing.{under}
 use Rattle.fv_charge.specs.Ledgers.{IsLedgerOf}
 use Rattle.fv_container.specs.declared.entry.Entry.{Entry}
 use Rattle.fv_container.specs.Mapped.{Mapped}
-use Rattle.fv_container.specs.Chains.{Slots, container_at, own_entry, parent_at}
+use Rattle.fv_container.specs.Chains.{AreCleanOn, Slots, TellsEntries, container_at, own_entry, parent_at}
 use Rattle.fv_volmap.specs.Slots.{Volume as Maps, active_of, has, slot_at}
 use Rattle.fv_files.specs.Numbering.{AreNumbersIf}
 use Rattle.fv_pool.specs.declared.pool.Pool.{Pool}
@@ -74,11 +74,12 @@ module _ (d e : Disk) (p q : Pool) (y : VolumeState) (alone : parent_at p.contai
   pub entries_volume : volume_for e q y ≡ volume_for d p y
   entries_volume = λ i. volume_as y (record { active = table_told (same_standing i); snapshots = snaps_by (same_slots i) y.snapshots })
 
-  pub entries_standing : IsStanding d p y → IsStanding e q y
-  entries_standing is = record {
+  pub entries_standing : AreCleanOn e.reads q.containers → IsStanding d p y → IsStanding e q y
+  entries_standing clean is = record {
     told = (
       subst IsTrue (sym tells) is.told.0,
       apart_alone q y.map y.slot still (λ v x here. next v x (sym (own v) ∙ here)) (λ v w differ x here z there. is.told.1.own_apart v w differ x (sym (own v) ∙ here) z (sym (own w) ∙ there)),
+      clean,
     );
     table = subst (λ (s : Standing). IsWellTable y.now (table_told s)) (sym same_standing) is.table;
     reserves = subst (λ (s : Standing). HasNoReserve (table_told s)) (sym same_standing) is.reserves;
@@ -105,6 +106,10 @@ module _ (old new : Lent) (goes : GoesOver old new) (y : VolumeState) (other : y
   abbrev before : Slots
   before = old.pool.containers
 
+  -- entries are told
+  told : TellsEntries old.disk before
+  told = (is.told.0, is.told.2)
+
   same_own : (v : ℕ) → own_entry (container_at new.pool.containers y.slot) v ≡ own_entry (container_at before y.slot) v
   same_own v = ap (λ (c : Option Mapped). own_entry c v) (goes.others y.slot other)
 
@@ -115,10 +120,10 @@ module _ (old new : Lent) (goes : GoesOver old new) (y : VolumeState) (other : y
   stays : (v : ℕ) (e : Entry) → own_entry (container_at before y.slot) v ≡ Some e → fin.get new.pool.kept e.pvbn ≡ fin.get old.pool.kept e.pvbn
   stays v e here = ⊎_elim
       (λ same. same)
-      (λ (may : MayTake old.pool.map before old.home.slot e.pvbn). absurd (⊎_elim
+      (λ (may : MayTake (TellsEntries old.disk before) old.pool.map before old.home.slot e.pvbn). absurd (⊎_elim
       (λ free. taken (is_member old.pool.map.committed e.pvbn) (is_member old.pool.map.next e.pvbn) (is.told.1.own v e here) free)
       (λ own. apart v e here own)
-      may.free))
+      (may.free told)))
       (goes.kept e.pvbn)
     where
       taken : (s t : Bool) → t ≡ true → (s || t) ≡ false → ⊥
@@ -128,13 +133,13 @@ module _ (old new : Lent) (goes : GoesOver old new) (y : VolumeState) (other : y
   still_next : (v : ℕ) (e : Entry) → own_entry (container_at before y.slot) v ≡ Some e → is_member new.pool.map.next e.pvbn ≡ true
   still_next v e here = ⊎_elim
       (λ stays. stays)
-      (λ gone. absurd (apart v e here (goes.loses e.pvbn (is.told.1.own v e here) gone)))
+      (λ gone. absurd (apart v e here (goes.loses told e.pvbn (is.told.1.own v e here) gone)))
       (cases_Bool (is_member new.pool.map.next e.pvbn))
 
   -- The other volume stands for what it stood for.
   pub beside_goes : StaysBeside old.disk old.pool new.disk new.pool y
   beside_goes = record {
-    standing = entries_standing old.disk new.disk old.pool new.pool y alone still_alone same_own goes.only_reads.stays.tells goes.only_reads.stays.reads stays still_next is;
+    standing = entries_standing old.disk new.disk old.pool new.pool y alone still_alone same_own goes.only_reads.stays.tells goes.only_reads.stays.reads stays still_next (goes.clean told) is;
     volume = entries_volume old.disk new.disk old.pool new.pool y alone still_alone same_own goes.only_reads.stays.tells goes.only_reads.stays.reads stays still_next;
     led = entries_led old.disk new.disk old.pool new.pool y alone still_alone same_own goes.only_reads.stays.tells goes.only_reads.stays.reads stays still_next;
     well = entries_well old.disk new.disk old.pool new.pool y alone still_alone same_own goes.only_reads.stays.tells goes.only_reads.stays.reads stays still_next;

@@ -9,7 +9,7 @@ use Rattle.fv_image.specs.Reclaimed.{IsAllocatable}
 use Rattle.fv_image.specs.Views.{entry_count}
 use Rattle.fv_aggmap.specs.Space.{blocks_of}
 use Rattle.fv_container.specs.declared.entry.Entry.{Entry}
-use Rattle.fv_container.specs.Chains.{Slots, container_at, own_entry}
+use Rattle.fv_container.specs.Chains.{Slots, TellsEntries, container_at, own_entry}
 use Rattle.fv_container.specs.Mapped.{Mapped, entry_under}
 use Rattle.fv_container.specs.Spelled.{is_at, names}
 use Rattle.fv_files.specs.declared.files.Files.{Files}
@@ -63,7 +63,7 @@ same_truth false false f g = refl
 module _ (d e : Shown) (p q : Pool) (x : VolumeState) (active : Rooted) (maps : Maps) (files : Option Files) (changed : Bool) (room left steps strays : ℕ) (noted : Noted)
     (over : GoesOver (lent_for p x.map d 0 (home_in x) room) (lent_by q maps e steps (home_in x) left strays noted))
     (map now : Mapped) (lies : container_at p.containers x.slot ≡ Some map) (lies_now : container_at q.containers x.slot ≡ Some now) (long : length map.entries ≡ entry_count x.span) (was : AreApartIn x map)
-    (blocks : ℕ) (size : blocks_of p.map ≡ blocks) (held : (b : ℕ) → is_of x x.label map b ≡ true → (is_member p.map.next b ≡ true) × IsAllocatable blocks b) (told : AreApart q maps x.slot) where
+    (blocks : ℕ) (size : blocks_of p.map ≡ blocks) (held : (b : ℕ) → is_of x x.label map b ≡ true → (is_member p.map.next b ≡ true) × IsAllocatable blocks b) (told : AreApart q maps x.slot) (tells : TellsEntries d p.containers) where
   abbrev n : ℕ
   n = entry_count x.span
 
@@ -83,7 +83,7 @@ module _ (d e : Shown) (p q : Pool) (x : VolumeState) (active : Rooted) (maps : 
   some_now : (v : ℕ) → IfSome (entry_under now v) (λ e. 1 ≤ e.pvbn)
   some_now v = ⊎_elim
       (λ same. subst (λ (o : Option Entry). IfSome o (λ e. 1 ≤ e.pvbn)) (sym (same_entry v same)) (was.some v))
-      (λ (fresh : IsNewEntry p.map p.containers q.containers x.slot v).
+      (λ (fresh : IsNewEntry (TellsEntries d p.containers) p.map p.containers q.containers x.slot v).
       let low = fresh.takes.lies.0 in
       let least : 1 ≤ fresh.entry.pvbn = omega (arith, low) in
       subst (λ (o : Option Entry). IfSome o (λ e. 1 ≤ e.pvbn)) (sym fresh.stands ∙ own_at q.containers x.slot now lies_now v) least)
@@ -99,12 +99,12 @@ module _ (d e : Shown) (p q : Pool) (x : VolumeState) (active : Rooted) (maps : 
   own_now = own_leads q.containers x.slot now lies_now n
 
   -- an entry that leads to a block now did so before, or the block could be taken
-  owned : (b : ℕ) → IsOwn q.containers x.slot b → IsOwn p.containers x.slot b ⊎ MayTake p.map p.containers x.slot b
+  owned : (b : ℕ) → IsOwn q.containers x.slot b → IsOwn p.containers x.slot b ⊎ MayTake (TellsEntries d p.containers) p.map p.containers x.slot b
   owned b own = ⊎_elim
       (λ same. inl (record { vvbn = own.vvbn; entry = own.entry; stands = sym same ∙ own.stands; leads = own.leads }))
-      (λ (fresh : IsNewEntry p.map p.containers q.containers x.slot own.vvbn).
+      (λ (fresh : IsNewEntry (TellsEntries d p.containers) p.map p.containers q.containers x.slot own.vvbn).
       let same : fresh.entry ≡ own.entry = some_same fresh.entry own.entry (sym fresh.stands ∙ own.stands) in
-      inr (subst (λ (k : ℕ). MayTake p.map p.containers x.slot k) (ap (λ (e : Entry). e.pvbn) same ∙ own.leads) fresh.takes))
+      inr (subst (λ (k : ℕ). MayTake (TellsEntries d p.containers) p.map p.containers x.slot k) (ap (λ (e : Entry). e.pvbn) same ∙ own.leads) fresh.takes))
       (over.entries own.vvbn)
     where
       some_same : (a b : Entry) → Some a ≡ Some b → a ≡ b
@@ -137,7 +137,7 @@ module _ (d e : Shown) (p q : Pool) (x : VolumeState) (active : Rooted) (maps : 
   pub unled_now : (b : ℕ) → fixed b ≡ true → leads now n b ≡ false
   unled_now b is = false_from_ne_true (leads now n b) (λ led. ⊎_elim
       (λ own. unowned b is own)
-      (λ (may : MayTake p.map p.containers x.slot b). ⊎_elim (λ free. free_not b (has_fixed b is) free) (λ own. unowned b is own) may.free)
+      (λ (may : MayTake (TellsEntries d p.containers) p.map p.containers x.slot b). ⊎_elim (λ free. free_not b (has_fixed b is) free) (λ own. unowned b is own) (may.free tells))
       (owned b (own_now b led)))
 
   -- a block that it has now is the label or a node, or an entry leads to it
@@ -177,7 +177,7 @@ module _ (d e : Shown) (p q : Pool) (x : VolumeState) (active : Rooted) (maps : 
   next_has b is = ⊎_elim
       (λ (at : fixed b ≡ true). ⊎_elim
       (λ there. there)
-      (λ gone. absurd (unowned b at (over.loses b (held b (has_fixed b at)).0 gone)))
+      (λ gone. absurd (unowned b at (over.loses tells b (held b (has_fixed b at)).0 gone)))
       (cases_Bool (is_member q.map.next b)))
       (λ (led : leads now n b ≡ true). let own = own_now b led in subst (λ (k : ℕ). is_member q.map.next k ≡ true) own.leads (told.own own.vvbn own.entry own.stands))
       (has_parts b is)
@@ -195,7 +195,7 @@ module _ (d e : Shown) (p q : Pool) (x : VolumeState) (active : Rooted) (maps : 
           (was_parts b had)))
           (λ (hadnt : is_of x x.label map b ≡ false). or_right (is_of after after.label now b) _ (and_from (is_member p.map.next b) _ still.0 (not_from_false (is_of x x.label map b) hadnt)))
           (cases_Bool (is_of x x.label map b)))
-          (over.gains b is)
+          (over.gains tells b is)
 
       to : (is_of after after.label now b || (is_member p.map.next b && not (is_of x x.label map b))) ≡ true → is_member q.map.next b ≡ true
       to is = ⊎_elim
@@ -204,7 +204,7 @@ module _ (d e : Shown) (p q : Pool) (x : VolumeState) (active : Rooted) (maps : 
           (λ there. there)
           (λ gone.
           let parts = and_parts (is_member p.map.next b) (not (is_of x x.label map b)) rest in
-          absurd (differs (is_of x x.label map b) parts.1 (has_led b (led_was b (over.loses b parts.0 gone)))))
+          absurd (differs (is_of x x.label map b) parts.1 (has_led b (led_was b (over.loses tells b parts.0 gone)))))
           (cases_Bool (is_member q.map.next b)))
           (or_cases (is_of after after.label now b) (is_member p.map.next b && not (is_of x x.label map b)) is)
         where
@@ -218,10 +218,10 @@ module _ (d e : Shown) (p q : Pool) (x : VolumeState) (active : Rooted) (maps : 
       (λ (at : fixed b ≡ true). inl (has_fixed b at))
       (λ (led : leads now n b ≡ true). ⊎_elim
       (λ own. inl (has_led b (led_was b own)))
-      (λ (may : MayTake p.map p.containers x.slot b). ⊎_elim
+      (λ (may : MayTake (TellsEntries d p.containers) p.map p.containers x.slot b). ⊎_elim
       (λ free. inr (or_neither (is_member p.map.committed b) (is_member p.map.next b) free).1)
       (λ own. inl (has_led b (led_was b own)))
-      may.free)
+      (may.free tells))
       (owned b (own_now b led)))
       (has_parts b is)
 
@@ -231,7 +231,7 @@ module _ (d e : Shown) (p q : Pool) (x : VolumeState) (active : Rooted) (maps : 
       (λ (at : fixed b ≡ true). (held b (has_fixed b at)).1)
       (λ (led : leads now n b ≡ true). ⊎_elim
       (λ own. (held b (has_led b (led_was b own))).1)
-      (λ (may : MayTake p.map p.containers x.slot b). subst (λ (k : ℕ). IsAllocatable k b) size may.lies)
+      (λ (may : MayTake (TellsEntries d p.containers) p.map p.containers x.slot b). subst (λ (k : ℕ). IsAllocatable k b) size may.lies)
       (owned b (own_now b led)))
       (has_parts b is)
 

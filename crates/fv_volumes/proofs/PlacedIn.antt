@@ -21,9 +21,10 @@ use Rattle.fv_aggmap.specs.Space.{blocks_of}
 use Rattle.fv_container.specs.Chains.{slot_count}
 use Rattle.fv_root.specs.Formatted.{IsSize}
 use Rattle.fv_bits.specs.Members.{is_member}
-use Rattle.fv_container.specs.Chains.{container_at, own_entry, parent_at}
+use Rattle.fv_container.specs.Chains.{AreCleanOn, TellsEntries, container_at, map_in, own_entry, paged_at, parent_at}
 use Rattle.fv_container.specs.Clean.{IsCleanOn}
 use Rattle.fv_container.specs.Mapped.{Mapped, entry_under}
+use Rattle.fv_container.specs.Paged.{Paged}
 use Rattle.fv_container.specs.Spelled.{is_at, names}
 use Rattle.fv_pool.specs.declared.pool.Pool.{Pool}
 use Rattle.fv_volume.specs.declared.state.VolumeState.{VolumeState}
@@ -39,7 +40,7 @@ use Rattle.fv_volume.specs.States.{States, head_in, parent_in, state_at, with_st
 use Rattle.fv_volume.specs.Stored.{AreApartIn, AreSpacedIn, has_block, is_of}
 use Rattle.fv_volumes.specs.UnderRoot.{IsLentAt, IsLentSlot, IsMapOf}
 use Rattle.fv_volume.specs.Writing.{IsTaken, on_disk}
-use Rattle.fv_volumes.proofs.LentSlots.{lent_slot}
+use Rattle.fv_volumes.proofs.LentSlots.{lent_again, lent_slot}
 use Rattle.fv_volumes.proofs.StandingMaps.{maps_still}
 use Rattle.fv_volumes.proofs.Made.{from_pairs, to_pair}
 use Rattle.fv_volumes.proofs.Spacing.{spaced_next}
@@ -51,13 +52,13 @@ use Rattle.fv_volumes.proofs.Others.{beside_flush}
 use Rattle.fv_volumes.proofs.Owned.{apart_now, bits, from_free, leads_own, lies_well, tree_same}
 
 -- a container that is there
-record Lies (c : Option Mapped) : Type 0 where
-  map : Mapped
-  is : c ≡ Some map
+record Lies (c : Option Paged) : Type 0 where
+  paged : Paged
+  is : c ≡ Some paged
 
-lies_some : (c : Option Mapped) → is_some c ≡ true → Lies c
+lies_some : (c : Option Paged) → is_some (map_in c) ≡ true → Lies c
 lies_some None isnt = absurd cc
-lies_some (Some m) there = record { map = m; is = refl }
+lies_some (Some paged) there = record { paged = paged; is = refl }
 
 housed_some : (o : Option VolumeState) (c : Option Mapped) (x : VolumeState) → o ≡ Some x → Houses o c → is_some c ≡ true
 housed_some None c x e h = absurd (none_some x (sym e))
@@ -76,14 +77,15 @@ houses : (x : VolumeState) (c : Option Mapped) → is_some c ≡ true → length
 houses x None isnt count = absurd cc
 houses x (Some m) there count = count
 
-module _ (disk : Shown) (pool : Pool) (states : States) (housed : AreHoused pool.containers states) (slots : (s : ℕ) → s < slot_count → IsLentAt disk.reads pool.found s (state_at states s) (container_at pool.containers s)) where
+module _ (disk : Shown) (pool : Pool) (states : States) (housed : AreHoused pool.containers states) (slots : (s : ℕ) → s < slot_count → IsLentAt disk.reads pool.found s (state_at states s) (paged_at pool.containers s)) where
   -- a volume has the blocks of its own entries
   pub own_has : (k : ℕ) (w : VolumeState) → state_at states k ≡ Some w → (b : ℕ) → IsOwn pool.containers k b → has_block (state_at states k) (container_at pool.containers k) b ≡ true
   own_has k w at b own =
-      let c = lies_some (container_at pool.containers k) (housed_some (state_at states k) (container_at pool.containers k) w at (housed.each k)) in
-      let slot = lent_slot disk.reads pool.found k (state_at states k) (container_at pool.containers k) w c.map at c.is (slots k (is_inside states k w housed.long at)) in
-      let led = leads_own pool.containers k c.map c.is (entry_count w.span) (ap (λ (c : Option Mapped). length (entries_in c)) (sym c.is) ∙ housed_count (state_at states k) (container_at pool.containers k) w at (housed.each k)) (λ v. slot.apart.some v) b own in
-      (λ j. has_block (at j) (c.is j) b) ∙ or_right (is_at b w.label) _ (or_right (names c.map.tree b) _ led)
+      let c = lies_some (paged_at pool.containers k) (housed_some (state_at states k) (container_at pool.containers k) w at (housed.each k)) in
+      let slot = lent_slot disk.reads pool.found k (state_at states k) (paged_at pool.containers k) w c.paged at c.is (slots k (is_inside states k w housed.long at)) in
+      let lies : container_at pool.containers k ≡ Some c.paged.map = ap map_in c.is in
+      let led = leads_own pool.containers k c.paged.map lies (entry_count w.span) (ap (λ (c : Option Mapped). length (entries_in c)) (sym lies) ∙ housed_count (state_at states k) (container_at pool.containers k) w at (housed.each k)) (λ v. slot.apart.some v) b own in
+      (λ j. has_block (at j) (lies j) b) ∙ or_right (is_at b w.label) _ (or_right (names c.paged.map.tree b) _ led)
 
 module _ (disk after : Shown) (pool left : Pool) (states stay : States) (x y : VolumeState) (there : state_at states x.slot ≡ Some x) (now : stay ≡ with_state states x.slot (Some y)) (housed : AreHoused pool.containers states) (placed : IsPlacedAs disk pool x after left y) where
   abbrev s : ℕ
@@ -116,21 +118,33 @@ module _ (disk after : Shown) (pool left : Pool) (states stay : States) (x y : V
   there_some : is_some (container_at pool.containers s) ≡ true
   there_some = housed_some (state_at states s) (container_at pool.containers s) x there (housed.each s)
 
-  was : Lies (container_at pool.containers s)
-  was = lies_some (container_at pool.containers s) there_some
+  was : Lies (paged_at pool.containers s)
+  was = lies_some (paged_at pool.containers s) there_some
 
-  is : Lies (container_at left.containers s)
-  is = lies_some (container_at left.containers s) (over.shape.there ∙ there_some)
+  is : Lies (paged_at left.containers s)
+  is = lies_some (paged_at left.containers s) (over.shape.there ∙ there_some)
 
-  long : length was.map.entries ≡ entry_count x.span
-  long = ap (λ (c : Option Mapped). length (entries_in c)) (sym was.is) ∙ housed_count (state_at states s) (container_at pool.containers s) x there (housed.each s)
+  abbrev was_map : Mapped
+  was_map = was.paged.map
+
+  abbrev is_map : Mapped
+  is_map = is.paged.map
+
+  was_lies : container_at pool.containers s ≡ Some was_map
+  was_lies = ap map_in was.is
+
+  is_lies : container_at left.containers s ≡ Some is_map
+  is_lies = ap map_in is.is
+
+  long : length was_map.entries ≡ entry_count x.span
+  long = ap (λ (c : Option Mapped). length (entries_in c)) (sym was_lies) ∙ housed_count (state_at states s) (container_at pool.containers s) x there (housed.each s)
 
   -- ---- whatever the disk tells
 
   pub kept_still : ((b : ℕ) → IsTaken (on_disk pool.map) b → IsUnkept pool.kept b) → (b : ℕ) → IsTaken (on_disk left.map) b → IsUnkept left.kept b
   kept_still kept b taken = ⊎_elim
       (λ same. same ∙ kept b on)
-      (λ (may : MayTake pool.map pool.containers s b). absurd (on (record { after = may.lies.0; within = may.lies.1; free = or_from (is_member pool.map.committed b) (is_member pool.map.committed b) may.spare may.spare })))
+      (λ (may : MayTake (TellsEntries disk pool.containers) pool.map pool.containers s b). absurd (on (record { after = may.lies.0; within = may.lies.1; free = or_from (is_member pool.map.committed b) (is_member pool.map.committed b) may.spare may.spare })))
       (over.kept b)
     where
       on : IsTaken (on_disk pool.map) b
@@ -244,7 +258,7 @@ module _ (disk after : Shown) (pool left : Pool) (states stay : States) (x y : V
 
   -- ---- where volumes are what they are between points
 
-  module _ (size : blocks_of pool.map ≡ pool.found.blocks) (slots : (s : ℕ) → s < slot_count → IsLentAt disk.reads pool.found s (state_at states s) (container_at pool.containers s)) (spaced : AreSpacedIn pool.found.blocks pool.map.next (state_at states) (container_at pool.containers))
+  module _ (size : blocks_of pool.map ≡ pool.found.blocks) (slots : (s : ℕ) → s < slot_count → IsLentAt disk.reads pool.found s (state_at states s) (paged_at pool.containers s)) (spaced : AreSpacedIn pool.found.blocks pool.map.next (state_at states) (container_at pool.containers))
       (each : (s : ℕ) → IfSome (state_at states s) (IsHeldIn disk pool s)) where
     pub mine : IsHeldIn disk pool s x
     mine = subst (λ (o : Option VolumeState). IfSome o (IsHeldIn disk pool s)) there (each s)
@@ -255,69 +269,75 @@ module _ (disk after : Shown) (pool left : Pool) (states stay : States) (x y : V
     told : AreApart left y.map s
     told = subst (λ (n : ℕ). AreApart left y.map n) (ap (λ (z : VolumeState). z.slot) placed.keeps) standing.told.1
 
-    lent : IsLentSlot disk.reads pool.found s x was.map
-    lent = lent_slot disk.reads pool.found s (state_at states s) (container_at pool.containers s) x was.map there was.is (slots s inside)
+    tells : TellsEntries disk pool.containers
+    tells = (mine.stands.told.0, mine.stands.told.2)
 
-    has_was : (b : ℕ) → has_block (state_at states s) (container_at pool.containers s) b ≡ is_of x x.label was.map b
-    has_was b = (λ k. has_block (there k) (was.is k) b)
+    lent : IsLentSlot disk.reads pool.found s x was.paged
+    lent = lent_slot disk.reads pool.found s (state_at states s) (paged_at pool.containers s) x was.paged there was.is (slots s inside)
+
+    has_was : (b : ℕ) → has_block (state_at states s) (container_at pool.containers s) b ≡ is_of x x.label was_map b
+    has_was b = (λ k. has_block (there k) (was_lies k) b)
 
     -- the volume as it is left
     abbrev z : VolumeState
     z = record x { active = y.active; map = y.map; files = y.files; changed = y.changed }
 
-    has_now : (b : ℕ) → has_block (state_at stay s) (container_at left.containers s) b ≡ is_of z z.label is.map b
-    has_now b = (λ k. has_block (here k) (is.is k) b) ∙ ap (λ (v : VolumeState). is_of v v.label is.map b) placed.keeps
+    has_now : (b : ℕ) → has_block (state_at stay s) (container_at left.containers s) b ≡ is_of z z.label is_map b
+    has_now b = (λ k. has_block (here k) (is_lies k) b) ∙ ap (λ (v : VolumeState). is_of v v.label is_map b) placed.keeps
 
-    of_held : (b : ℕ) → is_of x x.label was.map b ≡ true → (is_member pool.map.next b ≡ true) × IsAllocatable pool.found.blocks b
+    of_held : (b : ℕ) → is_of x x.label was_map b ≡ true → (is_member pool.map.next b ≡ true) × IsAllocatable pool.found.blocks b
     of_held b of = spaced.held s b inside (has_was b ∙ of)
 
     reads : after.reads ≡ disk.reads
     reads = over.only_reads.stays.reads
 
-    bits_now : (b : ℕ) → is_member left.map.next b ≡ (is_of z z.label is.map b || (is_member pool.map.next b && not (is_of x x.label was.map b)))
-    bits_now = bits disk after pool left x y.active y.map y.files y.changed room less placed.goes.steps placed.goes.goes.strays placed.goes.goes.noted over was.map is.map was.is is.is long lent.apart pool.found.blocks size of_held told
+    bits_now : (b : ℕ) → is_member left.map.next b ≡ (is_of z z.label is_map b || (is_member pool.map.next b && not (is_of x x.label was_map b)))
+    bits_now = bits disk after pool left x y.active y.map y.files y.changed room less placed.goes.steps placed.goes.goes.strays placed.goes.goes.noted over was_map is_map was_lies is_lies long lent.apart pool.found.blocks size of_held told tells
 
     pub spaced_still : AreSpacedIn pool.found.blocks left.map.next (state_at stay) (container_at left.containers)
     spaced_still = spaced_next pool.found.blocks pool.map.next left.map.next (state_at states) (state_at stay) (container_at pool.containers) (container_at left.containers) s inside spaced
         (λ k b differ. (λ j. has_block (other k differ j) (over.others k differ j) b))
         (λ b. bits_now b ∙ (λ j. sym (has_now b) j || (is_member pool.map.next b && not (sym (has_was b) j))))
         (λ b of. ⊎_elim (λ own. inl (has_was b ∙ own)) (λ clear. inr clear)
-        (from_free disk after pool left x y.active y.map y.files y.changed room less placed.goes.steps placed.goes.goes.strays placed.goes.goes.noted over was.map is.map was.is is.is long lent.apart pool.found.blocks size of_held told b (sym (has_now b) ∙ of)))
-        (λ b of. lies_well disk after pool left x y.active y.map y.files y.changed room less placed.goes.steps placed.goes.goes.strays placed.goes.goes.noted over was.map is.map was.is is.is long lent.apart pool.found.blocks size of_held told b (sym (has_now b) ∙ of))
+        (from_free disk after pool left x y.active y.map y.files y.changed room less placed.goes.steps placed.goes.goes.strays placed.goes.goes.noted over was_map is_map was_lies is_lies long lent.apart pool.found.blocks size of_held told tells b (sym (has_now b) ∙ of)))
+        (λ b of. lies_well disk after pool left x y.active y.map y.files y.changed room less placed.goes.steps placed.goes.goes.strays placed.goes.goes.noted over was_map is_map was_lies is_lies long lent.apart pool.found.blocks size of_held told tells b (sym (has_now b) ∙ of))
 
     -- the entries behind the span stay
-    behind : (v : ℕ) → x.span ≤ v → entry_under is.map v ≡ entry_under was.map v
+    behind : (v : ℕ) → x.span ≤ v → entry_under is_map v ≡ entry_under was_map v
     behind v past =
         let span = mine.ready.labelled.map in
-        sym (ap (λ (c : Option Mapped). own_entry c v) is.is) ∙ over.beyond v (omega (arith, span, past)) ∙ ap (λ (c : Option Mapped). own_entry c v) was.is
+        sym (ap (λ (c : Option Mapped). own_entry c v) is_lies) ∙ over.beyond v (omega (arith, span, past)) ∙ ap (λ (c : Option Mapped). own_entry c v) was_lies
 
     -- without a change it is as the root on the disk has it
-    unchanged : (o : Option Files) → x.files ≡ o → y.changed ≡ false → IsLoaded disk.reads pool.found s (Some y) (Some is.map)
+    unchanged : (o : Option Files) → x.files ≡ o → y.changed ≡ false → IsLoaded disk.reads pool.found s (Some y) (Some is.paged)
     unchanged (Some f) e un = absurd (both_ways _ un (placed.changed (ap is_some e)))
     unchanged None e un =
         let idle = placed.idle e in
-        let same : Some was.map ≡ Some is.map = sym was.is ∙ ap (λ (p : Pool). container_at p.containers s) (sym idle.0) ∙ is.is in
-        subst (λ (c : Option Mapped). IsLoaded disk.reads pool.found s (Some y) c) same (subst (λ (v : VolumeState). IsLoaded disk.reads pool.found s (Some v) (Some was.map)) (sym idle.1)
+        let same : Some was.paged ≡ Some is.paged = sym was.is ∙ ap (λ (p : Pool). paged_at p.containers s) (sym idle.0) ∙ is.is in
+        subst (λ (c : Option Paged). IsLoaded disk.reads pool.found s (Some y) c) same (subst (λ (v : VolumeState). IsLoaded disk.reads pool.found s (Some v) (Some was.paged)) (sym idle.1)
         (lent.unchanged (sym (ap (λ (v : VolumeState). v.changed) idle.1) ∙ un)))
 
-    slot_here : IsLentAt disk.reads pool.found s (state_at stay s) (container_at left.containers s)
-    slot_here = subst (λ (o : Option VolumeState). IsLentAt disk.reads pool.found s o (container_at left.containers s)) (sym here) (subst (λ (c : Option Mapped). IsLentAt disk.reads pool.found s (Some y) c) (sym is.is) (record {
+    clean_now : AreCleanOn disk.reads left.containers
+    clean_now = subst (λ (i : Image). AreCleanOn i left.containers) reads (over.clean tells)
+
+    slot_here : IsLentAt disk.reads pool.found s (state_at stay s) (paged_at left.containers s)
+    slot_here = subst (λ (o : Option VolumeState). IsLentAt disk.reads pool.found s o (paged_at left.containers s)) (sym here) (subst (λ (c : Option Paged). IsLentAt disk.reads pool.found s (Some y) c) (sym is.is) (record {
       label = λ some. let same = ap (λ (v : VolumeState). v.label) placed.keeps in same ∙ lent.label (λ none. some (same ∙ none));
       nodes = λ b node. lent.nodes b (subst (λ (t : List ℕ). names t b ≡ true)
-          (tree_same disk after pool left x y.active y.map y.files y.changed room less placed.goes.steps placed.goes.goes.strays placed.goes.goes.noted over was.map is.map was.is is.is long lent.apart pool.found.blocks size of_held told) node);
-      clean = subst (λ (c : Option Mapped). IfSome c (IsCleanOn disk.reads)) is.is (over.shape.clean disk.reads (subst (λ (c : Option Mapped). IfSome c (IsCleanOn disk.reads)) (sym was.is) lent.clean));
-      apart = subst (λ (v : VolumeState). AreApartIn v is.map) (sym placed.keeps)
-          (apart_now disk after pool left x y.active y.map y.files y.changed room less placed.goes.steps placed.goes.goes.strays placed.goes.goes.noted over was.map is.map was.is is.is long lent.apart pool.found.blocks size of_held told);
-      maps = maps_still disk.reads pool.found x y was.map is.map (ap (λ (v : VolumeState). v.span) placed.keeps) over.span over.snapshots (ap (λ (v : VolumeState). v.fresh) placed.keeps) behind lent.maps;
+          (tree_same disk after pool left x y.active y.map y.files y.changed room less placed.goes.steps placed.goes.goes.strays placed.goes.goes.noted over was_map is_map was_lies is_lies long lent.apart pool.found.blocks size of_held told tells) node);
+      clean = subst (λ (c : Option Paged). IfSome c (IsCleanOn disk.reads)) is.is (clean_now s);
+      apart = subst (λ (v : VolumeState). AreApartIn v is_map) (sym placed.keeps)
+          (apart_now disk after pool left x y.active y.map y.files y.changed room less placed.goes.steps placed.goes.goes.strays placed.goes.goes.noted over was_map is_map was_lies is_lies long lent.apart pool.found.blocks size of_held told tells);
+      maps = maps_still disk.reads pool.found x y was_map is_map (ap (λ (v : VolumeState). v.span) placed.keeps) over.span over.snapshots (ap (λ (v : VolumeState). v.fresh) placed.keeps) behind lent.maps;
       unchanged = unchanged x.files refl;
     }))
 
-    pub slots_still : (k : ℕ) → k < 64 → IsLentAt after.reads left.found k (state_at stay k) (container_at left.containers k)
-    slots_still k low = subst (λ (i : Image). IsLentAt i left.found k (state_at stay k) (container_at left.containers k)) (sym reads) (subst (λ (f : Found). IsLentAt disk.reads f k (state_at stay k) (container_at left.containers k)) (sym over.found)
+    pub slots_still : (k : ℕ) → k < 64 → IsLentAt after.reads left.found k (state_at stay k) (paged_at left.containers k)
+    slots_still k low = subst (λ (i : Image). IsLentAt i left.found k (state_at stay k) (paged_at left.containers k)) (sym reads) (subst (λ (f : Found). IsLentAt disk.reads f k (state_at stay k) (paged_at left.containers k)) (sym over.found)
         (⊎_elim
-        (λ (e : k ≡ s). subst (λ (n : ℕ). IsLentAt disk.reads pool.found n (state_at stay n) (container_at left.containers n)) (sym e) slot_here)
-        (λ (differ : k ≢ s). subst (λ (o : Option VolumeState). IsLentAt disk.reads pool.found k o (container_at left.containers k)) (sym (other k differ))
-        (subst (λ (c : Option Mapped). IsLentAt disk.reads pool.found k (state_at states k) c) (sym (over.others k differ)) (slots k low)))
+        (λ (e : k ≡ s). subst (λ (n : ℕ). IsLentAt disk.reads pool.found n (state_at stay n) (paged_at left.containers n)) (sym e) slot_here)
+        (λ (differ : k ≢ s). subst (λ (o : Option VolumeState). IsLentAt disk.reads pool.found k o (paged_at left.containers k)) (sym (other k differ))
+        (lent_again disk.reads pool.found k (state_at states k) (paged_at pool.containers k) (paged_at left.containers k) (over.others k differ) (clean_now k) (slots k low)))
         (cases_eq k s)))
 
     -- another volume stays

@@ -9,7 +9,8 @@ use Rattle.fv_model.specs.declared.commands.Command.{Command}
 use Rattle.fv_model.specs.declared.commands.Kind.{Kind}
 use Rattle.fv_root.specs.declared.find.Found.{Found}
 use Rattle.fv_container.specs.Mapped.{Mapped}
-use Rattle.fv_container.specs.Chains.{Slots, container_at, slot_count}
+use Rattle.fv_container.specs.Paged.{Paged}
+use Rattle.fv_container.specs.Chains.{Slots, container_at, paged_at, slot_count}
 use Rattle.fv_pool.specs.declared.pool.Pool.{Pool}
 use Rattle.fv_volume.specs.declared.state.VolumeState.{VolumeState}
 use Rattle.fv_volume.specs.Files.{AreNamed, IsLabelled}
@@ -113,17 +114,17 @@ module _ (old : States) (blocks : ℕ) (c : Command) (name : List ℕ) (size : V
       has s b = same_at (λ (o : Option VolumeState). has_block o (container s) b) (by (container s) b) s
 
   -- each slot can be lent still
-  pub lent_promised : (i : Image) (found : Found) (containers : Slots) → ((s : ℕ) → s < slot_count → IsLentAt i found s (state_at old s) (container_at containers s)) → (s : ℕ) → s < slot_count → IsLentAt i found s (state_at new s) (container_at containers s)
-  lent_promised i found containers slots s low = turned (λ s o. IsLentAt i found s o (container_at containers s)) (λ s here. by s (container_at containers s)) s (slots s low)
+  pub lent_promised : (i : Image) (found : Found) (containers : Slots) → ((s : ℕ) → s < slot_count → IsLentAt i found s (state_at old s) (paged_at containers s)) → (s : ℕ) → s < slot_count → IsLentAt i found s (state_at new s) (paged_at containers s)
+  lent_promised i found containers slots s low = turned (λ s o. IsLentAt i found s o (paged_at containers s)) (λ s here. by s (paged_at containers s)) s (slots s low)
     where
-      by : (s : ℕ) (map : Option Mapped) → IsLentAt i found s (Some x) map → IsLentAt i found s (Some y) map
+      by : (s : ℕ) (c : Option Paged) → IsLentAt i found s (Some x) c → IsLentAt i found s (Some y) c
       by s None lent = lent
-      by s (Some map) lent = record {
+      by s (Some paged) lent = record {
         label = lent.label;
         nodes = lent.nodes;
         clean = lent.clean;
         apart = record { some = lent.apart.some; entries = lent.apart.entries; nodes = lent.apart.nodes; label = lent.apart.label };
-        maps = maps_still i found x y map map refl refl (λ k other. refl) refl (λ v past. refl) lent.maps;
+        maps = maps_still i found x y paged.map paged.map refl refl (λ k other. refl) refl (λ v past. refl) lent.maps;
         unchanged = λ isnt. absurd (true≢false isnt);
       }
 

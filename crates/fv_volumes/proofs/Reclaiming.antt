@@ -9,6 +9,7 @@ use Rattle.fv_root.specs.declared.find.Found.{Found}
 use Rattle.fv_container.specs.declared.entry.Entry.{Entry}
 use Rattle.fv_container.specs.Leading.{HasEmptied, lead_to, place_at, place_in}
 use Rattle.fv_container.specs.Mapped.{Mapped, entry_under}
+use Rattle.fv_container.specs.Paged.{Paged}
 use Rattle.fv_container.specs.Spelled.{is_at, names}
 use Rattle.fv_container.proofs.Leading.{lead_at, lead_where}
 use Rattle.fv_aggmap.specs.Giving.{HasGiven}
@@ -26,7 +27,13 @@ use Rattle.fv_volume.proofs.StayingMaps.{stays_held, stored_stays}
 
 -- ---- the blocks of one
 
-module _ (x : VolumeState) (old : Mapped) (goes : ℕ → Bool) (mid : Mapped) (is : HasEmptied old goes mid) where
+module _ (x : VolumeState) (paged : Paged) (goes : ℕ → Bool) (emptied : Paged) (is : HasEmptied paged goes emptied) where
+  abbrev old : Mapped
+  old = paged.map
+
+  abbrev mid : Mapped
+  mid = emptied.map
+
   place_left : (v : ℕ) → place_at mid v ≢ 0 → (goes v ≡ false) × (place_at mid v ≡ place_at old v)
   place_left v some = so (goes v) (ap place_in (is.entries v))
     where
@@ -154,8 +161,8 @@ module _ (x : VolumeState) (old : Mapped) (goes : ℕ → Bool) (mid : Mapped) (
 -- ---- the blocks of all
 
 -- Volumes stay spaced where some entries of one become holes and their blocks are given back.
-pub emptied_leaves : (blocks : ℕ) (space after : Space) (state : ℕ → Option VolumeState) (container left : ℕ → Option Mapped) (s : ℕ) → s < 64 → AreSpacedIn blocks space.next state container → (x : VolumeState) (old mid : Mapped) → state s ≡ Some x → container s ≡ Some old
-    → left s ≡ Some mid → ((k : ℕ) → k ≢ s → left k ≡ container k) → AreApartIn x old → length old.entries ≡ entry_count x.span → (goes : ℕ → Bool) → HasEmptied old goes mid → HasGiven space (lead_to old goes 0 (length old.entries)) after
+pub emptied_leaves : (blocks : ℕ) (space after : Space) (state : ℕ → Option VolumeState) (container left : ℕ → Option Mapped) (s : ℕ) → s < 64 → AreSpacedIn blocks space.next state container → (x : VolumeState) (old mid : Paged) → state s ≡ Some x → container s ≡ Some old.map
+    → left s ≡ Some mid.map → ((k : ℕ) → k ≢ s → left k ≡ container k) → AreApartIn x old.map → length old.map.entries ≡ entry_count x.span → (goes : ℕ → Bool) → HasEmptied old goes mid → HasGiven space (lead_to old.map goes 0 (length old.map.entries)) after
     → AreSpacedIn blocks after.next state left
 emptied_leaves blocks space after state container left s inside is x old mid there lies lies_now others apart long goes emptied gave =
     spaced_next blocks space.next after.next state state container left s inside is (λ k b other l. has_block (state k) (others k other l) b)
@@ -163,21 +170,21 @@ emptied_leaves blocks space after state container left s inside is x old mid the
     (λ b here. inl (has_old b ∙ of_left x old goes mid emptied apart long b (sym (has_new b) ∙ here)))
     (λ b here. (is.held s b inside (has_old b ∙ of_left x old goes mid emptied apart long b (sym (has_new b) ∙ here))).1)
   where
-    has_old : (b : ℕ) → has_block (state s) (container s) b ≡ is_of x x.label old b
+    has_old : (b : ℕ) → has_block (state s) (container s) b ≡ is_of x x.label old.map b
     has_old b = (λ k. has_block (there k) (lies k) b)
 
-    has_new : (b : ℕ) → has_block (state s) (left s) b ≡ is_of x x.label mid b
+    has_new : (b : ℕ) → has_block (state s) (left s) b ≡ is_of x x.label mid.map b
     has_new b = (λ k. has_block (there k) (lies_now k) b)
 
 -- ---- a volume of which delayed entries became holes
 
-module _ (s : ℕ) (x : VolumeState) (state : IsLabelled s x) (regions : ℕ → Bool) (old mid : Mapped) (is : HasEmptied old (goes_with x.map old regions) mid) where
+module _ (s : ℕ) (x : VolumeState) (state : IsLabelled s x) (regions : ℕ → Bool) (old mid : Paged) (is : HasEmptied old (goes_with x.map old.map regions) mid) where
   -- an entry that stays where the volume is written stayed
-  pub stays_left : (v : ℕ) → stays x v ≡ true → entry_under mid v ≡ entry_under old v
+  pub stays_left : (v : ℕ) → stays x v ≡ true → entry_under mid.map v ≡ entry_under old.map v
   stays_left v on = held_stays x.map regions old mid is v (stays_held x state.map v on)
 
   -- so the maps that a point leaves stand still
-  pub maps_left : (i : Image) (found : Found) → StandMaps i found x old → StandMaps i found x mid
+  pub maps_left : (i : Image) (found : Found) → StandMaps i found x old.map → StandMaps i found x mid.map
   maps_left i found stand k j on within =
       let one = stand k j on within in
       record {

@@ -9,8 +9,10 @@ use Rattle.fv_bits.specs.Members.{is_member}
 use Rattle.fv_root.specs.declared.find.Found.{Found}
 use Rattle.fv_root.specs.Formatted.{IsSize}
 use Rattle.fv_store.specs.Held.{StandsOn}
-use Rattle.fv_container.specs.Chains.{Slots, container_at, parent_at, slot_count}
+use Rattle.fv_container.specs.Chains.{AreCleanOn, Slots, container_at, map_in, paged_at, parent_at, slot_count}
+use Rattle.fv_container.specs.Clean.{IsCleanOn}
 use Rattle.fv_container.specs.Mapped.{Mapped}
+use Rattle.fv_container.specs.Paged.{Paged}
 use Rattle.fv_aggmap.specs.Space.{Space}
 use Rattle.fv_pool.specs.declared.pool.Pool.{Pool}
 use Rattle.fv_volume.specs.declared.state.VolumeState.{VolumeState}
@@ -46,7 +48,7 @@ unkept_left old new gone forgot b unkept = forgot b ∙ ap (λ (o : Option (List
 
 -- ---- the slots
 
-module _ (pool : Pool) (states : States) (housed : AreHoused pool.containers states) (slot : ℕ) (x : VolumeState) (map : Mapped) (there : state_at states slot ≡ Some x) (new : States) (left : Pool) (gone : IsDestroyed states pool slot x map new left) where
+module _ {told : Type 0} (pool : Pool) (states : States) (housed : AreHoused pool.containers states) (slot : ℕ) (x : VolumeState) (map : Mapped) (there : state_at states slot ≡ Some x) (new : States) (left : Pool) (gone : IsDestroyed told states pool slot x map new left) where
   pub inside : slot < 64
   inside = is_inside states slot x housed.long there
 
@@ -60,14 +62,17 @@ module _ (pool : Pool) (states : States) (housed : AreHoused pool.containers sta
   pub other_state : (k : ℕ) → k ≢ slot → state_at new k ≡ state_at states k
   other_state k differ = ap (λ (s : States). state_at s k) gone.row ∙ get_or-set_other states slot k None None differ
 
+  pub other_paged : (k : ℕ) → k ≢ slot → paged_at left.containers k ≡ paged_at pool.containers k
+  other_paged k differ = ap (λ (c : Slots). paged_at c k) gone.containers ∙ get_or-set_other pool.containers.containers slot k None None differ
+
   pub other_container : (k : ℕ) → k ≢ slot → container_at left.containers k ≡ container_at pool.containers k
-  other_container k differ = ap (λ (c : Slots). container_at c k) gone.containers ∙ get_or-set_other pool.containers.containers slot k None None differ
+  other_container k differ = ap map_in (other_paged k differ)
 
   pub other_parent : (k : ℕ) → k ≢ slot → parent_at left.containers k ≡ parent_at pool.containers k
   other_parent k differ = ap (λ (c : Slots). parent_at c k) gone.containers ∙ get_or-set_other pool.containers.parents slot k None None differ
 
-  pub empty_container : container_at left.containers slot ≡ None
-  empty_container = ap (λ (c : Slots). container_at c slot) gone.containers ∙ ⊎_elim
+  pub empty_container : paged_at left.containers slot ≡ None
+  empty_container = ap (λ (c : Slots). paged_at c slot) gone.containers ∙ ⊎_elim
       (λ (low : slot < length pool.containers.containers). get_or-set_same pool.containers.containers slot None None low)
       (λ (past : length pool.containers.containers ≤ slot). get_or_past _ slot None (let same = length-set pool.containers.containers slot None in omega (arith, past, same)))
       (cases_lt slot (length pool.containers.containers))
@@ -90,11 +95,11 @@ module _ (pool : Pool) (states : States) (housed : AreHoused pool.containers sta
       by differ (Some y) at one = stays s y differ at one
 
   -- calls can be made on each
-  pub beside_ready : (disk : Shown) (y : VolumeState) → y.slot ≢ slot → IsReady disk pool y → IsReady disk left y
-  beside_ready disk y differ is = record {
+  pub beside_ready : (disk after : Shown) → StandsOn after left.store.pairs → (y : VolumeState) → y.slot ≢ slot → IsReady disk pool y → IsReady after left y
+  beside_ready disk after stands y differ is = record {
     lent = record {
       within = is.lent.within;
-      stands = subst (λ s. StandsOn disk s.pairs) (sym gone.store) is.lent.stands;
+      stands = stands;
       few = is.lent.few;
       entries = subst (λ (c : Option Mapped). y.map.span ≤ length (entries_in c)) (sym (other_container y.slot differ)) is.lent.entries;
     };
@@ -105,17 +110,24 @@ module _ (pool : Pool) (states : States) (housed : AreHoused pool.containers sta
     fresh = is.fresh;
   }
 
-  pub ready_left : (disk : Shown) → ((s : ℕ) → IfSome (state_at states s) (IsReadyIn disk pool s)) → (s : ℕ) → IfSome (state_at new s) (IsReadyIn disk left s)
-  ready_left disk = each_left (IsReadyIn disk pool) (IsReadyIn disk left) (λ s y differ at one. record { slot = one.slot; ready = beside_ready disk y (λ e. differ (sym one.slot ∙ e)) one.ready })
+  pub ready_left : (disk after : Shown) → StandsOn after left.store.pairs → ((s : ℕ) → IfSome (state_at states s) (IsReadyIn disk pool s)) → (s : ℕ) → IfSome (state_at new s) (IsReadyIn after left s)
+  ready_left disk after stands = each_left (IsReadyIn disk pool) (IsReadyIn after left) (λ s y differ at one. record { slot = one.slot; ready = beside_ready disk after stands y (λ e. differ (sym one.slot ∙ e)) one.ready })
 
   -- each slot can be lent still
-  pub lent_left : (i : Image) → ((s : ℕ) → s < slot_count → IsLentAt i pool.found s (state_at states s) (container_at pool.containers s)) → (s : ℕ) → s < slot_count → IsLentAt i left.found s (state_at new s) (container_at left.containers s)
-  lent_left i slots s low = subst (λ (f : Found). IsLentAt i f s (state_at new s) (container_at left.containers s)) (sym gone.found) (⊎_elim
-      (λ (here : s ≡ slot). subst (λ (o : Option VolumeState). IsLentAt i pool.found s o (container_at left.containers s)) (sym (ap (state_at new) here ∙ empty_state))
-      (subst (λ (c : Option Mapped). IsLentAt i pool.found s None c) (sym (ap (container_at left.containers) here ∙ empty_container)) tt))
-      (λ (differ : s ≢ slot). subst (λ (o : Option VolumeState). IsLentAt i pool.found s o (container_at left.containers s)) (sym (other_state s differ))
-      (subst (λ (c : Option Mapped). IsLentAt i pool.found s (state_at states s) c) (sym (other_container s differ)) (slots s low)))
+  pub lent_left : (i : Image) → ((s : ℕ) → s < slot_count → IsLentAt i pool.found s (state_at states s) (paged_at pool.containers s)) → (s : ℕ) → s < slot_count → IsLentAt i left.found s (state_at new s) (paged_at left.containers s)
+  lent_left i slots s low = subst (λ (f : Found). IsLentAt i f s (state_at new s) (paged_at left.containers s)) (sym gone.found) (⊎_elim
+      (λ (here : s ≡ slot). subst (λ (o : Option VolumeState). IsLentAt i pool.found s o (paged_at left.containers s)) (sym (ap (state_at new) here ∙ empty_state))
+      (subst (λ (c : Option Paged). IsLentAt i pool.found s None c) (sym (ap (paged_at left.containers) here ∙ empty_container)) tt))
+      (λ (differ : s ≢ slot). subst (λ (o : Option VolumeState). IsLentAt i pool.found s o (paged_at left.containers s)) (sym (other_state s differ))
+      (subst (λ (c : Option Paged). IsLentAt i pool.found s (state_at states s) c) (sym (other_paged s differ)) (slots s low)))
       (cases_eq s slot))
+
+  -- what was clean is clean
+  pub clean_left : (i : Image) → AreCleanOn i pool.containers → AreCleanOn i left.containers
+  clean_left i clean s = ⊎_elim
+      (λ (here : s ≡ slot). subst (λ (c : Option Paged). IfSome c (IsCleanOn i)) (sym (ap (paged_at left.containers) here ∙ empty_container)) tt)
+      (λ (differ : s ≢ slot). subst (λ (c : Option Paged). IfSome c (IsCleanOn i)) (sym (other_paged s differ)) (clean s))
+      (cases_eq s slot)
 
   -- they are in order
   pub housed_left : AreHoused left.containers new

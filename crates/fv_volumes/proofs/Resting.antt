@@ -8,6 +8,7 @@ use Rattle.fv_laws.specs.Positions.{HasNoReserve}
 use Rattle.fv_tree.specs.Standing.{under}
 use Rattle.fv_charge.specs.Ledgers.{IsLedgerOf}
 use Rattle.fv_store.specs.Held.{StandsOn}
+use Rattle.fv_container.specs.Chains.{AreCleanOn}
 use Rattle.fv_files.specs.Numbering.{AreNumbersIf}
 use Rattle.fv_pool.specs.declared.pool.Pool.{Pool}
 use Rattle.fv_volume.specs.declared.state.VolumeState.{VolumeState}
@@ -37,7 +38,7 @@ module _ (d e : Shown) (stays : Stays d e) (pool : Pool) where
 
   standing_still : (x : VolumeState) → IsStanding d pool x → IsStanding e pool x
   standing_still x is = record {
-    told = (subst IsTrue (sym stays.tells) is.told.0, is.told.1);
+    told = (subst IsTrue (sym stays.tells) is.told.0, is.told.1, subst (λ (i : Image). AreCleanOn i pool.containers) (sym stays.reads) is.told.2);
     table = subst (λ (i : Image). IsWellTable x.now (table_for (over i) pool x)) (sym stays.reads) is.table;
     reserves = subst (λ (i : Image). HasNoReserve (table_for (over i) pool x)) (sym stays.reads) is.reserves;
     kept = subst (λ (i : Image). All (IsKeptTable (over i) pool x) x.snapshots) (sym stays.reads) is.kept;

@@ -16,7 +16,7 @@ use Rattle.fv_image.specs.Reclaimed.{IsEntryPlace, IsHeldPlace, IsNodeOf, entry_
 use Rattle.fv_image.proofs.HeldPlaces.{held_is, block_is_held}
 use Rattle.fv_container.specs.declared.entry.Entry.{Entry}
 use Rattle.fv_container.specs.Mapped.{IsHeld, IsMapped, Mapped, entry_under}
-use Rattle.fv_container.specs.Spelled.{Spelled, names, is_at, pair_of}
+use Rattle.fv_container.specs.Spelled.{IsOpened, names, is_at, pair_of}
 use Rattle.fv_container.proofs.Named.{at_itself}
 use Rattle.fv_container.proofs.Leading.{any_in_range, range_has}
 use Rattle.fv_volume.specs.declared.state.VolumeState.{VolumeState}
@@ -64,9 +64,9 @@ entry_placed (Some e) some = refl
 -- ---- a slot with a label
 
 module _ (t : Taken) (i : Image) (s : ℕ) (l : Label) (x : VolumeState) (map : Mapped) (there : label_in (label_lying t i s) ≡ Some l) (span : x.span ≡ l.span)
-    (spelled : Spelled i l.container l.height map) (long : length map.entries ≡ entry_count l.span) (kinds : HasKinds map) where
+    (opened : IsOpened i l.container l.height map) (long : length map.entries ≡ entry_count l.span) (kinds : HasKinds map) where
   entry_is : (v : ℕ) → entry_at i l v ≡ pair_of (entry_under map v)
-  entry_is v = ap (λ (n : ℕ). container_entry i l.container l.height n v) (sym long) ∙ spelled.entries v
+  entry_is v = ap (λ (n : ℕ). container_entry i l.container l.height n v) (sym long) ∙ opened.entries v
 
   from_entry : (b v : ℕ) → v < entry_count l.span → is_at b (place_in (entry_under map v)) ≡ true → IsEntryPlace i l b
   from_entry b v within is =
@@ -89,7 +89,7 @@ module _ (t : Taken) (i : Image) (s : ℕ) (l : Label) (x : VolumeState) (map : 
   from_test b is = ⊎_elim
       (λ (label : is_at b (label_place t s) ≡ true). inl (at_is b (label_place t s) label).0)
       (λ (rest : (names map.tree b || leads map (entry_count x.span) b) ≡ true). inr (⊎_elim
-      (λ (node : names map.tree b ≡ true). inl (subst (λ (n : ℕ). IsNodePlace i l.container l.height n b) long (spelled.places b node)))
+      (λ (node : names map.tree b ≡ true). inl (subst (λ (n : ℕ). IsNodePlace i l.container l.height n b) long (opened.places b node)))
       (λ (entry : leads map (entry_count x.span) b ≡ true). inr (leads_entry b entry))
       (or_cases (names map.tree b) (leads map (entry_count x.span) b) rest)))
       (or_cases (is_at b (label_place t s)) (names map.tree b || leads map (entry_count x.span) b) is)
@@ -108,7 +108,7 @@ module _ (t : Taken) (i : Image) (s : ℕ) (l : Label) (x : VolumeState) (map : 
   to_test b some held = ⊎_elim
       (λ (label : b ≡ label_place t s). or_left (is_at b (label_place t s)) _ (subst (λ (p : ℕ). is_at b p ≡ true) label (at_itself b some)))
       (λ (rest : IsNodeOf i l b ⊎ IsEntryPlace i l b). or_right (is_at b (label_place t s)) _ (⊎_elim
-      (λ (node : IsNodeOf i l b). or_left (names map.tree b) _ (spelled.nodes b (subst (λ (n : ℕ). IsNodePlace i l.container l.height n b) (sym long) node)))
+      (λ (node : IsNodeOf i l b). or_left (names map.tree b) _ (opened.nodes b (subst (λ (n : ℕ). IsNodePlace i l.container l.height n b) (sym long) node)))
       (λ (entry : IsEntryPlace i l b). or_right (names map.tree b) _ (entry_leads b some entry))
       rest))
       held

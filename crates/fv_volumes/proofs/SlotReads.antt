@@ -1,10 +1,12 @@
 -- The maps of slots as they are read from their blocks, one after another; the other slots stay.
-use Rattle.std.proofs.Common.{◌≡◌, ◌≢◌, ◌<◌, ◌≤◌, ◌+◌, ◌*◌, ◌%◌, ℕ, Bool, true, false, List, length, length-set, replicate, Option, Some, None, refl, sym, ap, subst, ◌∙◌, ⊎_elim, arith}
+use Rattle.std.proofs.Common.{◌≡◌, ◌≢◌, ◌<◌, ◌≤◌, ◌+◌, ◌*◌, ◌/◌, ◌%◌, ℕ, Bool, true, false, List, get_or, inl, inr, length, length-set, replicate, Option, Some, None, refl, sym, ap, subst, ◌∙◌, ⊎_elim, arith}
 use Rattle.std.specs.Prelude.{nat_lt, ◌&&◌, ◌||◌, ◌==◌, is_some, IfNone, IfSome}
 use Rattle.std.proofs.lemmas.Bool.{cases_eq, cases_lt, true≢false}
 use Rattle.std.proofs.lemmas.Bool.Decides.{nat_tests}
 use Rattle.std.proofs.lemmas.List.{get_or-set_other, get_or-set_same}
 use Rattle.fv_disk.specs.Shown.{Image}
+use Rattle.fv_disk.specs.declared.fault.BlockFault.{BlockFault}
+use Rattle.fv_disk.specs.declared.fault.BlockFault.TheVariants.{DiskFault, Damaged, Memory}
 use Rattle.fv_bits.specs.Bits.{bit_of_area, bit_of_bytes, block_bits}
 use Rattle.fv_bits.specs.Members.{IsFirstPast, TakesBlock, is_member}
 use Rattle.fv_bits.proofs.Laws.{is_member-replicate, taken_more, zero_block}
@@ -14,13 +16,16 @@ use Rattle.fv_image.specs.Views.{entry_count, map_vvbn, volume_bit}
 use Rattle.fv_image.specs.Held.{view_at}
 use Rattle.fv_container.specs.declared.entry.Entry.{Entry}
 use Rattle.fv_container.specs.Mapped.{IsMapped, Mapped, entry_under}
-use Rattle.fv_container.specs.Spelled.{Spelled}
+use Rattle.fv_container.specs.Chains.{IsBadLeaf}
+use Rattle.fv_container.specs.Reading.{IsBadNode}
+use Rattle.fv_container.specs.Spelled.{IsOpened}
+use Rattle.fv_container.proofs.Damage.{bad_leaf}
 use Rattle.fv_root.specs.declared.find.Found.{Found}
 use Rattle.fv_root.specs.Finding.{root_found}
 use Rattle.fv_volmap.specs.Slots.{IsVolume, Loads, Slot, Volume, empty_volume, has, map_or_empty, slot_at, slot_count, stored_count}
 use Rattle.fv_volume.specs.declared.state.Snap.{Snap}
 use Rattle.fv_delay.specs.Delay.{is_used_slot}
-use Rattle.fv_volume.specs.Loading.{HaveBits, entry_block, is_slot_with, label_of}
+use Rattle.fv_volume.specs.Loading.{HaveBits, IsBadMap, IsBadSlot, IsPastSpan, entry_block, is_slot_with, label_of}
 use Rattle.fv_volume.specs.SlotReads.{AreUsedTo, HasReadSlot, HaveRead, TakesSlot, slot_bit}
 use Rattle.fv_volume.specs.Snapshots.{has_slot}
 use Rattle.fv_volume.proofs.MapSlots.{one_empty}
@@ -127,11 +132,11 @@ module _ (i : Image) (c : Mapped) (span slot : ℕ) where
       read.clear v past ∙ sym (ap (λ (t : Bool). t && bit_of_area (λ k. entry_block i (entry_under c (map_vvbn span slot k))) v) test))
       (cases_lt v (32768 * map_blocks span))
 
-module _ (found : Found) (i : Image) (s : ℕ) (l : Label) (map : Mapped) (lies : label_of found i s ≡ Some l) (spelled : Spelled i l.container l.height map) (size : length map.entries ≡ entry_count l.span) (valid : IsMapped map) where
+module _ (found : Found) (i : Image) (s : ℕ) (l : Label) (map : Mapped) (lies : label_of found i s ≡ Some l) (opened : IsOpened i l.container l.height map) (size : length map.entries ≡ entry_count l.span) (valid : IsMapped map) where
   -- and it is the one that the image's view tells
   pub slot_told : (span slot v : ℕ) → slot_bit i map span slot v ≡ volume_bit (view_at (root_found found) i) s span slot v
   unfolding slot_bit volume_bit view_at
-  slot_told span slot v = λ j. nat_lt v (block_bits * map_blocks span) && bit_of_area (λ k. block_there found i s l map lies spelled size valid (map_vvbn span slot k) j) v
+  slot_told span slot v = λ j. nat_lt v (block_bits * map_blocks span) && bit_of_area (λ k. block_there found i s l map lies opened size valid (map_vvbn span slot k) j) v
 
   pub slot_read : (m : Volume) (span slot : ℕ) → HasReadSlot i map span slot (map_blocks span) m → (v : ℕ) → has v (slot_at m slot) ≡ volume_bit (view_at (root_found found) i) s span slot v
   slot_read m span slot read v = whole_read i map span slot m read v ∙ slot_told span slot v
@@ -249,3 +254,28 @@ read_first i c span new now = record {
 
 pub empty_read : (i : Image) (c : Mapped) (span : ℕ) → HasReadSlot i c span 0 0 (empty_volume span)
 empty_read i c span = none_read i c span 0 (empty_volume span) refl (λ v. is_member-replicate span v)
+
+-- ---- why a map isn't read
+
+-- the leaf of an entry isn't one
+pub slot_fault : (i : Image) (map : Mapped) (span slot v : ℕ) (e : BlockFault) → v < length map.entries → IsBadNode i (get_or map.tree (v / 256) 0) 0 e → IsBadSlot i map span slot e
+slot_fault i map span slot v (Damaged at want found) inside bad = inl (bad_leaf i map (v / 256) at want found (omega (arith, inside)) bad)
+slot_fault i map span slot v DiskFault inside bad = tt
+slot_fault i map span slot v Memory inside bad = tt
+
+-- a slot of a volume that uses it
+pub map_fault : (i : Image) (map : Mapped) (span slot : ℕ) (snaps : List Snap) (e : BlockFault) → is_slot_with snaps slot ≡ true → IsBadSlot i map span slot e → IsBadMap i map span snaps e
+map_fault i map span slot snaps (Damaged at want found) used bad = ⊎_elim
+    (λ (leaf : IsBadLeaf i map at want found). inl leaf)
+    (λ (past : IsPastSpan i map span slot at want found). inr (slot, (used, past)))
+    bad
+map_fault i map span slot snaps DiskFault used bad = tt
+map_fault i map span slot snaps Memory used bad = tt
+
+-- the slot of a snapshot
+pub snap_slot : (snaps : List Snap) (slot : ℕ) → has_slot snaps slot ≡ true → is_slot_with snaps slot ≡ true
+snap_slot snaps slot has = by (slot == 0) (has_slot snaps slot) has
+  where
+    by : (a b : Bool) → b ≡ true → (a || b) ≡ true
+    by true b e = refl
+    by false b e = e

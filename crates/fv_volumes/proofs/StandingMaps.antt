@@ -31,7 +31,8 @@ use Rattle.fv_image.proofs.SoundFacts.{of_slot}
 use Rattle.fv_image.proofs.SoundSlots.{held_lies}
 use Rattle.fv_container.specs.declared.entry.Entry.{Entry}
 use Rattle.fv_container.specs.Mapped.{IsMapped, Mapped, entry_under}
-use Rattle.fv_container.specs.Spelled.{Spelled, pair_of}
+use Rattle.fv_container.specs.Paged.{Paged}
+use Rattle.fv_container.specs.Spelled.{IsOpened, pair_of}
 use Rattle.fv_root.specs.declared.find.Found.{Found}
 use Rattle.fv_root.specs.Finding.{root_found}
 use Rattle.fv_volmap.specs.Slots.{map_or_empty, slot_at, stored_count}
@@ -54,7 +55,7 @@ abbrev with_kind : Entry → ℕ → Option Entry
 with_kind e n = Some (record { pvbn = e.pvbn; kind = n })
 
 module _ (found : Found) (i : Image) (s : ℕ) (inside : s < 64) (sound : IsSound (layout_at (root_found found) i)) (x : VolumeState) (map : Mapped) (l : Label) (lies : label_of found i s ≡ Some l) (same : head_in x ≡ head_of l)
-    (spelled : Spelled i l.container l.height map) (size : length map.entries ≡ entry_count l.span) (valid : IsMapped map) (bits : HaveBits (view_at (root_found found) i) s x.span x.map) (slots : HasSlotsOf (head_in x) x.map) (order : AreInSlots (head_in x))
+    (opened : IsOpened i l.container l.height map) (size : length map.entries ≡ entry_count l.span) (valid : IsMapped map) (bits : HaveBits (view_at (root_found found) i) s x.span x.map) (slots : HasSlotsOf (head_in x) x.map) (order : AreInSlots (head_in x))
     (k j : ℕ) (on : has_stored_map x k ≡ true) (within : j < map_blocks x.span) where
   abbrev t : Taken
   t = root_found found
@@ -97,13 +98,13 @@ module _ (found : Found) (i : Image) (s : ℕ) (inside : s < 64) (sound : IsSoun
 
   entry : w.entry s v ≡ placed_in fin.empty i (entry_under map v)
   unfolding view_at
-  entry = ap (λ (o : Option Label). entry_from o i v) lies ∙ sym (entry_of fin.empty i (λ b. fin.get-empty nat_cmp b) (Some l) (Some map) v (spelled, (size, valid)))
+  entry = ap (λ (o : Option Label). entry_from o i v) lies ∙ sym (entry_of fin.empty i (λ b. fin.get-empty nat_cmp b) (Some l) (Some map) v (opened, (size, valid)))
 
   below : v < entry_count l.span
   below = subst (λ (n : ℕ). v < entry_count n) (span_of l x same) (map_vvbn_within x.span k j low within)
 
   pair_is : (o : Option Entry) → entry_under map v ≡ o → entry_at i l v ≡ pair_of o
-  pair_is o e = ap (λ (n : ℕ). container_entry i l.container l.height n v) (sym size) ∙ spelled.entries v ∙ ap pair_of e
+  pair_is o e = ap (λ (n : ℕ). container_entry i l.container l.height n v) (sym size) ∙ opened.entries v ∙ ap pair_of e
 
   -- bit b of block j of the map is that of the block there
   bit_is : (e : Entry) → entry_under map v ≡ Some e → (b : ℕ) → b < block_bits → bit_of_bytes (i e.pvbn) b ≡ is_member (slot_map x k) (block_bits * j + b)
@@ -141,16 +142,16 @@ module _ (found : Found) (i : Image) (s : ℕ) (inside : s < 64) (sound : IsSoun
   map_stands = of_entry (entry_under map v) refl (ap kind_at (sym entry) ∙ kind)
 
 -- Over a sound image it is so with each volume that is loaded.
-pub loaded_maps : (found : Found) (i : Image) (s : ℕ) → s < 64 → IsSound (layout_at (root_found found) i) → (o : Option VolumeState) (c : Option Mapped) → IsLoaded i found s o c → IfSome o HasOwnSlots → IfSome o (λ x. IfSome c (StandMaps i found x))
+pub loaded_maps : (found : Found) (i : Image) (s : ℕ) → s < 64 → IsSound (layout_at (root_found found) i) → (o : Option VolumeState) (c : Option Paged) → IsLoaded i found s o c → IfSome o HasOwnSlots → IfSome o (λ x. IfSome c (λ paged. StandMaps i found x paged.map))
 loaded_maps found i s inside sound None c is slots = tt
 loaded_maps found i s inside sound (Some x) None is slots = tt
-loaded_maps found i s inside sound (Some x) (Some map) is slots = by (label_of found i s) refl
+loaded_maps found i s inside sound (Some x) (Some paged) is slots = by (label_of found i s) refl
   where
-    by : (o : Option Label) → label_of found i s ≡ o → StandMaps i found x map
-    by None lies = absurd (subst (λ (o : Option Label). IsContainerOf i o (Some map)) lies is.tree)
+    by : (o : Option Label) → label_of found i s ≡ o → StandMaps i found x paged.map
+    by None lies = absurd (subst (λ (o : Option Label). IsContainerOf i o (Some paged.map)) lies is.tree)
     by (Some l) lies =
-        let of = subst (λ (o : Option Label). IsContainerOf i o (Some map)) lies is.tree in
-        λ k j on within. map_stands found i s inside sound x map l lies (same_Some (head_in x) (head_of l) (is.head ∙ ap (option_map head_of) lies)) of.0 of.1.0 of.1.1 is.bits slots.0 slots.1 k j on within
+        let of = subst (λ (o : Option Label). IsContainerOf i o (Some paged.map)) lies is.tree in
+        λ k j on within. map_stands found i s inside sound x paged.map l lies (same_Some (head_in x) (head_of l) (is.head ∙ ap (option_map head_of) lies)) of.0 of.1.0 of.1.1 is.bits slots.0 slots.1 k j on within
 
 -- A volume with the same snapshots' maps, none of which waits that didn't, has them where they stood, if the entries behind the span stay.
 pub maps_still : (i : Image) (found : Found) (x y : VolumeState) (old new : Mapped) → y.span ≡ x.span → y.map.span ≡ x.map.span → ((k : ℕ) → k ≢ 0 → slot_at y.map k ≡ slot_at x.map k) → y.fresh ≡ x.fresh

@@ -40,7 +40,7 @@ use Rattle.fv_image.proofs.LoneTables.{no_parent, place_own}
 use Rattle.fv_image.proofs.SameSeen.{of_volume}
 use Rattle.fv_charge.specs.Ledgers.{IsLedgerOf}
 use Rattle.fv_container.specs.declared.entry.Entry.{Entry}
-use Rattle.fv_container.specs.Chains.{Slots, chain_entry, container_at, own_entry, parent_at}
+use Rattle.fv_container.specs.Chains.{AreCleanOn, Slots, chain_entry, container_at, own_entry, parent_at}
 use Rattle.fv_volmap.specs.Slots.{Volume as Maps, active_of, has, slot_at, taken_in}
 use Rattle.fv_files.specs.Numbering.{AreNumbersIf}
 use Rattle.fv_pool.specs.declared.pool.Pool.{Pool}
@@ -370,11 +370,11 @@ module _ (disk : Disk) (pool : Pool) (states : States) (x : VolumeState) (is : S
     seen_well = subst (AreStoredBy (blocks_of source) x.active) (sym none) (over_stored (blocks_in disk pool x 0) (blocks_of source) x.active.levels x.active.root held_agrees active.well)
 
     -- The volume stands for the one of the view.
-    pub seen_standing : IsTrue disk.tells → AreApart pool x.map x.slot → IsState w no_trees x.slot x → AreNumbersIf x.numbers (table_for disk pool x) → IsStanding disk pool x
-    seen_standing tells apart state numbered =
+    pub seen_standing : IsTrue disk.tells → AreApart pool x.map x.slot → AreCleanOn disk.reads pool.containers → IsState w no_trees x.slot x → AreNumbersIf x.numbers (table_for disk pool x) → IsStanding disk pool x
+    seen_standing tells apart clean state numbered =
         let told : active_in w no_trees x.slot ≡ table_for disk pool x = active_is w x.slot (head_in x) (head_there pool states disk.reads x.slot x is.there) ∙ sym seen_table in
         record {
-          told = (tells, apart);
+          told = (tells, apart, clean);
           table = subst (IsWellTable x.now) told state.table;
           reserves = subst HasNoReserve told state.reserves;
           kept = seen_kept;

@@ -16,7 +16,7 @@ use Rattle.fv_image.proofs.SoundTests.{machine_told, machine_under}
 use Rattle.fv_root.specs.declared.find.Found.{Found}
 use Rattle.fv_root.specs.Finding.{root_found}
 use Rattle.fv_container.specs.declared.entry.Entry.{Entry}
-use Rattle.fv_container.specs.Chains.{Slots, container_at, with_container}
+use Rattle.fv_container.specs.Chains.{Slots, paged_at, with_container}
 use Rattle.fv_container.specs.Mapped.{Mapped, entry_under}
 use Rattle.fv_pool.specs.Keeping.{Blocks, kept_or, seen}
 use Rattle.fv_volume.specs.States.{placed_in}
@@ -45,7 +45,7 @@ entry_kept map kept first i v some stay = of_entry (entry_under map v) refl
         ap (λ (block : List ℕ). Some (record { pvbn = y.pvbn; kind = y.kind; block = block })) (ap (λ (o : Option (List ℕ)). kept_or o (i y.pvbn)) (fin.get-empty nat_cmp y.pvbn) ∙ same)
 
 -- a slot that keeps its container
-pub slot_again : (slots : Slots) → with_container slots 0 (container_at slots 0) ≡ slots
+pub slot_again : (slots : Slots) → with_container slots 0 (paged_at slots 0) ≡ slots
 slot_again slots = λ i. record { containers = set-get_or slots.containers 0 None i; parents = slots.parents }
 
 -- a disk that wasn't called

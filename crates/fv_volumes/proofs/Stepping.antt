@@ -6,8 +6,9 @@ use Rattle.std.proofs.lemmas.List.{get_or_past, length-replicate}
 use Rattle.fv_disk.specs.Shown.{Image}
 use Rattle.fv_codec.specs.declared.label.Label.{Label}
 use Rattle.fv_image.specs.Views.{Head, entry_count, head_of}
-use Rattle.fv_container.specs.Chains.{Slots, container_at, no_containers, parent_at, slot_count}
+use Rattle.fv_container.specs.Chains.{Slots, container_at, map_in, no_containers, paged_at, parent_at, slot_count}
 use Rattle.fv_container.specs.Mapped.{Mapped}
+use Rattle.fv_container.specs.Paged.{Paged}
 use Rattle.fv_root.specs.declared.find.Found.{Found}
 use Rattle.fv_volume.specs.declared.state.VolumeState.{VolumeState}
 use Rattle.fv_volume.specs.Files.{IsLabelled}
@@ -30,15 +31,15 @@ past_end (y ∷ ys) x zero lt = absurd (omega (arith, lt))
 past_end (y ∷ ys) x (suc s) lt = past_end ys x s (omega (arith, lt))
 
 pub loaded_more : (i : Image) (found : Found) (count : ℕ) (states : States) (old : Slots) (x : Option VolumeState) (new : Slots) → ReadTo count states old → LoadedTo i found count states old
-    → ((s : ℕ) → s ≢ count → container_at new s ≡ container_at old s) → IsLoaded i found count x (container_at new count) → LoadedTo i found (count + 1) (states ++ x ∷ []) new
+    → ((s : ℕ) → s ≢ count → paged_at new s ≡ paged_at old s) → IsLoaded i found count x (paged_at new count) → LoadedTo i found (count + 1) (states ++ x ∷ []) new
 loaded_more i found count states old x new kept was others now = record {
   each = λ s lt. ⊎_elim
-      (λ (here : s ≡ count). subst (λ k. IsLoaded i found k (state_at (states ++ x ∷ []) k) (container_at new k)) (sym here)
-      (subst (λ (y : Option VolumeState). IsLoaded i found count y (container_at new count)) (sym (ap (state_at (states ++ x ∷ [])) (sym kept.long) ∙ at_end states x)) now))
+      (λ (here : s ≡ count). subst (λ k. IsLoaded i found k (state_at (states ++ x ∷ []) k) (paged_at new k)) (sym here)
+      (subst (λ (y : Option VolumeState). IsLoaded i found count y (paged_at new count)) (sym (ap (state_at (states ++ x ∷ [])) (sym kept.long) ∙ at_end states x)) now))
       (λ (other : s ≢ count).
       let before : s < length states = omega (arith, lt, other, kept.long) in
       subst (λ c. IsLoaded i found s (state_at (states ++ x ∷ []) s) c) (sym (others s other))
-      (subst (λ (y : Option VolumeState). IsLoaded i found s y (container_at old s)) (sym (at_front states x s before)) (was.each s (omega (arith, before, kept.long)))))
+      (subst (λ (y : Option VolumeState). IsLoaded i found s y (paged_at old s)) (sym (at_front states x s before)) (was.each s (omega (arith, before, kept.long)))))
       (cases_eq s count);
 }
 
@@ -66,7 +67,7 @@ read_more count states old x new kept leaves filled = record {
       (λ (here : s ≡ count). subst (λ k. Houses (state_at (states ++ x ∷ []) k) (container_at new k)) (sym here)
       (subst (λ (y : Option VolumeState). Houses y (container_at new count)) (sym (ap (state_at (states ++ x ∷ [])) (sym kept.long) ∙ at_end states x)) filled.housed))
       (λ (other : s ≢ count). ⊎_elim
-      (λ (before : s < length states). subst (λ (c : Option Mapped). Houses (state_at (states ++ x ∷ []) s) c) (sym (leaves.others s other))
+      (λ (before : s < length states). subst (λ (c : Option Paged). Houses (state_at (states ++ x ∷ []) s) (map_in c)) (sym (leaves.others s other))
       (subst (λ (y : Option VolumeState). Houses y (container_at old s)) (sym (at_front states x s before)) (kept.housed s)))
       (λ (after : length states ≤ s). let past : length states < s = omega (arith, after, other, kept.long) in subst (λ (y : Option VolumeState). Houses y (container_at new s)) (sym (past_end states x s past)) tt)
       (cases_lt s (length states)))
@@ -90,18 +91,18 @@ none_in (suc n) zero = refl
 none_in (suc n) (suc s) = none_in n s
 
 -- a volume has the container that was read by its label
-pub has_container : (l : Label) (x : VolumeState) (map : Mapped) (c : Option Mapped) → head_in x ≡ head_of l → length map.entries ≡ entry_count l.span → c ≡ Some map → Houses (Some x) c
+pub has_container : (l : Label) (x : VolumeState) (paged : Paged) (c : Option Paged) → head_in x ≡ head_of l → length paged.map.entries ≡ entry_count l.span → c ≡ Some paged → Houses (Some x) (map_in c)
 unfolding head_of
-has_container l x map c head long there =
+has_container l x paged c head long there =
     let span : x.span ≡ l.span = ap (λ (h : Head). h.span) head in
-    subst (λ (o : Option Mapped). Houses (Some x) o) (sym there) (long ∙ ap entry_count (sym span))
+    subst (λ (o : Option Paged). Houses (Some x) (map_in o)) (sym there) (long ∙ ap entry_count (sym span))
 
 -- no slot is loaded yet
 pub read_none : (states : States) (containers : Slots) → states ≡ [] → containers ≡ no_containers → ReadTo 0 states containers
 read_none states containers empty none = record {
   long = ap length empty;
-  few = ap (λ (c : Slots). length c.containers) none ∙ length-replicate {A = Option Mapped} slot_count None;
-  free = λ s le. ap (λ (c : Slots). container_at c s) none ∙ none_in slot_count s;
+  few = ap (λ (c : Slots). length c.containers) none ∙ length-replicate {A = Option Paged} slot_count None;
+  free = λ s le. ap (λ (c : Slots). paged_at c s) none ∙ none_in slot_count s;
   each = λ s. subst (λ (xs : States). IfSome (state_at xs s) (IsLabelled s)) (sym empty) (nothing IsLabelled s);
   read = λ s. subst (λ (xs : States). IfSome (state_at xs s) IsRead) (sym empty) (nothing (λ s. IsRead) s);
   housed = λ s. subst (λ (xs : States). Houses (state_at xs s) (container_at containers s)) (sym empty) (homeless s (container_at containers s));

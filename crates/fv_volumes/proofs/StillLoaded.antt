@@ -8,7 +8,7 @@ use Rattle.fv_codec.specs.declared.label.Label.{Label}
 use Rattle.fv_model.specs.Space.{map_blocks}
 use Rattle.fv_image.specs.Layout.{block_bits}
 use Rattle.fv_image.specs.Containers.{IsNodePlace}
-use Rattle.fv_image.specs.Views.{head_of, map_vvbn, block_in, volume_bit}
+use Rattle.fv_image.specs.Views.{entry_count, head_of, map_vvbn, block_in, volume_bit}
 use Rattle.fv_image.specs.Held.{AgreeOnHeld, Layout, Lying, layout_at, view_at, label_place, label_lying, label_in, lying_at, entry_from, node_from, with_bits}
 use Rattle.fv_image.specs.Maps.{area_bits}
 use Rattle.fv_image.specs.Whole.{is_held_by}
@@ -21,17 +21,18 @@ use Rattle.fv_image.proofs.Spaced.{AreSpaced, spaced_from}
 use Rattle.fv_image.proofs.SameContainers.{AgreeOnTree}
 use Rattle.fv_image.proofs.SameLayout.{same_but_bits}
 use Rattle.fv_image.proofs.Named.{node_held, slot_in}
-use Rattle.fv_container.specs.Clean.{IsCleanOn}
+use Rattle.fv_container.specs.Chains.{map_in}
 use Rattle.fv_container.proofs.Clean.{clean_still}
 use Rattle.fv_container.specs.Mapped.{Mapped}
+use Rattle.fv_container.specs.Paged.{Paged}
 use Rattle.fv_root.specs.declared.find.Found.{Found}
 use Rattle.fv_root.specs.Finding.{root_found}
 use Rattle.fv_volume.specs.declared.state.VolumeState.{VolumeState}
 use Rattle.fv_delay.specs.Delay.{is_used_slot}
-use Rattle.fv_volume.specs.Loading.{HaveBits, IsContainerOf, IsLoaded, label_of}
+use Rattle.fv_volume.specs.Loading.{HaveBits, IsCleanOf, IsContainerOf, IsLoaded, label_of}
 use Rattle.fv_volumes.specs.UnderRoot.{StandsUnder}
 use Rattle.fv_volumes.proofs.LoadedBlocks.{loaded_holds}
-use Rattle.fv_volumes.proofs.Spelling.{spelled_kept}
+use Rattle.fv_volumes.proofs.Spelling.{clean_tree_was, opened_kept}
 
 -- a slot without a volume is free on the disk
 pub none_loaded : (found : Found) (i : Image) (s : ℕ) → label_place (root_found found) s ≡ 0 → IsLoaded i found s None None
@@ -39,7 +40,7 @@ unfolding label_in
 none_loaded found i s none = record {
   head = ap (λ (p : ℕ). option_map head_of (label_in (lying_at i p))) (sym none);
   tree = subst (λ (p : ℕ). IsContainerOf i (label_in (lying_at i p)) None) (sym none) tt;
-  clean = tt;
+  clean = subst (λ (p : ℕ). IsCleanOf i (label_in (lying_at i p)) None) (sym none) tt;
   label = sym none;
   bits = tt;
   changed = tt;
@@ -75,20 +76,21 @@ module _ (found next : Found) (i j : Image) (s : ℕ) (inside : s < 64) (place :
   container_kept (Some l) None there is = absurd is
   container_kept (Some l) (Some map) there is =
       let agrees : AgreeOnTree i j l.container l.height (length map.entries) = λ b node. agree b (node_held (root_found found) i s b l inside there (subst (λ (n : ℕ). IsNodePlace i l.container l.height n b) is.1.0 node)) in
-      (spelled_kept i j l.container l.height map agrees is.0, is.1)
+      (opened_kept i j l.container l.height map agrees is.0, is.1)
 
-  clean_kept : (o : Option Label) (c : Option Mapped) → label_of found i s ≡ o → IsContainerOf i o c → IfSome c (IsCleanOn i) → IfSome c (IsCleanOn j)
-  clean_kept None None there is clean = tt
-  clean_kept None (Some map) there is clean = absurd is
+  clean_kept : (o : Option Label) (c : Option Paged) → label_of found i s ≡ o → IsContainerOf i o (map_in c) → IsCleanOf i o c → IsCleanOf j o c
+  clean_kept None c there is clean = tt
   clean_kept (Some l) None there is clean = tt
-  clean_kept (Some l) (Some map) there is clean =
-      clean_still i j map (λ b named. agree b (node_held (root_found found) i s b l inside there (subst (λ (n : ℕ). IsNodePlace i l.container l.height n b) is.1.0 (is.0.places b named)))) clean
+  clean_kept (Some l) (Some paged) there is clean = λ whole.
+      let tree : AgreeOnTree i j l.container l.height (entry_count l.span) = λ b node. agree b (node_held (root_found found) i s b l inside there node) in
+      clean_still i j paged (λ b named. agree b (node_held (root_found found) i s b l inside there (subst (λ (n : ℕ). IsNodePlace i l.container l.height n b) is.1.0 (is.0.places b named))))
+      (clean (clean_tree_was i j l.container l.height (entry_count l.span) tree whole))
 
-  pub still_loaded : (state : Option VolumeState) (container : Option Mapped) → IsLoaded i found s state container → IsLoaded j next s state container
+  pub still_loaded : (state : Option VolumeState) (container : Option Paged) → IsLoaded i found s state container → IsLoaded j next s state container
   still_loaded state container is = record {
     head = is.head ∙ ap (λ (o : Option Lying). option_map head_of (label_in o)) (sym same_label);
-    tree = subst (λ (o : Option Label). IsContainerOf j o container) (sym (ap label_in same_label)) (container_kept (label_of found i s) container refl is.tree);
-    clean = clean_kept (label_of found i s) container refl is.tree is.clean;
+    tree = subst (λ (o : Option Label). IsContainerOf j o (map_in container)) (sym (ap label_in same_label)) (container_kept (label_of found i s) (map_in container) refl is.tree);
+    clean = subst (λ (o : Option Label). IsCleanOf j o container) (sym (ap label_in same_label)) (clean_kept (label_of found i s) container refl is.tree is.clean);
     label = is.label ∙ sym place;
     bits = bits_kept state is.bits;
     changed = is.changed;
@@ -116,7 +118,7 @@ module _ (found next : Found) (i j : Image) (s : ℕ) (inside : s < 64) (place :
         (λ e. absurd cc)
 
     -- It stands under the next root, too.
-    pub still_stands : (state : Option VolumeState) (container : Option Mapped) → IsLoaded i found s state container → StandsUnder j next s state container
+    pub still_stands : (state : Option VolumeState) (container : Option Paged) → IsLoaded i found s state container → StandsUnder j next s state container
     still_stands state container is = record {
       loaded = still_loaded state container is;
       sound = slot_stays_sound (layout_at (root_found found) i) (layout_at (root_found next) j) s same_slot (slot_from_blocks (layout_at (root_found found) i) sound.blocks sound.maps.kinds (image_has_heads (root_found found) i) s inside);

@@ -29,17 +29,18 @@ use Rattle.fv_image.proofs.StoredSlots.{stored_is_sound, stored_once}
 use Rattle.fv_root.specs.declared.find.Found.{Found}
 use Rattle.fv_root.specs.Finding.{root_found}
 use Rattle.fv_container.specs.declared.entry.Entry.{Entry}
-use Rattle.fv_container.proofs.Clean.{over_clean}
 use Rattle.fv_container.specs.Mapped.{IsMapped, Mapped, entry_under}
-use Rattle.fv_container.specs.Spelled.{Spelled, names, pair_of}
+use Rattle.fv_container.specs.Paged.{Paged}
+use Rattle.fv_container.specs.Spelled.{IsOpened, names, pair_of}
 use Rattle.fv_volmap.specs.Slots.{Slot, has, slot_at, stored_count}
 use Rattle.fv_volume.specs.declared.state.VolumeState.{VolumeState}
 use Rattle.fv_volume.specs.Files.{IsLabelled}
 use Rattle.fv_volumes.specs.Housed.{as_written}
+use Rattle.fv_volume.specs.Writing.{IsRightMemory}
 use Rattle.fv_volume.specs.Labels.{label_said}
 use Rattle.fv_delay.specs.Delay.{is_held, is_used, is_used_slot}
 use Rattle.fv_delay.proofs.Held.{held_behind}
-use Rattle.fv_volume.specs.Loading.{HaveBits, IsContainerOf, IsLoaded}
+use Rattle.fv_volume.specs.Loading.{HaveBits, IsCleanOf, IsContainerOf, IsLoaded}
 use Rattle.fv_volume.specs.States.{head_in}
 use Rattle.fv_volumes.specs.UnderRoot.{StandMaps, StandsUnder}
 use Rattle.fv_volume.specs.Stored.{IsStored, has_stored_map, is_map_written, is_of, is_rewritten, leads, map_entry, map_index, map_slot, place_at, place_in, slot_map}
@@ -47,6 +48,7 @@ use Rattle.fv_volumes.proofs.SlotBlocks.{HasKinds, entry_kinds, entry_leads, hel
 use Rattle.fv_volume.proofs.Labels.{label_head}
 use Rattle.fv_volume.proofs.KeptSlots.{found_snap}
 use Rattle.fv_volumes.proofs.SlotReads.{has_or_empty}
+use Rattle.fv_volumes.proofs.Spelling.{flushed_opened}
 use Rattle.fv_volumes.proofs.SlotRoots.{root_slot, slot_stored}
 use Rattle.fv_volume.proofs.StayingMaps.{index_there, slot_there, slot_within, stays_unwritten, stored_stays, written_at, written_parts}
 use Rattle.fv_image.specs.Volumes.{snap_at}
@@ -97,10 +99,13 @@ written_held s x state v is =
     held_behind x.map v (subst (λ (n : ℕ). n ≤ v) (sym state.map) parts.0) ∙ ap (λ (n : ℕ). is_used x.map (map_slot n v)) state.map
     ∙ and_from (nat_lt (map_slot x.span v) stored_count) _ test (written_used s x state (map_slot x.span v) low parts.1.1)
 
-module _ (found : Found) (i : Image) (s : ℕ) (x : VolumeState) (old : Mapped) (label : ℕ) (new : Mapped) (is : IsStored x old label new i) (at : label_place (root_found found) s ≡ label) (state : IsLabelled s x) (valid : IsMapped new)
+module _ (found : Found) (i : Image) (s : ℕ) (x : VolumeState) (old : Mapped) (label : ℕ) (paged : Paged) (is : IsStored x old label paged.map i) (memory : IsRightMemory paged) (at : label_place (root_found found) s ≡ label) (state : IsLabelled s x) (valid : IsMapped paged.map)
     (first : Image) (was : Found) (stand : StandMaps first was x old) (same : AgreeOnHeld (root_found was) first i) where
   abbrev u : Taken
   u = root_found found
+
+  abbrev new : Mapped
+  new = paged.map
 
   abbrev pub said : Label
   said = label_said x is.root (height_of (entry_count x.span))
@@ -121,9 +126,9 @@ module _ (found : Found) (i : Image) (s : ℕ) (x : VolumeState) (old : Mapped) 
   unfolding label_said
   entry_is v = ap (λ (n : ℕ). container_entry i is.root (height_of (entry_count x.span)) n v) (sym is.long) ∙ is.tree.spelled.entries v
 
-  spelled_here : Spelled i said.container said.height new
+  opened_here : IsOpened i said.container said.height new
   unfolding label_said
-  spelled_here = is.tree.spelled
+  opened_here = flushed_opened i is.root (height_of (entry_count x.span)) new is.tree is.over valid.tree
 
   long_here : length new.entries ≡ entry_count said.span
   unfolding label_said
@@ -206,12 +211,12 @@ module _ (found : Found) (i : Image) (s : ℕ) (x : VolumeState) (old : Mapped) 
       so false e = free_has (k == 0) (slot_at x.map k) v e ∙ sym (ap (λ (b : Bool). b && volume_bit (view_at u i) s x.span k v) e)
 
   -- The volume is as the root with its new label has it.
-  pub stored_loaded : HaveNonePast x → IsLoaded i found s (Some (as_written x label)) (Some new)
+  pub stored_loaded : HaveNonePast x → IsLoaded i found s (Some (as_written x label)) (Some paged)
   unfolding label_said
   stored_loaded clear = record {
     head = ap Some (sym head_said) ∙ ap (option_map head_of) (sym label_now);
-    tree = subst (λ (o : Option Label). IsContainerOf i o (Some new)) (sym label_now) (spelled_here, (long_here, valid));
-    clean = over_clean i new is.over;
+    tree = subst (λ (o : Option Label). IsContainerOf i o (Some paged.map)) (sym label_now) (opened_here, (long_here, valid));
+    clean = subst (λ (o : Option Label). IsCleanOf i o (Some paged)) (sym label_now) (λ whole. record { over = is.over; here = memory.here; known = memory.known });
     label = sym at;
     bits = stored_maps clear;
     changed = refl;
@@ -238,11 +243,11 @@ module _ (found : Found) (i : Image) (s : ℕ) (x : VolumeState) (old : Mapped) 
   kinds_here = entry_kinds new valid
 
   to_of : (b : ℕ) → IsHeldPlace u i s said b → is_of x label new b ≡ true
-  to_of b held = ap (λ (p : ℕ). is_of x p new b) (sym at) ∙ to_test u i s said x new label_now span_here spelled_here long_here kinds_here b (λ none. none_first (subst (λ (n : ℕ). IsHeldPlace u i s said n) none held)) held
+  to_of b held = ap (λ (p : ℕ). is_of x p new b) (sym at) ∙ to_test u i s said x new label_now span_here opened_here long_here kinds_here b (λ none. none_first (subst (λ (n : ℕ). IsHeldPlace u i s said n) none held)) held
 
   -- the slot holds the blocks of the volume
   pub stored_holds : (b : ℕ) → is_held_by (layout_at u i) s b ≡ is_of x label new b
-  stored_holds b = held_is_of u i s said x new label_now span_here spelled_here long_here kinds_here
+  stored_holds b = held_is_of u i s said x new label_now span_here opened_here long_here kinds_here
       (same_truth (is_held_by (layout_at u i) s 0) false (λ held. absurd (none_first (held_is_block u i s said label_now 0 held))) (λ e. absurd cc)) b
       ∙ ap (λ (p : ℕ). is_of x p new b) at
 
@@ -271,7 +276,7 @@ module _ (found : Found) (i : Image) (s : ℕ) (x : VolumeState) (old : Mapped) 
   node_named b node = is.tree.spelled.nodes b (subst (λ (n : ℕ). IsNodePlace i is.root (height_of (entry_count x.span)) n b) (sym is.long) node)
 
   entry_led : (b : ℕ) → IsEntryPlace i said b → leads new (entry_count x.span) b ≡ true
-  entry_led b entry = entry_leads u i s said x new label_now span_here spelled_here long_here kinds_here b (λ none. none_first (inr (inr (subst (λ (n : ℕ). IsEntryPlace i said n) none entry)))) entry
+  entry_led b entry = entry_leads u i s said x new label_now span_here opened_here long_here kinds_here b (λ none. none_first (inr (inr (subst (λ (n : ℕ). IsEntryPlace i said n) none entry)))) entry
 
   pub stored_apart : AreDifferent u i s said
   stored_apart = record {
@@ -299,7 +304,7 @@ module _ (found : Found) (i : Image) (s : ℕ) (x : VolumeState) (old : Mapped) 
           so (Some y) e some = let zero_place : y.pvbn ≡ 0 = sym (ap place_in e) ∙ none in omega (arith, some, zero_place)
 
   -- The slot stands under the root.
-  pub stored_stands : HaveNonePast x → ((b : ℕ) → is_of x label new b ≡ true → IsAllocatable u.blocks b) → StandsUnder i found s (Some (as_written x label)) (Some new)
+  pub stored_stands : HaveNonePast x → ((b : ℕ) → is_of x label new b ≡ true → IsAllocatable u.blocks b) → StandsUnder i found s (Some (as_written x label)) (Some paged)
   stored_stands clear lies =
       let slot = stored_slot lies in record {
         loaded = stored_loaded clear;

@@ -39,7 +39,8 @@ use Rattle.fv_image.proofs.SameSeen.{same_seen}
 use Rattle.fv_image.proofs.SoundSlots.{blocks_from_slots, kinds_from_slots, maps_from_slots, slot_stays_sound}
 use Rattle.fv_image.proofs.Spaced.{AreSpaced}
 use Rattle.fv_image.proofs.WholeSlots.{all_between}
-use Rattle.fv_container.specs.Mapped.{Mapped}
+use Rattle.fv_container.specs.Chains.{map_in}
+use Rattle.fv_container.specs.Paged.{Paged}
 use Rattle.fv_root.specs.declared.find.Found.{Found}
 use Rattle.fv_root.specs.Finding.{root_found}
 use Rattle.fv_root.specs.Formatted.{IsSize}
@@ -118,7 +119,7 @@ module _ (pool : Pool) (states : States) (before : Image) (housed : AreHoused po
 
   -- ---- where they stand
 
-  module _ (f : Found) (labels : List ℕ) (next : List Bool) (container : ℕ → Option Mapped) (i : Image) (blocks : f.blocks ≡ pool.found.blocks) (version : f.root.version ≡ pool.found.root.version) (is : AllStandUnder pool states before f labels next container i) where
+  module _ (f : Found) (labels : List ℕ) (next : List Bool) (container : ℕ → Option Paged) (i : Image) (blocks : f.blocks ≡ pool.found.blocks) (version : f.root.version ≡ pool.found.root.version) (is : AllStandUnder pool states before f labels next container i) where
     abbrev u : Taken
     u = root_found f
 
@@ -142,7 +143,7 @@ module _ (pool : Pool) (states : States) (before : Image) (housed : AreHoused po
     -- an entry that stays has its block
     pub entry_stays : (s v : ℕ) (x : VolumeState) → s < 64 → state_at states s ≡ Some x → stays x v ≡ true → (view_at u i).entry s v ≡ w.entry s v
     unfolding view_at view_over
-    entry_stays s v x inside there on = sym (entry_of fin.empty i (λ b. fin.get-empty nat_cmp b) (label_of f i s) (container s) v (is.each s inside).loaded.tree) ∙ is.kept s v x inside there on
+    entry_stays s v x inside there on = sym (entry_of fin.empty i (λ b. fin.get-empty nat_cmp b) (label_of f i s) (map_in (container s)) v (is.each s inside).loaded.tree) ∙ is.kept s v x inside there on
 
     same_blocks : (view_at u i).blocks ≡ w.blocks
     unfolding view_at view_over
@@ -162,7 +163,7 @@ module _ (pool : Pool) (states : States) (before : Image) (housed : AreHoused po
     unfolding layout_at
     stays_there = stays_now
 
-    holds : (s b : ℕ) → s < 64 → is_held_by y s b ≡ has_block (settled_at labels states s) (container s) b
+    holds : (s b : ℕ) → s < 64 → is_held_by y s b ≡ has_block (settled_at labels states s) (map_in (container s)) b
     holds s b inside = slot_with_bits bits (layout_at u i) s b ∙ (is.each s inside).holds b
 
     spaced : AreSpaced y

@@ -11,15 +11,16 @@ use Rattle.fv_image.specs.Containers.{height_of}
 use Rattle.fv_image.specs.Views.{entry_count}
 use Rattle.fv_container.specs.declared.entry.Entry.{Entry}
 use Rattle.fv_container.specs.Mapped.{IsMapped, Mapped, entry_under}
+use Rattle.fv_container.specs.Paged.{Paged}
 use Rattle.fv_container.specs.Spelled.{names}
-use Rattle.fv_container.specs.Clean.{AreAlone, IsCleanOn, IsOver, StaysClean}
+use Rattle.fv_container.specs.Clean.{AreAlone, IsCleanOn, StaysClean}
 use Rattle.fv_container.proofs.Clean.{clean_alone, clean_still, over_still}
 use Rattle.fv_container.specs.Flushed.{Exchanges, IsApart, IsFlushed, WasTaken}
 use Rattle.fv_container.specs.Freeing.{Room}
 use Rattle.fv_aggmap.specs.Freeing.{free_has, in_range, is_clear, room_of}
 use Rattle.fv_aggmap.specs.Space.{Space, IsFree, blocks_of, is_held}
 use Rattle.fv_volume.specs.declared.state.VolumeState.{VolumeState}
-use Rattle.fv_volume.specs.Writing.{AreNext, CanFlush, HasBlocks, HasDrawn, HasMaps, IsTaken, Renews, StandBits, has_maps_at, map_writes}
+use Rattle.fv_volume.specs.Writing.{AreNext, CanFlush, HasBlocks, HasDrawn, HasMaps, IsRightMemory, IsTaken, Renews, StandBits, has_maps_at, map_writes}
 use Rattle.fv_volume.specs.Stored.{is_map_written, map_entry, place_at, place_in}
 use Rattle.fv_volumes.proofs.Drawing.{free_before, maps_at, maps_same, not_so, or_neither}
 use Rattle.fv_volumes.proofs.Spelling.{flushed_still}
@@ -78,51 +79,51 @@ renews old before after new alone was is = record {
     same true false h on = refl
     same false n h on = refl
 
-module _ (x : VolumeState) (first : Mapped) (space mid left : Space) (root : ℕ) (old new : Mapped) (before after : Image)
-    (map : HasMaps x (entry_count x.span) first old) (bits : StandBits x (entry_count x.span) old before) (drawn : HasDrawn space (has_maps_at x old (entry_count x.span)) (map_writes x (entry_count x.span)) mid)
-    (tree : old.tree ≡ first.tree) (same : new.entries ≡ old.entries) (valid : IsMapped old) (exchanges : Exchanges (room_of mid) old new.tree (room_of left))
-    (flushed : IsApart (room_of mid) old.tree → IsCleanOn before old → IsFlushed after root (height_of (length new.entries)) new) (over : IsApart (room_of mid) old.tree → IsCleanOn before old → IsOver after new)
-    (long : length new.entries ≡ entry_count x.span) (still : (b : ℕ) → WasTaken (room_of mid) b → after b ≡ before b)
+module _ (x : VolumeState) (first : Paged) (space mid left : Space) (root : ℕ) (old new : Paged) (before after : Image)
+    (map : HasMaps x (entry_count x.span) first.map old.map) (bits : StandBits x (entry_count x.span) old.map before) (drawn : HasDrawn space (has_maps_at x old.map (entry_count x.span)) (map_writes x (entry_count x.span)) mid)
+    (tree : old.map.tree ≡ first.map.tree) (same : new.map.entries ≡ old.map.entries) (valid : IsMapped old.map) (exchanges : Exchanges (room_of mid) old.map new.map.tree (room_of left))
+    (flushed : IsApart (room_of mid) old.map.tree → IsCleanOn before old → IsFlushed after root (height_of (length new.map.entries)) new.map) (over : IsApart (room_of mid) old.map.tree → IsCleanOn before old → IsCleanOn after new)
+    (long : length new.map.entries ≡ entry_count x.span) (still : (b : ℕ) → WasTaken (room_of mid) b → after b ≡ before b)
     (start : Image) (can : CanFlush start space first) (stays : StaysClean first old) (since : (b : ℕ) → IsTaken space b → before b ≡ start b)
   where
-    taken : (b : ℕ) → names first.tree b ≡ true → IsTaken space b
-    taken = next_taken space first.tree can.next
+    taken : (b : ℕ) → names first.map.tree b ≡ true → IsTaken space b
+    taken = next_taken space first.map.tree can.next
 
     -- the clean nodes stand there still, since no block was written that wasn't free
     clean : IsCleanOn before old
     clean = stays before (clean_still start before first (λ b named. since b (taken b named)) can.clean)
 
-    renewed : Renews (room_of mid) old.tree new.tree (room_of left)
-    renewed = renews (room_of mid) old new.tree (room_of left) (clean_alone before old valid clean)
-        (λ b named. drawn.held b ∙ or_right (has_maps_at x old (entry_count x.span) b) (is_member space.next b) (can.next b (ap (λ (t : List ℕ). names t b) (sym tree) ∙ named))) exchanges
+    renewed : Renews (room_of mid) old.map.tree new.map.tree (room_of left)
+    renewed = renews (room_of mid) old.map new.map.tree (room_of left) (clean_alone before old valid clean)
+        (λ b named. drawn.held b ∙ or_right (has_maps_at x old.map (entry_count x.span) b) (is_member space.next b) (can.next b (ap (λ (t : List ℕ). names t b) (sym tree) ∙ named))) exchanges
 
     abbrev at_maps : Mapped → ℕ → Bool
     at_maps m b = has_maps_at x m (entry_count x.span) b
 
-    from_mid : (b : ℕ) → IsFree mid b → IsFree space b × (at_maps old b ≡ false)
-    from_mid b free = free_before space mid (has_maps_at x old (entry_count x.span)) (map_writes x (entry_count x.span)) b drawn free
+    from_mid : (b : ℕ) → IsFree mid b → IsFree space b × (at_maps old.map b ≡ false)
+    from_mid b free = free_before space mid (has_maps_at x old.map (entry_count x.span)) (map_writes x (entry_count x.span)) b drawn free
 
-    apart : IsApart (room_of mid) old.tree
-    apart b free = not_so (names old.tree b) (λ named. taken b (ap (λ (t : List ℕ). names t b) (sym tree) ∙ named) (from_mid b (free_in mid b free)).0)
+    apart : IsApart (room_of mid) old.map.tree
+    apart b free = not_so (names old.map.tree b) (λ named. taken b (ap (λ (t : List ℕ). names t b) (sym tree) ∙ named) (from_mid b (free_in mid b free)).0)
 
-    node_free : (b : ℕ) → names new.tree b ≡ true → names first.tree b ≡ false → IsFree mid b
+    node_free : (b : ℕ) → names new.map.tree b ≡ true → names first.map.tree b ≡ false → IsFree mid b
     node_free b named lacks = free_in mid b (renewed.fresh b named (ap (λ (t : List ℕ). names t b) tree ∙ lacks))
 
-    map_free : (b : ℕ) → at_maps new b ≡ true → IsFree space b
-    map_free b led = drawn.free b (sym (maps_still old new same x (entry_count x.span) b) ∙ led)
+    map_free : (b : ℕ) → at_maps new.map b ≡ true → IsFree space b
+    map_free b led = drawn.free b (sym (maps_still old.map new.map same x (entry_count x.span) b) ∙ led)
 
-    map_apart : (b : ℕ) → at_maps new b ≡ true → names new.tree b ≡ false
-    map_apart b led = not_so (names new.tree b) (λ named.
-        let lacks = not_so (names first.tree b) (λ was. taken b was (map_free b led)) in
-        true≢false (sym (sym (maps_still old new same x (entry_count x.span) b) ∙ led) ∙ (from_mid b (node_free b named lacks)).1))
+    map_apart : (b : ℕ) → at_maps new.map b ≡ true → names new.map.tree b ≡ false
+    map_apart b led = not_so (names new.map.tree b) (λ named.
+        let lacks = not_so (names first.map.tree b) (λ was. taken b was (map_free b led)) in
+        true≢false (sym (sym (maps_still old.map new.map same x (entry_count x.span) b) ∙ led) ∙ (from_mid b (node_free b named lacks)).1))
 
-    placed : (v : ℕ) → v < entry_count x.span → is_map_written x v ≡ true → at_maps old (place_at old v) ≡ true
-    placed v lt is = maps_at x old (entry_count x.span) v (place_at old v) lt is refl (let some = map.some v lt is in λ none. omega (arith, some, none))
+    placed : (v : ℕ) → v < entry_count x.span → is_map_written x v ≡ true → at_maps old.map (place_at old.map v) ≡ true
+    placed v lt is = maps_at x old.map (entry_count x.span) v (place_at old.map v) lt is refl (let some = map.some v lt is in λ none. omega (arith, some, none))
 
-    bits_still : StandBits x (entry_count x.span) new after
+    bits_still : StandBits x (entry_count x.span) new.map after
     bits_still v lt is =
-        let at : place_at new v ≡ place_at old v = place_same old new same v in
-        let there : after (place_at old v) ≡ before (place_at old v) = still (place_at old v) (not_so _ (λ free. true≢false (sym (placed v lt is) ∙ (from_mid (place_at old v) (free_in mid _ free)).1))) in
+        let at : place_at new.map v ≡ place_at old.map v = place_same old.map new.map same v in
+        let there : after (place_at old.map v) ≡ before (place_at old.map v) = still (place_at old.map v) (not_so _ (λ free. true≢false (sym (placed v lt is) ∙ (from_mid (place_at old.map v) (free_in mid _ free)).1))) in
         rw (at, there) (bits v lt is)
 
     held : (t l o m : Bool) → (l ≡ true → o ≡ false) → (t || (not o && (l || m))) ≡ ((t || l) || (m && not o))
@@ -133,20 +134,24 @@ module _ (x : VolumeState) (first : Mapped) (space mid left : Space) (root : ℕ
     held false false false true off = refl
     held false false false false off = refl
 
-    pub blocks_written : HasBlocks x first space root new after left
+    pub blocks_written : HasBlocks x first.map space root new.map after left
     blocks_written = record {
-      tree = subst (λ (k : ℕ). IsFlushed after root (height_of k) new) long (flushed apart clean);
-      over = over apart clean;
-      map = map_same old new same x (entry_count x.span) first map;
+      tree = subst (λ (k : ℕ). IsFlushed after root (height_of k) new.map) long (flushed apart clean);
+      over = (over apart clean).over;
+      map = map_same old.map new.map same x (entry_count x.span) first.map map;
       bits = bits_still;
       fresh_nodes = λ b named lacks. (from_mid b (node_free b named lacks)).0;
       fresh_maps = map_free;
       apart = map_apart;
       held = λ b.
-          renewed.held apart b ∙ ap (λ t. names new.tree b || (not t && is_member mid.next b)) (ap (λ (t : List ℕ). names t b) tree)
-          ∙ ap (λ t. names new.tree b || (not (names first.tree b) && t)) (drawn.held b ∙ ap (λ t. t || is_member space.next b) (sym (maps_still old new same x (entry_count x.span) b)))
-          ∙ held (names new.tree b) (at_maps new b) (names first.tree b) (is_member space.next b) (λ led. not_so (names first.tree b) (λ named. taken b named (map_free b led)));
+          renewed.held apart b ∙ ap (λ t. names new.map.tree b || (not t && is_member mid.next b)) (ap (λ (t : List ℕ). names t b) tree)
+          ∙ ap (λ t. names new.map.tree b || (not (names first.map.tree b) && t)) (drawn.held b ∙ ap (λ t. t || is_member space.next b) (sym (maps_still old.map new.map same x (entry_count x.span) b)))
+          ∙ held (names new.map.tree b) (at_maps new.map b) (names first.map.tree b) (is_member space.next b) (λ led. not_so (names first.map.tree b) (λ named. taken b named (map_free b led)));
     }
+
+    -- What is in memory afterwards is as the map says.
+    pub memory_right : IsRightMemory new
+    memory_right = let right = over apart clean in record { here = right.here; known = right.known }
 
 -- the write of a taken block leaves them
 pub blocks_still : (x : VolumeState) (first : Mapped) (space left : Space) (root label : ℕ) (new : Mapped) (before after : Image)

@@ -29,8 +29,9 @@ use Rattle.fv_image.proofs.LoneTables.{built_reserves, form_base, lone_reserves}
 use Rattle.fv_image.proofs.WellLabels.{names_apart, numbers_at, volumes_are_well}
 use Rattle.fv_charge.specs.Ledgers.{IsLedgerOf}
 use Rattle.fv_container.specs.declared.entry.Entry.{Entry}
-use Rattle.fv_container.specs.Chains.{Slots, container_at, own_entry, slot_count}
+use Rattle.fv_container.specs.Chains.{Slots, container_at, map_in, own_entry, slot_count}
 use Rattle.fv_container.specs.Mapped.{IsHeld, IsMapped, Mapped, entry_under}
+use Rattle.fv_container.specs.Paged.{Paged}
 use Rattle.fv_container.specs.Spelled.{pair_of}
 use Rattle.fv_root.specs.declared.find.Found.{Found}
 use Rattle.fv_root.specs.Finding.{root_found}
@@ -92,7 +93,7 @@ module _ (found : Found) (i : Image) (states : States) (containers : Slots) (lon
   unfolding entry_from
   entry_is blocks empty s v = ⊎_elim
       (λ (inside : s < 64). entry_of blocks i empty (label_of found i s) (container_at containers s) v (loaded.each s inside).tree)
-      (λ (past : 64 ≤ s). ap (λ c. placed_in blocks i (own_entry c v)) (get_or_past containers.containers s None (omega (arith, past, few))) ∙ sym (ap (λ (l : Option Label). entry_from l i v) (no_label s past)))
+      (λ (past : 64 ≤ s). ap (λ (c : Option Paged). placed_in blocks i (own_entry (map_in c) v)) (get_or_past containers.containers s None (omega (arith, past, few))) ∙ sym (ap (λ (l : Option Label). entry_from l i v) (no_label s past)))
       (cases_lt s 64)
 
 -- a session of what stands on its disk has the view of its image

@@ -16,8 +16,9 @@ use Rattle.fv_root.specs.declared.find.Found.{Found}
 use Rattle.fv_root.specs.Finding.{root_found}
 use Rattle.fv_container.specs.Clean.{IsCleanOn}
 use Rattle.fv_container.specs.Mapped.{Mapped, entry_under}
+use Rattle.fv_container.specs.Paged.{Paged}
 use Rattle.fv_container.specs.Spelled.{names}
-use Rattle.fv_container.specs.Chains.{container_at, own_entry, slot_count}
+use Rattle.fv_container.specs.Chains.{container_at, map_in, own_entry, slot_count}
 use Rattle.fv_aggmap.specs.Space.{Space}
 use Rattle.fv_pool.specs.declared.pool.Pool.{Pool}
 use Rattle.fv_volume.specs.declared.state.VolumeState.{VolumeState}
@@ -46,33 +47,33 @@ StandMaps i found x map = (k j : ℕ) → has_stored_map x k ≡ true → j < ma
 -- A volume that is lent: its label, if it has one, and the nodes of its container are those that the root on the disk names. A new one has neither,
 -- also where that root still names a volume of its slot that was removed. Its blocks are apart, and the maps that
 -- a point leaves stand there, as its container's clean nodes do. Without a change it is as that root has it.
-pub record IsLentSlot (i : Image) (found : Found) (s : ℕ) (x : VolumeState) (map : Mapped) : Type 0 where
+pub record IsLentSlot (i : Image) (found : Found) (s : ℕ) (x : VolumeState) (paged : Paged) : Type 0 where
   pub label : x.label ≢ 0 → x.label ≡ label_place (root_found found) s
-  pub nodes : (b : ℕ) → names map.tree b ≡ true → (l : Label) × (label_of found i s ≡ Some l) × IsNodePlace i l.container l.height (entry_count l.span) b
-  pub clean : IsCleanOn i map
-  pub apart : AreApartIn x map
-  pub maps : StandMaps i found x map
-  pub unchanged : x.changed ≡ false → IsLoaded i found s (Some x) (Some map)
+  pub nodes : (b : ℕ) → names paged.map.tree b ≡ true → (l : Label) × (label_of found i s ≡ Some l) × IsNodePlace i l.container l.height (entry_count l.span) b
+  pub clean : IsCleanOn i paged
+  pub apart : AreApartIn x paged.map
+  pub maps : StandMaps i found x paged.map
+  pub unchanged : x.changed ≡ false → IsLoaded i found s (Some x) (Some paged)
 
 -- a slot, with or without a volume; without one the root on the disk may still have the one that was removed
-abbrev pub IsLentAt : Image → Found → ℕ → Option VolumeState → Option Mapped → Type 0
+abbrev pub IsLentAt : Image → Found → ℕ → Option VolumeState → Option Paged → Type 0
 IsLentAt i found s None None = Unit {0}
-IsLentAt i found s None (Some map) = ⊥
+IsLentAt i found s None (Some paged) = ⊥
 IsLentAt i found s (Some x) None = ⊥
-IsLentAt i found s (Some x) (Some map) = IsLentSlot i found s x map
+IsLentAt i found s (Some x) (Some paged) = IsLentSlot i found s x paged
 
 -- A slot stands in an image under a root: its volume is as that root has it, the slot is sound by itself, and it holds the blocks of its
 -- volume, each once.
-pub record StandsUnder (i : Image) (found : Found) (s : ℕ) (state : Option VolumeState) (container : Option Mapped) : Type 0 where
+pub record StandsUnder (i : Image) (found : Found) (s : ℕ) (state : Option VolumeState) (container : Option Paged) : Type 0 where
   pub loaded : IsLoaded i found s state container
   pub sound : IsSoundSlot (layout_at (root_found found) i) s
   pub once : (b : ℕ) → times_held (layout_at (root_found found) i) s b ≤ 1
-  pub holds : (b : ℕ) → is_held_by (layout_at (root_found found) i) s b ≡ has_block state container b
+  pub holds : (b : ℕ) → is_held_by (layout_at (root_found found) i) s b ≡ has_block state (map_in container) b
 
 -- Volumes with blocks that wait over one image stand, settled, in another under new labels: each slot stands there, the entries that stay
 -- have their blocks, and the volumes are spaced.
-pub record AllStandUnder (pool : Pool) (states : States) (before : Image) (found : Found) (labels : List ℕ) (next : List Bool) (container : ℕ → Option Mapped) (i : Image) : Type 0 where
+pub record AllStandUnder (pool : Pool) (states : States) (before : Image) (found : Found) (labels : List ℕ) (next : List Bool) (container : ℕ → Option Paged) (i : Image) : Type 0 where
   pub each : (s : ℕ) → s < slot_count → StandsUnder i found s (settled_at labels states s) (container s)
   pub kept : (s v : ℕ) (x : VolumeState) → s < slot_count → state_at states s ≡ Some x → stays x v ≡ true
-      → placed_in fin.empty i (own_entry (container s) v) ≡ placed_in pool.kept before (own_entry (container_at pool.containers s) v)
-  pub spaced : AreSpacedIn found.blocks next (settled_at labels states) container
+      → placed_in fin.empty i (own_entry (map_in (container s)) v) ≡ placed_in pool.kept before (own_entry (container_at pool.containers s) v)
+  pub spaced : AreSpacedIn found.blocks next (settled_at labels states) (λ s. map_in (container s))

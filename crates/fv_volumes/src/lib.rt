@@ -13,5 +13,6 @@ mod volumes;
 mod write;
 
 pub use admit::Admitted;
+pub use taking::mark_maps;
 pub use volumes::Volumes;
 pub use write::write_volume;

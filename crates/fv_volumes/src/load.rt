@@ -3,10 +3,10 @@
 ghost use Rattle.std.specs.Prelude.{◌≡◌, ℕ, IfSome, ◌<◌, ◌≤◌, ◌+◌, ◌*◌, length, replicate, None, Some, IfOk, IfErr, OnOk, OnErr, IsTrue, get_or, ◌++◌, ◌∷◌, []};
 ghost use Rattle.fv_bits.specs.Bits.{block_bits};
 ghost use Rattle.fv_codec.specs.Blocks.{IsLabel, label_at};
-ghost use Rattle.fv_container.specs.Chains.{container_at, no_containers, parent_at, slot_count, with_container, with_parent};
+ghost use Rattle.fv_container.specs.Chains.{no_containers, paged_at, parent_at, slot_count, with_container, with_parent};
 ghost use Rattle.fv_container.specs.Mapped.{IsMapped};
-ghost use Rattle.fv_container.specs.Clean.{IsCleanOn};
-ghost use Rattle.fv_container.specs.Spelled.{Spelled, IsFault};
+ghost use Rattle.fv_container.specs.Clean.{IsCleanOn, IsCleanTree};
+ghost use Rattle.fv_container.specs.Spelled.{IsFault, IsOpened};
 ghost use Rattle.fv_disk.specs.DiskCalls.{OnlyReads};
 ghost use Rattle.fv_disk.specs.Faults.{HasBlockCause};
 ghost use Rattle.fv_image.specs.Views.{entry_count, head_of};
@@ -15,7 +15,7 @@ ghost use Rattle.fv_model.specs.Space.{map_blocks};
 ghost use Rattle.fv_store.specs.Held.{StandsOn};
 ghost use Rattle.fv_volmap.specs.Slots.{IsVolume, Loads, slot_count as map_slot_count, stored_count};
 ghost use Rattle.fv_volume.specs.Loading.{AreCountedTo, Counts, IsBadLabel, IsBadMap, IsBadSlot, IsCountable, IsFilled, IsLoadFault, IsLoaded, KeptTo, KeepsOthers, LoadedTo, ReadTo, form_in};
-ghost use Rattle.fv_volume.specs.SlotReads.{AreUsedTo, HasReadSlot, HaveRead, IsReadable, IsSnapSlot, TakesSlot};
+ghost use Rattle.fv_volume.specs.SlotReads.{AreUsedTo, HasReadSlot, HaveRead, IsAway, IsOpenedOn, IsReadable, IsSnapSlot, TakesSlot};
 ghost use Rattle.fv_volume.specs.States.{head_in, state_at};
 
 use fv_codec::Label;
@@ -39,7 +39,8 @@ fn take_zeros(map: &mut VolMap, slot: u8, index: u32) -> Result<(), AllocError>
     Ok(())
 }
 
-/// Takes block `index` of the map of a slot; a hole is taken as a block of zeros.
+/// Takes block `index` of the map of a slot; a hole is taken as a block of zeros. The container was opened from the disk, and no leaf of
+/// it is in memory: the leaf that has the block's entry is read through the store, and isn't held.
 fn read_map_block<D: Disk>(
     store: &mut Store,
     disk: &mut D,
@@ -50,19 +51,20 @@ fn read_map_block<D: Disk>(
     index: u32,
 ) -> Result<(), BlockFault>
     requires stands { StandsOn (D.shown disk.old) store.old.pairs }
-    requires spans { IsReadable container.now span }
+    requires spans { IsReadable container.now.map span }
+    requires away { IsAway container.now }
     requires map { map.old.span ≡ span }
     requires slot { slot < stored_count }
     requires within { index < map_blocks span }
     ensures takes { OnOk result (TakesSlot map.old slot 1 map.new) }
-    ensures read { IsTrue (D.shown disk.old).tells → HasReadSlot (D.shown disk.old).reads container.now span slot index map.old
-        → OnOk result (HasReadSlot (D.shown disk.old).reads container.now span slot (index + 1) map.new) }
-    ensures fault { IsTrue (D.shown disk.old).tells → IfErr result (IsBadSlot (D.shown disk.old).reads container.now span slot) }
+    ensures read { IsTrue (D.shown disk.old).tells → IsOpenedOn (D.shown disk.old).reads container.now.map → HasReadSlot (D.shown disk.old).reads container.now.map span slot index map.old
+        → OnOk result (HasReadSlot (D.shown disk.old).reads container.now.map span slot (index + 1) map.new) }
+    ensures fault { IsTrue (D.shown disk.old).tells → IsOpenedOn (D.shown disk.old).reads container.now.map → IfErr result (IsBadSlot (D.shown disk.old).reads container.now.map span slot) }
     ensures only_reads { OnlyReads (D.shown disk.old) (D.shown disk.new) }
     ensures stands { StandsOn (D.shown disk.new) store.new.pairs }
     ensures cause { HasBlockCause (D.shown disk.old).faults (D.shown disk.new).faults result }
 {
-    let Some(entry) = container.entry_at(map_vvbn(span, slot, index)) else {
+    let Some(entry) = container.find(store, disk, map_vvbn(span, slot, index))? else {
         take_zeros(map, slot, index)?;
         return Ok(());
     };
@@ -88,13 +90,14 @@ fn read_slot<D: Disk>(
     slot: u8,
 ) -> Result<(), BlockFault>
     requires stands { StandsOn (D.shown disk.old) store.old.pairs }
-    requires spans { IsReadable container.now span }
+    requires spans { IsReadable container.now.map span }
+    requires away { IsAway container.now }
     requires map { map.old.span ≡ span }
     requires slot { slot < stored_count }
     ensures takes { OnOk result (TakesSlot map.old slot (map_blocks span) map.new) }
-    ensures read { IsTrue (D.shown disk.old).tells → HasReadSlot (D.shown disk.old).reads container.now span slot 0 map.old
-        → OnOk result (HasReadSlot (D.shown disk.old).reads container.now span slot (map_blocks span) map.new) }
-    ensures fault { IsTrue (D.shown disk.old).tells → IfErr result (IsBadSlot (D.shown disk.old).reads container.now span slot) }
+    ensures read { IsTrue (D.shown disk.old).tells → IsOpenedOn (D.shown disk.old).reads container.now.map → HasReadSlot (D.shown disk.old).reads container.now.map span slot 0 map.old
+        → OnOk result (HasReadSlot (D.shown disk.old).reads container.now.map span slot (map_blocks span) map.new) }
+    ensures fault { IsTrue (D.shown disk.old).tells → IsOpenedOn (D.shown disk.old).reads container.now.map → IfErr result (IsBadSlot (D.shown disk.old).reads container.now.map span slot) }
     ensures only_reads { OnlyReads (D.shown disk.old) (D.shown disk.new) }
     ensures stands { StandsOn (D.shown disk.new) store.new.pairs }
     ensures cause { HasBlockCause (D.shown disk.old).faults (D.shown disk.new).faults result }
@@ -116,15 +119,16 @@ fn read_next_slot<D: Disk>(
     slot: u8,
 ) -> Result<(), BlockFault>
     requires stands { StandsOn (D.shown disk.old) store.old.pairs }
-    requires spans { IsReadable container.now span }
+    requires spans { IsReadable container.now.map span }
+    requires away { IsAway container.now }
     requires map { map.old.span ≡ span }
     requires slot { IsSnapSlot slot }
     requires used { AreUsedTo snapshots.now slot map.old }
     ensures map { OnOk result (map.new.span ≡ span) }
     ensures used { OnOk result (AreUsedTo snapshots.now (slot + 1) map.new) }
-    ensures read { IsTrue (D.shown disk.old).tells → HaveRead (D.shown disk.old).reads container.now span slot map.old
-        → OnOk result (HaveRead (D.shown disk.old).reads container.now span (slot + 1) map.new) }
-    ensures fault { IsTrue (D.shown disk.old).tells → IfErr result (IsBadMap (D.shown disk.old).reads container.now span snapshots.now) }
+    ensures read { IsTrue (D.shown disk.old).tells → IsOpenedOn (D.shown disk.old).reads container.now.map → HaveRead (D.shown disk.old).reads container.now.map span slot map.old
+        → OnOk result (HaveRead (D.shown disk.old).reads container.now.map span (slot + 1) map.new) }
+    ensures fault { IsTrue (D.shown disk.old).tells → IsOpenedOn (D.shown disk.old).reads container.now.map → IfErr result (IsBadMap (D.shown disk.old).reads container.now.map span snapshots.now) }
     ensures only_reads { OnlyReads (D.shown disk.old) (D.shown disk.new) }
     ensures stands { StandsOn (D.shown disk.new) store.new.pairs }
     ensures cause { HasBlockCause (D.shown disk.old).faults (D.shown disk.new).faults result }
@@ -147,11 +151,12 @@ fn read_map<D: Disk>(
     requires stands { StandsOn (D.shown disk.old) store.old.pairs }
     requires span { span ≤ greatest_span }
     requires least { 1 ≤ span }
-    requires entries { length container.now.entries ≡ entry_count span }
+    requires entries { length container.now.map.entries ≡ entry_count span }
+    requires away { IsAway container.now }
     ensures map { IfOk result (λ map. map.span ≡ span) }
     ensures used { IfOk result (AreUsedTo snapshots.now stored_count) }
-    ensures read { IsTrue (D.shown disk.old).tells → IfOk result (HaveRead (D.shown disk.old).reads container.now span stored_count) }
-    ensures fault { IsTrue (D.shown disk.old).tells → IfErr result (IsBadMap (D.shown disk.old).reads container.now span snapshots.now) }
+    ensures read { IsTrue (D.shown disk.old).tells → IsOpenedOn (D.shown disk.old).reads container.now.map → IfOk result (HaveRead (D.shown disk.old).reads container.now.map span stored_count) }
+    ensures fault { IsTrue (D.shown disk.old).tells → IsOpenedOn (D.shown disk.old).reads container.now.map → IfErr result (IsBadMap (D.shown disk.old).reads container.now.map span snapshots.now) }
     ensures only_reads { OnlyReads (D.shown disk.old) (D.shown disk.new) }
     ensures stands { StandsOn (D.shown disk.new) store.new.pairs }
     ensures cause { HasBlockCause (D.shown disk.old).faults (D.shown disk.new).faults result }
@@ -173,10 +178,12 @@ fn read_container<D: Disk>(
 ) -> Result<Container, BlockFault>
     requires stands { StandsOn (D.shown disk.old) store.old.pairs }
     requires range { IsLabel label.now }
-    ensures spelled { IsTrue (D.shown disk.old).tells → IfOk result (Spelled (D.shown disk.old).reads label.entry.now.container label.entry.now.height) }
-    ensures clean { IsTrue (D.shown disk.old).tells → IfOk result (IsCleanOn (D.shown disk.old).reads) }
-    ensures size { IfOk result (λ container. length container.entries ≡ entry_count label.entry.now.span) }
-    ensures valid { IfOk result IsMapped }
+    ensures opened { IsTrue (D.shown disk.old).tells → IfOk result (λ container. IsOpened (D.shown disk.old).reads label.entry.now.container label.entry.now.height container.map) }
+    ensures clean { IsTrue (D.shown disk.old).tells → IsCleanTree (D.shown disk.old).reads label.entry.now.container label.entry.now.height (entry_count label.entry.now.span)
+        → IfOk result (IsCleanOn (D.shown disk.old).reads) }
+    ensures size { IfOk result (λ container. length container.map.entries ≡ entry_count label.entry.now.span) }
+    ensures away { IfOk result IsAway }
+    ensures valid { IfOk result (λ container. IsMapped container.map) }
     ensures fault { IsTrue (D.shown disk.old).tells → IfErr result (IsFault (D.shown disk.old).reads label.entry.now.container label.entry.now.height (entry_count label.entry.now.span)) }
     ensures only_reads { OnlyReads (D.shown disk.old) (D.shown disk.new) }
     ensures stands { StandsOn (D.shown disk.new) store.new.pairs }
@@ -208,8 +215,8 @@ fn load_volume<D: Disk>(
     requires few { length containers.old.containers ≡ slot_count }
     requires parent { parent_at containers.old slot ≡ None }
     ensures leaves { KeepsOthers slot containers.old containers.new }
-    ensures loaded { IsTrue (D.shown disk.old).tells → container_at containers.old slot ≡ None
-        → IfOk result (λ state. IsLoaded (D.shown disk.old).reads found.now slot state (container_at containers.new slot)) }
+    ensures loaded { IsTrue (D.shown disk.old).tells → paged_at containers.old slot ≡ None
+        → IfOk result (λ state. IsLoaded (D.shown disk.old).reads found.now slot state (paged_at containers.new slot)) }
     ensures filled { IfOk result (IsFilled slot containers.new) }
     ensures fault { IsTrue (D.shown disk.old).tells → IfErr result (IsLoadFault (D.shown disk.old).reads found.now) }
     ensures only_reads { OnlyReads (D.shown disk.old) (D.shown disk.new) }

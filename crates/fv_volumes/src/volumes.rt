@@ -3,8 +3,8 @@
 ghost use Rattle.std.specs.Prelude.{◌≡◌, ◌<◌, ◌≤◌, ◌+◌, ◌*◌, ◌^◌, ℕ, true, false, length, None, Some, IsSome, IsNone, IfSome, IfNone, IfOk, IfErr, IsTrue, OnOk, OnErr, option_copied, replicate, sum_by, take};
 ghost use Rattle.std.specs.Option.{is_some, option_map, option_copied_mut};
 ghost use Rattle.fv_disk.specs.Shown.{Image};
-ghost use Rattle.fv_container.specs.Chains.{container_at, slot_count, with_container, with_parent};
-ghost use Rattle.fv_container.specs.Mapped.{empty_map};
+ghost use Rattle.fv_container.specs.Chains.{paged_at, slot_count, with_container, with_parent};
+ghost use Rattle.fv_container.specs.Paged.{empty_paged};
 ghost use Rattle.fv_image.specs.Views.{entry_count};
 ghost use Rattle.fv_model.specs.declared.commands.Command.TheVariants.{VolCreate};
 ghost use Rattle.fv_model.specs.Numbers.{greatest_span};
@@ -35,7 +35,7 @@ use std::marker::Model;
 /// Up to 64 volumes by slot. Contracts see the row of 64 slots, each free or with its volume.
 #[derive(Drop)]
 pub struct Volumes {
-    alloc: Global,
+    pub(crate) alloc: Global,
     states: Vec<Option<VolumeState>>,
 }
 
@@ -70,9 +70,9 @@ impl Volumes {
     /// past the span. `DiskFault` comes only where a read failed in this call, and `Memory` where memory ran out. The
     /// pool's containers stay then.
     ///
-    /// Each label, each node of the containers and each block of the maps is read once. Each word of each used
-    /// slot's map is looked at once more, for the ledgers. Memory is taken for each entry and each node of the containers, and for
-    /// the bits of the maps.
+    /// Each label, each node of the containers above the leaves and each block of the maps is read once, and the leaves that have the
+    /// entries of these blocks through the pool's cache. Each word of each used slot's map is looked at once more, for the ledgers.
+    /// Memory is taken for each node of the containers, and for the bits of the maps; no leaf is held.
     pub fn open<D: Disk>(
         alloc: Global,
         pool: &mut Pool,
@@ -153,7 +153,7 @@ impl Volumes {
     /// is committed, which a point keeps. So nothing is refused here. The one error is want of memory; nothing
     /// changes then. `commits` is what all volumes commit together, in blocks, before the call and behind it.
     ///
-    /// Costs a step for each VVBN of the new volume, and takes memory for its container and its maps.
+    /// Costs a step for each region of the new volume's container, and takes memory for its container and its maps.
     pub fn create(
         &mut self,
         pool: &mut Pool,
@@ -169,7 +169,7 @@ impl Volumes {
         ensures sum { commits.new ≡ sum_of self.new }
         ensures slot { IfOk result (IsFirstFree self.old) }
         ensures made { IfOk result (λ slot. IsMade self.old slot name.now size kind self.new) }
-        ensures new { IfOk result (λ slot. IsNew (state_at self.new slot) (container_at pool.new.containers slot) name.now size kind) }
+        ensures new { IfOk result (λ slot. IsNew (state_at self.new slot) (paged_at pool.new.containers slot) name.now size kind) }
         ensures holes { IfOk result (λ slot. pool.new ≡ with_holes pool.old slot size) }
         ensures long { length self.new ≡ slot_count }
         ensures each { OnOk result ((s : ℕ) → IfSome (state_at self.new s) (IsLabelled s)) }

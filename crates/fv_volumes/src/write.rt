@@ -13,7 +13,7 @@ ghost use Rattle.fv_container.specs.Mapped.{IsMapped};
 ghost use Rattle.fv_container.specs.Spelled.{names};
 ghost use Rattle.fv_volume.specs.Labels.{label_said};
 ghost use Rattle.fv_volume.specs.Files.{IsLabelled};
-ghost use Rattle.fv_volume.specs.Writing.{CanFlush, HasBlocks, HasEntries, HasLabel, HasOwnBlocks, HasRoomFor, IsOther, IsTaken, IsTakenOther, IsWritten, asked, on_disk};
+ghost use Rattle.fv_volume.specs.Writing.{CanFlush, HasBlocks, HasEntries, HasLabel, HasMapLeaves, HasOwnBlocks, HasRoomFor, IsOther, IsRightMemory, IsTaken, IsTakenOther, IsWritten, asked, on_disk};
 
 use crate::giving::give_back_maps;
 use crate::taking::{take_block, write_maps};
@@ -33,15 +33,19 @@ fn write_blocks<D: Disk>(
     disk: &mut D,
 ) -> Result<u32, Failed>
     requires stands { StandsOn (D.shown disk.old) store.old.pairs }
-    requires entries { HasEntries state.now container.old }
+    requires entries { HasEntries state.now container.old.map }
+    requires loaded { HasMapLeaves state.now container.old }
     requires space { HasRoomFor state.now map.old }
     ensures written { IsTrue (D.shown disk.old).tells
         → CanFlush (D.shown disk.old).reads map.old container.old
-        → IfOk result (λ root. HasBlocks state.entry.now container.old map.old root container.new (D.shown disk.new).reads map.new) }
+        → IfOk result (λ root. HasBlocks state.entry.now container.old.map map.old root container.new.map (D.shown disk.new).reads map.new) }
+    ensures memory { IsTrue (D.shown disk.old).tells
+        → CanFlush (D.shown disk.old).reads map.old container.old
+        → OnOk result (IsRightMemory container.new) }
     ensures root { IfOk result (λ root. (1 ≤ root) × (root ≤ last_place)) }
     ensures spares { Spares (IsTaken map.old) (D.shown disk.old) (D.shown disk.new) (without_value result) }
-    ensures entries { length container.new.entries ≡ entry_count state.entry.now.span }
-    ensures valid { OnOk result (IsMapped container.new) }
+    ensures entries { length container.new.map.entries ≡ entry_count state.entry.now.span }
+    ensures valid { OnOk result (IsMapped container.new.map) }
     ensures committed { map.new.committed ≡ map.old.committed }
     ensures count { OnOk result (free_blocks map.old + 1 ≤ free_blocks map.new + asked state.entry.now) }
     ensures stands { StandsOn (D.shown disk.new) store.new.pairs }
@@ -85,16 +89,20 @@ fn write_anew<D: Disk>(
 ) -> Result<(), Failed>
     requires stands { StandsOn (D.shown disk.old) store.old.pairs }
     requires state { IsLabelled state.now.slot state.now }
-    requires entries { HasEntries state.now container.old }
+    requires entries { HasEntries state.now container.old.map }
+    requires loaded { HasMapLeaves state.now container.old }
     requires space { HasRoomFor state.now map.old }
     requires taken { IsTaken map.old label }
     ensures written { IsTrue (D.shown disk.old).tells
         → CanFlush (D.shown disk.old).reads map.old container.old
-        → names container.old.tree label ≡ false
-        → OnOk result (HasLabel state.entry.now container.old map.old label container.new (D.shown disk.new).reads map.new) }
+        → names container.old.map.tree label ≡ false
+        → OnOk result (HasLabel state.entry.now container.old.map map.old label container.new.map (D.shown disk.new).reads map.new) }
+    ensures memory { IsTrue (D.shown disk.old).tells
+        → CanFlush (D.shown disk.old).reads map.old container.old
+        → OnOk result (IsRightMemory container.new) }
     ensures spares { Spares (IsTakenOther map.old label) (D.shown disk.old) (D.shown disk.new) result }
-    ensures entries { length container.new.entries ≡ entry_count state.entry.now.span }
-    ensures valid { OnOk result (IsMapped container.new) }
+    ensures entries { length container.new.map.entries ≡ entry_count state.entry.now.span }
+    ensures valid { OnOk result (IsMapped container.new.map) }
     ensures committed { map.new.committed ≡ map.old.committed }
     ensures count { OnOk result (free_blocks map.old + 1 ≤ free_blocks map.new + asked state.entry.now) }
     ensures stands { StandsOn (D.shown disk.new) store.new.pairs }
@@ -105,12 +113,13 @@ fn write_anew<D: Disk>(
 }
 
 /// Writes a volume: the blocks of its active map, and of each snapshot's that waits, to new places, its container and its label, whose
-/// PVBN it answers. Nodes of the container that aren't dirty stay where they stand (`Container::flush`). The old places of those maps, of the
-/// other nodes and of the label are given back; every other entry stays, a delayed one, too. As many
-/// blocks are free as it asks for: its overhead, and those of the snapshots' maps that wait. It takes no memory and reads nothing.
+/// PVBN it answers. Nodes of the container that aren't dirty stay where they stand (`Container::flush`). The old places of those maps, of
+/// the other nodes and of the label are given back; every other entry stays, a delayed one, too. As many blocks are free as it asks for:
+/// its overhead, and those of the snapshots' maps that wait. The leaves of the container are in memory that have the entries of these
+/// maps' blocks, and none is afterwards. It takes no memory and reads nothing.
 ///
 /// The one error is a failed write: the blocks that were taken are then lost to the map, and the container isn't as before. Costs a step
-/// for each block of 25 maps, one for each entry where the container is flushed (`Container::flush`), and a write for each block.
+/// for each block of 25 maps, one for each node of the container and each entry of a dirty leaf, and a write for each block.
 pub fn write_volume<D: Disk>(
     state: &VolumeState,
     container: &mut Container,
@@ -120,15 +129,20 @@ pub fn write_volume<D: Disk>(
 ) -> Result<u32, Failed>
     requires stands { StandsOn (D.shown disk.old) store.old.pairs }
     requires state { IsLabelled state.now.slot state.now }
-    requires entries { length container.old.entries ≡ entry_count state.now.span }
+    requires entries { length container.old.map.entries ≡ entry_count state.now.span }
+    requires loaded { HasMapLeaves state.now container.old }
     requires room { asked state.now ≤ free_blocks map.old }
     ensures written { IsTrue (D.shown disk.old).tells
-        → HasOwnBlocks state.entry.now container.old map.old
+        → HasOwnBlocks state.entry.now container.old.map map.old
         → IsCleanOn (D.shown disk.old).reads container.old
-        → IfOk result (λ label. IsWritten state.entry.now container.old (D.shown disk.old).reads map.old label container.new (D.shown disk.new).reads map.new) }
+        → IfOk result (λ label. IsWritten state.entry.now container.old.map (D.shown disk.old).reads map.old label container.new.map (D.shown disk.new).reads map.new) }
+    ensures memory { IsTrue (D.shown disk.old).tells
+        → HasOwnBlocks state.entry.now container.old.map map.old
+        → IsCleanOn (D.shown disk.old).reads container.old
+        → OnOk result (IsRightMemory container.new) }
     ensures spares { Spares (IsTaken (on_disk map.old)) (D.shown disk.old) (D.shown disk.new) (without_value result) }
-    ensures entries { length container.new.entries ≡ entry_count state.entry.now.span }
-    ensures valid { OnOk result (IsMapped container.new) }
+    ensures entries { length container.new.map.entries ≡ entry_count state.entry.now.span }
+    ensures valid { OnOk result (IsMapped container.new.map) }
     ensures label { IfOk result (λ label. label < blocks_of map.old) }
     ensures committed { map.new.committed ≡ map.old.committed }
     ensures count { OnOk result (free_blocks map.old ≤ free_blocks map.new + asked state.entry.now) }

@@ -8,8 +8,9 @@ use Rattle.fv_root.specs.Formatted.{IsSize}
 use Rattle.fv_root.specs.declared.find.Found.{Found}
 use Rattle.fv_image.specs.Views.{Head, entry_count}
 use Rattle.fv_charge.specs.declared.ledger.Ledger.{Ledger}
-use Rattle.fv_container.specs.Mapped.{Mapped, empty_map}
-use Rattle.fv_container.specs.Chains.{Slots, container_at, slot_count}
+use Rattle.fv_container.specs.Mapped.{empty_map}
+use Rattle.fv_container.specs.Chains.{Slots, container_at, map_in, paged_at, slot_count}
+use Rattle.fv_container.specs.Paged.{Paged}
 use Rattle.fv_store.specs.Held.{StandsOn}
 use Rattle.fv_pool.specs.declared.pool.Pool.{Pool}
 use Rattle.fv_volume.specs.declared.state.VolumeState.{VolumeState}
@@ -21,7 +22,7 @@ use Rattle.fv_volume.specs.Slots.{IsFirstFree}
 use Rattle.fv_volume.specs.States.{States, state_at}
 
 module _ (p q : Pool) (old states : States) (slot size : ℕ) (name : List ℕ) (kind : Kind) (blocks : IsSize p.found.blocks)
-    (first : IsFirstFree old slot) (holes : q ≡ with_holes p slot size) (is : IsNew (state_at states slot) (container_at q.containers slot) name size kind)
+    (first : IsFirstFree old slot) (holes : q ≡ with_holes p slot size) (is : IsNew (state_at states slot) (paged_at q.containers slot) name size kind)
     (labelled : (s : ℕ) → IfSome (state_at states s) (IsLabelled s)) (d : Disk) (stands : StandsOn d p.store.pairs) where
   here : IsLabelled slot is.volume
   here = subst (λ (o : Option VolumeState). IfSome o (IsLabelled slot)) is.state_is (labelled slot)
@@ -31,7 +32,7 @@ module _ (p q : Pool) (old states : States) (slot size : ℕ) (name : List ℕ) 
 
   many : is.volume.map.span ≤ length (entries_in (container_at q.containers is.volume.slot))
   many = subst (λ (n : ℕ). is.volume.map.span ≤ length (entries_in (container_at q.containers n))) (sym here.slot_is)
-      (subst (λ (c : Option Mapped). is.volume.map.span ≤ length (entries_in c)) (sym is.holes)
+      (subst (λ (c : Option Paged). is.volume.map.span ≤ length (entries_in (map_in c))) (sym is.holes)
       (let count : length (entries_in (Some (empty_map (entry_count is.volume.span)))) ≡ entry_count is.volume.span = length-replicate (entry_count is.volume.span) None in
       let span = here.map in omega (arith, count, span)))
 

@@ -55,6 +55,7 @@ returns-clause-loaded g c = λ tells.
     record {
       found = subst (IsFound i) (sym (now ∙ was)) (c.in_ok-found.ensures.finds tells);
       map = subst (λ (m : Space). IsLoaded i pool.found m) (sym e.map) (subst (λ (f : Found). IsLoaded i f c.in_ok-pool.pool.map) (sym (now ∙ was)) map);
+      few = e.states.few;
       slots = subst (λ (f : Found). LoadedTo i f slot_count volumes pool.containers) (sym now) (subst (λ (k : Image). LoadedTo k c.in_ok-pool.pool.found slot_count volumes pool.containers) same (e.loaded still));
       view = ap (λ (k : Image). view_over pool volumes k) (sym same) ∙ e.view still c.in_ok-pool.ensures.empty ∙ (λ t. view_at (root_found (sym now t)) (same t));
       machine = λ m is. ap (λ (k : Image). machine_in pool volumes no_trees k) (sym same) ∙ e.machine still c.in_ok-pool.ensures.empty m (subst (λ (k : Image). Tells (layout_at (root_found c.in_ok-pool.pool.found) k) m) (sym same) (subst (λ (f : Found). Tells (layout_at (root_found f) i) m) now is));

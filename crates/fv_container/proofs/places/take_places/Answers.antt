@@ -1,9 +1,9 @@
 use Rattle.std.proofs.Common.{◌≡◌, ◌<◌, ◌+◌, ℕ, refl, sym, subst, ◌∙◌, length, get_or, arith, length-set}
 use Rattle.std.specs.Prelude.{slice_set}
 use Rattle.fv_container.specs.Mapped.{node_count}
-use Rattle.fv_container.specs.Written.{ArePlaced, HasTaken, is_written}
+use Rattle.fv_container.specs.Written.{ArePlaced, HasTaken, is_there, may_move}
 use Rattle.fv_container.proofs.Taking.{some_left, taken_more, taken_none}
-use Rattle.fv_container.proofs.Moving.{is_wanted, not_wanted, placed_anew, placed_more, placed_still, wanted_written}
+use Rattle.fv_container.proofs.Moving.{is_wanted, not_wanted, placed_anew, placed_more, placed_still, wants_move}
 use Rattle.fv_container.proofs.places.take_places.Goals as goal
 use Rattle.fv_container.proofs.places.take_places.Goals.{then-stays, else-stays}
 
@@ -11,48 +11,53 @@ pub loop-n-init : goal.loop-n-init
 loop-n-init g c = record {
   len = refl;
   anew = refl;
-  taken = taken_none (g.F.Free.room c.args.map.now) c.args.entries.now c.args.fresh.now;
+  taken = taken_none (g.F.Free.room c.args.map.now) (may_move c.args.leaves.now c.args.dirty.now c.args.count) c.args.fresh.now;
   placed = λ m lt. absurd (omega (arith, lt));
 }
 
 pub take_place-place-requires : goal.take_place-place-requires
 take_place-place-requires g c = λ is.
-    some_left (g.F.Free.room c.args.map.now) (g.F.Free.room c.loop-n.map) c.args.entries.now c.loop-n.fresh c.loop-n.n (node_count (length c.args.entries.now)) c.loop-n.invariant.taken c.requires.room
-    (omega (arith, c.loop-n-test.true, c.loop-n.invariant.len, c.requires.places)) (wanted_written c.may_stay-stays.result (is_written c.args.entries.now c.loop-n.n) c.is_wanted.result c.is_wanted.ensures is)
+    some_left (g.F.Free.room c.args.map.now) (g.F.Free.room c.loop-n.map) (may_move c.args.leaves.now c.args.dirty.now c.args.count) c.loop-n.fresh c.loop-n.n (node_count c.args.count) c.loop-n.invariant.taken c.requires.room
+    (omega (arith, c.loop-n-test.true, c.loop-n.invariant.len, c.requires.places))
+    (wants_move c.args.leaves.now c.args.tree.now c.args.dirty.now c.args.count c.loop-n.places c.loop-n.n c.is_there-there.result c.may_stay-stays.result c.is_wanted.result c.is_there-there.ensures c.is_wanted.ensures c.may_stay-stays.ensures.stays is)
 
 pub loop-n-preserved : goal.loop-n-preserved
 loop-n-preserved g c =
-    let es = c.args.entries.now in
+    let held = c.args.leaves.now in
+    let count = c.args.count in
     let tree = c.args.tree.now in
     let dirty = c.args.dirty.now in
     let fresh = c.loop-n.fresh in
     let places = c.loop-n.places in
     let n = c.loop-n.n in
+    let there = c.is_there-there.result in
     let stays = c.may_stay-stays.result in
     let wanted = c.is_wanted.result in
     let place = c.take_place-place.result in
+    let is : there ≡ is_there held tree dirty count n = c.is_there-there.ensures in
     let old = g.F.Free.room c.args.map.now in
     let mid = g.F.Free.room c.loop-n.map in
     let new = g.F.Free.room c.take_place-place.new.map in
     let inside : n < length places = omega (arith, c.loop-n-test.true, c.loop-n.invariant.len) in
     let in_fresh : n < length fresh = omega (arith, inside, c.loop-n.invariant.len, c.loop-n.invariant.anew, c.requires.places, c.requires.fresh) in
-    let taken : HasTaken old es (slice_set fresh n place) (n + 1) new =
-    taken_more old mid new es fresh n place (g.met.F.Free.laws c.args.map.now) in_fresh c.loop-n.invariant.taken wanted (wanted_written stays (is_written es n) wanted c.is_wanted.ensures) c.take_place-place.ensures in
-    let placed : ArePlaced es tree dirty (slice_set fresh n place) (slice_set places n c.if-stays.places) (n + 1) =
+    let taken : HasTaken old (may_move held dirty count) (slice_set fresh n place) (n + 1) new =
+    taken_more old mid new (may_move held dirty count) fresh n place (g.met.F.Free.laws c.args.map.now) in_fresh c.loop-n.invariant.taken wanted
+    (wants_move held tree dirty count places n there stays wanted is c.is_wanted.ensures c.may_stay-stays.ensures.stays) c.take_place-place.ensures in
+    let placed : ArePlaced (is_there held tree dirty count) count tree dirty (slice_set fresh n place) (slice_set places n c.if-stays.places) (n + 1) =
     elim c.if-stays.branch [
       | then-stays w ↦
-          let none : place ≡ 0 = c.take_place-place.ensures.none (not_wanted stays (is_written es n) wanted c.is_wanted.ensures w.if-stays.true) in
-          subst (λ (b : ℕ). ArePlaced es tree dirty (slice_set fresh n place) (slice_set places n b) (n + 1)) (sym w.places-is)
-          (placed_more es tree dirty fresh places n place (get_or tree n 0) inside c.loop-n.invariant.placed
-          (placed_still es tree dirty fresh places n place in_fresh inside (c.may_stay-stays.ensures.written w.if-stays.true) (c.may_stay-stays.ensures.some w.if-stays.true) (c.may_stay-stays.ensures.clean w.if-stays.true) (c.may_stay-stays.ensures.below w.if-stays.true) none))
+          let none : place ≡ 0 = c.take_place-place.ensures.none (not_wanted stays there wanted c.is_wanted.ensures w.if-stays.true) in
+          subst (λ (b : ℕ). ArePlaced (is_there held tree dirty count) count tree dirty (slice_set fresh n place) (slice_set places n b) (n + 1)) (sym w.places-is)
+          (placed_more (is_there held tree dirty count) count tree dirty fresh places n place (get_or tree n 0) inside c.loop-n.invariant.placed
+          (placed_still (is_there held tree dirty count) count tree dirty fresh places n place in_fresh inside (sym is ∙ c.may_stay-stays.ensures.there w.if-stays.true) (c.may_stay-stays.ensures.some w.if-stays.true) (c.may_stay-stays.ensures.clean w.if-stays.true) (c.may_stay-stays.ensures.below w.if-stays.true) none))
       | else-stays w ↦
-          let same : wanted ≡ is_written es n = is_wanted stays (is_written es n) wanted c.is_wanted.ensures w.if-stays.false in
-          subst (λ (b : ℕ). ArePlaced es tree dirty (slice_set fresh n place) (slice_set places n b) (n + 1)) (sym w.places-is)
-          (placed_more es tree dirty fresh places n place place inside c.loop-n.invariant.placed
-          (placed_anew es tree dirty fresh places n place in_fresh inside
-          (λ is none. let least = ((g.met.F.Free.laws c.loop-n.map).places place (c.take_place-place.ensures.some (same ∙ is))).0 in omega (arith, least, none))
-          (λ out. c.take_place-place.ensures.none (same ∙ out))
-          (c.may_stay-stays.ensures.stays w.if-stays.false)))
+          let same : wanted ≡ there = is_wanted stays there wanted c.is_wanted.ensures w.if-stays.false in
+          subst (λ (b : ℕ). ArePlaced (is_there held tree dirty count) count tree dirty (slice_set fresh n place) (slice_set places n b) (n + 1)) (sym w.places-is)
+          (placed_more (is_there held tree dirty count) count tree dirty fresh places n place place inside c.loop-n.invariant.placed
+          (placed_anew (is_there held tree dirty count) count tree dirty fresh places n place in_fresh inside
+          (λ so none. let least = ((g.met.F.Free.laws c.loop-n.map).places place (c.take_place-place.ensures.some (same ∙ (is ∙ so)))).0 in omega (arith, least, none))
+          (λ out. c.take_place-place.ensures.none (same ∙ (is ∙ out)))
+          (λ so. c.may_stay-stays.ensures.stays w.if-stays.false (is ∙ so))))
     ] in
     record {
       len = length-set places n c.if-stays.places ∙ c.loop-n.invariant.len;

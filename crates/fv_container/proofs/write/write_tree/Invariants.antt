@@ -7,6 +7,6 @@ use Rattle.fv_container.proofs.write.write_tree.Given as goal
 abbrev pub invariant-loop-n : goal.invariant-loop-n
 invariant-loop-n g l = record {
   stands : StandsOn (g.D.Disk.shown l.disk) l.store.pairs;
-  written : IsTrue (g.D.Disk.shown l.fn.disk).tells → AreAnew l.entries l.places l.fresh l.n (g.D.Disk.shown l.disk).reads;
+  written : IsTrue (g.D.Disk.shown l.fn.disk).tells → AreAnew l.leaves l.count l.places l.fresh l.n (g.D.Disk.shown l.disk).reads;
   spares : Spares (IsElsewhere l.fresh) (g.D.Disk.shown l.fn.disk) (g.D.Disk.shown l.disk) (Ok tt);
 }

@@ -14,9 +14,9 @@ pub count_all-requires-clause-empty : goal.count_all-requires-clause-empty
 count_all-requires-clause-empty c = λ s inside. subst (λ (t : Table). IsTable t []) (sym (get_or-replicate 64 s c.new-tables.result no_table inside)) c.new-tables.ensures
 
 pub returns : goal.returns
-returns c counted =
+returns c sure counted =
     let volumes = holdings c.args.pool.now.containers c.args.volumes.now in
     let counts : List Count = counts_of volumes in
-    let table : IsTable c.count_all.new.all counts = c.count_all.ensures.all counted c.new-all.ensures in
+    let table : IsTable c.count_all.new.all counts = c.count_all.ensures.all sure counted c.new-all.ensures in
     let lacks = c.missing-missing.ensures ∙ missing_of c.args.pool.now c.args.volumes.now c.args.want c.total.result (c.total.ensures counts table) in
-    subst (λ (t : Threshold). IsPlan volumes t c.plan_by.new.plan) (c.threshold.ensures.chosen counts table ∙ ap (threshold_for counts) lacks) (c.plan_by.ensures volumes (c.count_all.ensures.each counted))
+    subst (λ (t : Threshold). IsPlan volumes t c.plan_by.new.plan) (c.threshold.ensures.chosen counts table ∙ ap (threshold_for counts) lacks) (c.plan_by.ensures volumes (c.count_all.ensures.each sure counted))

@@ -1,14 +1,15 @@
 use Rattle.std.proofs.Common.{◌≡◌, ◌-◌, ◌≤◌}
 use Rattle.fv_bits.proofs.Counts.{passing}
-use Rattle.fv_delay.specs.Delay.{is_delayed}
-use Rattle.fv_delay.specs.Reclaims.{HasEmptied, HasGiven, lead_to}
-use Rattle.fv_delay.proofs.Reclaimed.{between}
+use Rattle.fv_delay.specs.Delay.{IsSureIn, is_delayed}
+use Rattle.fv_delay.specs.Reclaims.{HasGivenSome, HasStayed, lead_to}
+use Rattle.fv_delay.proofs.Reclaimed.{HasWalked}
 use Rattle.fv_delay.proofs.reclaiming.reclaim.Given as goal
 
 abbrev pub invariant-loop-vvbn : goal.invariant-loop-vvbn
 invariant-loop-vvbn l = record {
-  count : l.count ≡ passing (is_delayed l.map l.fn.container) l.first (l.vvbn - l.first);
+  count : IsSureIn l.fn.container l.region → l.count ≡ passing (is_delayed l.map l.fn.container.map) l.first (l.vvbn - l.first);
   most : l.count ≤ l.vvbn - l.first;
-  entries : HasEmptied l.fn.container (between (is_delayed l.map l.fn.container) l.first l.vvbn) l.container;
-  blocks : HasGiven l.fn.pool_map (lead_to l.fn.container (is_delayed l.map l.fn.container) l.first (l.vvbn - l.first)) l.pool_map;
+  walked : IsSureIn l.fn.container l.region → HasWalked (is_delayed l.map l.fn.container.map) l.fn.container l.first l.vvbn l.fn.pool_map l.container l.pool_map;
+  stayed : HasStayed l.fn.container l.container;
+  given : HasGivenSome l.fn.pool_map l.pool_map;
 }

@@ -1,15 +1,14 @@
 use Rattle.std.proofs.Common.{◌≡◌, ℕ, ◌<◌, true, false}
-use Rattle.fv_delay.specs.ByThreshold.{behind, counts_front, taken_in}
-use Rattle.fv_delay.specs.Delay.{delayed_in}
+use Rattle.fv_delay.specs.ByThreshold.{AreTakenHere, behind, counts_front, taken_in}
+use Rattle.fv_delay.specs.Delay.{AreSure, delayed_in}
 use Rattle.fv_delay.specs.Holding.{held_by}
-use Rattle.fv_delay.specs.Reclaims.{HasReclaimed}
-use Rattle.fv_delay.proofs.TakenRegions.{up_to}
+use Rattle.fv_delay.specs.Reclaims.{HasGivenSome, HasReclaimed, HasStayed}
+use Rattle.fv_delay.proofs.TakenRegions.{HasAsked}
 use Rattle.fv_delay.proofs.taken.reclaim_taken.Given as goal
 
 abbrev pub invariant-loop-region : goal.invariant-loop-region
 invariant-loop-region l = record {
-  threshold : l.threshold ≡ behind l.fn.start (counts_front 0 (held_by l.map l.fn.container) l.region);
-  reclaimed : HasReclaimed l.map (up_to (taken_in l.fn.start (held_by l.map l.fn.container)) l.region) l.fn.container l.fn.pool_map l.container l.pool_map;
-  rest : l.is_left ≡ false → (k : ℕ) → k < l.region → 0 < delayed_in l.map l.fn.container k → taken_in l.fn.start (held_by l.map l.fn.container) k ≡ true;
-  left : l.is_left ≡ true → ((k : ℕ) → k < l.region → 0 < delayed_in l.map l.fn.container k → taken_in l.fn.start (held_by l.map l.fn.container) k ≡ true) → ⊥;
+  asked : AreSure l.fn.container → AreTakenHere l.fn.start l.map l.fn.container → HasAsked l.map l.fn.container l.fn.start l.region l.threshold l.fn.pool_map l.container l.pool_map l.is_left;
+  stayed : HasStayed l.fn.container l.container;
+  given : HasGivenSome l.fn.pool_map l.pool_map;
 }

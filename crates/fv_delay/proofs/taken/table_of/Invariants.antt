@@ -1,6 +1,7 @@
 use Rattle.fv_delay.specs.ByThreshold.{IsTable, counts_front}
+use Rattle.fv_delay.specs.Delay.{AreSure}
 use Rattle.fv_delay.specs.Holding.{held_by}
 use Rattle.fv_delay.proofs.taken.table_of.Given as goal
 
 abbrev pub invariant-loop-region : goal.invariant-loop-region
-invariant-loop-region l = IsTable l.table (counts_front 0 (held_by l.map l.container) l.region)
+invariant-loop-region l = AreSure l.container → IsTable l.table (counts_front 0 (held_by l.map l.container.map) l.region)

@@ -5,7 +5,7 @@ use Rattle.fv_pool.proofs.Lent.{entry_reads, of_place, of_some, told_costs, told
 use Rattle.fv_pool.proofs.blocks.find_place.Goals as goal
 
 pub returns-then-is_some-clause-place : goal.returns-then-is_some-clause-place
-returns-then-is_some-clause-place g c =
+returns-then-is_some-clause-place g c = λ tells.
     told_reads c.told_place-told.result c.args.pointer.now.pvbn (held_entry c.args.map.now c.args.pool.now.containers c.args.slot c.args.pointer.now.vvbn) c.told_place-told.ensures.told (sym c.is_some.ensures ∙ c.if-is_some.true)
 
 pub returns-then-is_some-clause-step : goal.returns-then-is_some-clause-step
@@ -13,8 +13,8 @@ returns-then-is_some-clause-step g c =
     of_some c.told_place-told.result _ (told_costs c.told_place-told.result c.args.pointer.now.pvbn c.args.steps.now c.told_place-told.ensures.told (sym c.is_some.ensures ∙ c.if-is_some.true))
 
 pub returns-clause-place : goal.returns-clause-place
-returns-clause-place g c =
-    c.place_of.ensures.place ∙ ap place_of c.in_ok-entry.ensures.entry
+returns-clause-place g c = λ tells.
+    c.place_of.ensures.place ∙ ap place_of (c.in_ok-entry.ensures.entry tells)
     ∙ entry_reads c.told_place-told.result c.args.pointer.now.pvbn (held_entry c.args.map.now c.args.pool.now.containers c.args.slot c.args.pointer.now.vvbn) c.told_place-told.ensures.told (sym c.is_some.ensures ∙ c.if-is_some.false)
 
 pub returns-clause-step : goal.returns-clause-step

@@ -9,7 +9,7 @@ pub returns-clause-still : goal.returns-clause-still
 returns-clause-still g c = holds_as_much c.args.tree.now c.point.new.tree c.args.spot.0 c.args.spot.1 _ (λ none. c.if-old-eq0.false (ap (λ (p : Pointer). p.stamp) c.pointer_in-old.ensures.is ∙ none)) c.point.ensures.points
 
 pub returns-then-old-eq0-clause-one : goal.returns-then-old-eq0-clause-one
-returns-then-old-eq0-clause-one g c = one_none g.B.Blocks.known (g.B.Blocks.shown c.args.blocks.now) _ (g.met.B.Blocks.goes_nothing c.args.blocks.now)
+returns-then-old-eq0-clause-one g c = one_none g.B.Blocks.told g.B.Blocks.known (g.B.Blocks.shown c.args.blocks.now) _ (g.met.B.Blocks.goes_nothing c.args.blocks.now)
 
 pub returns-in_err-new-clause-one : goal.returns-in_err-new-clause-one
 returns-in_err-new-clause-one g c = let p = err_from_is_err_and c.from_residual.result c.from_residual.ensures.1 in

@@ -57,7 +57,7 @@ returns-clause-one g c = let old : Shown = g.B.Blocks.shown c.args.blocks.now in
           places_swapped (g.B.Blocks.shown c.args.blocks.now) (g.B.Blocks.shown c.place.new.self) (g.B.Blocks.shown c.name_gone.new.blocks) c.in_ok-at.at.vvbn (record { pvbn = c.in_ok-at.at.pvbn; kind = c.args.kind }) c.args.old.now.vvbn c.args.placed
           (at.known known) at.places.used c.name_gone.ensures.gone c.name_gone.ensures.untouched;
       room = omega (arith, place.places.room, named.room);
-      enough = λ _. tt;
+      enough = λ _ _. tt;
       spent = named.spent ∙ place.places.spent;
       untouched = tt;
       calls = g.met.B.Blocks.goes_on c.args.blocks.now c.place.new.self c.name_gone.new.blocks place.calls named.calls;

@@ -3,7 +3,7 @@ use Rattle.fv_tables.specs.Told.{Standing}
 use Rattle.fv_volume.specs.declared.state.VolumeState.{VolumeState}
 use Rattle.fv_pool.specs.Causes.{of_block}
 use Rattle.fv_pool.specs.Lending.{lent_for}
-use Rattle.fv_volume.specs.OneVolume.{home_in, standing_for, IsStanding}
+use Rattle.fv_volume.specs.OneVolume.{home_in, standing_for}
 use Rattle.fv_volume.specs.Asking.{TellsActive}
 use Rattle.fv_volume.proofs.Calling.{no_refusal, if_err_is}
 use Rattle.fv_volume.proofs.OneVolumes.{reads_then}

@@ -5,7 +5,7 @@ use Rattle.fv_inode.specs.Files.{Finds}
 use Rattle.fv_volume.specs.declared.state.VolumeState.{VolumeState}
 use Rattle.fv_pool.specs.Causes.{of_block}
 use Rattle.fv_pool.specs.Lending.{lent_for}
-use Rattle.fv_volume.specs.OneVolume.{home_in, standing_for, IsStanding}
+use Rattle.fv_volume.specs.OneVolume.{home_in, standing_for}
 use Rattle.fv_volume.specs.Asking.{TellsActive}
 use Rattle.fv_volume.specs.declared.tables.TableAsked.TheVariants.{Active}
 use Rattle.fv_volume.proofs.RightTables.{active_tells, known_after}

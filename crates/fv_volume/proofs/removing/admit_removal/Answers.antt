@@ -4,7 +4,7 @@ use Rattle.fv_charge.specs.declared.ledger.Ledger.{Ledger}
 use Rattle.fv_volume.specs.declared.state.VolumeState.{VolumeState}
 use Rattle.fv_pool.specs.Causes.{of_block}
 use Rattle.fv_pool.specs.Lending.{lent_for}
-use Rattle.fv_volume.specs.OneVolume.{home_in, standing_for, IsStanding}
+use Rattle.fv_volume.specs.OneVolume.{home_in, standing_for}
 use Rattle.fv_pool.proofs.CallCauses.{failed_cause, refused_cause}
 use Rattle.fv_volume.specs.Asking.{TellsActive}
 use Rattle.fv_volume.proofs.RightTables.{active_tells}

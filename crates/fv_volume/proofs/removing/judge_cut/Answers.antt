@@ -7,7 +7,7 @@ use Rattle.fv_inode.specs.Files.{Finds, IsFirst}
 use Rattle.fv_volume.specs.declared.state.VolumeState.{VolumeState}
 use Rattle.fv_pool.specs.Causes.{of_block}
 use Rattle.fv_pool.specs.Lending.{lent_for}
-use Rattle.fv_volume.specs.OneVolume.{home_in, standing_for, IsStanding}
+use Rattle.fv_volume.specs.OneVolume.{home_in, standing_for}
 use Rattle.fv_volume.specs.declared.admitting.Removing.{Removing}
 use Rattle.fv_pool.specs.Calls.{CallCause}
 use Rattle.fv_volume.specs.Changing.{FitsLedger}

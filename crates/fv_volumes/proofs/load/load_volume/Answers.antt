@@ -6,10 +6,10 @@ use Rattle.fv_image.specs.Held.{view_at}
 use Rattle.fv_root.specs.Finding.{root_found}
 use Rattle.fv_disk.proofs.Resting.{reads_then}
 use Rattle.fv_volmap.specs.Slots.{Volume, stored_count}
-use Rattle.fv_container.specs.Clean.{IsCleanOn}
-use Rattle.fv_container.specs.Spelled.{IsFault, Spelled}
+use Rattle.fv_container.specs.Clean.{IsCleanOn, IsCleanTree}
+use Rattle.fv_container.specs.Spelled.{IsFault, IsOpened}
 use Rattle.fv_volume.specs.Loading.{HaveBits, IsBadMap, IsLoadFault}
-use Rattle.fv_volume.specs.SlotReads.{HaveRead}
+use Rattle.fv_volume.specs.SlotReads.{HaveRead, IsOpenedOn}
 use Rattle.fv_volumes.proofs.Labelled.{bad_label, bad_map, bad_tree, handed, is_label, loaded_none, loaded_some}
 use Rattle.fv_volume.proofs.Loaded.{few_snaps, labelled_from, slots_loaded}
 use Rattle.fv_volumes.proofs.SlotReads.{bits_read}
@@ -49,10 +49,11 @@ returns-in_err-map-clause-fault g c = λ tells.
     let second = c.read_container.ensures.only_reads.stays in
     let told = subst IsTrue (sym first.tells) tells in
     let lies = is_label found i c.args.slot c.requires.slot (get_or found.root.labels c.args.slot 0) l refl c.if-place-eq0.false (c.in_ok-label.ensures.label tells) in
-    let spelled = subst (λ (j : Image). Spelled j l.container l.height map) first.reads (c.in_ok-container.ensures.spelled told) in
+    let opened = subst (λ (j : Image). IsOpened j l.container l.height map.map) first.reads (c.in_ok-container.ensures.opened told) in
+    let there : IsOpenedOn (g.D.Disk.shown c.read_container.new.disk).reads map.map = record { root = l.container; height = l.height; opened = subst (λ (j : Image). IsOpened j l.container l.height map.map) (sym second.reads) (c.in_ok-container.ensures.opened told) } in
     handed (IsLoadFault i found) e c.from_residual-in_err-map.result c.from_residual-in_err-map.ensures.1
-    (bad_map found i c.args.slot c.requires.slot l map c.in_ok-snapshots.snapshots e lies spelled c.in_ok-container.ensures.size c.in_ok-container.ensures.valid c.in_ok-snapshots.ensures.said
-    (subst (λ (j : Image). IsBadMap j map l.span c.in_ok-snapshots.snapshots e) (second.reads ∙ first.reads) (c.in_err-map.ensures.fault (subst IsTrue (sym second.tells) told))))
+    (bad_map found i c.args.slot c.requires.slot l map.map c.in_ok-snapshots.snapshots e lies opened c.in_ok-container.ensures.size c.in_ok-container.ensures.valid c.in_ok-snapshots.ensures.said
+    (subst (λ (j : Image). IsBadMap j map.map l.span c.in_ok-snapshots.snapshots e) (second.reads ∙ first.reads) (c.in_err-map.ensures.fault (subst IsTrue (sym second.tells) told) there)))
 
 pub returns-clause-loaded : goal.returns-clause-loaded
 returns-clause-loaded g c = λ tells empty.
@@ -63,16 +64,17 @@ returns-clause-loaded g c = λ tells empty.
     let first = c.read_label.ensures.only_reads.stays in
     let told = subst IsTrue (sym first.tells) tells in
     let lies = is_label found i c.args.slot c.requires.slot (get_or found.root.labels c.args.slot 0) l refl c.if-place-eq0.false (c.in_ok-label.ensures.label tells) in
-    let spelled = subst (λ (j : Image). Spelled j l.container l.height map) first.reads (c.in_ok-container.ensures.spelled told) in
-    let clean = subst (λ (j : Image). IsCleanOn j map) first.reads (c.in_ok-container.ensures.clean told) in
+    let opened = subst (λ (j : Image). IsOpened j l.container l.height map.map) first.reads (c.in_ok-container.ensures.opened told) in
+    let clean = subst (λ (j : Image). IsCleanTree j l.container l.height (entry_count l.span) → IsCleanOn j map) first.reads (c.in_ok-container.ensures.clean told) in
     let y = c.of_label-state.result in
     let second = c.read_container.ensures.only_reads.stays in
     let span : y.span ≡ l.span = c.of_label-state.ensures.span in
     let m = c.in_ok-map.map in
-    let read = subst (λ (j : Image). HaveRead j map l.span stored_count m) (second.reads ∙ first.reads) (c.in_ok-map.ensures.read (subst IsTrue (sym second.tells) told)) in
-    let bits = bits_read found i c.args.slot l map lies spelled c.in_ok-container.ensures.size c.in_ok-container.ensures.valid m l.span c.in_ok-snapshots.snapshots c.in_ok-map.ensures.used read in
+    let there : IsOpenedOn (g.D.Disk.shown c.read_container.new.disk).reads map.map = record { root = l.container; height = l.height; opened = subst (λ (j : Image). IsOpened j l.container l.height map.map) (sym second.reads) (c.in_ok-container.ensures.opened told) } in
+    let read = subst (λ (j : Image). HaveRead j map.map l.span stored_count m) (second.reads ∙ first.reads) (c.in_ok-map.ensures.read (subst IsTrue (sym second.tells) told) there) in
+    let bits = bits_read found i c.args.slot l map.map lies opened c.in_ok-container.ensures.size c.in_ok-container.ensures.valid m l.span c.in_ok-snapshots.snapshots c.in_ok-map.ensures.used read in
     let same : y.map ≡ m = c.of_label-state.ensures.laid.map in
-    loaded_some found i c.args.slot c.requires.slot l y map _ lies c.of_label-state.ensures.head c.of_label-state.ensures.laid.label c.put.ensures.there spelled clean c.in_ok-container.ensures.size c.in_ok-container.ensures.valid
+    loaded_some found i c.args.slot c.requires.slot l y map _ lies c.of_label-state.ensures.head c.of_label-state.ensures.laid.label c.put.ensures.there opened clean c.in_ok-container.ensures.size c.in_ok-container.ensures.valid
     (subst (λ (n : ℕ). HaveBits (view_at (root_found found) i) c.args.slot n y.map) (sym span) (subst (HaveBits (view_at (root_found found) i) c.args.slot l.span) (sym same) bits))
     c.of_label-state.ensures.laid.changed
 

@@ -10,11 +10,12 @@ abbrev pub invariant-loop-vvbn : goal.invariant-loop-vvbn
 invariant-loop-vvbn g l = record {
   stands : StandsOn (g.D.Disk.shown l.disk) l.store.pairs;
   past : l.state.span ≤ l.vvbn;
-  long : length l.container.entries ≡ length l.fn.container.entries;
-  tree : l.container.tree ≡ l.fn.container.tree;
+  long : length l.container.map.entries ≡ length l.fn.container.map.entries;
+  here : l.container.here ≡ l.fn.container.here;
+  tree : l.container.map.tree ≡ l.fn.container.map.tree;
   clean : StaysClean l.fn.container l.container;
-  map : HasMaps l.state l.vvbn l.fn.container l.container;
-  bits : IsTrue (g.D.Disk.shown l.fn.disk).tells → StandBits l.state l.vvbn l.container (g.D.Disk.shown l.disk).reads;
-  drawn : HasDrawn l.fn.map (has_maps_at l.state l.container l.vvbn) (map_writes l.state l.vvbn) l.map;
+  map : HasMaps l.state l.vvbn l.fn.container.map l.container.map;
+  bits : IsTrue (g.D.Disk.shown l.fn.disk).tells → StandBits l.state l.vvbn l.container.map (g.D.Disk.shown l.disk).reads;
+  drawn : HasDrawn l.fn.map (has_maps_at l.state l.container.map l.vvbn) (map_writes l.state l.vvbn) l.map;
   spares : Spares (IsTaken l.fn.map) (g.D.Disk.shown l.fn.disk) (g.D.Disk.shown l.disk) (Ok tt);
 }

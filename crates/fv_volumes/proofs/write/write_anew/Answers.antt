@@ -28,6 +28,6 @@ returns-clause-written g c = λ tells can lacks.
       root_least = blocks.root.0;
       root_greatest = blocks.root.1;
       said = labelled.said (rw tells_on tells);
-      blocks = blocks_still c.args.state.now c.args.container.now c.args.map.now c.write_blocks.new.map c.in_ok-root.root c.args.label c.write_blocks.new.container (g.D.Disk.shown c.write_blocks.new.disk).reads (g.D.Disk.shown c.write_label.new.disk).reads
+      blocks = blocks_still c.args.state.now c.args.container.now.map c.args.map.now c.write_blocks.new.map c.in_ok-root.root c.args.label c.write_blocks.new.container.map (g.D.Disk.shown c.write_blocks.new.disk).reads (g.D.Disk.shown c.write_label.new.disk).reads
           (blocks.written tells can) c.requires.taken lacks (λ b other. labelled.spares.reads (rw tells_on tells) b other);
     }

@@ -1,7 +1,7 @@
 use Rattle.std.proofs.Common.{◌≡◌, ◌≤◌, ◌+◌, refl, sym, ap, subst, ◌∙◌, arith}
 use Rattle.std.specs.Prelude.{IsNone}
 use Rattle.fv_model.specs.Space.{overhead, span_of}
-use Rattle.fv_container.specs.Chains.{container_at}
+use Rattle.fv_container.specs.Chains.{paged_at}
 use Rattle.fv_pool.specs.declared.pool.Pool.{Pool}
 use Rattle.fv_volumes.specs.Creating.{Admits, IsNew}
 use Rattle.fv_volume.specs.States.{state_at}
@@ -21,7 +21,7 @@ invariant_of-self-2 c = (
       let was = c.self.invariant.0 fresh in
       let e = c.in_ok-create.ensures in
       let slot = c.in_ok-create.field-0 in
-      let new = subst (λ (p : Pool). IsNew (state_at c.create.new.self slot) (container_at p.containers slot) c.args.name.now c.args.size c.args.kind) e.holes e.new in
+      let new = subst (λ (p : Pool). IsNew (state_at c.create.new.self slot) (paged_at p.containers slot) c.args.name.now c.args.size c.args.kind) e.holes e.new in
       subst (λ (p : Pool). FitTogether p c.create.new.self) (sym e.holes) (record {
         range = was.range;
         size = was.size;
@@ -32,7 +32,7 @@ invariant_of-self-2 c = (
   λ fresh.
       let e = c.in_ok-create.ensures in
       let slot = c.in_ok-create.field-0 in
-      let new = subst (λ (p : Pool). IsNew (state_at c.create.new.self slot) (container_at p.containers slot) c.args.name.now c.args.size c.args.kind) e.holes e.new in
+      let new = subst (λ (p : Pool). IsNew (state_at c.create.new.self slot) (paged_at p.containers slot) c.args.name.now c.args.size c.args.kind) e.holes e.new in
       subst (λ (p : Pool). AreSet p c.create.new.self) (sym e.holes)
       (ready_beside silent c.self.inside.pool c.self.inside.volumes slot c.args.name.now c.args.size c.args.kind c.create.new.self (c.self.invariant.0 fresh) e.slot e.made new e.each (stands_silent c.self.inside.pool.store.pairs) (c.self.invariant.2 fresh)),
 )
@@ -55,6 +55,7 @@ returns-clause-added c =
       new_there = e.new;
       holes = e.holes;
       each = e.each;
+      few = c.known_slots.ensures;
       fit = c.self.invariant.0 (subst (λ (s : Session). IsNone s.failed) (sym c.self.view_is) c.requires.fresh);
       long = long;
       asked = asked;

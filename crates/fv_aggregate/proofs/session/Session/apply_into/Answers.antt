@@ -8,8 +8,8 @@ use Rattle.fv_aggregate.specs.declared.fault.Fault.TheVariants.{Memory}
 use Rattle.fv_aggregate.specs.Telling.{names_from}
 use Rattle.fv_aggregate.specs.declared.session.Session.{Session}
 use Rattle.fv_model.specs.declared.answers.Reply.TheVariants.{Names}
-use Rattle.fv_model.specs.declared.commands.Command.TheVariants.{VolDestroy, VolGuarantee, VolResize, VolStat}
-use Rattle.fv_aggregate.specs.Commands.{changed_by, dirty_limit, room_by, volume_asked}
+use Rattle.fv_model.specs.declared.commands.Command.TheVariants.{VolGuarantee, VolResize, VolStat}
+use Rattle.fv_aggregate.specs.Commands.{changed_by, dirty_limit, managed_by, room_by, volume_asked}
 use Rattle.fv_aggregate.proofs.Answered.{fails}
 use Rattle.fv_aggregate.proofs.Added.{not_refused}
 use Rattle.fv_aggregate.proofs.Applied.{cp_asks, cp_built, cp_goes, cp_goes_for, cp_no_files, cp_no_list, cp_no_names, cp_no_snap, cp_no_whole, cp_replies, list_no_point, create_asks, create_built, create_goes, create_goes_for, create_no_files, create_no_list, create_no_names, create_no_point, create_no_snap, create_no_whole, create_replies, create_room, list_after, list_done, list_fails, list_replies, no_files, some_room}
@@ -18,6 +18,7 @@ use Rattle.fv_aggregate.proofs.Keeping.{keeps_but}
 use Rattle.fv_aggregate.specs.Reclaiming.{MakesRoom}
 use Rattle.fv_aggregate.proofs.MadeRoom.{cp_room, list_room, none_roomy, snaps_room}
 use Rattle.fv_aggregate.proofs.Ready.{stands_ready}
+use Rattle.fv_aggregate.proofs.Removed.{removed_applied}
 use Rattle.fv_aggregate.proofs.Serving.{failed_applied, own_applied, rests_answers, rests_lacks}
 use Rattle.fv_aggregate.proofs.SnapListed.{snaps_after, snaps_done, snaps_fail, snaps_no_point, snaps_replies}
 use Rattle.fv_aggregate.proofs.session.Session.apply_into.Goals as goal
@@ -42,16 +43,17 @@ returns-in-VolCreate g c =
       reply = λ tells last m stands. create_replies command _ _ _ c.in-VolCreate.is m (answer c.create.new.into c.create.result) (c.create.ensures.reply tells last m stands);
       plain = λ plain. record {
         refused = c.create.ensures.refused;
-        calm = λ other few. c.create.ensures.calm (low few);
+        calm = λ other idle few. c.create.ensures.calm (low few);
         map = λ other stays places few. c.create.ensures.map (low few);
-        wanting = λ other places few. c.create.ensures.wanting (low few);
+        wanting = λ other idle few. c.create.ensures.wanting (low few);
         damage = c.create.ensures.runs.damage;
         unbuilt = λ fresh none. create_built command _ _ _ c.in-VolCreate.is _ none;
         listed = λ list. create_no_list command _ _ _ c.in-VolCreate.is _ list;
         untouched = λ list. create_no_list command _ _ _ c.in-VolCreate.is _ list;
         pointed = λ cp. create_no_point command _ _ _ c.in-VolCreate.is _ cp;
-        memory = λ cp. create_no_point command _ _ _ c.in-VolCreate.is _ cp;
-        managed = λ fresh name of. create_no_whole command _ _ _ c.in-VolCreate.is _ name of;
+        unpointed = λ cp. create_no_point command _ _ _ c.in-VolCreate.is _ cp;
+        managed = λ fresh name of stays. create_no_whole command _ _ _ c.in-VolCreate.is _ name of;
+        removed = λ fresh name its. create_no_whole command _ _ _ c.in-VolCreate.is _ name (ap managed_by its);
         snapped = λ fresh name of. create_no_snap command _ _ _ c.in-VolCreate.is _ name of;
         snapshots = λ fresh name names. create_no_names command _ _ _ c.in-VolCreate.is _ name names;
       };
@@ -88,8 +90,9 @@ returns-in-Cp g c =
         listed = λ list. cp_no_list _ command c.in-Cp.is list;
         untouched = λ list. cp_no_list _ command c.in-Cp.is list;
         pointed = λ cp. c.reclaim.ensures.points.left;
-        memory = λ cp. c.reclaim.ensures.points.memory;
-        managed = λ fresh name of. cp_no_whole _ command c.in-Cp.is name of;
+        unpointed = λ cp. c.reclaim.ensures.points.undone;
+        managed = λ fresh name of stays. cp_no_whole _ command c.in-Cp.is name of;
+        removed = λ fresh name its. cp_no_whole _ command c.in-Cp.is name (ap managed_by its);
         snapped = λ fresh name of. cp_no_snap _ command c.in-Cp.is name of;
         snapshots = λ fresh name names. cp_no_names _ command c.in-Cp.is name names;
       };
@@ -142,27 +145,27 @@ returns-in-SnapList g c =
 
 pub returns-in-VolDestroy : goal.returns-in-VolDestroy
 returns-in-VolDestroy g c =
-    own_applied (VolDestroy c.in-VolDestroy.volume) c.args.command.now c.in-VolDestroy.is (g.D.Disk.shown c.args.disk.now) (g.met.D.Disk.laws c.args.disk.now) c.args.disk.now _ c.args.self.now c.self.view_is c.in_default.is c.self.invariant.0
+    removed_applied c.in-VolDestroy.volume c.args.command.now c.in-VolDestroy.is (g.D.Disk.shown c.args.disk.now) (g.D.Disk.shown c.destroy.new.disk) (g.met.D.Disk.laws c.args.disk.now) c.args.disk.now c.destroy.new.disk _ c.args.self.now c.self.view_is c.in_default.is c.self.invariant.0
     (stands_ready (g.D.Disk.shown c.args.disk.now) _ _ c.self.view_is c.self.invariant.2 c.requires.stands)
-    c.args.steps.now c.destroy.new.self c.destroy.new.into c.destroy.ensures refl refl refl refl
+    c.args.steps.now c.destroy.new.self _ c.destroy.ensures
 
 pub returns-in-VolResize : goal.returns-in-VolResize
 returns-in-VolResize g c =
     own_applied (VolResize c.in-VolResize.volume c.in-VolResize.size) c.args.command.now c.in-VolResize.is (g.D.Disk.shown c.args.disk.now) (g.met.D.Disk.laws c.args.disk.now) c.args.disk.now _ c.args.self.now c.self.view_is c.in_default.is c.self.invariant.0
     (stands_ready (g.D.Disk.shown c.args.disk.now) _ _ c.self.view_is c.self.invariant.2 c.requires.stands)
-    c.args.steps.now c.resize.new.self c.resize.new.into c.resize.ensures refl refl refl refl
+    c.args.steps.now c.resize.new.self c.resize.new.into c.resize.ensures refl refl refl refl refl
 
 pub returns-in-VolGuarantee : goal.returns-in-VolGuarantee
 returns-in-VolGuarantee g c =
     own_applied (VolGuarantee c.in-VolGuarantee.volume c.in-VolGuarantee.kind) c.args.command.now c.in-VolGuarantee.is (g.D.Disk.shown c.args.disk.now) (g.met.D.Disk.laws c.args.disk.now) c.args.disk.now _ c.args.self.now c.self.view_is c.in_default.is c.self.invariant.0
     (stands_ready (g.D.Disk.shown c.args.disk.now) _ _ c.self.view_is c.self.invariant.2 c.requires.stands)
-    c.args.steps.now c.guarantee.new.self c.guarantee.new.into c.guarantee.ensures refl refl refl refl
+    c.args.steps.now c.guarantee.new.self c.guarantee.new.into c.guarantee.ensures refl refl refl refl refl
 
 pub returns-in-VolStat : goal.returns-in-VolStat
 returns-in-VolStat g c =
     own_applied (VolStat c.in-VolStat.volume) c.args.command.now c.in-VolStat.is (g.D.Disk.shown c.args.disk.now) (g.met.D.Disk.laws c.args.disk.now) c.args.disk.now _ c.args.self.now c.self.view_is c.in_default.is c.self.invariant.0
     (stands_ready (g.D.Disk.shown c.args.disk.now) _ _ c.self.view_is c.self.invariant.2 c.requires.stands)
-    c.args.steps.now c.args.self.now c.stat.new.into c.stat.ensures refl refl refl refl
+    c.args.steps.now c.args.self.now c.stat.new.into c.stat.ensures refl refl refl refl refl
 
 pub resize-requires-clause-booked : goal.resize-requires-clause-booked
 resize-requires-clause-booked g c =

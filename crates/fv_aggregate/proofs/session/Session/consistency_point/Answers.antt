@@ -1,15 +1,12 @@
-use Rattle.std.proofs.Common.{◌≡◌, ◌≢◌, ℕ, Some, refl, sym, subst}
+use Rattle.std.proofs.Common.{◌≡◌, Some, refl, sym, subst}
 use Rattle.std.specs.Prelude.{IsNone}
-use Rattle.fv_aggregate.specs.declared.fault.Fault.TheVariants.{Failed, Memory}
+use Rattle.fv_aggregate.specs.declared.fault.Fault.TheVariants.{Failed}
 use Rattle.fv_aggregate.specs.declared.session.Session.{Session}
 use Rattle.fv_cp.proofs.Whole.{resting}
-use Rattle.fv_aggregate.proofs.Applied.{rests_for_fault}
+use Rattle.fv_aggregate.proofs.Applied.{rests_for_fault, unpointed_itself}
 use Rattle.fv_aggregate.proofs.Calls.{rests_asks, stays_failed}
 use Rattle.fv_aggregate.proofs.Ready.{stands_ready}
 use Rattle.fv_aggregate.proofs.session.Session.consistency_point.Goals as goal
-
-not_memory : (n : ℕ) → Failed n ≢ Memory
-not_memory n is = cc
 
 pub returns-in-Some-clause-runs : goal.returns-in-Some-clause-runs
 returns-in-Some-clause-runs g c =
@@ -25,10 +22,10 @@ returns-in-Some-clause-runs g c =
 
 pub returns-in-Some-clause-points : goal.returns-in-Some-clause-points
 returns-in-Some-clause-points g c = record {
-  memory = λ none. not_memory c.in-Some.faults;
   point = λ tells last m stands. tt;
   sides = λ tells last m stands. resting (g.D.Disk.shown c.args.disk.now) c.args.self.now.pool c.args.self.now.volumes last (g.met.D.Disk.laws c.args.disk.now) stands.held;
   left = tt;
+  undone = λ alive. unpointed_itself (g.D.Disk.shown c.args.disk.now) c.args.self.now;
 }
 
 pub point-requires-clause-stands : goal.point-requires-clause-stands

@@ -28,7 +28,7 @@ returns-in_err-point-clause-points g c =
     let did = c.in_err-point.ensures.points in
     let failed : answer c.args.into.now c.from_residual.result ≡ Err c.in_err-point.field-0.0 = fails c.args.into.now c.from_residual.result c.in_err-point.field-0.0 (search rules) in
     subst (λ (r : Result Reply Fault). Points 0 (g.D.Disk.shown c.args.disk.now) c.args.self.now (g.D.Disk.shown c.point.new.disk) c.point.new.self r) (sym failed)
-    (record { memory = did.memory; point = λ tells last m stands. tt; sides = did.sides; left = tt })
+    (record { point = λ tells last m stands. tt; sides = did.sides; left = tt; undone = did.undone })
 
 pub returns-clause-runs : goal.returns-clause-runs
 returns-clause-runs g c =
@@ -44,4 +44,4 @@ returns-clause-runs g c =
 pub returns-clause-points : goal.returns-clause-points
 returns-clause-points g c =
     let did = c.in_ok-point.ensures.points in
-    record { memory = λ none. tt; point = did.point; sides = did.sides; left = did.left }
+    record { point = did.point; sides = did.sides; left = did.left; undone = λ alive. tt }

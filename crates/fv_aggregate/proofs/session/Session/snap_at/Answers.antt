@@ -1,4 +1,4 @@
-use Rattle.std.proofs.Common.{◌≡◌, length, Ok, Some, Err, Option, sym, subst}
+use Rattle.std.proofs.Common.{◌≡◌, length, Ok, Some, Err, Option, refl, sym, subst}
 use Rattle.std.specs.Prelude.{IsNone}
 use Rattle.fv_model.specs.declared.answers.Reply.{Reply}
 use Rattle.fv_volume.specs.declared.state.VolumeState.{VolumeState}
@@ -7,6 +7,7 @@ use Rattle.fv_aggregate.specs.declared.session.Session.{Session}
 use Rattle.fv_aggregate.specs.Looking.{HasSnapped}
 use Rattle.fv_aggregate.specs.Snapping.{HasGrant, JudgesSnap}
 use Rattle.fv_aggregate.proofs.Commits.{commits_most}
+use Rattle.fv_aggregate.proofs.Calls.{reads_itself}
 use Rattle.fv_aggregate.proofs.Returned.{same_there}
 use Rattle.fv_aggregate.specs.Commands.{room_by}
 use Rattle.fv_aggregate.specs.Reclaiming.{MakesRoom}
@@ -45,7 +46,7 @@ returns-in-Err g c =
     let others = c.commits_beside-others.ensures.sum in
     let said = subst (λ (n : Session). JudgesSnap x n.pool.found.blocks c.commits_beside-others.result command (Err c.in-Err.refusal)) c.self.view_is c.in-Err.ensures in
     record {
-      snapped = subst (λ (z : Reply). HasSnapped d c.args.disk.now s command d c.args.disk.now s (Ok z)) (sym c.refuse.ensures) (refused_snapped d c.args.disk.now (g.met.D.Disk.laws c.args.disk.now) s c.requires.fresh c.requires.stands command c.in-Err.refusal
+      snapped = subst (λ (z : Reply). HasSnapped d c.args.disk.now s command d c.args.disk.now s (Ok z)) (sym c.refuse.ensures) (refused_snapped d d c.args.disk.now c.args.disk.now (g.met.D.Disk.laws c.args.disk.now) (reads_itself d) refl refl s c.requires.fresh c.requires.stands command c.in-Err.refusal
           (refused_given d s long slot aimed.state aimed.there c.commits_beside-others.result others c.in-Err.refusal command aimed.snaps (subst (λ (z : VolumeState). JudgesSnap z s.pool.found.blocks c.commits_beside-others.result command (Err c.in-Err.refusal)) (same_there _ _ _ there aimed.there) said)));
       needs = needs_none s.volumes command _ (judged_needs x s.pool.found.blocks c.commits_beside-others.result c.in-Err.refusal aimed.state.name command aimed.snaps said);
       roomy = subst (λ (z : Reply). MakesRoom (room_by s.volumes command) d s d (Ok z)) (sym c.refuse.ensures) (refused_roomy (room_by s.volumes command) d s d c.in-Err.refusal);

@@ -16,7 +16,7 @@ use Rattle.fv_aggregate.proofs.Commits.{commits_with}
 use Rattle.fv_aggregate.proofs.Returned.{ready_lent, same_there}
 use Rattle.fv_aggregate.specs.Standing.{StandsReady}
 use Rattle.fv_aggregate.proofs.SnapDone.{IsCarried}
-use Rattle.fv_aggregate.proofs.SnapFits.{fits_after, set_after}
+use Rattle.fv_aggregate.proofs.SnapFits.{fits_after, set_after, snap_reads}
 use Rattle.fv_aggregate.proofs.SnapNow.{carried_now}
 use Rattle.fv_aggregate.proofs.SnapLost.{needs_now}
 use Rattle.fv_aggregate.proofs.session.Session.snap_now.Goals as goal
@@ -42,7 +42,7 @@ invariant_of-self g c = (
       let x = c.volume_at-state.result.now in
       let aimed = subst (λ (n : Session). IsSnapAimed n.volumes c.args.slot c.args.command.now) (sym c.self.view_is) c.requires.aimed in
       let of : snapped_by c.args.command.now ≡ Some x.name = aimed.snaps ∙ ap (λ (z : VolumeState). Some z.name) (same_there _ _ _ aimed.there c.volume_at-state.ensures.state) in
-      fits_after (g.D.Disk.shown c.args.disk.now) v (c.self.invariant.0 none) c.args.slot c.args.command.now x c.volume_at-state.ensures.state of c.args.others c.change_snaps-made.new.pool c.change_snaps-made.new.state c.change_snaps-made.ensures.ready c.change_snaps-made.result c.change_snaps-made.ensures.snaps,
+      fits_after (g.D.Disk.shown c.args.disk.now) (g.D.Disk.shown c.change_snaps-made.new.disk) (snap_reads g.D.Disk.shown c.args.disk.now c.change_snaps-made.new.disk c.self.inside.pool x c.args.others c.change_snaps-made.new.pool c.change_snaps-made.new.state c.change_snaps-made.result c.args.command.now of c.change_snaps-made.ensures.kept c.change_snaps-made.ensures.snaps) v (c.self.invariant.0 none) c.args.slot c.args.command.now x c.volume_at-state.ensures.state of c.args.others c.change_snaps-made.new.pool c.change_snaps-made.new.state c.change_snaps-made.ensures.ready c.change_snaps-made.result c.change_snaps-made.ensures.snaps,
   λ none.
       ap (λ (n : ℕ). c.args.others + n) c.commit.ensures.exact
       ∙ commits_with c.self.inside.volumes (c.self.invariant.0 none).housed.long c.args.slot c.volume_at-state.result.now c.change_snaps-made.new.state c.volume_at-state.ensures.state c.args.others
@@ -52,7 +52,7 @@ invariant_of-self g c = (
       let x = c.volume_at-state.result.now in
       let aimed = subst (λ (n : Session). IsSnapAimed n.volumes c.args.slot c.args.command.now) (sym c.self.view_is) c.requires.aimed in
       let of : snapped_by c.args.command.now ≡ Some x.name = aimed.snaps ∙ ap (λ (z : VolumeState). Some z.name) (same_there _ _ _ aimed.there c.volume_at-state.ensures.state) in
-      set_after (g.D.Disk.shown c.args.disk.now) v (c.self.invariant.0 none) (subst (StandsReady (g.D.Disk.shown c.args.disk.now)) (sym c.self.view_is) c.requires.stands) c.args.slot c.args.command.now x c.volume_at-state.ensures.state of
+      set_after (g.D.Disk.shown c.args.disk.now) (g.D.Disk.shown c.change_snaps-made.new.disk) (snap_reads g.D.Disk.shown c.args.disk.now c.change_snaps-made.new.disk c.self.inside.pool x c.args.others c.change_snaps-made.new.pool c.change_snaps-made.new.state c.change_snaps-made.result c.args.command.now of c.change_snaps-made.ensures.kept c.change_snaps-made.ensures.snaps) v (c.self.invariant.0 none) (subst (StandsReady (g.D.Disk.shown c.args.disk.now)) (sym c.self.view_is) c.requires.stands) c.args.slot c.args.command.now x c.volume_at-state.ensures.state of
       c.args.others c.change_snaps-made.new.pool c.change_snaps-made.new.state c.change_snaps-made.ensures.ready c.change_snaps-made.result c.change_snaps-made.ensures.snaps,
 )
 
@@ -63,7 +63,7 @@ invariant_of-self-else-is_ok g c = (
       let x = c.volume_at-state.result.now in
       let aimed = subst (λ (n : Session). IsSnapAimed n.volumes c.args.slot c.args.command.now) (sym c.self.view_is) c.requires.aimed in
       let of : snapped_by c.args.command.now ≡ Some x.name = aimed.snaps ∙ ap (λ (z : VolumeState). Some z.name) (same_there _ _ _ aimed.there c.volume_at-state.ensures.state) in
-      fits_after (g.D.Disk.shown c.args.disk.now) v (c.self.invariant.0 none) c.args.slot c.args.command.now x c.volume_at-state.ensures.state of c.args.others c.change_snaps-made.new.pool c.change_snaps-made.new.state c.change_snaps-made.ensures.ready c.change_snaps-made.result c.change_snaps-made.ensures.snaps,
+      fits_after (g.D.Disk.shown c.args.disk.now) (g.D.Disk.shown c.change_snaps-made.new.disk) (snap_reads g.D.Disk.shown c.args.disk.now c.change_snaps-made.new.disk c.self.inside.pool x c.args.others c.change_snaps-made.new.pool c.change_snaps-made.new.state c.change_snaps-made.result c.args.command.now of c.change_snaps-made.ensures.kept c.change_snaps-made.ensures.snaps) v (c.self.invariant.0 none) c.args.slot c.args.command.now x c.volume_at-state.ensures.state of c.args.others c.change_snaps-made.new.pool c.change_snaps-made.new.state c.change_snaps-made.ensures.ready c.change_snaps-made.result c.change_snaps-made.ensures.snaps,
   λ none.
       ap (λ (n : ℕ). c.args.others + n) c.commit.ensures.exact
       ∙ commits_with c.self.inside.volumes (c.self.invariant.0 none).housed.long c.args.slot c.volume_at-state.result.now c.change_snaps-made.new.state c.volume_at-state.ensures.state c.args.others
@@ -73,13 +73,14 @@ invariant_of-self-else-is_ok g c = (
       let x = c.volume_at-state.result.now in
       let aimed = subst (λ (n : Session). IsSnapAimed n.volumes c.args.slot c.args.command.now) (sym c.self.view_is) c.requires.aimed in
       let of : snapped_by c.args.command.now ≡ Some x.name = aimed.snaps ∙ ap (λ (z : VolumeState). Some z.name) (same_there _ _ _ aimed.there c.volume_at-state.ensures.state) in
-      set_after (g.D.Disk.shown c.args.disk.now) v (c.self.invariant.0 none) (subst (StandsReady (g.D.Disk.shown c.args.disk.now)) (sym c.self.view_is) c.requires.stands) c.args.slot c.args.command.now x c.volume_at-state.ensures.state of
+      set_after (g.D.Disk.shown c.args.disk.now) (g.D.Disk.shown c.change_snaps-made.new.disk) (snap_reads g.D.Disk.shown c.args.disk.now c.change_snaps-made.new.disk c.self.inside.pool x c.args.others c.change_snaps-made.new.pool c.change_snaps-made.new.state c.change_snaps-made.result c.args.command.now of c.change_snaps-made.ensures.kept c.change_snaps-made.ensures.snaps) v (c.self.invariant.0 none) (subst (StandsReady (g.D.Disk.shown c.args.disk.now)) (sym c.self.view_is) c.requires.stands) c.args.slot c.args.command.now x c.volume_at-state.ensures.state of
       c.args.others c.change_snaps-made.new.pool c.change_snaps-made.new.state c.change_snaps-made.ensures.ready c.change_snaps-made.result c.change_snaps-made.ensures.snaps,
 )
 
 pub returns : goal.returns
 returns g c =
     let d = g.D.Disk.shown c.args.disk.now in
+    let e = g.D.Disk.shown c.change_snaps-made.new.disk in
     let slot = c.args.slot in
     let command = c.args.command.now in
     let room = c.args.granted.room in
@@ -100,9 +101,10 @@ returns g c =
       | then-is_ok w ↦ w.self-is ∙ (λ j. record v { volumes = with_state v.volumes slot (Some y); pool = q; pending = cond (w.if-is_ok.ensures.value j) (v.pending + room) v.pending })
       | else-is_ok w ↦ w.self-is ∙ (λ j. record v { volumes = with_state v.volumes slot (Some y); pool = q; pending = cond (w.if-is_ok.ensures.value j) (v.pending + room) v.pending })
     ] in
-    let carried = carried_now d c.args.disk.now (g.met.D.Disk.laws c.args.disk.now) v fresh stands (c.self.invariant.0 fresh) slot command aimed x c.volume_at-state.ensures.state of c.args.others others c.args.granted few grant
-    q y c.change_snaps-made.ensures.ready r c.change_snaps-made.ensures.snaps c.if-is_ok.self before (answer c.done.new.into c.change_snaps-made.result) (ap (λ (z : Reply). answer z c.change_snaps-made.result) c.done.ensures) c.replied.new.self (answer c.replied.new.into c.replied.result) c.replied.ensures in
-    let it = subst (λ (n : Session). IsCarried d c.args.disk.now n command room c.replied.new.self (answer c.replied.new.into c.replied.result)) c.self.view_is carried in
+    let only = snap_reads g.D.Disk.shown c.args.disk.now c.change_snaps-made.new.disk v.pool x c.args.others q y r command of c.change_snaps-made.ensures.kept c.change_snaps-made.ensures.snaps in
+    let carried = carried_now g.D.Disk.shown c.args.disk.now c.change_snaps-made.new.disk (g.met.D.Disk.laws c.args.disk.now) only v fresh stands (c.self.invariant.0 fresh) slot command aimed x c.volume_at-state.ensures.state of c.args.others others c.args.granted few grant
+    q y c.change_snaps-made.ensures.ready r c.change_snaps-made.ensures.kept c.change_snaps-made.ensures.refused c.change_snaps-made.ensures.snaps c.if-is_ok.self before (answer c.done.new.into c.change_snaps-made.result) (ap (λ (z : Reply). answer z c.change_snaps-made.result) c.done.ensures) c.replied.new.self (answer c.replied.new.into c.replied.result) c.replied.ensures in
+    let it = subst (λ (n : Session). IsCarried d c.args.disk.now n command room e c.change_snaps-made.new.disk c.replied.new.self (answer c.replied.new.into c.replied.result)) c.self.view_is carried in
     let needs = needs_now v slot x c.volume_at-state.ensures.state aimed.within (subst (λ (z : VolumeState). HasName v.volumes slot z.name) (same_there _ _ _ aimed.there c.volume_at-state.ensures.state) aimed.named) command
-    d v.pool q y c.args.others r c.change_snaps-made.ensures.snaps d (answer c.done.new.into c.change_snaps-made.result) (ap (λ (z : Reply). answer z c.change_snaps-made.result) c.done.ensures) c.if-is_ok.self c.replied.new.self (answer c.replied.new.into c.replied.result) c.replied.ensures in
-    record { snapped = it.snapped; placed = it.placed; accepted = it.accepted; needs = subst (λ (n : Session). NeedsSnapshot n.volumes command (answer c.replied.new.into c.replied.result)) c.self.view_is needs }
+    d e v.pool q y c.args.others r c.change_snaps-made.ensures.snaps e (answer c.done.new.into c.change_snaps-made.result) (ap (λ (z : Reply). answer z c.change_snaps-made.result) c.done.ensures) c.if-is_ok.self c.replied.new.self (answer c.replied.new.into c.replied.result) c.replied.ensures in
+    record { snapped = it.snapped; only_reads = only; placed = it.placed; accepted = it.accepted; needs = subst (λ (n : Session). NeedsSnapshot n.volumes command (answer c.replied.new.into c.replied.result)) c.self.view_is needs }

@@ -7,7 +7,7 @@ use Rattle.fv_aggregate.proofs.Answered.{fails}
 use Rattle.fv_aggregate.proofs.Holes.{keeps_limit, passes_limit}
 use Rattle.fv_aggregate.specs.Commands.{room_by}
 use Rattle.fv_aggregate.specs.Reclaiming.{HasMadeRoom}
-use Rattle.fv_aggregate.proofs.MadeRoom.{always, calm_roomy, failed_roomy, made_room, none_roomy}
+use Rattle.fv_aggregate.proofs.MadeRoom.{always, calm_roomy, failed_roomy, room_read, none_roomy}
 use Rattle.fv_aggregate.proofs.Rooms.{room_most}
 use Rattle.fv_aggregate.proofs.SnapCommands.{aimed_room, snap_low}
 use Rattle.fv_aggregate.proofs.SnapLost.{needs_none, room_needs}
@@ -20,8 +20,8 @@ returns-then-granted-eq0-clause-roomy g c =
     let s = c.args.self.now in let d = g.D.Disk.shown c.args.disk.now in let room = room_by s.volumes c.args.command.now in
     let exact = c.requires.granted.room ∙ aimed_room s.volumes c.args.slot c.args.command.now c.requires.aimed in
     elim c.then-granted-eq0.branch [
-      | then-granted-eq0-via-then-granted-eq0 w ↦ none_roomy room d s d (answer c.snap_now.new.into c.snap_now.result) (sym exact ∙ w.if-granted-eq0.true)
-      | then-granted-eq0-via-else-granted-eq0+then-has_room w ↦ calm_roomy room d s d (answer c.snap_now.new.into c.snap_now.result)
+      | then-granted-eq0-via-then-granted-eq0 w ↦ none_roomy room d s (g.D.Disk.shown c.snap_now.new.disk) (answer c.snap_now.new.into c.snap_now.result) (sym exact ∙ w.if-granted-eq0.true)
+      | then-granted-eq0-via-else-granted-eq0+then-has_room w ↦ calm_roomy room d s (g.D.Disk.shown c.snap_now.new.disk) (answer c.snap_now.new.into c.snap_now.result)
           (λ past. let low = keeps_limit s.pending c.args.granted.room _ w.has_room.ensures w.if-has_room.true in omega (arith, exact, low, past))
     ]
 
@@ -76,9 +76,9 @@ returns g c =
     record {
       snapped = snap_roomy d c.args.disk.now s command room past c.if-granted-eq0.false (c.requires.granted.room ∙ aimed_room s.volumes c.args.slot command aimed)
           (room_places aimed.state aimed.state.name command aimed.snaps (λ none. c.if-granted-eq0.false (same ∙ none))) e c.make_room.new.disk c.make_room.new.self c.in_ok-make_room.field-0
-          (still_room_by s.volumes c.make_room.new.self.volumes made.cores c.args.slot command aimed) made.runs.goes made.pending made.runs.goes_for (made.pointed past) made.runs.numbers c.snap_now-2.new.self (answer c.snap_now-2.new.into c.snap_now-2.result) (record { snapped = did.snapped; placed = did.placed; accepted = did.accepted });
+          (still_room_by s.volumes c.make_room.new.self.volumes made.cores c.args.slot command aimed) made.runs.goes made.pending made.runs.goes_for (made.pointed past) made.runs.numbers (g.D.Disk.shown c.snap_now-2.new.disk) c.snap_now-2.new.disk c.snap_now-2.new.self (answer c.snap_now-2.new.into c.snap_now-2.result) (record { snapped = did.snapped; only_reads = did.only_reads; placed = did.placed; accepted = did.accepted });
       needs = needs_none s.volumes command _ (room_needs aimed.state aimed.state.name command aimed.snaps (λ none. c.if-granted-eq0.false (same ∙ none)));
       roomy = λ tells last m stands some over.
           let exact = c.requires.granted.room ∙ aimed_room s.volumes c.args.slot command aimed in
-          always _ (subst (λ (k : ℕ). HasMadeRoom k s e m) exact (made_room room s e c.make_room.new.self m (made.reclaimed tells last m stands past))) (answer c.snap_now-2.new.into c.snap_now-2.result);
+          always _ (subst (λ (k : ℕ). HasMadeRoom k s (g.D.Disk.shown c.snap_now-2.new.disk) m) exact (room_read room s e (g.D.Disk.shown c.snap_now-2.new.disk) c.make_room.new.self m did.only_reads (made.runs.goes.stands made.runs.goes.done.goes_on) (made.reclaimed tells last m stands past))) (answer c.snap_now-2.new.into c.snap_now-2.result);
     }

@@ -1,51 +1,90 @@
-use Rattle.std.proofs.Common.{rules, ◌≡◌, length, get_or, ap, subst, ◌∙◌}
+use Rattle.std.proofs.Common.{rules, ◌≡◌, ◌<◌, ◌∙◌, ℕ, Bool, List, true, None, length, get_or, replicate, sym, ap, subst}
+use Rattle.std.specs.FinSet as set
+use Rattle.std.specs.Vec.{with_items}
 use Rattle.std.proofs.lemmas.List.{with_items_is, places}
-use Rattle.fv_container.specs.Clean.{IsCleanOn}
-use Rattle.fv_container.specs.Flushed.{IsApart}
-use Rattle.fv_container.specs.Kept.{map_of}
 use Rattle.fv_container.specs.Mapped.{IsMapped, node_count}
+use Rattle.fv_container.specs.Paged.{Leaves, Paged}
 use Rattle.fv_container.specs.Written.{root_number}
-use Rattle.fv_container.proofs.Rows.{apart_in, clean_in, flushed_out, moved_out, over_out, root_read, valid_out}
-use Rattle.fv_container.proofs.container.Container.flush.Given as given
+use Rattle.fv_container.proofs.Stored.{dropped_out, flushed_out, kept_out, moved_out, over_out, room_out, root_read, rows_out}
 use Rattle.fv_container.proofs.container.Container.flush.Goals as goal
 
--- the tree, and the next one, which is the container's afterwards
-tree_after : (g : given.Over) (c : goal.After-row_known-1 g) → c.swap.new.x.items ≡ c.flush_tree.new.next
-tree_after g c = ap (λ v. v.items) c.swap.ensures.x_after ∙ with_items_is c.self.inside.next c.flush_tree.new.next (search (rules, places))
+pub flush_tree-requires-clause-rows : goal.flush_tree-requires-clause-rows
+flush_tree-requires-clause-rows g c = rw (c.deref_mut.ensures.value, c.deref_mut-2.ensures.value) (rows_out c.args.self.now c.self.inside.told.entries c.self.inside.tree.items c.deref-2.result.now c.self.inside.dirty.items c.deref-3.result.now c.self.inside.leaves.items c.deref.result.now c.self.inside.known.items c.self.inside.told.sure c.self.inside.used c.self.inside.next.items c.self.inside.fresh.items c.self.inside.count c.self.view_is c.self.invariant c.deref.ensures.value c.deref-2.ensures.value c.deref-3.ensures.value)
 
--- its nodes were clean on the disk, and apart from what is free
-was_clean : (g : given.Over) (c : goal.After-row_known-1 g) → IsCleanOn (g.D.Disk.shown c.args.disk.now).reads c.args.self.now → IsCleanOn (g.D.Disk.shown c.args.disk.now).reads (map_of c.deref.result.now c.deref-2.result.now c.deref-3.result.now)
-was_clean g c = clean_in c.args.self.now c.self.inside.entries.items c.deref.result.now c.self.inside.tree.items c.deref-2.result.now c.self.inside.dirty.items c.deref-3.result.now c.self.view_is c.deref.ensures.value c.deref-2.ensures.value c.deref-3.ensures.value (g.D.Disk.shown c.args.disk.now).reads
-
-was_apart : (g : given.Over) (c : goal.After-row_known-1 g) → IsApart (g.F.Free.room c.args.map.now) c.args.self.now.tree → IsApart (g.F.Free.room c.args.map.now) c.deref-2.result.now
-was_apart g c = apart_in c.args.self.now c.self.inside.entries.items c.deref.result.now c.self.inside.tree.items c.deref-2.result.now c.self.inside.dirty.items c.deref-3.result.now c.self.view_is c.deref.ensures.value c.deref-2.ensures.value c.deref-3.ensures.value (g.F.Free.room c.args.map.now)
+pub flush_tree-requires-clause-room : goal.flush_tree-requires-clause-room
+flush_tree-requires-clause-room g c = room_out c.args.self.now c.self.inside.told.entries c.self.inside.tree.items c.deref-2.result.now c.self.inside.dirty.items c.deref-3.result.now c.self.inside.leaves.items c.deref.result.now c.self.inside.known.items c.self.inside.told.sure c.self.inside.used c.self.inside.next.items c.self.inside.fresh.items c.self.inside.count c.self.view_is c.self.invariant c.deref.ensures.value c.deref-2.ensures.value c.deref-3.ensures.value (set.len (g.F.Free.room c.args.map.now).free) c.requires.room
 
 pub returns-clause-flushed : goal.returns-clause-flushed
 returns-clause-flushed g c = λ tells apart clean.
-    let tree = tree_after g c in
-    let count : c.len.result ≡ length c.deref.result.now = search (rules, places) in
-    let root : c.index.result.now ≡ get_or c.flush_tree.new.next (root_number (length c.deref.result.now)) 0 =
-    root_read c.swap.new.x.items c.flush_tree.new.next c.root_number.result (root_number (length c.deref.result.now)) c.index.result.now tree (c.root_number.ensures ∙ ap root_number count) c.in_ok-flush_tree.ensures.root.0 c.index.ensures in
-    flushed_out (g.D.Disk.shown c.flush_tree.new.disk).reads c.index.result.now c.self.inside.entries.items c.deref.result.now c.flush_tree.new.next c.swap.new.x.items _ c.deref.ensures.value tree root
-    (c.in_ok-flush_tree.ensures.flushed tells (was_apart g c apart) (was_clean g c clean))
+    let now_is : c.swap.new.x.items ≡ c.flush_tree.new.next = ap (λ v. v.items) c.swap.ensures.x_after ∙ with_items_is c.self.inside.next c.flush_tree.new.next (search (rules, places)) in
+    let given_is : (with_items c.self.inside.leaves c.drop_leaves.new.leaves).items ≡ replicate (length c.deref.result.now) None =
+    with_items_is c.self.inside.leaves c.drop_leaves.new.leaves (search (rules, places)) ∙ c.drop_leaves.ensures ∙ ap (λ (l : Leaves). replicate (length l) None) (c.deref_mut-4.ensures.value ∙ sym c.deref.ensures.value) in
+    let long : length c.flush_tree.new.next ≡ node_count c.self.inside.count = c.in_ok-flush_tree.ensures.lengths.len ∙ ap (λ (l : List ℕ). length l) c.deref_mut.ensures.value ∙ c.self.invariant.room in
+    let root = root_read c.swap.new.x.items c.flush_tree.new.next c.root_number.result (root_number c.self.inside.count) c.index.result.now now_is c.root_number.ensures c.in_ok-flush_tree.ensures.root.0 c.index.ensures in
+    flushed_out c.args.self.now c.self.inside.told.entries c.self.inside.tree.items c.deref-2.result.now c.self.inside.dirty.items c.deref-3.result.now c.self.inside.leaves.items c.deref.result.now c.self.inside.known.items c.self.inside.told.sure c.self.inside.used c.self.inside.next.items c.self.inside.fresh.items c.self.inside.count c.self.view_is c.self.invariant c.deref.ensures.value c.deref-2.ensures.value c.deref-3.ensures.value (g.F.Free.room c.args.map.now) (g.D.Disk.shown c.args.disk.now).reads (g.D.Disk.shown c.flush_tree.new.disk).reads c.flush_tree.new.next c.swap.new.x.items (with_items c.self.inside.dirty c.fill.new.row).items (with_items c.self.inside.leaves c.drop_leaves.new.leaves).items now_is given_is long c.index.result.now (c.in_ok-flush_tree.ensures.written tells) apart clean root
 
 pub returns-clause-over : goal.returns-clause-over
 returns-clause-over g c = λ tells apart clean.
-    over_out (g.D.Disk.shown c.flush_tree.new.disk).reads c.self.inside.entries.items c.deref.result.now c.flush_tree.new.next c.swap.new.x.items _ c.deref.ensures.value (tree_after g c)
-    (c.in_ok-flush_tree.ensures.written tells (was_apart g c apart) (was_clean g c clean))
+    let now_is : c.swap.new.x.items ≡ c.flush_tree.new.next = ap (λ v. v.items) c.swap.ensures.x_after ∙ with_items_is c.self.inside.next c.flush_tree.new.next (search (rules, places)) in
+    let given_is : (with_items c.self.inside.leaves c.drop_leaves.new.leaves).items ≡ replicate (length c.deref.result.now) None =
+    with_items_is c.self.inside.leaves c.drop_leaves.new.leaves (search (rules, places)) ∙ c.drop_leaves.ensures ∙ ap (λ (l : Leaves). replicate (length l) None) (c.deref_mut-4.ensures.value ∙ sym c.deref.ensures.value) in
+    let long : length c.flush_tree.new.next ≡ node_count c.self.inside.count = c.in_ok-flush_tree.ensures.lengths.len ∙ ap (λ (l : List ℕ). length l) c.deref_mut.ensures.value ∙ c.self.invariant.room in
+    over_out c.args.self.now c.self.inside.told.entries c.self.inside.tree.items c.deref-2.result.now c.self.inside.dirty.items c.deref-3.result.now c.self.inside.leaves.items c.deref.result.now c.self.inside.known.items c.self.inside.told.sure c.self.inside.used c.self.inside.next.items c.self.inside.fresh.items c.self.inside.count c.self.view_is c.self.invariant c.deref.ensures.value c.deref-2.ensures.value c.deref-3.ensures.value (g.F.Free.room c.args.map.now) (g.D.Disk.shown c.args.disk.now).reads (g.D.Disk.shown c.flush_tree.new.disk).reads c.flush_tree.new.next c.swap.new.x.items (with_items c.self.inside.dirty c.fill.new.row).items (with_items c.self.inside.leaves c.drop_leaves.new.leaves).items now_is given_is long (c.in_ok-flush_tree.ensures.written tells) apart clean
 
 pub returns-clause-moved : goal.returns-clause-moved
 returns-clause-moved g c =
-    let entries = c.self.inside.entries.items in
-    let tree = tree_after g c in
-    moved_out c.args.self.now entries c.deref.result.now c.self.inside.tree.items c.deref-2.result.now c.self.inside.dirty.items c.deref-3.result.now c.self.view_is c.deref.ensures.value c.deref-2.ensures.value c.deref-3.ensures.value
-    (g.F.Free.room c.args.map.now) (g.F.Free.room c.flush_tree.new.map) c.flush_tree.new.next c.swap.new.x.items _ tree c.in_ok-flush_tree.ensures.moved
+    let now_is : c.swap.new.x.items ≡ c.flush_tree.new.next = ap (λ v. v.items) c.swap.ensures.x_after ∙ with_items_is c.self.inside.next c.flush_tree.new.next (search (rules, places)) in
+    let given_is : (with_items c.self.inside.leaves c.drop_leaves.new.leaves).items ≡ replicate (length c.deref.result.now) None =
+    with_items_is c.self.inside.leaves c.drop_leaves.new.leaves (search (rules, places)) ∙ c.drop_leaves.ensures ∙ ap (λ (l : Leaves). replicate (length l) None) (c.deref_mut-4.ensures.value ∙ sym c.deref.ensures.value) in
+    let long : length c.flush_tree.new.next ≡ node_count c.self.inside.count = c.in_ok-flush_tree.ensures.lengths.len ∙ ap (λ (l : List ℕ). length l) c.deref_mut.ensures.value ∙ c.self.invariant.room in
+    moved_out c.args.self.now c.self.inside.told.entries c.self.inside.tree.items c.deref-2.result.now c.self.inside.dirty.items c.deref-3.result.now c.self.inside.leaves.items c.deref.result.now c.self.inside.known.items c.self.inside.told.sure c.self.inside.used c.self.inside.next.items c.self.inside.fresh.items c.self.inside.count c.self.view_is c.self.invariant c.deref.ensures.value c.deref-2.ensures.value c.deref-3.ensures.value (g.F.Free.room c.args.map.now) (g.D.Disk.shown c.args.disk.now).reads (g.D.Disk.shown c.flush_tree.new.disk).reads c.flush_tree.new.next c.swap.new.x.items (with_items c.self.inside.dirty c.fill.new.row).items (with_items c.self.inside.leaves c.drop_leaves.new.leaves).items now_is given_is long (g.F.Free.room c.flush_tree.new.map) c.in_ok-flush_tree.ensures.moved
+
+pub returns-clause-dropped : goal.returns-clause-dropped
+returns-clause-dropped g c =
+    let now_is : c.swap.new.x.items ≡ c.flush_tree.new.next = ap (λ v. v.items) c.swap.ensures.x_after ∙ with_items_is c.self.inside.next c.flush_tree.new.next (search (rules, places)) in
+    let given_is : (with_items c.self.inside.leaves c.drop_leaves.new.leaves).items ≡ replicate (length c.deref.result.now) None =
+    with_items_is c.self.inside.leaves c.drop_leaves.new.leaves (search (rules, places)) ∙ c.drop_leaves.ensures ∙ ap (λ (l : Leaves). replicate (length l) None) (c.deref_mut-4.ensures.value ∙ sym c.deref.ensures.value) in
+    let long : length c.flush_tree.new.next ≡ node_count c.self.inside.count = c.in_ok-flush_tree.ensures.lengths.len ∙ ap (λ (l : List ℕ). length l) c.deref_mut.ensures.value ∙ c.self.invariant.room in
+    dropped_out c.args.self.now c.self.inside.told.entries c.self.inside.tree.items c.deref-2.result.now c.self.inside.dirty.items c.deref-3.result.now c.self.inside.leaves.items c.deref.result.now c.self.inside.known.items c.self.inside.told.sure c.self.inside.used c.self.inside.next.items c.self.inside.fresh.items c.self.inside.count c.self.view_is c.self.invariant c.deref.ensures.value c.deref-2.ensures.value c.deref-3.ensures.value (g.F.Free.room c.args.map.now) (g.D.Disk.shown c.args.disk.now).reads (g.D.Disk.shown c.flush_tree.new.disk).reads c.flush_tree.new.next c.swap.new.x.items (with_items c.self.inside.dirty c.fill.new.row).items (with_items c.self.inside.leaves c.drop_leaves.new.leaves).items now_is given_is long
+
+-- what stays where a write failed
+pub invariant_of-self : goal.invariant_of-self
+invariant_of-self g c =
+    let was = c.self.invariant in
+    record {
+      mapped = was.mapped;
+      size = was.size;
+      room = search (rules, places);
+      anew = search (rules, places);
+      long = was.long;
+      known = was.known;
+      sure = was.sure;
+      bits = was.bits;
+      well = was.well;
+      learned = was.learned;
+      held = was.held;
+      told = was.told;
+    }
+
+pub invariant_of-self-2 : goal.invariant_of-self-2
+invariant_of-self-2 g c =
+    let now_is : c.swap.new.x.items ≡ c.flush_tree.new.next = ap (λ v. v.items) c.swap.ensures.x_after ∙ with_items_is c.self.inside.next c.flush_tree.new.next (search (rules, places)) in
+    let given_is : (with_items c.self.inside.leaves c.drop_leaves.new.leaves).items ≡ replicate (length c.deref.result.now) None =
+    with_items_is c.self.inside.leaves c.drop_leaves.new.leaves (search (rules, places)) ∙ c.drop_leaves.ensures ∙ ap (λ (l : Leaves). replicate (length l) None) (c.deref_mut-4.ensures.value ∙ sym c.deref.ensures.value) in
+    let long : length c.flush_tree.new.next ≡ node_count c.self.inside.count = c.in_ok-flush_tree.ensures.lengths.len ∙ ap (λ (l : List ℕ). length l) c.deref_mut.ensures.value ∙ c.self.invariant.room in
+    let marked = with_items_is c.self.inside.dirty c.fill.new.row (search (rules, places)) in
+    let back = with_items_is c.self.inside.fresh c.flush_tree.new.fresh (search (rules, places)) in
+    let wide : length (with_items c.self.inside.dirty c.fill.new.row).items ≡ node_count c.self.inside.count =
+    ap (λ (l : List Bool). length l) marked ∙ c.fill.ensures.len ∙ ap (λ (l : List Bool). length l) c.deref_mut-3.ensures.value ∙ c.self.invariant.mapped.dirty ∙ ap node_count (sym c.self.invariant.size) in
+    let spare : length c.swap.new.y.items ≡ node_count c.self.inside.count = ap (λ v. length v.items) c.swap.ensures.y_after ∙ c.self.invariant.mapped.tree ∙ ap node_count (sym c.self.invariant.size) in
+    let anew : length (with_items c.self.inside.fresh c.flush_tree.new.fresh).items ≡ node_count c.self.inside.count =
+    ap (λ (l : List ℕ). length l) back ∙ c.in_ok-flush_tree.ensures.lengths.anew ∙ ap (λ (l : List ℕ). length l) c.deref_mut-2.ensures.value ∙ c.self.invariant.anew in
+    kept_out c.args.self.now c.self.inside.told.entries c.self.inside.tree.items c.deref-2.result.now c.self.inside.dirty.items c.deref-3.result.now c.self.inside.leaves.items c.deref.result.now c.self.inside.known.items c.self.inside.told.sure c.self.inside.used c.self.inside.next.items c.self.inside.fresh.items c.self.inside.count c.self.view_is c.self.invariant c.deref.ensures.value c.deref-2.ensures.value c.deref-3.ensures.value (g.F.Free.room c.args.map.now) (g.D.Disk.shown c.args.disk.now).reads (g.D.Disk.shown c.flush_tree.new.disk).reads c.flush_tree.new.next c.swap.new.x.items (with_items c.self.inside.dirty c.fill.new.row).items (with_items c.self.inside.leaves c.drop_leaves.new.leaves).items now_is given_is long c.swap.new.y.items (with_items c.self.inside.fresh c.flush_tree.new.fresh).items wide c.in_ok-flush_tree.ensures.bounded (λ m lt. ap (λ (l : List Bool). get_or l m true) marked ∙ c.fill.ensures.all m (subst (λ (l : List Bool). m < length l) marked lt)) spare anew
 
 pub returns-clause-valid : goal.returns-clause-valid
-returns-clause-valid g c =
-    let entries = c.self.inside.entries.items in
-    let tree = tree_after g c in
-    let long : length c.flush_tree.new.next ≡ node_count (length entries) = search (rules, places) in (
-      subst IsMapped c.self.view_is c.self.invariant.mapped,
-      valid_out entries c.self.inside.tree.items c.flush_tree.new.next c.swap.new.x.items c.self.inside.dirty.items _ c.self.invariant.mapped tree long (search (rules, places)) c.in_ok-flush_tree.ensures.bounded,
-    )
+returns-clause-valid g c = (subst (λ (p : Paged). IsMapped p.map) c.self.view_is c.self.invariant.mapped, (invariant_of-self-2 g c).mapped)
+
+pub returns-clause-clean : goal.returns-clause-clean
+returns-clause-clean g c = λ m lt.
+    let marked = with_items_is c.self.inside.dirty c.fill.new.row (search (rules, places)) in
+    ap (λ (l : List Bool). get_or l m true) marked ∙ c.fill.ensures.all m (subst (λ (l : List Bool). m < length l) marked lt)

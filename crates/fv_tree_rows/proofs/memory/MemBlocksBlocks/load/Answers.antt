@@ -12,10 +12,10 @@ returns-clause-loads c = record {
   gives = λ _ _. found (λ (kept : List ℕ × ℕ × ℕ). kept.0) c.args.self.now.blocks c.args.pointer.now.vvbn
       ∙ ap (λ (b : tree.BTreeMap ℕ (List ℕ × ℕ × ℕ)). option_map (λ (kept : List ℕ × ℕ × ℕ). kept.0) (tree.get nat_cmp b c.args.pointer.now.vvbn)) (sym c.is_spent.ensures.blocks)
       ∙ ap (option_map (λ (kept : List ℕ × ℕ × ℕ). kept.0)) (sym c.in-Some.ensures.value);
-  answers = refl;
+  answers = λ _. refl;
   range = omega arith;
   spent = search rules;
   counts = record { faults = omega (arith, c.is_spent.ensures.faults); damages = omega arith; spent = search rules; calm = record { faults = c.is_spent.ensures.faults; damages = refl; spent = search rules } };
   cause = tt;
-  loose = tt;
+  loose = λ _. tt;
 }

@@ -2,7 +2,7 @@ use Rattle.std.specs.Prelude.{IfSome}
 use Rattle.std.proofs.Common.{◌≡◌, ◌<◌, ◌≤◌, ◌+◌, ◌∙◌, ℕ, length, Some, refl, sym, ap, subst, arith}
 use Rattle.fv_model.specs.declared.commands.Command.TheVariants.{VolCreate}
 use Rattle.fv_model.specs.Refusals.{next}
-use Rattle.fv_container.specs.Mapped.{empty_map}
+use Rattle.fv_container.specs.Paged.{empty_paged}
 use Rattle.fv_charge.specs.declared.ledger.Ledger.{Ledger}
 use Rattle.fv_charge.specs.Ledgers.{committed}
 use Rattle.fv_volumes.specs.Creating.{Admits, new_ledger_of}
@@ -45,7 +45,7 @@ returns-clause-new c =
     let is : Admits items c.args.pool.now.found.blocks c.args.name.now c.args.size c.args.kind c.args.admitted.slot c.args.admitted.span =
     subst (λ (s : States). Admits s c.args.pool.now.found.blocks c.args.name.now c.args.size c.args.kind c.args.admitted.slot c.args.admitted.span) (sym c.self.view_is) c.requires.admitted in
     is_new items c.args.admitted.slot c.in_ok-state.state _ c.args.name.now c.args.size c.args.kind c.args.admitted.span (omega (arith, is.free.within, c.self.invariant)) is.span_is c.in_ok-state.ensures.head c.in_ok-state.ensures.map c.in_ok-state.ensures.ledger c.in_ok-state.ensures.label c.in_ok-state.ensures.changed c.in_ok-state.ensures.rests.files c.in_ok-state.ensures.rests.numbers
-    (c.put.ensures.there ∙ ap Some (c.in_ok-container.ensures.empty ∙ ap empty_map c.entry_count.ensures.value))
+    (c.put.ensures.there ∙ ap Some (c.in_ok-container.ensures.empty ∙ ap empty_paged c.entry_count.ensures.value))
 
 pub returns-clause-each : goal.returns-clause-each
 returns-clause-each c =

@@ -1,0 +1,56 @@
+-- Counts of numbers of a range that pass a test.
+use Rattle.std.proofs.Common.{◌≡◌, ℕ, ◌+◌, ◌*◌, ◌/◌, ◌%◌, Bool, true, false, not, ◌&&◌, List, get_or, refl, ap, sym, ◌∙◌, arith, Option, None}
+use Rattle.std.specs.Prelude.{count_by, cond}
+use Rattle.std.specs.Option.{is_some}
+use Rattle.std.specs.List.{range_with_len}
+use Rattle.fv_bits.proofs.Counts.{passing-add, passing-suc, passing_same}
+use Rattle.fv_container.specs.declared.entry.Entry.{Entry}
+use Rattle.fv_container.specs.Mapped.{Mapped}
+use Rattle.fv_bits.specs.Members.{is_member}
+use Rattle.fv_container.specs.Kept.{IsKept, map_of, paged_of}
+use Rattle.fv_container.specs.Paged.{Leaves, Paged, is_right, is_sure, leaf_here}
+use Rattle.fv_container.specs.Loading.{delayed_in_region, has_entry_at}
+use Rattle.fv_container.proofs.Tests.{right_at, told_at}
+
+-- one number more
+counted_more : (test : ℕ → Bool) (from n : ℕ) → count_by test (range_with_len from (n + 1)) ≡ count_by test (range_with_len from n) + cond (test (from + n)) 1 0
+counted_more test from n =
+    let last : cond (test (from + n)) 1 0 + 0 ≡ cond (test (from + n)) 1 0 = omega arith in
+    passing-add test from n 1 ∙ ap (λ (m : ℕ). count_by test (range_with_len from n) + m) (passing-suc test (from + n) 0 ∙ last)
+
+pub counted_none : (test : ℕ → Bool) (from : ℕ) → count_by test (range_with_len from 0) ≡ 0
+counted_none test from = refl
+
+pub counted_yes : (test : ℕ → Bool) (from n count : ℕ) → count ≡ count_by test (range_with_len from n) → test (from + n) ≡ true → count + 1 ≡ count_by test (range_with_len from (n + 1))
+counted_yes test from n count is passes = ap (λ (m : ℕ). m + 1) is ∙ sym (counted_more test from n ∙ ap (λ (t : Bool). count_by test (range_with_len from n) + cond t 1 0) passes)
+
+pub counted_no : (test : ℕ → Bool) (from n count : ℕ) → count ≡ count_by test (range_with_len from n) → test (from + n) ≡ false → count ≡ count_by test (range_with_len from (n + 1))
+counted_no test from n count is fails =
+    let e : count_by test (range_with_len from n) + 0 ≡ count_by test (range_with_len from n) = omega arith in
+    is ∙ sym (counted_more test from n ∙ ap (λ (t : Bool). count_by test (range_with_len from n) + cond t 1 0) fails ∙ e)
+
+-- right bits count the entries of a region
+pub right_count : (map : Mapped) (used held : List Bool) (k : ℕ) → is_right map.entries k used ≡ true
+    → count_by (λ v. get_or used v false && not (get_or held v false)) (range_with_len (256 * k) 256) ≡ delayed_in_region map held k
+unfolding delayed_in_region
+right_count map used held k right = passing_same (λ v. get_or used v false && not (get_or held v false)) (λ v. has_entry_at map v && not (get_or held v false)) (256 * k) (256 * k) 256 (λ c lt. ap (λ (b : Bool). b && not (get_or held (256 * k + c) false)) (right_at map.entries k used right c lt))
+
+-- ---- as calls on a container say it
+
+pub delayed_out : (now : Paged) (es : List (Option Entry)) (tree : List ℕ) (dirty : List Bool) (leaves : Leaves) (known sure used : List Bool) (next fresh : List ℕ) (count : ℕ) (held : List Bool) (k r : ℕ)
+    → paged_of es tree dirty leaves known sure ≡ now → IsKept (paged_of es tree dirty leaves known sure) count leaves used next fresh → is_sure now k ≡ true
+    → r ≡ count_by (λ v. get_or used v false && not (get_or held v false)) (range_with_len (256 * k) 256) → r ≡ delayed_in_region now.map held k
+delayed_out now es tree dirty leaves known sure used next fresh count held k r view is sured counted =
+    counted
+    ∙ right_count (map_of es tree dirty) used held k (told_at es k (get_or sure k false) (leaf_here leaves k) used (ap (λ (p : Paged). is_sure p k) view ∙ sured) (is.told k)).1
+    ∙ ap (λ (p : Paged). delayed_in_region p.map held k) view
+
+pub has_out : (now : Paged) (es : List (Option Entry)) (tree : List ℕ) (dirty : List Bool) (leaves : Leaves) (known sure used : List Bool) (next fresh : List ℕ) (count v : ℕ) (r : Bool)
+    → paged_of es tree dirty leaves known sure ≡ now → IsKept (paged_of es tree dirty leaves known sure) count leaves used next fresh → is_sure now (v / 256) ≡ true → r ≡ is_member used v → r ≡ has_entry_at now.map v
+unfolding is_member
+has_out now es tree dirty leaves known sure used next fresh count v r view is sured read =
+    let at : 256 * (v / 256) + v % 256 ≡ v = omega arith in
+    read ∙ ap (λ (w : ℕ). get_or used w false) (sym at)
+    ∙ right_at es (v / 256) used (told_at es (v / 256) (get_or sure (v / 256) false) (leaf_here leaves (v / 256)) used (ap (λ (p : Paged). is_sure p (v / 256)) view ∙ sured) (is.told (v / 256))).1 (v % 256) (omega arith)
+    ∙ ap (λ (w : ℕ). is_some (get_or es w None)) at
+    ∙ ap (λ (p : Paged). has_entry_at p.map v) view

@@ -1,0 +1,15 @@
+use Rattle.std.proofs.Common.{◌≡◌, ◌<◌, ℕ, true, false, get_or}
+use Rattle.fv_store.specs.Held.{StandsOn}
+use Rattle.fv_disk.specs.DiskCalls.{OnlyReads}
+use Rattle.fv_container.specs.Paged.{is_here}
+use Rattle.fv_container.specs.Loading.{KeepsMap}
+use Rattle.fv_container.proofs.container.Container.load_all.Given as goal
+
+abbrev pub invariant-loop-k : goal.invariant-loop-k
+invariant-loop-k g l = record {
+  stands : StandsOn (g.D.Disk.shown l.disk) l.store.pairs;
+  only_reads : OnlyReads (g.D.Disk.shown l.fn.disk) (g.D.Disk.shown l.disk);
+  faults : (g.D.Disk.shown l.disk).faults ≡ (g.D.Disk.shown l.fn.disk).faults;
+  kept : KeepsMap (g.D.Disk.shown l.fn.disk) l.fn.self l.self;
+  loaded : (j : ℕ) → j < l.k → get_or l.plan j false ≡ true → is_here l.self j ≡ true;
+}

@@ -1,5 +1,0 @@
-use Rattle.std.proofs.Common.{◌≡◌, length}
-use Rattle.fv_core_rows.proofs.containers.place_data.Given as goal
-
-abbrev pub invariant-loop-vvbn : goal.invariant-loop-vvbn
-invariant-loop-vvbn l = length l.container.entries ≡ l.entries

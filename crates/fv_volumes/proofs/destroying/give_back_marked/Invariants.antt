@@ -1,0 +1,14 @@
+use Rattle.std.proofs.Common.{◌≡◌, false}
+use Rattle.fv_bits.specs.Members.{is_member}
+use Rattle.fv_delay.specs.Reclaims.{HasGivenSome}
+use Rattle.fv_volume.specs.Writing.{HasGiven}
+use Rattle.fv_volumes.specs.Destroying.{HasForgotten}
+use Rattle.fv_volumes.proofs.Destroyed.{marked_below}
+use Rattle.fv_volumes.proofs.destroying.give_back_marked.Given as goal
+
+abbrev pub invariant-loop-place : goal.invariant-loop-place
+invariant-loop-place l = record {
+  given : is_member l.marks 0 ≡ false → HasGiven l.fn.map (marked_below l.marks l.place) l.map;
+  some : HasGivenSome l.fn.map l.map;
+  kept : HasForgotten l.fn.kept (marked_below l.marks l.place) l.kept;
+}
