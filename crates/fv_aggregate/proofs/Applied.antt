@@ -59,6 +59,7 @@ pub fault_plain : {D : Type 0} (command : Command) (shown : Shown) (disk : D) (s
 fault_plain command shown disk session f damage built whole snap names = record {
   refused = tt;
   calm = λ other idle few. refl;
+  idle = λ other stays none few. refl;
   map = λ other stays places few. refl;
   wanting = λ other idle few same. refl;
   damage = damage;
@@ -179,6 +180,7 @@ pub list_done : {D : Type 0} (command : Command) → command ≡ VolList → (sh
 list_done command is shown disk session names told = record {
   refused = λ refused. (refl, refl);
   calm = λ other idle few. refl;
+  idle = λ other stays none few. refl;
   map = λ other stays places few. refl;
   wanting = λ other idle few. tt;
   damage = tt;

@@ -19,6 +19,9 @@ mod Beside
 mod Added
 mod Telling
 pub mod Charges
+mod LeftBlocks
+mod UnderEntries
+mod HeldEntries
 mod Opened
 mod Whole
 mod Applied

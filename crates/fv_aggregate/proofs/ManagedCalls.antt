@@ -50,6 +50,7 @@ module _ (disk : Shown) (old : Session) (c : Command) (new : Session) (reply : R
   managed_plain at stays no_list no_point no_names no_snap = record {
     refused = λ refused. (refl, over.refused refused);
     calm = λ other idle few. refl;
+    idle = λ other gone none few. refl;
     map = λ other kept places few. over.map kept;
     wanting = λ other idle few. tt;
     damage = tt;

@@ -1,6 +1,11 @@
 -- A session that was just opened.
-use Rattle.std.proofs.Common.{◌≡◌, ◌≤◌, ℕ, Bool, List, length, Option, Some, refl, sym, ap, subst, ◌∙◌, inr, arith, Result, Ok, Err, true}
-use Rattle.std.specs.Prelude.{IfOk, IfSome, IsTrue, None, get_or, replicate}
+use Rattle.std.proofs.Common.{◌≡◌, ◌≤◌, ◌<◌, ◌+◌, ◌==◌, ℕ, zero, suc, Bool, List, length, Option, Some, refl, sym, ap, subst, ◌∙◌, inr, arith, Result, Ok, Err, true, false, cond, not, ⊎_elim}
+use Rattle.std.specs.Prelude.{IfOk, IfSome, IsTrue, None, count_by, get_or, nat_lt, replicate, sum_by}
+use Rattle.std.specs.List.{range_with_len}
+use Rattle.std.specs.Option.{option_map_or}
+use Rattle.std.proofs.lemmas.Bool.{cases_eq}
+use Rattle.std.proofs.lemmas.Bool.Decides.{nat_tests}
+use Rattle.std.proofs.lemmas.List.Sums.{sum_by-cons}
 use Rattle.std.specs.Ordering.{nat_cmp}
 use Rattle.std.specs.FinMap as fin
 use Rattle.std.proofs.lemmas.List.{get_or-replicate}
@@ -9,10 +14,10 @@ use Rattle.fv_disk.specs.DiskCalls.{OnlyReads}
 use Rattle.fv_disk.proofs.Resting.{settled_image}
 use Rattle.fv_model.specs.Machines.{Machine}
 use Rattle.fv_image.specs.NewerRoot.{Taken}
-use Rattle.fv_image.specs.Views.{View, overheads}
+use Rattle.fv_image.specs.Views.{Head, View, delayed, entry_count, is_delayed, overheads, slots, vvbns}
 use Rattle.fv_image.specs.Held.{Keeps, layout_at, view_at}
 use Rattle.fv_image.specs.Seen.{seen}
-use Rattle.fv_image.specs.Soundness.{AreTables}
+use Rattle.fv_image.specs.Soundness.{AreMaps, AreTables}
 use Rattle.fv_image.specs.WholeMachine.{Tells, is_built, machine_of}
 use Rattle.fv_image.proofs.SoundTests.{stands_for}
 use Rattle.fv_root.specs.declared.find.Found.{Found}
@@ -24,7 +29,6 @@ use Rattle.fv_cp.specs.Held.{IsHeld}
 use Rattle.fv_cp.specs.Known.{AreKnown}
 use Rattle.fv_cp.specs.Lent.{FitTogether, IsLent, blocks_asked}
 use Rattle.fv_cp.specs.Placing.{AreReady, IsReadyIn}
-use Rattle.fv_cp.proofs.Known.{known_none}
 use Rattle.fv_cp.proofs.Lendable.{held_machine, lent_held}
 use Rattle.fv_volumes.specs.Housed.{HaveReaches}
 use Rattle.fv_aggmap.specs.Space.{blocks_of}
@@ -43,7 +47,10 @@ use Rattle.fv_pool.specs.declared.pool.Pool.{Pool}
 use Rattle.fv_aggregate.specs.declared.fault.OpenFault.{OpenFault}
 use Rattle.fv_aggregate.specs.declared.session.Session.{Session}
 use Rattle.fv_aggregate.specs.Causes.{IsOpenFault, of_block}
-use Rattle.fv_aggregate.specs.Opening.{AreOpened, IsFresh, IsOpened}
+use Rattle.fv_aggregate.specs.Delayed.{blocks_under, has_more, held_in}
+use Rattle.fv_aggregate.specs.Opening.{AreOpened, IsFresh, IsOpened, TellsDelayed}
+use Rattle.fv_aggregate.proofs.HeldEntries.{held_and_delayed}
+use Rattle.fv_aggregate.proofs.UnderEntries.{under_entries}
 use Rattle.fv_aggregate.specs.Standing.{IsWithoutFiles, StandsFor, StandsReady}
 use Rattle.fv_aggregate.specs.Asking.{AsksWithin}
 use Rattle.fv_volumes.specs.UnderRoot.{IsMapOf}
@@ -74,9 +81,40 @@ fits_opened root pool left states range size of none kept map still same = recor
 
 -- ---- what is known of delayed entries
 
--- of an aggregate that was just opened nothing is known
-known_opened : (i : Image) (found : Found) (delays : List Bool) → delays ≡ replicate slot_count true → AreKnown i found delays
-known_opened i found delays all = known_none i found delays (λ s inside. ap (λ (ds : List Bool). get_or ds s true) all ∙ get_or-replicate slot_count s true true inside)
+-- a sum without anything has no part with something
+part_none : (part : ℕ → ℕ) (k from count : ℕ) → from ≤ k → k < from + count → sum_by part (range_with_len from count) ≡ 0 → part k ≡ 0
+part_none part k from zero low high none = absurd (omega (arith, low, high))
+part_none part k from (suc count) low high none =
+    let cons : sum_by part (range_with_len from (suc count)) ≡ part from + sum_by part (range_with_len (from + 1) count) = sum_by-cons part from (range_with_len (from + 1) count) in ⊎_elim
+    (λ (e : from ≡ k). let same : part from ≡ part k = ap part e in omega (arith, cons, same, none))
+    (λ ne. part_none part k (from + 1) count (omega (arith, low, ne)) (omega (arith, high)) (omega (arith, cons, none)))
+    (cases_eq from k)
+
+-- where the entries of no volume are delayed, each of its is so
+none_delayed : (w : View) (s : ℕ) (h : Head) (v : ℕ) → delayed w ≡ 0 → s < 64 → w.head s ≡ Some h → v < entry_count h.span → is_delayed w s h v ≡ false
+unfolding delayed slots vvbns
+none_delayed w s h v none inside there within =
+    let all : ℕ → ℕ = λ s. option_map_or (λ h. count_by (is_delayed w s h) (vvbns h.span)) (w.head s) 0 in
+    let one : all s ≡ 0 = part_none all s 0 64 (omega arith) (omega (arith, inside)) none in
+    let here : count_by (is_delayed w s h) (vvbns h.span) ≡ 0 = sym (ap (λ (o : Option Head). option_map_or (λ h. count_by (is_delayed w s h) (vvbns h.span)) o 0) there) ∙ one in
+    off (is_delayed w s h v) (part_none (λ k. cond {A = ℕ} (is_delayed w s h k) 1 0) v 0 (entry_count h.span) (omega arith) (omega (arith, within)) here)
+  where
+    off : (t : Bool) → cond {A = ℕ} t 1 0 ≡ 0 → t ≡ false
+    off true e = absurd (omega (arith, e))
+    off false e = refl
+
+-- of an aggregate that was just opened it is known of each volume that no entry is delayed, where none is, and else nothing is known
+known_opened : (i : Image) (found : Found) (delays : List Bool) → delays ≡ replicate slot_count (nat_lt 0 (delayed (view_at (root_found found) i))) → AreKnown i found delays
+known_opened i found delays are s h inside off there v within = none_delayed (view_at (root_found found) i) s h v none inside there within
+  where
+    flag : nat_lt 0 (delayed (view_at (root_found found) i)) ≡ false
+    flag = sym (get_or-replicate slot_count s (nat_lt 0 (delayed (view_at (root_found found) i))) true inside) ∙ sym (ap (λ (ds : List Bool). get_or ds s true) are) ∙ off
+
+    none : delayed (view_at (root_found found) i) ≡ 0
+    none = of (delayed (view_at (root_found found) i)) flag
+      where
+        of : (n : ℕ) → nat_lt 0 n ≡ false → n ≡ 0
+        of n e = grind (arith, nat_tests, e)
 
 -- ---- what a settled image stands for
 
@@ -125,6 +163,34 @@ lent_opened disk session m settled whole opened machine =
       reach = subst (λ (w : View). HaveReaches w session.volumes) (sym alike) (reach_opened disk.reads found m tells session.volumes session.pool.containers opened.slots own whole);
     }
 
+-- Over an image that stands for a machine more blocks are held than volumes are known to have just where some entry is delayed: all that are held
+-- are labels, nodes, and blocks of entries, an entry each.
+more_opened : (i : Image) (session : Session) (m : Machine) → ((b : ℕ) → length (i b) ≡ 4096) → IsOpened i session → FitTogether session.pool session.volumes → machine_of i ≡ Some m
+    → has_more session.pool session.volumes ≡ nat_lt 0 (delayed (view_at (root_found session.pool.found) i))
+unfolding has_more layout_at
+more_opened i session m whole opened fit machine =
+    let found = session.pool.found in
+    let t = root_found found in
+    let tells = found_tells i found m opened.found machine in
+    let alike : view_over session.pool session.volumes i ≡ view_at t i = opened.view in
+    let are = opened.states m tells in
+    let own : (s : ℕ) → IfSome (state_at session.volumes s) HasOwnSlots = λ s. slots_of session.volumes s (view_over session.pool session.volumes i) (are.each s) in
+    let long : length session.pool.map.next ≡ found.blocks = ap (λ (bits : List Bool). length bits) opened.map.same ∙ opened.map.len in
+    let under = under_entries i found found.blocks session.pool session.volumes (spaced_opened i found m tells session.volumes session.pool.containers opened.slots session.pool.map opened.map)
+    (slots_opened i found m tells session.volumes session.pool.containers opened.slots whole opened.few own) long in
+    let entries = held_and_delayed session.pool session.volumes i are (subst (λ (w : View). AreTables (seen w)) (sym alike) tells.sound.tables) (subst AreMaps (sym alike) tells.sound.maps) fit.housed.each in
+    differs (blocks_under session.pool session.volumes) (held_in session.volumes slot_count) (delayed (view_over session.pool session.volumes i)) (under ∙ entries) ∙ ap (λ (w : View). nat_lt 0 (delayed w)) alike
+  where
+    differs : (a b d : ℕ) → a ≡ b + d → not (a == b) ≡ nat_lt 0 d
+    differs a b d is = grind (arith, nat_tests, is)
+
+delays_opened : (i : Image) (session : Session) (m : Machine) → ((b : ℕ) → length (i b) ≡ 4096) → IsOpened i session → FitTogether session.pool session.volumes → IsFresh session → machine_of i ≡ Some m → TellsDelayed i session
+delays_opened i session m whole opened fit fresh machine = fresh.delays ∙ ap (replicate slot_count) (more_opened i session m whole opened fit machine)
+
+pub delays_result : (i : Image) (new : Shown) (m : Machine) (result : Result Session OpenFault) → ((b : ℕ) → length (i b) ≡ 4096) → IfOk result (IsOpened i) → IfOk result (AreOpened new i) → IfOk result IsFresh → machine_of i ≡ Some m → IfOk result (TellsDelayed i)
+delays_result i new m (Ok session) whole opened each fresh machine = delays_opened i session m whole opened each.fit fresh machine
+delays_result i new m (Err fault) whole opened each fresh machine = tt
+
 pub opened_for : (disk : Shown) (session : Session) (m : Machine) → IsSettled disk → IsTrue disk.tells → ((b : ℕ) → length (disk.reads b) ≡ 4096) → IsOpened disk.reads session → AreOpened disk disk.reads session → IsFresh session → machine_of disk.reads ≡ Some m → StandsFor disk session m m
 opened_for disk session m settled told whole opened each fresh machine =
     let found = session.pool.found in
@@ -142,7 +208,7 @@ opened_for disk session m settled told whole opened each fresh machine =
       held = held;
       machine = held_machine disk session.pool session.volumes m held each.fit each.none each.maps ∙ sym (unchanged_machine session.pool session.volumes no_trees disk.reads (λ s. refl)) ∙ opened.machine m tells;
       settled = settled;
-      delays = known_opened disk.reads found session.delays fresh.delays;
+      delays = known_opened disk.reads found session.delays (delays_opened disk.reads session m whole opened each.fit fresh machine);
       pending = omega (arith, placed, pending, waiting, over, same);
       files = omega (arith, placed, pending, waiting);
       few = omega (arith, placed, pending, waiting);

@@ -290,6 +290,7 @@ module _ {D : Type 0} (name : List ℕ) (d e : Shown) (at left : D) (s n : Sessi
   dropped_plain did only refused = record {
     refused = refused;
     calm = λ other idle few. absurd (true≢false idle);
+    idle = λ other stays. absurd (true≢false stays);
     map = λ other stays places few. absurd (true≢false stays);
     wanting = λ other idle few. absurd (true≢false idle);
     damage = did.damage;

@@ -63,6 +63,7 @@ module _ {D : Type 0} (c : Command) (v : List ℕ) (of : snapped_by c ≡ Some v
   applied_plain missing needs = record {
     refused = did.refused;
     calm = λ other idle few. did.calm (no_places (removes_volume c) (places_files c) idle) few;
+    idle = λ other stays none few. did.idle none few;
     map = λ other stays none few. did.map none;
     wanting = λ other idle few. sure_memory r (did.sure (no_places (removes_volume c) (places_files c) idle));
     damage = did.damage;

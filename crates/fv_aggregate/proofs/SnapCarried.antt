@@ -99,7 +99,7 @@ carried_session s slot q y room = record s { volumes = with_state s.volumes slot
 abbrev pub left_session : Session → ℕ → Pool → VolumeState → Session
 left_session s slot q y = record s { volumes = with_state s.volumes slot (Some y); pool = q }
 
-module _ {D : Type 0} (shown : D → Shown) (disk left : D) (laws : IsDisk (shown disk)) (reads : OnlyReads (shown disk) (shown left)) (s : Session) (fresh : IsNone s.failed) (stands : StandsReady (shown disk) s) (fit : FitTogether s.pool s.volumes) (slot : ℕ) (x : VolumeState) (there : state_at s.volumes slot ≡ Some x) (slot_is : x.slot ≡ slot) (named : HasName s.volumes slot x.name) (room : ℕ) where
+module _ {D : Type 0} (shown : D → Shown) (disk left : D) (laws : IsDisk (shown disk)) (reads : OnlyReads (shown disk) (shown left)) (s : Session) (fresh : IsNone s.failed) (stands : StandsReady (shown disk) s) (fit : FitTogether s.pool s.volumes) (slot : ℕ) (x : VolumeState) (there : state_at s.volumes slot ≡ Some x) (slot_is : x.slot ≡ slot) (named : HasName s.volumes slot x.name) (room : ℕ) (idle : x.files ≡ None → left ≡ disk) where
   -- the disk before, and once blocks were read
   abbrev d : Shown
   d = shown disk
@@ -142,6 +142,10 @@ module _ {D : Type 0} (shown : D → Shown) (disk left : D) (laws : IsDisk (show
   its_files : HaveNoFiles s.volumes → x.files ≡ None
   its_files none = subst HasNoFiles there (none slot)
 
+  -- without files in memory the disk isn't called
+  uncalled : HaveNoFiles s.volumes → left ≡ disk
+  uncalled none = idle (its_files none)
+
   -- the numbers of its files stay
   numbers_stay : (c : Command) (y : VolumeState) → y.numbers ≡ x.numbers → KeepsNumbersBut (MayLose c s.volumes) s.volumes (with_state s.volumes slot (Some y))
   numbers_stay c y same = keeps_with (MayLose c s.volumes) s.volumes slot (Some y) inside (λ known stays. ap is_some same ∙ subst (λ (o : Option VolumeState). KnowsNumbers o) there known)
@@ -170,7 +174,7 @@ module _ {D : Type 0} (shown : D → Shown) (disk left : D) (laws : IsDisk (show
     its_stands = placed_stands d e s q slot x y there slot_is fit placed stands
 
     pub wanting : e.faults ≡ d.faults → IsCarried d disk s c room e left (left_session s slot q y) (Err Memory)
-    wanting counts = carried_wanting d e disk left laws reads s fresh c room (left_session s slot q y) fresh its_stands (omega arith) numbers_left (placed_entries d e s q slot x y there slot_is fit placed) places counts (λ last m is. placed_for d e s q slot x y there slot_is fit placed last m is)
+    wanting counts = carried_wanting d e disk left laws reads s fresh c room (left_session s slot q y) fresh its_stands (omega arith) numbers_left (placed_entries d e s q slot x y there slot_is fit placed) places counts uncalled (λ last m is. placed_for d e s q slot x y there slot_is fit placed last m is)
 
     -- a read failed
     pub broken : (o : Option ℕ) → is_some x.files ≡ true → Rose d.faults e.faults → (Rose e.write_faults e.write_faults → o ≡ Some e.faults) → ((Rose e.write_faults e.write_faults → ⊥) → IsNone o) → IsCarried d disk s c room e left (record (left_session s slot q y) { failed = o }) (Err DiskFault)
@@ -217,7 +221,7 @@ module _ {D : Type 0} (shown : D → Shown) (disk left : D) (laws : IsDisk (show
     pub made : (u : Unit {0}) → Creates d s.pool x (beside s.volumes slot) name e q y (Ok u) → TellsCreation s.pool x (beside s.volumes slot) name y (Ok u) → IsCarried d disk s (SnapCreate x.name name) room e left (carried_session s slot q y room) (Ok Done)
     made u did tells = carried_done d e disk left laws reads s fresh (SnapCreate x.name name) room (carried_session s slot q y room) fresh
         (snapped_stands d e s q slot x did.done.mid y there slot_is fit did.done.placed step ready room stands) (omega (arith, exact)) (numbers_stay (SnapCreate x.name name) y numbers) (placed_entries d e s q slot x did.done.mid there slot_is fit did.done.placed)
-        did.calm (λ none. absurd (true≢false none))
+        did.calm (λ none. absurd (true≢false none)) uncalled
         (λ last m is. snapped_for d e s q slot x did.done.mid y there slot_is fit did.done.placed step ready room (map_blocks x.span) waits pending enough (held_at q y (did.held (held last m is))) last m (SnapCreate x.name name) is (agreed last m is) (becomes last m is))
         (λ last m is. made_allows m x.name name (agreed last m is))
         (files_stay q did.done.mid y did.done.placed (ap (λ (z : VolumeState). z.files) did.done.now ∙ did.done.none) room)
@@ -275,7 +279,7 @@ module _ {D : Type 0} (shown : D → Shown) (disk left : D) (laws : IsDisk (show
     pub removed : (u : Unit {0}) → Deletes d s.pool x name e q y (Ok u) → IsCarried d disk s (SnapDelete x.name name) room e left (carried_session s slot q y room) (Ok Done)
     removed u did = carried_done d e disk left laws reads s fresh (SnapDelete x.name name) room (carried_session s slot q y room) fresh
         (snapped_stands d e s q slot x did.done.mid y there slot_is fit did.done.placed step ready room stands) (omega (arith, nothing)) (numbers_stay (SnapDelete x.name name) y numbers) (placed_entries d e s q slot x did.done.mid there slot_is fit did.done.placed)
-        did.calm (λ none. absurd (true≢false none))
+        did.calm (λ none. absurd (true≢false none)) uncalled
         (λ last m is. snapped_for d e s q slot x did.done.mid y there slot_is fit did.done.placed step ready room 0 waits pending (inl (refl, nothing)) (held_at q y (did.held (held last m is))) last m (SnapDelete x.name name) is (agreed last m is) (becomes last m is))
         (λ last m is. removed_allows m x.name name (agreed last m is))
         (files_stay q did.done.mid y did.done.placed (ap (λ (z : VolumeState). z.files) did.done.now ∙ did.done.none) room)
@@ -326,7 +330,7 @@ module _ {D : Type 0} (shown : D → Shown) (disk left : D) (laws : IsDisk (show
     turned u did = carried_done d d disk disk laws (reads_itself d) s fresh (SnapRestore x.name name) room (carried_session s slot s.pool y room) fresh
         (stepped_stands d s slot x y there slot_is long step ready room stands) (omega (arith, nothing))
         (keeps_with (MayLose (SnapRestore x.name name) s.volumes) s.volumes slot (Some y) inside (λ known stays. absurd (stays (x.name, (refl, ap (λ (o : Option VolumeState). is_named o x.name) there ∙ itself x.name))))) (kept_entries s (carried_session s slot s.pool y room) refl)
-        refl (λ none. refl)
+        refl (λ none. refl) (λ none. refl)
         (λ last m is. stepped_for d s slot x y there slot_is long step ready room 0 waits pending (inl (refl, nothing)) (held_here (did.held (held last m is))) last m (SnapRestore x.name name) is (agreed last m is) (becomes last m is))
         (λ last m is. turned_allows m x.name name (agreed last m is))
         (λ without. record { none = none_with s.volumes slot y inside none without.none; taken = without.taken })

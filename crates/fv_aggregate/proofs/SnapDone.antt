@@ -68,6 +68,7 @@ refused_snapped d e disk left laws reads counts quiet s fresh stands c r why = r
   refused = λ refused. (quiet, refl);
   calm = λ none few. quiet;
   only_reads = λ few. reads;
+  idle = λ none few. quiet;
   map = λ none. refl;
   sure = λ none. tt;
   files = λ tells without. without;
@@ -80,9 +81,9 @@ module _ {D : Type 0} (d e : Shown) (disk left : D) (laws : IsDisk d) (reads : O
   carried_refused stands counts quiet r why none = record { snapped = refused_snapped d e disk left laws reads counts quiet s fresh stands c r why; only_reads = reads; placed = λ nothing. tt; accepted = λ some. absurd (some none) }
 
   module _ (after : Session) (still : IsNone after.failed) (stands : StandsReady e after) (few : after.pending ≤ s.pending + room_by s.volumes c) (numbers : KeepsNumbersBut (MayLose c s.volumes) s.volumes after.volumes) (entries : KeepsEntries s after) where
-    pub carried_done : e.faults ≡ d.faults → (places_files c ≡ false → left ≡ disk) → ((last m : Machine) → StandsFor d s last m → StandsFor e after last (next m c)) → ((last m : Machine) → StandsFor d s last m → Allows m c Done) → (IsWithoutFiles s → IsWithoutFiles after)
+    pub carried_done : e.faults ≡ d.faults → (places_files c ≡ false → left ≡ disk) → (HaveNoFiles s.volumes → left ≡ disk) → ((last m : Machine) → StandsFor d s last m → StandsFor e after last (next m c)) → ((last m : Machine) → StandsFor d s last m → Allows m c Done) → (IsWithoutFiles s → IsWithoutFiles after)
         → ((places_files c ≡ false) ⊎ IsWithoutFiles s → after.pool.map ≡ s.pool.map) → StandsReady d s → IsCarried d disk s c room e left after (Ok Done)
-    carried_done counts quiet for allowed files map stood = record {
+    carried_done counts quiet idle for allowed files map stood = record {
       snapped = record {
         makes = record {
           goes = goes_done d e laws s after (room_by s.volumes c) reads fresh still stands Done counts few (λ tells. found_read d e s after reads tells stood stands);
@@ -97,6 +98,7 @@ module _ {D : Type 0} (d e : Shown) (disk left : D) (laws : IsDisk d) (reads : O
         refused = λ refused. absurd (true≢false (sym refused));
         calm = λ none low. quiet none;
         only_reads = λ low. reads;
+        idle = λ none low. idle none;
         map = λ none. map (inl none);
         sure = λ none. tt;
         files = λ tells without. files without;
@@ -112,8 +114,8 @@ module _ {D : Type 0} (d e : Shown) (disk left : D) (laws : IsDisk d) (reads : O
       never : {X : Type 0} → places_files c ≡ false → X
       never none = absurd (true≢false (sym places ∙ none))
 
-      pub carried_wanting : e.faults ≡ d.faults → ((last m : Machine) → StandsFor d s last m → StandsFor e after last m) → IsCarried d disk s c room e left after (Err Memory)
-      carried_wanting counts for = record {
+      pub carried_wanting : e.faults ≡ d.faults → (HaveNoFiles s.volumes → left ≡ disk) → ((last m : Machine) → StandsFor d s last m → StandsFor e after last m) → IsCarried d disk s c room e left after (Err Memory)
+      carried_wanting counts idle for = record {
         snapped = record {
           makes = record {
             goes = goes_wanting d e laws s after (room_by s.volumes c) reads fresh still stands counts few;
@@ -128,6 +130,7 @@ module _ {D : Type 0} (d e : Shown) (disk left : D) (laws : IsDisk d) (reads : O
           refused = tt;
           calm = λ none low. never none;
           only_reads = λ low. reads;
+          idle = λ none low. idle none;
           map = λ none. never none;
           sure = λ none. never none;
           files = λ tells without. tt;
@@ -157,6 +160,7 @@ module _ {D : Type 0} (d e : Shown) (disk left : D) (laws : IsDisk d) (reads : O
           refused = tt;
           calm = λ none low. never none;
           only_reads = λ low. reads;
+          idle = λ none low. absurd (filed none);
           map = λ none. never none;
           sure = λ none. never none;
           files = λ tells without. tt;
@@ -185,6 +189,7 @@ module _ {D : Type 0} (d e : Shown) (disk left : D) (laws : IsDisk d) (reads : O
           refused = tt;
           calm = λ none low. never none;
           only_reads = λ low. reads;
+          idle = λ none low. absurd (unplaced.files.files none);
           map = λ none. never none;
           sure = λ none. never none;
           files = λ tells without. tt;

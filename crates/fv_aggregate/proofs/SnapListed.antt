@@ -119,6 +119,7 @@ module _ (command : Command) (v : List ℕ) (is : command ≡ SnapList v) where
   snaps_fail shown disk s = record {
     refused = tt;
     calm = λ other idle few. refl;
+    idle = λ other stays none few. refl;
     map = λ other stays none few. refl;
     wanting = λ other none few same. refl;
     damage = tt;
@@ -137,6 +138,7 @@ module _ (command : Command) (v : List ℕ) (is : command ≡ SnapList v) where
   snaps_done shown disk s reply told = record {
     refused = λ refused. (refl, refl);
     calm = λ other idle few. refl;
+    idle = λ other stays none few. refl;
     map = λ other stays none few. refl;
     wanting = λ other none few. tt;
     damage = tt;

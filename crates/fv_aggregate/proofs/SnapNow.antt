@@ -1,5 +1,5 @@
 -- A command on snapshots was carried out by the call on the volume of the slot at which it is aimed.
-use Rattle.std.proofs.Common.{◌≡◌, ◌≤◌, ◌+◌, ◌⊎◌, ℕ, cond, Option, Some, Result, Ok, Err, refl, ap, subst, ◌∙◌}
+use Rattle.std.proofs.Common.{◌≡◌, ◌≤◌, ◌+◌, ◌⊎◌, ℕ, cond, Option, None, Some, Result, Ok, Err, refl, ap, subst, ◌∙◌}
 use Rattle.std.specs.Prelude.{false, IfErr, IfSome, IsNone}
 use Rattle.std.specs.Result.{is_ok}
 use Rattle.fv_disk.specs.Shown.{IsDisk, Shown}
@@ -31,7 +31,8 @@ use Rattle.fv_aggregate.proofs.SnapDone.{IsCarried}
 
 module _ {D : Type 0} (shown : D → Shown) (disk left : D) (laws : IsDisk (shown disk)) (reads : OnlyReads (shown disk) (shown left)) (s : Session) (fresh : IsNone s.failed) (stands : StandsReady (shown disk) s) (fit : FitTogether s.pool s.volumes) (slot : ℕ) (c : Command) (aimed : IsSnapAimed s.volumes slot c)
     (x : VolumeState) (there : state_at s.volumes slot ≡ Some x) (of : snapped_by c ≡ Some x.name)
-    (others : ℕ) (others_are : others ≡ beside s.volumes slot) (granted : Granted) (few : (granted.room ≡ 0) ⊎ (s.pending + granted.room ≤ 256)) (grant : HasGrant (state_at s.volumes slot) s.pool.found.blocks others c granted) where
+    (others : ℕ) (others_are : others ≡ beside s.volumes slot) (granted : Granted) (few : (granted.room ≡ 0) ⊎ (s.pending + granted.room ≤ 256)) (grant : HasGrant (state_at s.volumes slot) s.pool.found.blocks others c granted)
+    (idle : x.files ≡ None → left ≡ disk) where
   abbrev d : Shown
   d = shown disk
 
@@ -41,7 +42,7 @@ module _ {D : Type 0} (shown : D → Shown) (disk left : D) (laws : IsDisk (show
   pub carried_now : (q : Pool) (y : VolumeState) → IsReady e q y → (r : Result Unit VolumeFault) → (places_files c ≡ false → left ≡ disk) → IfErr r (λ f. (w : Refusal) → f ≡ volume.Refused w → left ≡ disk) → SnapsState d s.pool x others c e q y r
       → (before : Session) → before ≡ record s { volumes = with_state s.volumes slot (Some y); pool = q; pending = cond (is_ok r) (s.pending + granted.room) s.pending } → (asked : Result Reply VolumeFault) → asked ≡ done_as r → (new : Session) (result : Result Reply Fault) → Replied e asked before new result → IsCarried d disk s c granted.room e left new result
   carried_now q y ready r kept quiet did before before_is asked asked_is new result replied =
-      carried_by shown disk left laws reads s fresh stands fit slot x there slot_is named granted.room c of q y r ready kept quiet (subst (λ (n : ℕ). SnapsState d s.pool x n c e q y r) others_are did)
+      carried_by shown disk left laws reads s fresh stands fit slot x there slot_is named granted.room idle c of q y r ready kept quiet (subst (λ (n : ℕ). SnapsState d s.pool x n c e q y r) others_are did)
       (grant.room ∙ ap (λ (o : Option VolumeState). snap_blocks o c) there) few (grant.room ∙ aimed_room s.volumes slot c aimed)
       (subst (λ (n : ℕ). IsAccepted (Some x) s.pool.found.blocks n c) others_are (subst (λ (o : Option VolumeState). IsAccepted o s.pool.found.blocks others c) there grant.accepted))
       new result (subst (λ (n : Session). Replied e (done_as r) n new result) (before_is ∙ as_said) (subst (λ (a : Result Reply VolumeFault). Replied e a before new result) asked_is replied))
@@ -52,9 +53,9 @@ module _ {D : Type 0} (shown : D → Shown) (disk left : D) (laws : IsDisk (show
       named : HasName s.volumes slot x.name
       named = subst (λ (z : VolumeState). HasName s.volumes slot z.name) (same_there _ _ _ aimed.there there) aimed.named
 
-      counted : (r : Result Unit VolumeFault) → cond (is_ok r) (s.pending + granted.room) s.pending ≡ pending_after shown disk left laws reads s fresh stands fit slot x there slot_is named granted.room r
+      counted : (r : Result Unit VolumeFault) → cond (is_ok r) (s.pending + granted.room) s.pending ≡ pending_after shown disk left laws reads s fresh stands fit slot x there slot_is named granted.room idle r
       counted (Ok u) = refl
       counted (Err f) = refl
 
-      as_said : ◌≡◌ {A = Session} (record s { volumes = with_state s.volumes slot (Some y); pool = q; pending = cond (is_ok r) (s.pending + granted.room) s.pending }) (record s { volumes = with_state s.volumes slot (Some y); pool = q; pending = pending_after shown disk left laws reads s fresh stands fit slot x there slot_is named granted.room r })
+      as_said : ◌≡◌ {A = Session} (record s { volumes = with_state s.volumes slot (Some y); pool = q; pending = cond (is_ok r) (s.pending + granted.room) s.pending }) (record s { volumes = with_state s.volumes slot (Some y); pool = q; pending = pending_after shown disk left laws reads s fresh stands fit slot x there slot_is named granted.room idle r })
       as_said = λ j. record s { volumes = with_state s.volumes slot (Some y); pool = q; pending = counted r j }

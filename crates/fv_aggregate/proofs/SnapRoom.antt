@@ -214,6 +214,7 @@ module _ {D : Type 0} (d : Shown) (disk : D) (s : Session) (c : Command) (room :
     refused = tt;
     calm = λ none few. never_calm few;
     only_reads = λ few. never_calm few;
+    idle = λ none few. never_calm few;
     map = λ none. places none;
     sure = λ none. places none;
     files = λ tells without. tt;
@@ -257,6 +258,7 @@ module _ {D : Type 0} (d : Shown) (disk : D) (s : Session) (c : Command) (room :
       refused = never_refused _ result (carried.accepted some);
       calm = λ none few. never_calm few;
       only_reads = λ few. never_calm few;
+      idle = λ none few. never_calm few;
       map = λ none. places none;
       sure = λ none. places none;
       files = λ tells without. carried.snapped.files (told tells) (pointed.files tells);

@@ -201,8 +201,8 @@ pub record FindsVolume (states : States) (command : Command) (name : List ℕ) (
 
 -- What a command that reads no file does beside, whatever the disk holds. Refused it leaves all as it was, and one that isn't built is refused as no
 -- command. One that adds no block, or whose room stays within the dirty limit, doesn't reach the disk, but for a `cp` and for one that may read leaves
--- of containers; and then it leaves the session where memory ran out. But for a removal and for one that places files it takes no block then and gives
--- none back. `vol list` answers the names of the session's volumes, and `snap list` those of a volume's snapshots, and both leave all as it was. A `cp`
+-- of containers, which without files in memory a removal alone does; and but for these it leaves the session then where memory ran out. But for a
+-- removal and for one that places files it takes no block then and gives none back. `vol list` answers the names of the session's volumes, and `snap list` those of a volume's snapshots, and both leave all as it was. A `cp`
 -- that is done leaves nothing pending and no file in memory; one that isn't, in a session that goes on, only read, and left all but leaves where no file
 -- was in memory. Damage comes for want of blocks or of a leaf alone. A command on a whole volume that stays is answered, without a fault, and a volume is
 -- removed, or nothing changed. One on snapshots is refused without its volume, and one that removes or restores a snapshot exactly where that isn't
@@ -210,6 +210,7 @@ pub record FindsVolume (states : States) (command : Command) (name : List ℕ) (
 pub record IsPlain {D : Type 0} (command : Command) (shown : Shown) (before : D) (old : Session) (shown_after : Shown) (after : D) (new : Session) (result : Result Reply Fault) : Type 0 where
   pub refused : IfOk result (λ reply. IsTrue (is_refusal reply) → IsUntouched before old after new)
   pub calm : command ≢ Cp → reads_leaves command ≡ false → IsWithinLimit old command → after ≡ before
+  pub idle : command ≢ Cp → removes_volume command ≡ false → HaveNoFiles old.volumes → IsWithinLimit old command → after ≡ before
   pub map : command ≢ Cp → removes_volume command ≡ false → places_files command ≡ false → IsWithinLimit old command → new.pool.map ≡ old.pool.map
   pub wanting : command ≢ Cp → reads_leaves command ≡ false → IsWithinLimit old command → IfErr result (λ e. e ≡ Memory → new ≡ old)
   pub damage : IfErr result (IsForWant shown old shown_after new)

@@ -12,6 +12,7 @@ pub mod Calls
 pub mod Looking
 pub mod Managing
 pub mod Numbering
+pub mod Delayed
 pub mod Opening
 pub mod Adding
 pub mod Answers

@@ -24,6 +24,7 @@ use Rattle.fv_volume.specs.Slots.{HasName}
 use Rattle.fv_volume.specs.States.{States, state_at}
 use Rattle.fv_pool.specs.declared.fault.VolumeFault.{VolumeFault}
 use Rattle.fv_pool.specs.declared.fault.VolumeFault.TheVariants as volume
+use Rattle.fv_cp.specs.Placing.{HaveNoFiles}
 use Rattle.fv_aggregate.specs.declared.fault.Fault.{Fault}
 use Rattle.fv_aggregate.specs.declared.fault.Fault.TheVariants.{DiskFault, Damaged, Memory}
 use Rattle.fv_aggregate.specs.declared.session.Session.{Session}
@@ -113,15 +114,16 @@ pub record IsSnapAimed (states : States) (slot : ℕ) (command : Command) : Type
   pub snaps : snapped_by command ≡ Some state.name
 
 -- What a command that makes, removes or restores a snapshot does in a session beside. Refused it leaves all as it was. With room within the dirty
--- limit it writes nothing, and but where it places files it doesn't reach the disk, and takes no block and gives none back; one that places none is
--- always answered. No file comes into memory. Beside blocks of files nothing is taken that the next root wouldn't hold, and the numbers of files stay in memory, but for
--- a table that is no longer the active one.
+-- limit it writes nothing; and but where it places files it doesn't reach the disk, nor does it without files in memory, and it takes no block and gives
+-- none back. One that places none is always answered. No file comes into memory. Beside blocks of files nothing is taken that the next root wouldn't
+-- hold, and the numbers of files stay in memory, but for a table that is no longer the active one.
 pub record HasSnapped {D : Type 0} (before : Shown) (disk : D) (old : Session) (command : Command) (after : Shown) (left : D) (new : Session) (result : Result Reply Fault) : Type 0 where
   pub makes : Makes (room_by old.volumes command) (asked_by old.volumes command) before old command after new result
   pub damage : IfErr result (IsForWant before old after new)
   pub refused : IfOk result (λ reply. IsTrue (is_refusal reply) → IsUntouched disk old left new)
   pub calm : places_files command ≡ false → IsWithinLimit old command → left ≡ disk
   pub only_reads : IsWithinLimit old command → OnlyReads before after
+  pub idle : HaveNoFiles old.volumes → IsWithinLimit old command → left ≡ disk
   pub map : places_files command ≡ false → new.pool.map ≡ old.pool.map
   pub sure : places_files command ≡ false → IfErr result (λ e. ⊥)
   pub files : IsTrue before.tells → IsWithoutFiles old → OnOk result (IsWithoutFiles new)

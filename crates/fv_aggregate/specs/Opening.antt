@@ -1,8 +1,9 @@
 -- What is read when a session is opened.
-use Rattle.std.specs.Prelude.{◌≡◌, ℕ, true, IfSome, IsNone, IsTrue, Some, length, replicate}
+use Rattle.std.specs.Prelude.{◌≡◌, ℕ, IfSome, IsNone, IsTrue, Some, length, nat_lt, replicate}
 use Rattle.fv_disk.specs.Shown.{Image, Shown}
 use Rattle.fv_model.specs.Machines.{Machine}
 use Rattle.fv_image.specs.Held.{layout_at, view_at}
+use Rattle.fv_image.specs.Views.{delayed}
 use Rattle.fv_image.specs.WholeMachine.{Tells, machine_of}
 use Rattle.fv_root.specs.Finding.{IsFound, root_found}
 use Rattle.fv_container.specs.Chains.{slot_count}
@@ -16,6 +17,7 @@ use Rattle.fv_volume.specs.Files.{AreStates}
 use Rattle.fv_cp.specs.Lent.{FitTogether, HaveNoneWaiting}
 use Rattle.fv_cp.specs.Placing.{AreReady, HasWholeMap, HaveNoFiles}
 use Rattle.fv_aggregate.specs.declared.session.Session.{Session}
+use Rattle.fv_aggregate.specs.Delayed.{has_more}
 
 -- The session has what the root that counts names in an image; where that stands for a machine, the volumes do, too.
 pub record IsOpened (i : Image) (session : Session) : Type 0 where
@@ -39,8 +41,13 @@ pub record AreOpened (disk : Shown) (i : Image) (session : Session) : Type 0 whe
   pub led : (m : Machine) → IsTrue disk.tells → machine_of i ≡ Some m → (s : ℕ) → IfSome (state_at session.volumes s) (IsLedTo disk session.pool)
   pub well : (m : Machine) → IsTrue disk.tells → machine_of i ≡ Some m → (s : ℕ) → IfSome (state_at session.volumes s) (IsStoredWell disk session.pool)
 
--- Nothing is pending, nothing has failed, and entries of each volume may be delayed.
+-- Nothing is pending, nothing has failed, and entries of each volume may be delayed where more blocks are held than are known not to be under
+-- such an entry; where there are none, no entry is delayed.
 pub record IsFresh (session : Session) : Type 0 where
   pub pending : session.pending ≡ 0
   pub failed : IsNone session.failed
-  pub delays : session.delays ≡ replicate slot_count true
+  pub delays : session.delays ≡ replicate slot_count (has_more session.pool session.volumes)
+
+-- Of each volume it says that entries may be delayed where some entry of a volume is, in the image, and else of none.
+abbrev pub TellsDelayed : Image → Session → Type 0
+TellsDelayed i session = session.delays ≡ replicate slot_count (nat_lt 0 (delayed (view_at (root_found session.pool.found) i)))

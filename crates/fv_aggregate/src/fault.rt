@@ -1,7 +1,7 @@
 //! Why a session isn't opened, and why a call of one isn't done.
 
 ghost use Rattle.std.specs.Prelude.{◌≡◌};
-ghost use Rattle.fv_aggregate.specs.declared.fault.OpenFault.TheVariants.{DiskFault};
+ghost use Rattle.fv_aggregate.specs.declared.fault.OpenFault.TheVariants.{DiskFault, Memory as Starved};
 ghost use Rattle.fv_aggregate.specs.declared.fault.Fault.TheVariants.{Memory};
 ghost use Rattle.fv_aggregate.specs.Causes.{of_block, of_root};
 
@@ -63,6 +63,14 @@ impl From<BlockFault> for OpenFault {
             BlockFault::Damaged { at, want, found } => OpenFault::Damaged { at, want, found },
             BlockFault::Memory => OpenFault::Memory,
         }
+    }
+}
+
+impl From<AllocError> for OpenFault {
+    ghost from_gives = { λ _ e. e ≡ Starved };
+
+    fn from(_: AllocError) -> OpenFault {
+        OpenFault::Memory
     }
 }
 

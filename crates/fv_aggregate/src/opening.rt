@@ -10,6 +10,7 @@ ghost use Rattle.fv_cp.specs.Lent.{blocks_asked};
 ghost use Rattle.fv_aggregate.specs.Causes.{HasOpenCause, IsOpenFault};
 ghost use Rattle.fv_aggregate.specs.Opening.{AreOpened, IsFresh, IsOpened};
 
+use crate::delays::has_more;
 use crate::fault::OpenFault;
 use crate::session::Session;
 use fv_disk::Disk;
@@ -33,11 +34,12 @@ pub(crate) fn load<D: Disk>(alloc: Global, disk: &mut D) -> Result<Session, Open
     let mut pool = Pool::open(alloc, disk, found)?;
     let volumes = Volumes::open(alloc, &mut pool, disk)?;
     let commits = volumes.commits();
+    let delayed = has_more(alloc, &pool, &volumes)?;
     Ok(Session {
         alloc,
         volumes,
         pool,
-        delays: [true; 64],
+        delays: [delayed; 64],
         pending: 0,
         commits,
         failed: None,

@@ -15,7 +15,7 @@ ghost use Rattle.fv_aggregate.specs.Applying.{HasApplied};
 ghost use Rattle.fv_aggregate.specs.Calls.{Runs, SameCounts};
 ghost use Rattle.fv_aggregate.specs.Commands.{AsksPoint};
 ghost use Rattle.fv_aggregate.specs.Causes.{HasOpenCause, IsUnwritten, OpenFails};
-ghost use Rattle.fv_aggregate.specs.Opening.{IsFresh, IsOpened};
+ghost use Rattle.fv_aggregate.specs.Opening.{IsFresh, IsOpened, TellsDelayed};
 ghost use Rattle.fv_aggregate.specs.Reclaiming.{Points};
 ghost use Rattle.fv_aggregate.specs.Standing.{IsWithoutFiles, Stands, StandsFor, StandsReady, charged_in};
 ghost use Rattle.fv_aggregate.specs.Telling.{charged_from};
@@ -69,6 +69,9 @@ impl Model for Session {
 impl Session {
     /// Opens the aggregate on a disk: a barrier first, so that what it reads is what a crash would leave. It writes nothing.
     ///
+    /// Over an image that stands for a machine the session then knows by counts whether some entry is delayed. Where none is, no point reads a leaf
+    /// of a volume to learn that before the volume changes.
+    ///
     /// # Errors
     /// `NotAggregate` comes exactly where block 0 isn't a superblock or neither gate is open. `Damaged` comes only where a block
     /// that this call read isn't as it has to be, or a label is of a form that can't be loaded yet: its place, and what was wanted
@@ -77,7 +80,8 @@ impl Session {
     ///
     /// Costs a barrier, a read for each fixed block, each block of one map area, each label and map block of the volumes, each node above the
     /// leaves of their containers, and each leaf that has the entry of a map's block. It holds up to 1024 blocks of cache, two bits for each
-    /// block of the aggregate, and for each VVBN of each volume a bit and one for each map slot in use. `docs/FORMAT.md` has what it reads.
+    /// block of the aggregate, and for each VVBN of each volume a bit and one for each map slot in use. While it counts it takes one bit more for
+    /// each block, and a step for each node of the containers. `docs/FORMAT.md` has what it reads.
     pub fn open<D: Disk>(alloc: Global, disk: &mut D) -> Result<Session, OpenFault>
         ensures stands { IfOk result (StandsReady (D.shown disk.new)) }
         ensures fresh { IfOk result IsFresh }
@@ -89,6 +93,8 @@ impl Session {
         ensures loaded { IsTrue (D.shown disk.old).tells → IfOk result (IsOpened (D.shown disk.old).reads) }
         ensures machine { IsTrue (D.shown disk.old).tells → (m : Machine) → machine_of (D.shown disk.old).reads ≡ Some m
             → IfOk result (λ session. StandsFor (D.shown disk.new) session m m) }
+        ensures delays { IsTrue (D.shown disk.old).tells → (m : Machine) → machine_of (D.shown disk.old).reads ≡ Some m
+            → IfOk result (TellsDelayed (D.shown disk.old).reads) }
         ensures fault { IsTrue (D.shown disk.old).tells → IfErr result (OpenFails (D.shown disk.old).reads) }
         ensures unwritten { IsUnwritten (D.shown disk.old) (D.shown disk.new) }
         ensures cause { HasOpenCause (D.shown disk.old).faults (D.shown disk.new).faults result }

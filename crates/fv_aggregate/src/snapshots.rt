@@ -1,7 +1,7 @@
 //! The commands on snapshots: one is made of a volume's active table, one is removed, the active table becomes that of one, and their
 //! names are told.
 
-ghost use Rattle.std.specs.Prelude.{◌≡◌, ◌≢◌, ◌≤◌, ◌+◌, ◌-◌, ◌^◌, ◌⊎◌, false, Some, Ok, IsNone, IfErr, IfOk};
+ghost use Rattle.std.specs.Prelude.{◌≡◌, ◌≢◌, ◌≤◌, ◌+◌, ◌-◌, ◌^◌, ◌⊎◌, false, None, Some, Ok, IsNone, IfErr, IfOk};
 ghost use Rattle.fv_cp.specs.Placing.{HaveNoFiles};
 ghost use Rattle.fv_disk.specs.DiskCalls.{OnlyReads};
 ghost use Rattle.fv_model.specs.declared.answers.Refusal.{Refusal};
@@ -174,6 +174,7 @@ fn change_snaps<D: Disk>(
     ensures snaps { SnapsState (D.shown disk.old) pool.old state.old others command.now (D.shown disk.new) pool.new state.new result }
     ensures refused { IfErr result (λ e. (r : Refusal) → e ≡ of_volume.Refused r → disk.new ≡ disk.old) }
     ensures kept { places_files command.now ≡ false → disk.new ≡ disk.old }
+    ensures idle { state.old.files ≡ None → disk.new ≡ disk.old }
     ensures ready { IsReady (D.shown disk.new) pool.new state.new }
 {
     match command {

@@ -101,6 +101,7 @@ plain_over : {D : Type 0} (show : D → Shown) (command : Command) (before : D) 
 plain_over show command before session after next reply tells is = record {
   refused = λ refusal. untouched_over show before session after next (is.refused refusal);
   calm = λ other leaves within. ap (read_of show) (is.calm other leaves within);
+  idle = λ other stays none within. ap (read_of show) (is.idle other stays none within);
   map = is.map;
   wanting = λ other leaves within. tt;
   damage = tt;

@@ -22,14 +22,13 @@ use Rattle.fv_lines.proofs.Ends.{whole_append}
 use Rattle.fv_aggregate.specs.declared.session.Session.{Session}
 use Rattle.fv_aggregate.specs.Asking.{AsksWithin}
 use Rattle.fv_aggregate.specs.Commands.{asked_by, most_room, room_by}
-use Rattle.fv_aggregate.proofs.Damages.{as_read_then}
 use Rattle.fv_aggregate.specs.Standing.{IsWithoutFiles}
 use Rattle.fv_run.specs.declared.ending.Fault.{Fault}
 use Rattle.fv_run.specs.declared.ending.Fault.TheVariants.{Usage, Unsound, NotAggregate, Source, Sink, Disk, Memory, Damaged, Limit}
 use Rattle.fv_run.specs.Built.{built, lines_built}
 use Rattle.fv_run.specs.Endings.{count_of, IsWholeFault}
 use Rattle.fv_run.specs.Promises.{line_at}
-use Rattle.fv_run.specs.Running.{asked_in, begun, changes_volumes, HasChanged, Holds, IsOverLimit, IsHurtBehind, IsPastLimit, IsSessionDamage, KeepsUp, MeetsDamage, most_rooms, only_asks, reads_blocks, room_in, rooms_along, Survives, asks_point, pending_behind, IsQuiet}
+use Rattle.fv_run.specs.Running.{asked_in, begun, changes_volumes, HasChanged, Holds, IsOverLimit, IsHurtBehind, IsPastLimit, IsSessionDamage, KeepsUp, MeetsDamage, most_rooms, reads_blocks, room_in, rooms_along, Survives, asks_point, pending_behind, IsQuiet}
 use Rattle.fv_run.specs.Answering.{Applies, AsksFor, BeginsFor, HasAnswered, HasRead, IsAtEnd, IsCounted, IsEndOf, IsHurtBy, Lacks, LacksSpace, LosesLeaf, IsReady, IsSessionFault, StandsAt, Stopped, TellsLine}
 use Rattle.fv_run.proofs.Following.{left_next, line_behind}
 use Rattle.fv_run.proofs.KeepingUp.{keeps_up_source, keeps_up_limit, keeps_up_line, next_most, next_all, end_most, knows_on}

@@ -21,8 +21,7 @@ use Rattle.fv_run.specs.declared.ending.Fault.{Fault}
 use Rattle.fv_run.specs.declared.ending.Fault.TheVariants.{Source, Sink, Disk, Memory, Damaged, Limit}
 use Rattle.fv_run.specs.Endings.{IsWholeFault, count_of, raised_by}
 use Rattle.fv_run.specs.Built.{lines_built}
-use Rattle.fv_run.specs.Promises.{line_at}
-use Rattle.fv_run.specs.Running.{asked_in, asks_behind, asks_point, changes_volumes, HasChanged, Holds, IsOverLimit, IsHurt, IsPastLimit, IsRoomIn, IsSessionDamage, KeepsUp, MeetsDamage, most_rooms, only_asks, reads_blocks, room_in, rooms_along, Survives, left_by, pending_behind, IsQuiet, UndergoesLine, UndergoesLines}
+use Rattle.fv_run.specs.Running.{asked_in, asks_behind, asks_point, changes_volumes, HasChanged, Holds, IsOverLimit, IsHurt, IsPastLimit, IsRoomIn, IsSessionDamage, KeepsUp, MeetsDamage, most_rooms, only_asks, reads_blocks, room_in, rooms_along, Survives, pending_behind, IsQuiet, UndergoesLine, UndergoesLines}
 
 -- ---- lines and their replies
 

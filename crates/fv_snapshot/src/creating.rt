@@ -115,6 +115,7 @@ pub fn create<D: Disk>(
     ensures creates { Creates (D.shown disk.old) pool.old volume.old others name.now (D.shown disk.new) pool.new volume.new result }
     ensures tells { TellsCreation pool.old volume.old others name.now volume.new result }
     ensures refused { IfErr result (λ e. (r : Refusal) → e ≡ Refused r → disk.new ≡ disk.old) }
+    ensures idle { volume.old.files ≡ None → disk.new ≡ disk.old }
     ensures ready { IsReady (D.shown disk.new) pool.new volume.new }
 {
     match judge_create(volume, pool.found.blocks, others, name) {
@@ -148,6 +149,7 @@ pub fn make<D: Disk>(
         → Creates (D.shown disk.old) pool.old volume.old others name.now (D.shown disk.new) pool.new volume.new result }
     ensures tells { (others : ℕ) → TellsCreation pool.old volume.old others name.now volume.new result }
     ensures accepted { IfErr result (λ e. (r : Refusal) → e ≡ Refused r → ⊥) }
+    ensures idle { volume.old.files ≡ None → disk.new ≡ disk.old }
     ensures ready { IsReady (D.shown disk.new) pool.new volume.new }
 {
     volume.place_files(pool, disk)?;

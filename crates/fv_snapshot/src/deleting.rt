@@ -1,6 +1,6 @@
 //! Removing a snapshot.
 
-ghost use Rattle.std.specs.Prelude.{◌≡◌, IfErr};
+ghost use Rattle.std.specs.Prelude.{◌≡◌, None, IfErr};
 ghost use Rattle.fv_model.specs.declared.answers.Refusal.{Refusal};
 ghost use Rattle.fv_pool.specs.declared.fault.VolumeFault.TheVariants.{Refused};
 ghost use Rattle.fv_volume.specs.OneVolume.{IsReady};
@@ -29,6 +29,7 @@ pub fn delete<D: Disk>(
     requires ready { IsReady (D.shown disk.old) pool.old volume.old }
     ensures deletes { Deletes (D.shown disk.old) pool.old volume.old name.now (D.shown disk.new) pool.new volume.new result }
     ensures refused { IfErr result (λ e. (r : Refusal) → e ≡ Refused r → disk.new ≡ disk.old) }
+    ensures idle { volume.old.files ≡ None → disk.new ≡ disk.old }
     ensures ready { IsReady (D.shown disk.new) pool.new volume.new }
 {
     let Some(at) = volume.snapshots.find(name) else {

@@ -102,7 +102,7 @@ returns g c =
       | else-is_ok w ↦ w.self-is ∙ (λ j. record v { volumes = with_state v.volumes slot (Some y); pool = q; pending = cond (w.if-is_ok.ensures.value j) (v.pending + room) v.pending })
     ] in
     let only = snap_reads g.D.Disk.shown c.args.disk.now c.change_snaps-made.new.disk v.pool x c.args.others q y r command of c.change_snaps-made.ensures.kept c.change_snaps-made.ensures.snaps in
-    let carried = carried_now g.D.Disk.shown c.args.disk.now c.change_snaps-made.new.disk (g.met.D.Disk.laws c.args.disk.now) only v fresh stands (c.self.invariant.0 fresh) slot command aimed x c.volume_at-state.ensures.state of c.args.others others c.args.granted few grant
+    let carried = carried_now g.D.Disk.shown c.args.disk.now c.change_snaps-made.new.disk (g.met.D.Disk.laws c.args.disk.now) only v fresh stands (c.self.invariant.0 fresh) slot command aimed x c.volume_at-state.ensures.state of c.args.others others c.args.granted few grant c.change_snaps-made.ensures.idle
     q y c.change_snaps-made.ensures.ready r c.change_snaps-made.ensures.kept c.change_snaps-made.ensures.refused c.change_snaps-made.ensures.snaps c.if-is_ok.self before (answer c.done.new.into c.change_snaps-made.result) (ap (λ (z : Reply). answer z c.change_snaps-made.result) c.done.ensures) c.replied.new.self (answer c.replied.new.into c.replied.result) c.replied.ensures in
     let it = subst (λ (n : Session). IsCarried d c.args.disk.now n command room e c.change_snaps-made.new.disk c.replied.new.self (answer c.replied.new.into c.replied.result)) c.self.view_is carried in
     let needs = needs_now v slot x c.volume_at-state.ensures.state aimed.within (subst (λ (z : VolumeState). HasName v.volumes slot z.name) (same_there _ _ _ aimed.there c.volume_at-state.ensures.state) aimed.named) command
