@@ -191,29 +191,40 @@ def measure(program, folder, case):
     return [f"{case.name}: {what}" for what in [*passed, *(["data blocks are read"] if data else [])]]
 
 
-def read_words():
-    parser = argparse.ArgumentParser(description=__doc__.split("\n")[0])
+def read_words(about, left_out):
+    parser = argparse.ArgumentParser(description=about.split("\n")[0])
     parser.add_argument("--program", help="the program, where it isn't the one that is built here")
-    parser.add_argument("--quick", action="store_true", help="leave the larger aggregates out")
+    parser.add_argument("--quick", action="store_true", help=f"leave {left_out} out")
     return parser.parse_args()
 
 
-def main():
-    words = read_words()
+def program_of(words, name):
+    """The program that is measured. Without it, and without strace, there is nothing to measure."""
     if not (words.program or is_built()):
-        sys.exit("check: crates/flexvol/out/flexvol isn't built, or is older than its sources; ./prove builds it")
+        sys.exit(f"{name}: crates/flexvol/out/flexvol isn't built, or is older than its sources; ./prove builds it")
     if not shutil.which("strace"):
-        sys.exit("check: strace isn't on the path")
+        sys.exit(f"{name}: strace isn't on the path")
+    return words.program or PROGRAM
+
+
+def tell_end(passed):
+    """Prints the load and the bars that are passed. The status is 1 where one is."""
+    print(f"\nLoad {os.getloadavg()[0]:.1f} on {os.cpu_count()} processors.")
+    for what in passed:
+        print(f"A bar is passed: {what}.")
+    sys.exit(1 if passed else 0)
+
+
+def main():
+    words = read_words(__doc__, "the larger aggregates")
+    program = program_of(words, "check")
     passed = []
     print("| Aggregate | Blocks in use | ms | Bar | MB | Bar | Reads of one block | Bar | Reads | Of data |\n" + "|---" * 10 + "|")
     with tempfile.TemporaryDirectory(dir="/dev/shm") as folder:
         for case in CASES:
             if not (words.quick and case.is_large):
-                passed += measure(words.program or PROGRAM, folder, case)
-    print(f"\nLoad {os.getloadavg()[0]:.1f} on {os.cpu_count()} processors.")
-    for what in passed:
-        print(f"A bar is passed: {what}.")
-    sys.exit(1 if passed else 0)
+                passed += measure(program, folder, case)
+    tell_end(passed)
 
 
 if __name__ == "__main__":

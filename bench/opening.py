@@ -23,22 +23,19 @@ More than 8,000 blocks find no room in each of 64 volumes: beside its blocks eac
 The program is the one that ./prove or `rt ci` built here, no older than its sources; `--program` names another one, and `--quick` leaves the volumes
 with files out.
 """
-import argparse
 import collections
 import os
 import re
-import shutil
 import statistics
 import subprocess
-import sys
 import tempfile
 import time
 
-from check import GREATEST, LARGEST, MAP, VOLUMES, Image, word
-from lines import is_built
+from check import GREATEST, LARGEST, MAP, VOLUMES, Image, program_of, read_words, tell_end, word
+from lines import plain_loop
 from names import CONTENT, processor, replies
 from names import count as cost_of
-from points import BLOCK, PROGRAM
+from points import BLOCK
 
 RUNS = 9
 COUNT = 8000  # blocks of the file of each volume
@@ -224,22 +221,6 @@ def measure_puts(program, folder, path, name):
 # ---- a put, by the span of its volume
 
 
-def loop(folder, counts, lines):
-    """Microseconds of the processor for a plain loop of so many calls."""
-    path = os.path.join(folder, "limit")
-    block = bytes(BLOCK)
-    with open(path, "w+b", buffering=0) as file, open(os.devnull, "wb", buffering=0) as sink:
-        each = max(1, counts["write"] // max(1, counts["sync"]))
-        before = time.process_time()
-        for number in range(counts["write"]):
-            os.pwrite(file.fileno(), block, BLOCK * number)
-            if number % each == each - 1:
-                os.fsync(file.fileno())
-        for _ in range(lines):
-            sink.write(b"ok\n")
-        return 1000000 * (time.process_time() - before)
-
-
 def put_cost(program, folder, size):
     """For each put with its share of a point: microseconds of the program, of the plain loop, and blocks written."""
     path = os.path.join(folder, "aggregate")
@@ -252,7 +233,7 @@ def put_cost(program, folder, size):
     more = PUTS - EACH
     whole = statistics.median(once() for _ in range(RUNS))
     counts = beyond_first(program, path, folder)
-    plain = statistics.median(loop(folder, counts, more) for _ in range(RUNS))
+    plain = statistics.median(plain_loop(folder, counts["write"], counts["sync"], more) for _ in range(RUNS))
     return whole / more, plain / more, counts["write"] / more
 
 
@@ -267,20 +248,9 @@ def measure_spans(program, folder):
     return [f"a put in the largest span costs {beyond[1]:.1f}, over {SAME * beyond[0]:.1f}"] if beyond[1] > SAME * beyond[0] else []
 
 
-def read_words():
-    parser = argparse.ArgumentParser(description=__doc__.split("\n")[0])
-    parser.add_argument("--program", help="the program, where it isn't the one that is built here")
-    parser.add_argument("--quick", action="store_true", help="leave the volumes with files out")
-    return parser.parse_args()
-
-
 def main():
-    words = read_words()
-    if not (words.program or is_built()):
-        sys.exit("opening: crates/flexvol/out/flexvol isn't built, or is older than its sources; ./prove builds it")
-    if not shutil.which("strace"):
-        sys.exit("opening: strace isn't on the path")
-    program = words.program or PROGRAM
+    words = read_words(__doc__, "the volumes with files")
+    program = program_of(words, "opening")
     passed = []
     cases = [(f"{VOLUMES} volumes of the largest span", 0), (f"the same with {COUNT:,} blocks each", COUNT)][: 1 if words.quick else 2]
     with tempfile.TemporaryDirectory(dir="/dev/shm") as folder:
@@ -301,10 +271,7 @@ def main():
             os.remove(kept)
         print("\n| Span | us for a put with its share | Plain loop | Beyond it | Bar | Written |\n" + "|---" * 6 + "|")
         passed += measure_spans(program, folder)
-    print(f"\nLoad {os.getloadavg()[0]:.1f} on {os.cpu_count()} processors.")
-    for what in passed:
-        print(f"A bar is passed: {what}.")
-    sys.exit(1 if passed else 0)
+    tell_end(passed)
 
 
 if __name__ == "__main__":
