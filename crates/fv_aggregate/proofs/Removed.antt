@@ -214,7 +214,7 @@ module _ {D : Type 0} (d e : Shown) (laws : IsDisk d) (at left : D) (s : Session
         lost = record {
           fresh = fresh;
           leaf = λ tells. subst (λ (c : Slots). IsLeafDamage e.reads c a w f) (sym leaves.containers) (subst (λ (i : Image). IsLeafDamage i s.pool.containers a w f) (sym only.stays.reads) (did.fails (subst IsTrue only.stays.tells tells)));
-          same = λ none. (record { map = leaves.map; kept = leaves.kept; found = leaves.found; containers = subst (KeepsMaps e s.pool.containers) (sym leaves.containers) (maps_same e s.pool.containers) }, refl);
+          same = λ none. (record { map = leaves.map; kept = leaves.kept; found = leaves.found; version = leaves.version; containers = subst (KeepsMaps e s.pool.containers) (sym leaves.containers) (maps_same e s.pool.containers) }, refl);
         }
 
         whole : IsTrue d.tells → (last m : Machine) → StandsFor d s last m → ⊥

@@ -6,8 +6,8 @@ use Rattle.std.proofs.lemmas.Bool.Decides.{nat_tests}
 use Rattle.std.proofs.lemmas.List.{get_or_past, ext_get_or, length-replicate, get_or-replicate}
 use Rattle.std.proofs.lemmas.List.FromFn.{length-map-range_with_len, get_or-map-range_with_len}
 use Rattle.fv_bits.specs.Bits.{bit_of_number, block_bits}
-use Rattle.fv_bits.specs.Members.{is_member, count_between, count_of, IsFirstFree, IsFullFrom, IsUnion, IsBlockOf, TakesBlock, IsFirstPast}
-use Rattle.fv_bits.specs.Stored.{bit_of_words, map_of, IsStored, IsFirst, AreSet, IsFirstAbove, HasNoneAbove, PutsBitOf, Unites, HasBitsOf, PutsBlock}
+use Rattle.fv_bits.specs.Members.{is_member, count_between, count_of, HasNoneFrom, IsFirstFree, IsFirstMember, IsFullFrom, IsUnion, IsBlockOf, TakesBlock, IsFirstPast}
+use Rattle.fv_bits.specs.Stored.{AreClearFrom, bit_of_words, map_of, IsStored, IsFirst, AreSet, IsFirstAbove, HasNoneAbove, PutsBitOf, Unites, HasBitsOf, PutsBlock}
 use Rattle.fv_bits.proofs.Numbers.{bit_zero}
 use Rattle.fv_bits.proofs.Rows.{bit_at_place, bit_past}
 use Rattle.fv_bits.proofs.Counts.{passing_same}
@@ -91,6 +91,26 @@ full_map len ws stored from (Some at) all = all
 pub found_map : (len : ℕ) (ws : List ℕ) → IsStored len ws → (from : ℕ) (r : Option ℕ) → IfSome r (IsFirst ws false from) → IfSome r (λ at. at < len) → IfSome r (IsFirstFree (map_of len ws) from)
 found_map len ws stored from None first inside = first
 found_map len ws stored from (Some at) first inside = free_map len ws stored from at first inside
+
+-- the first member
+pub set_below : (len : ℕ) (ws : List ℕ) (from at : ℕ) → IsStored len ws → IsFirst ws true from at → at < len
+set_below len ws from at stored first = elim (cases_lt at len) [
+  | inl inside ↦ inside
+  | inr past ↦ absurd (true≢false (sym first.here ∙ stored.clear at past))
+]
+
+pub first_map : (len : ℕ) (ws : List ℕ) → IsStored len ws → (from : ℕ) (r : Option ℕ) → IfSome r (IsFirst ws true from) → IfSome r (IsFirstMember (map_of len ws) from)
+first_map len ws stored from None first = first
+first_map len ws stored from (Some at) first = record {
+  after = first.after;
+  within = omega (arith, length-map_of len ws, set_below len ws from at stored first);
+  here = member_of len ws stored at ∙ first.here;
+  before = λ k low high. member_of len ws stored k ∙ first.before k low high;
+}
+
+pub none_map : (len : ℕ) (ws : List ℕ) → IsStored len ws → (from : ℕ) (r : Option ℕ) → IfNone r (AreClearFrom ws from) → IfNone r (HasNoneFrom (map_of len ws) from)
+none_map len ws stored from None clear = record { none = λ k low. member_of len ws stored k ∙ clear.bits k low }
+none_map len ws stored from (Some at) clear = clear
 
 -- the union
 pub unite_stored : (len : ℕ) (ws os new : List ℕ) → IsStored len ws → IsStored len os → Unites ws os new → IsStored len new

@@ -32,6 +32,17 @@ pub record IsFirstFree (map : List Bool) (from i : ℕ) : Type 0 where
 pub record IsFullFrom (map : List Bool) (from : ℕ) : Type 0 where
   pub full : (k : ℕ) → from ≤ k → k < length map → is_member map k ≡ true
 
+-- i is the least member from `from` on
+pub record IsFirstMember (map : List Bool) (from i : ℕ) : Type 0 where
+  pub after : from ≤ i
+  pub within : i < length map
+  pub here : is_member map i ≡ true
+  pub before : (k : ℕ) → from ≤ k → k < i → is_member map k ≡ false
+
+-- no number from `from` on is a member
+pub record HasNoneFrom (map : List Bool) (from : ℕ) : Type 0 where
+  pub none : (k : ℕ) → from ≤ k → is_member map k ≡ false
+
 -- the map has the members of two others, and the length of the first
 pub record IsUnion (map left right : List Bool) : Type 0 where
   pub len : length map ≡ length left

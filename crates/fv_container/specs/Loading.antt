@@ -88,3 +88,7 @@ has_entry_at map v = is_some (entry_under map v)
 -- how many entries of a region aren't holes and stand under numbers that aren't held
 unfoldable pub delayed_in_region : Mapped → List Bool → ℕ → ℕ
 delayed_in_region map held region = count_by (λ v. has_entry_at map v && not (get_or held v false)) (range_with_len (256 * region) 256)
+
+-- how many entries of a region aren't holes
+unfoldable pub entries_in_region : Mapped → ℕ → ℕ
+entries_in_region map region = count_by (has_entry_at map) (range_with_len (256 * region) 256)

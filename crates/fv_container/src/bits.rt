@@ -63,3 +63,13 @@ pub(crate) fn count_in(used: &BitMap, held: &BitMap, from: u32) -> u32
     }
     count
 }
+
+/// How many of the 256 numbers from one on, which is below its length, are members of a map. Costs a step for each word of 64 numbers.
+#[tactic(auto, using(crate::proofs::Counting::members_from))]
+pub(crate) fn count_from(used: &BitMap, from: u32) -> u32
+    requires few { from < 2 ^ 30 }
+    requires within { from < length used.now }
+    ensures { result ≡ count_by (λ v. get_or used.now v false) (range_with_len from 256) }
+{
+    used.count_range(from, (from + 256).min(used.len()))
+}

@@ -24,7 +24,7 @@ use crate::fault::ContainerFault;
 use crate::flush::flush_tree;
 use crate::free::Free;
 use crate::layout::{
-    FAN, above_count, absent_leaves, fill, filled, leaf_count, marks_above, node_count,
+    FAN, above_count, absent_leaves, fill, filled, grown, leaf_count, marks_above, node_count,
 };
 use crate::leaf::{
     boxed, drop_leaves, entry_in, has_leaf, mark_changed, no_leaves, put_in, read_region,
@@ -49,6 +49,8 @@ use std::marker::Model;
 /// was loaded. Contracts see the entries by VVBN, each an entry or a hole, the places of the tree's nodes, and which of these are dirty.
 /// Beside these they see of which regions the leaf is in memory, of which it is known which entries are holes, and whether that is as the
 /// entries say, which it is where the container is clean on the disk.
+///
+/// Its rows have memory enough for the entries that it may grow to.
 #[derive(Drop)]
 pub struct Container {
     alloc: Global,
@@ -67,7 +69,7 @@ pub struct Container {
     next: Vec<u32>,
     /// And room for those of them that are new.
     fresh: Vec<u32>,
-    /// The VVBNs whose entries aren't holes.
+    /// The VVBNs whose entries aren't holes, with room for all that there may be.
     pub(crate) used: BitMap,
     /// Of which regions these are known.
     pub(crate) known: Vec<bool>,
@@ -75,13 +77,15 @@ pub struct Container {
 
 impl Model for Container {
     ghost use Rattle.fv_container.specs.Paged.{Paged};
-    ghost use Rattle.fv_container.specs.Kept.{IsKept, paged_of};
+    ghost use Rattle.std.specs.Prelude.{length};
+    ghost use Rattle.std.specs.Vec.{vec_capacity};
+    ghost use Rattle.fv_container.specs.Kept.{CanGrow, IsKept, paged_of};
 
     ghost Value = { Paged };
 
     ghost view = { λ c. paged_of c.told.entries c.tree.items c.dirty.items c.leaves.items c.known.items c.told.sure };
 
-    ghost invariant = { λ c. IsKept (paged_of c.told.entries c.tree.items c.dirty.items c.leaves.items c.known.items c.told.sure) c.count c.leaves.items c.used c.next.items c.fresh.items };
+    ghost invariant = { λ c. IsKept (paged_of c.told.entries c.tree.items c.dirty.items c.leaves.items c.known.items c.told.sure) c.count c.leaves.items c.used c.next.items c.fresh.items × CanGrow c.count (vec_capacity c.leaves) (vec_capacity c.tree) (vec_capacity c.dirty) (vec_capacity c.next) (vec_capacity c.fresh) (vec_capacity c.known) (length c.used) };
 }
 
 impl Container {
@@ -92,15 +96,17 @@ impl Container {
         ensures empty { IfOk result (λ container. container ≡ empty_paged entries) }
     {
         let count = entries as usize;
+        let most = grown(count);
         let nodes = node_count(count);
+        let room = node_count(most);
         let regions = leaf_count(count);
-        let known = filled(alloc, regions, true)?;
-        let leaves = no_leaves(alloc, regions)?;
-        let tree = filled(alloc, nodes, 0)?;
-        let dirty = marks_above(alloc, regions, above_count(count), true)?;
-        let next = filled(alloc, nodes, 0)?;
-        let fresh = filled(alloc, nodes, 0)?;
-        let used = BitMap::new(alloc, entries)?;
+        let known = filled(alloc, regions, leaf_count(most), true)?;
+        let leaves = no_leaves(alloc, regions, leaf_count(most))?;
+        let tree = filled(alloc, nodes, room, 0)?;
+        let dirty = marks_above(alloc, regions, above_count(count), room, true)?;
+        let next = filled(alloc, nodes, room, 0)?;
+        let fresh = filled(alloc, nodes, room, 0)?;
+        let used = BitMap::new(alloc, most as u32)?;
         let told = Told::of::<Making<'_>, AfterMake>(&Making {
             count: entries,
             known: &known,
@@ -161,17 +167,19 @@ impl Container {
         ensures cause { HasBlockCause (D.shown disk.old).faults (D.shown disk.new).faults result }
     {
         let count = entries as usize;
+        let most = grown(count);
         let nodes = node_count(count);
+        let room = node_count(most);
         let regions = leaf_count(count);
-        let mut tree = filled(alloc, nodes, 0)?;
-        let next = filled(alloc, nodes, 0)?;
-        let fresh = filled(alloc, nodes, 0)?;
-        let leaves = no_leaves(alloc, regions)?;
-        let used = BitMap::new(alloc, entries)?;
+        let mut tree = filled(alloc, nodes, room, 0)?;
+        let next = filled(alloc, nodes, room, 0)?;
+        let fresh = filled(alloc, nodes, room, 0)?;
+        let leaves = no_leaves(alloc, regions, leaf_count(most))?;
+        let used = BitMap::new(alloc, most as u32)?;
         let whole = read_tree(store, disk, &mut tree, count, height, root)?;
         let stands = both(whole, are_places(&tree));
-        let dirty = marks_above(alloc, regions, above_count(count), !stands)?;
-        let known = absent_leaves(alloc, &tree, regions)?;
+        let dirty = marks_above(alloc, regions, above_count(count), room, !stands)?;
+        let known = absent_leaves(alloc, &tree, regions, leaf_count(most))?;
         let told = Told::of::<Opening<'_, D>, AfterOpen>(&Opening {
             disk,
             tree: &tree,

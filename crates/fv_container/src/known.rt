@@ -8,11 +8,11 @@ ghost use Rattle.fv_disk.specs.Faults.{HasBlockCause};
 ghost use Rattle.fv_container.specs.Clean.{IsCleanOn};
 ghost use Rattle.fv_container.specs.Mapped.{IsMapped};
 ghost use Rattle.fv_container.specs.Paged.{is_known, is_sure};
-ghost use Rattle.fv_container.specs.Loading.{HasLearned, KeepsMap, IsReadFault, Marks, delayed_in_region, has_entry_at, leads_somewhere};
+ghost use Rattle.fv_container.specs.Loading.{HasLearned, KeepsMap, IsReadFault, Marks, delayed_in_region, entries_in_region, has_entry_at, leads_somewhere};
 ghost use Rattle.fv_container.specs.Reading.{IsBadNode};
 ghost use Rattle.fv_container.specs.Seeing.{IsSomeFault};
 
-use crate::bits::{count_in, learn_in};
+use crate::bits::{count_from, count_in, learn_in};
 use crate::container::Container;
 use crate::fault::ContainerFault;
 use crate::layout::leaf_count;
@@ -100,6 +100,16 @@ impl Container {
         ensures { is_sure self.now (vvbn / 256) ≡ true → result ≡ has_entry_at self.now.map vvbn }
     {
         self.used.get(vvbn)
+    }
+
+    /// How many entries of a region aren't holes. It is known which are. It takes no memory and makes no disk call. Costs a step for each
+    /// word of 64 VVBNs.
+    pub fn entries_in(&self, region: u32) -> u32
+        requires within { 256 * region < length self.now.map.entries }
+        requires known { is_known self.now region ≡ true }
+        ensures { is_sure self.now region ≡ true → result ≡ entries_in_region self.now.map region }
+    {
+        count_from(&self.used, 256 * region)
     }
 
     /// How many entries of a region are delayed: they aren't holes, and their VVBNs aren't members of `held`. It is known which of the

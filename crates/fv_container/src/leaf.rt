@@ -1,6 +1,7 @@
 //! The leaves in memory.
 
 ghost use Rattle.std.specs.Prelude.{◌≡◌, ◌≢◌, ◌<◌, ◌≤◌, ◌*◌, ◌+◌, ℕ, true, false, None, IfSome, IfOk, IfErr, IsTrue, is_some, length, replicate, slice_set, if◌then◌else◌, nat_lt};
+ghost use Rattle.std.specs.Vec.{vec_capacity};
 ghost use Rattle.fv_codec.specs.Blocks.{IsEntry as IsLeafEntry};
 ghost use Rattle.fv_store.specs.Held.{StandsOn};
 ghost use Rattle.fv_image.specs.Containers.{most_entries};
@@ -225,14 +226,16 @@ pub(crate) fn put_in(
     }
 }
 
-/// No leaf is in memory.
+/// No leaf is in memory, and there is room for so many.
 pub(crate) fn no_leaves(
     alloc: Global,
     regions: usize,
+    room: usize,
 ) -> Result<Vec<Option<Box<ContainerLeaf>>>, AllocError>
-    ensures { IfOk result (λ leaves. leaves.items ≡ replicate regions None) }
+    ensures leaves { IfOk result (λ leaves. leaves.items ≡ replicate regions None) }
+    ensures room { IfOk result (λ leaves. room ≤ vec_capacity leaves) }
 {
-    let mut leaves = Vec::with_capacity(alloc, regions)?;
+    let mut leaves = Vec::with_capacity(alloc, room)?;
     for _ in 0..regions {
         leaves.push(None)?;
     }

@@ -69,6 +69,7 @@ module _ (disk after : Shown) (pool left : Pool) (states : States) (loads : Load
   fit_loaded = record {
     range = subst IsInRange (sym loads.found) fit.range;
     size = ap blocks_of loads.map ∙ fit.size ∙ ap (λ (f : Found). f.blocks) (sym loads.found);
+    version = loads.version ∙ fit.version ∙ ap (λ (f : Found). f.root.version) (sym loads.found);
     housed = record {
       long = fit.housed.long;
       volumes = fit.housed.volumes;
@@ -201,7 +202,7 @@ module _ (disk after : Shown) (pool left : Pool) (states : States) (loads : Load
     unfolding machine_held slots
     machine_loaded = λ j. record {
       blocks = (loads.found j).blocks;
-      version = (loads.found j).root.version;
+      version = loads.version j;
       volumes = fin.from_entries {R = name_cmp} (same_parts (λ k. named_held after left (state_at states k)) (λ k. named_held disk pool (state_at states k)) 0 64 (λ k low high. named_same k (state_at states k) refl (held.each k)) j);
     }
       where
@@ -219,6 +220,7 @@ placed_loaded disk mid after pool held left states between placed loads reads st
   machine = λ before was. machine_loaded mid after held left between loads reads stands few placed.fit before (placed.held before was) ∙ placed.machine before was;
   fit = fit_loaded mid after held left between loads reads stands few placed.fit;
   found = loads.found ∙ placed.found;
+  version = loads.version ∙ placed.version;
   committed = ap (λ (m : Space). m.committed) loads.map ∙ placed.committed;
   cores = placed.cores;
   asked = placed.asked;
@@ -236,6 +238,7 @@ placed_loaded disk mid after pool held left states between placed loads reads st
           map = loads.map ∙ was.0.map;
           kept = loads.kept ∙ was.0.kept;
           found = loads.found ∙ was.0.found;
+          version = loads.version ∙ was.0.version;
           containers = maps_then disk mid pool.containers held.containers left.containers placed.only_reads.stays.tells placed.only_reads.stays.reads was.0.containers loads.containers;
         },
         was.1,

@@ -57,6 +57,9 @@ module _ (disk after : Shown) (pool left : Pool) (states stay : States) (x y : V
   found_same : left.found ≡ pool.found
   found_same = placed.goes.goes.goes.found
 
+  version_same : left.version ≡ pool.version
+  version_same = placed.goes.goes.goes.version
+
   in_list : x.slot < length states
   in_list = let low = is_inside states x.slot x fit.housed.long there in let long = fit.housed.long in omega (arith, low, long)
 
@@ -64,6 +67,7 @@ module _ (disk after : Shown) (pool left : Pool) (states stay : States) (x y : V
   fit_still = record {
     range = subst IsInRange (sym found_same) fit.range;
     size = ap (λ (c : List Bool). length c) placed.goes.goes.goes.committed ∙ fit.size ∙ ap (λ (f : Found). f.blocks) (sym found_same);
+    version = version_same ∙ fit.version ∙ ap (λ (f : Found). f.root.version) (sym found_same);
     housed = one.housed_still disk after pool left states stay x y there now fit.housed placed;
     kept = one.kept_still disk after pool left states stay x y there now fit.housed placed fit.kept;
   }
@@ -157,7 +161,7 @@ module _ (disk after : Shown) (pool left : Pool) (states stay : States) (x y : V
     unfolding machine_held slots
     machine_still = λ j. record {
       blocks = (found_same j).blocks;
-      version = (found_same j).root.version;
+      version = version_same j;
       volumes = fin.from_entries {R = name_cmp} (same_parts (λ k. named_held after left (state_at stay k)) (λ k. named_held disk pool (state_at states k)) 0 64
           (λ k low high. one.named_still disk after pool left states stay x y there now fit.housed placed fit.size held.slots held.spaced held.each k) j);
     }
@@ -204,12 +208,12 @@ unused_none containers s (Some y) = λ v out. refl
 
 -- nothing came into memory
 loads_none : (disk : Shown) (pool : Pool) → LoadsPool disk pool pool
-loads_none disk pool = record { map = refl; kept = refl; found = refl; containers = maps_same disk pool.containers }
+loads_none disk pool = record { map = refl; kept = refl; found = refl; version = refl; containers = maps_same disk pool.containers }
 
 pub passed_none : (disk : Shown) (pool : Pool) (states : States) → FitTogether pool states → AreReady disk pool states → StandsOn disk pool.store.pairs → HasPassed disk pool states 0 disk pool states
 passed_none disk pool states fit ready stands = record {
   come = record {
-    placed = record { held = λ before held. held; machine = λ before held. refl; fit = fit; found = refl; committed = refl; cores = λ s. refl; asked = refl; all = refl; waiting = refl; spent = λ before held room. record { fewer = omega arith; numbers = room.numbers; blocks = omega arith }; others = λ s. refl; entries = λ s v. inl refl; unused = λ before held s. unused_none pool.containers s (state_at states s); rest = λ s none. (refl, refl); only_reads = only_itself disk; idle = λ none. (loads_none disk pool, refl) };
+    placed = record { held = λ before held. held; machine = λ before held. refl; fit = fit; found = refl; version = refl; committed = refl; cores = λ s. refl; asked = refl; all = refl; waiting = refl; spent = λ before held room. record { fewer = omega arith; numbers = room.numbers; blocks = omega arith }; others = λ s. refl; entries = λ s v. inl refl; unused = λ before held s. unused_none pool.containers s (state_at states s); rest = λ s none. (refl, refl); only_reads = only_itself disk; idle = λ none. (loads_none disk pool, refl) };
     ready = ready;
     stands = stands;
   };
@@ -287,6 +291,7 @@ module _ (disk : Shown) (pool : Pool) (states : States) (mid : Shown) (held : Po
           machine = λ before was. machine_still mid after held left between stay x did.now here now come.placed.fit did.placed before (come.placed.held before was) ∙ come.placed.machine before was;
           fit = fit_still mid after held left between stay x did.now here now come.placed.fit did.placed;
           found = did.placed.goes.goes.goes.found ∙ come.placed.found;
+          version = did.placed.goes.goes.goes.version ∙ come.placed.version;
           committed = did.placed.goes.goes.goes.committed ∙ come.placed.committed;
           cores = λ s. one.cores_still mid after held left between stay x did.now here now come.placed.fit.housed did.placed s ∙ come.placed.cores s;
           asked = asked_still mid after held left between stay x did.now here now come.placed.fit did.placed ready.ready ∙ come.placed.asked;

@@ -102,6 +102,7 @@ pub record ArePlaced (disk : Shown) (pool : Pool) (states : States) (after : Sho
   pub machine : (before : Machine) → IsHeld disk pool states before → machine_held after left stay ≡ machine_held disk pool states
   pub fit : FitTogether left stay
   pub found : left.found ≡ pool.found
+  pub version : left.version ≡ pool.version
   -- the map of the root that counts stays; the next root's may differ
   pub committed : left.map.committed ≡ pool.map.committed
   pub cores : KeepCores states stay

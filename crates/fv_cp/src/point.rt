@@ -81,6 +81,7 @@ pub fn consistency_point<D: Disk>(
 {
     mark(volumes, &plan.due);
     let mut root = pool.found.root;
+    root.version = pool.version;
     let mut left = plan.delays;
     clear_free(volumes, &mut root.labels);
     write_volumes(volumes, plan, pool, disk, &mut root.labels, &mut left)?;
@@ -162,6 +163,7 @@ fn write_slot<D: Disk>(
     ensures spares { Spares (IsTaken (on_disk pool.old.map)) (D.shown disk.old) (D.shown disk.new) result }
     ensures committed { pool.new.map.committed ≡ pool.old.map.committed }
     ensures found { pool.new.found ≡ pool.old.found }
+    ensures version { pool.new.version ≡ pool.old.version }
     ensures kept { pool.new.kept ≡ pool.old.kept }
     ensures stands { StandsOn (D.shown disk.new) pool.new.store.pairs }
 {

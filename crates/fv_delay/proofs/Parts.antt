@@ -10,8 +10,9 @@ use Rattle.std.proofs.lemmas.List.{get_or_past}
 use Rattle.std.proofs.lemmas.List.Sums.{sum_by-cons}
 use Rattle.fv_bits.proofs.Counts.{passing, passing-add, passing-suc}
 use Rattle.fv_image.specs.Containers.{fan, level_width}
-use Rattle.fv_image.proofs.Counts.{none_between}
+use Rattle.fv_image.proofs.Counts.{none_between, within_two}
 use Rattle.fv_container.specs.Mapped.{Mapped}
+use Rattle.fv_container.specs.Loading.{entries_in_region, has_entry_at}
 use Rattle.fv_volmap.specs.Slots.{Volume}
 use Rattle.fv_delay.specs.Delay.{delayed_in, delayed_of, is_delayed, is_held}
 
@@ -30,6 +31,30 @@ region_has entries v within = omega (arith, within)
 -- behind the last entry none is delayed
 pub none_past : (map : Volume) (container : Mapped) (v : ℕ) → length container.entries ≤ v → is_delayed map container v ≡ false
 none_past map container v past = ap (λ entry. is_some entry && not (is_held map v)) (get_or_past container.entries v None past)
+
+-- where no entry of a region is there, none is delayed
+entry_there : (map : Volume) (container : Mapped) (v : ℕ) → cond {A = ℕ} (is_delayed map container v) 1 0 ≤ cond {A = ℕ} (has_entry_at container v) 1 0 + cond {A = ℕ} (has_entry_at container v) 1 0
+entry_there map container v = each (has_entry_at container v) (is_held map v)
+  where
+    each : (a h : Bool) → cond {A = ℕ} (a && not h) 1 0 ≤ cond {A = ℕ} a 1 0 + cond {A = ℕ} a 1 0
+    each true true = omega arith
+    each true false = omega arith
+    each false h = omega arith
+
+none_of : (m n : ℕ) → m ≤ n + n → n ≡ 0 → m ≡ 0
+none_of m n most none = omega (arith, most, none)
+
+pub none_there : (map : Volume) (container : Mapped) (region : ℕ) → entries_in_region container region ≡ 0 → delayed_in map container region ≡ 0
+unfolding delayed_in entries_in_region
+none_there map container region none =
+    let p : ℕ → Bool = is_delayed map container in
+    let q : ℕ → Bool = has_entry_at container in
+    none_of (passing p (fan * region) fan) (passing q (fan * region) fan) (within_two p q q (fan * region) fan (entry_there map container)) none
+
+-- nor in a region behind the last entry
+pub none_behind : (map : Volume) (container : Mapped) (region : ℕ) → length container.entries ≤ fan * region → delayed_in map container region ≡ 0
+unfolding delayed_in
+none_behind map container region past = none_between (is_delayed map container) (fan * region) fan (λ k low high. none_past map container k (omega (arith, past, low)))
 
 -- one number more
 pub count_more : (p : ℕ → Bool) (first v : ℕ) → first ≤ v → passing p first ((v + 1) - first) ≡ passing p first (v - first) + cond (p v) 1 0

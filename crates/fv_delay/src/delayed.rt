@@ -1,6 +1,6 @@
 //! Which entries of a container are delayed.
 
-ghost use Rattle.std.specs.Prelude.{◌≡◌, ◌<◌, ◌≤◌, ◌*◌, ◌+◌, ◌-◌, ◌/◌, true, length, min};
+ghost use Rattle.std.specs.Prelude.{◌≡◌, ◌<◌, ◌≤◌, ◌*◌, ◌+◌, ◌-◌, ◌/◌, true, false, length, min};
 ghost use Rattle.fv_image.specs.Containers.{fan, level_width, most_entries};
 ghost use Rattle.fv_image.specs.Views.{entry_count};
 ghost use Rattle.fv_model.specs.Numbers.{greatest_span};
@@ -19,13 +19,17 @@ const STORED: u32 = 25;
 /// of the map's span and for each block of 25 maps, and it is known which entries of the region are holes. From its last region on none is
 /// delayed.
 ///
-/// Costs a step for each of the at most 256 entries and each slot. It takes no memory and makes no disk call.
+/// Costs a step for each word of 64 VVBNs, and where an entry isn't a hole one for each of the at most 256 entries, and up to 25 more for
+/// such a one. It takes no memory and makes no disk call.
 pub fn delayed_by_region(container: &Container, map: &VolMap, region: u32) -> u32
     requires span { map.now.span ≤ greatest_span }
     requires entries { length container.now.map.entries ≡ entry_count map.now.span }
     requires known { IsKnownIn container.now region }
     ensures { IsSureIn container.now region → result ≡ delayed_in map.now container.now.map region }
 {
+    if !has_entries(container, map, region) {
+        return 0;
+    }
     let entries = entry_count(map);
     let first = first_of(region, entries);
     let end = end_of(first, entries);
@@ -34,6 +38,16 @@ pub fn delayed_by_region(container: &Container, map: &VolMap, region: u32) -> u3
         count += u32::from(is_delayed(container, map, vvbn));
     }
     count
+}
+
+/// Whether an entry of a region isn't a hole: else none is delayed.
+fn has_entries(container: &Container, map: &VolMap, region: u32) -> bool
+    requires span { map.now.span ≤ greatest_span }
+    requires entries { length container.now.map.entries ≡ entry_count map.now.span }
+    requires known { IsKnownIn container.now region }
+    ensures { IsSureIn container.now region → result ≡ false → delayed_in map.now container.now.map region ≡ 0 }
+{
+    region < region_count(map) && container.entries_in(region) != 0
 }
 
 /// How many regions a volume's container has, which has an entry for each VVBN of the map's span and for each block of 25 maps. From that

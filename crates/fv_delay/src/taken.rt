@@ -21,7 +21,8 @@ use fv_volmap::VolMap;
 /// The table of a volume's regions with delayed entries. The container has an entry for each VVBN of the map's span and for each block of 25
 /// maps, and it is known of all regions which entries are holes.
 ///
-/// It takes no memory and makes no disk call. Costs a step for each entry, and up to 25 more for one that is no hole.
+/// It takes no memory and makes no disk call. Costs a step for each word of 64 VVBNs, and in a region with an entry that is no hole one for
+/// each entry, and up to 25 more for such a one.
 pub fn table_of(container: &Container, map: &VolMap) -> Table
     requires span { map.now.span ≤ greatest_span }
     requires entries { length container.now.map.entries ≡ entry_count map.now.span }
@@ -46,7 +47,8 @@ pub fn table_of(container: &Container, map: &VolMap) -> Table
 /// `reclaim_taken` needs in memory. A mark that is there stays. The container has an entry for each VVBN of the map's span and for each block
 /// of 25 maps, it is known of all regions which entries are holes, and the plan has a mark for each region. Marks behind them stay.
 ///
-/// It takes no memory and makes no disk call. Costs a step for each entry, and up to 25 more for one that is no hole.
+/// It takes no memory and makes no disk call. Costs a step for each word of 64 VVBNs, and in a region with an entry that is no hole one for
+/// each entry, and up to 25 more for such a one.
 pub fn mark_taken(start: Threshold, container: &Container, map: &VolMap, plan: &mut [bool])
     requires span { map.now.span ≤ greatest_span }
     requires entries { length container.now.map.entries ≡ entry_count map.now.span }
@@ -82,8 +84,8 @@ fn mark(plan: &mut [bool], region: usize, is_taken: bool)
 /// of 25 maps, and it is known of all regions which entries are holes. The leaves of the regions that are taken are in memory; a region whose
 /// leaf isn't stays as it is.
 ///
-/// It takes no memory and makes no disk call. Costs a step for each entry, and up to 25 more for one that is no hole, twice in a region that is
-/// taken.
+/// It takes no memory and makes no disk call. Costs a step for each word of 64 VVBNs, and in a region with an entry that is no hole one for
+/// each entry, and up to 25 more for such a one, twice in a region that is taken.
 pub fn reclaim_taken(
     start: Threshold,
     container: &mut Container,

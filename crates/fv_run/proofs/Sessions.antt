@@ -195,7 +195,7 @@ hurt_last lines count i first over session end all course opened hurt = record {
 
 -- a session of which nothing was read
 pub as_read_itself : (session : Session) → IsAsRead session session
-as_read_itself session = record { pool = record { map = refl; containers = refl; kept = refl; found = refl }; volumes = λ s. refl; same = refl }
+as_read_itself session = record { pool = record { map = refl; containers = refl; kept = refl; found = refl; version = refl }; volumes = λ s. refl; same = refl }
 
 -- ---- points that lack blocks
 

@@ -1,7 +1,6 @@
-use Rattle.std.proofs.Common.{◌≡◌, ◌≢◌, ◌+◌, ◌<◌, ◌||◌, ℕ, Bool, true, false, get_or, refl, sym, ap, ap₂, subst, ◌∙◌, ⊎_elim, arith}
+use Rattle.std.proofs.Common.{◌≡◌, ◌≢◌, ◌||◌, ℕ, Bool, false, get_or, refl, sym, ap₂, subst, ◌∙◌, ⊎_elim, arith}
 use Rattle.std.proofs.lemmas.Bool.{cases_eq}
 use Rattle.fv_delay.specs.ByThreshold.{behind, passed, taken_in, takes}
-use Rattle.fv_delay.specs.Delay.{delayed_in}
 use Rattle.fv_delay.specs.Holding.{Holding, held_by}
 use Rattle.fv_delay.proofs.Walking.{behind_front}
 use Rattle.fv_delay.proofs.TakenRegions.{at_width}

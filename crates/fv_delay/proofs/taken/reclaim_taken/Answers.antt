@@ -1,8 +1,8 @@
-use Rattle.std.proofs.Common.{◌≡◌, ◌+◌, ◌*◌, ◌<◌, ℕ, Bool, true, false, ◌&&◌, List, length, get_or, refl, sym, ap, subst, ◌∙◌, arith}
+use Rattle.std.proofs.Common.{◌≡◌, ◌+◌, ◌*◌, ◌<◌, ℕ, Bool, false, List, length, get_or, refl, sym, ap, subst, ◌∙◌, arith}
 use Rattle.std.proofs.lemmas.Bool.{true≢false}
 use Rattle.fv_image.specs.Containers.{fan}
 use Rattle.fv_aggmap.specs.Space.{Space}
-use Rattle.fv_container.specs.Paged.{Paged, is_here, is_known, is_sure}
+use Rattle.fv_container.specs.Paged.{Paged, is_here}
 use Rattle.fv_volmap.specs.Slots.{Volume}
 use Rattle.fv_delay.specs.declared.threshold.Threshold.{Threshold}
 use Rattle.fv_delay.specs.ByThreshold.{behind, taken_in, takes}
@@ -10,7 +10,7 @@ use Rattle.fv_delay.specs.Delay.{IsSureIn, delayed_in}
 use Rattle.fv_delay.specs.Holding.{held_by}
 use Rattle.fv_delay.specs.Reclaims.{HasGivenSome, HasReclaimed, HasStayed}
 use Rattle.fv_delay.proofs.Reclaimed.{some_none, some_then, stayed_same, stayed_then}
-use Rattle.fv_delay.proofs.TakenRegions.{HasAsked, and_second, and_so, asked_all, asked_left, asked_none, asked_off, asked_on, asked_passed, asked_rest, asked_taken, at_width, up_to}
+use Rattle.fv_delay.proofs.TakenRegions.{and_second, and_so, asked_all, asked_left, asked_none, asked_off, asked_on, asked_passed, asked_rest, asked_taken, at_width, up_to}
 use Rattle.fv_delay.proofs.taken.reclaim_taken.Goals.{then-takes_here, else-takes_here+then-count-ne0, else-takes_here+else-count-ne0}
 use Rattle.fv_delay.proofs.taken.reclaim_taken.Goals as goal
 

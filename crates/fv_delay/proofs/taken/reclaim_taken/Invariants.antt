@@ -1,8 +1,6 @@
-use Rattle.std.proofs.Common.{◌≡◌, ℕ, ◌<◌, true, false}
-use Rattle.fv_delay.specs.ByThreshold.{AreTakenHere, behind, counts_front, taken_in}
-use Rattle.fv_delay.specs.Delay.{AreSure, delayed_in}
-use Rattle.fv_delay.specs.Holding.{held_by}
-use Rattle.fv_delay.specs.Reclaims.{HasGivenSome, HasReclaimed, HasStayed}
+use Rattle.fv_delay.specs.ByThreshold.{AreTakenHere}
+use Rattle.fv_delay.specs.Delay.{AreSure}
+use Rattle.fv_delay.specs.Reclaims.{HasGivenSome, HasStayed}
 use Rattle.fv_delay.proofs.TakenRegions.{HasAsked}
 use Rattle.fv_delay.proofs.taken.reclaim_taken.Given as goal
 
