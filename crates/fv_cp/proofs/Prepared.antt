@@ -142,6 +142,7 @@ loads_then disk mid old now new reads first second = record {
   map = second.map ∙ first.map;
   kept = second.kept ∙ first.kept;
   found = second.found ∙ first.found;
+  version = second.version ∙ first.version;
   containers = maps_then disk mid old.containers now.containers new.containers reads.stays.tells reads.stays.reads first.containers second.containers;
 }
 

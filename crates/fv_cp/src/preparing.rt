@@ -41,7 +41,7 @@ use fv_volumes::{Volumes, mark_maps};
 /// As many regions as the largest container has.
 const REGIONS: usize = 4100;
 
-/// Plans a consistency point, and holds in memory what it needs: after `Ok` `consistency_point` reads nothing and takes no memory.
+/// Plans a consistency point, and holds in memory what it needs: after `Ok` `consistency_point` reads nothing and needs no memory.
 ///
 /// It plans to reclaim the regions with 64 or more delayed entries, and then those with most while the space rule lacks blocks for what is
 /// used, delayed and wanted; a volume with such a region is written, too. Where with these the volumes ask for more blocks than are free
@@ -57,8 +57,8 @@ const REGIONS: usize = 4100;
 /// `Memory` where there was none for a leaf.
 ///
 /// Costs a read for each leaf of which it isn't known yet which entries are holes, of each volume that changed or of which `delays` says
-/// that an entry may be delayed, and for each that is changed and isn't in memory; and a step for each entry of these volumes, with up to
-/// 25 more for one that is no hole, so again for each volume of which a region is chosen.
+/// that an entry may be delayed, and for each that is changed and isn't in memory; and what `table_of` of `fv_delay` costs for these volumes,
+/// so again for each volume of which a region is chosen.
 pub fn prepare<D: Disk>(
     volumes: &Volumes,
     pool: &mut Pool,

@@ -88,6 +88,7 @@ module _ (pool : Pool) (map after : Volume) (disk : Disk) (steps : ℕ) (home : 
       record {
         home = refl;
         found = refl;
+        version = refl;
         room = omega arith;
         spends = λ some. spends;
         steps = omega arith;
@@ -155,6 +156,7 @@ module _ (pool new : Pool) (map : Volume) (disk later : Disk) (steps : ℕ) (hom
       record {
         home = refl;
         found = loads.found;
+        version = loads.version;
         room = omega arith;
         spends = λ some. record { numbers = omega arith; blocks = omega (arith, free) };
         steps = omega arith;
@@ -299,6 +301,7 @@ module _ (disk : Disk) (pool new : Pool) (map after : Volume) (slot kind : ℕ) 
   goes_with later steps home room less strays noted reads at fewer one leaves keeps = record {
     home = refl;
     found = places.found;
+    version = places.version;
     room = fewer;
     spends = λ some. let fell = one some in record { numbers = omega (arith, fell, leaves.numbers); blocks = omega (arith, fell, leaves.blocks) };
     steps = omega arith;

@@ -11,7 +11,7 @@ use Rattle.fv_cp.proofs.preparing.learn.Goals as goal
 
 pub loop-slot-init : goal.loop-slot-init
 loop-slot-init g c = record {
-  loads = record { map = refl; kept = refl; found = refl; containers = maps_same (g.D.Disk.shown c.args.disk.now) c.args.pool.now.containers };
+  loads = record { map = refl; kept = refl; found = refl; version = refl; containers = maps_same (g.D.Disk.shown c.args.disk.now) c.args.pool.now.containers };
   known = λ s low. absurd (omega (arith, low));
   stands = c.requires.stands;
   only_reads = only_itself (g.D.Disk.shown c.args.disk.now);
@@ -27,7 +27,7 @@ loop-slot-preserved g c =
     let did = c.in_ok-learn_slot.ensures in
     let inside : s < 64 = omega (arith, c.loop-slot-test.true) in
     record {
-      loads = loads_then disk mid c.args.pool.now c.loop-slot.pool _ was.only_reads was.loads (record { map = refl; kept = refl; found = refl; containers = did.maps });
+      loads = loads_then disk mid c.args.pool.now c.loop-slot.pool _ was.only_reads was.loads (record { map = refl; kept = refl; found = refl; version = refl; containers = did.maps });
       known = known_more c.loop-slot.pool.containers c.learn_slot.new.containers c.args.volumes.now c.args.delays.now s did.others was.known
           (subst (λ (b : Bool). IsSlotKnown c.learn_slot.new.containers c.args.volumes.now s b) (any_default c.args.delays.now s false true (omega (arith, inside, c.told-delays))) did.known);
       stands = did.stands;
@@ -38,7 +38,7 @@ loop-slot-preserved g c =
 pub returns-in_err-learn_slot-clause-loads : goal.returns-in_err-learn_slot-clause-loads
 returns-in_err-learn_slot-clause-loads g c =
     let was = c.loop-slot.invariant in
-    loads_then (g.D.Disk.shown c.args.disk.now) (g.D.Disk.shown c.loop-slot.disk) c.args.pool.now c.loop-slot.pool _ was.only_reads was.loads (record { map = refl; kept = refl; found = refl; containers = c.learn_slot.ensures.maps })
+    loads_then (g.D.Disk.shown c.args.disk.now) (g.D.Disk.shown c.loop-slot.disk) c.args.pool.now c.loop-slot.pool _ was.only_reads was.loads (record { map = refl; kept = refl; found = refl; version = refl; containers = c.learn_slot.ensures.maps })
 
 pub returns-in_err-learn_slot-clause-fault : goal.returns-in_err-learn_slot-clause-fault
 returns-in_err-learn_slot-clause-fault g c =
