@@ -50,7 +50,7 @@ rests_for_fault e disk session last m after laws no_damage stands = record {
 
 -- nothing was read
 pub unpointed_itself : (disk : Shown) (session : Session) → IsUnpointed disk session disk session
-unpointed_itself disk session = record { only_reads = reads_itself disk; loads = λ none. (record { map = refl; kept = refl; found = refl; containers = maps_same disk session.pool.containers }, refl) }
+unpointed_itself disk session = record { only_reads = reads_itself disk; loads = λ none. (record { map = refl; kept = refl; found = refl; version = refl; containers = maps_same disk session.pool.containers }, refl) }
 
 -- a fault tells nothing of the command, where it is no such one as is always answered
 pub fault_plain : {D : Type 0} (command : Command) (shown : Shown) (disk : D) (session : Session) (f : Fault) → IsForWant shown session shown session f → (IsNone session.failed → is_built command ≡ false → ⊥)

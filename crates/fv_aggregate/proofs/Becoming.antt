@@ -71,14 +71,14 @@ module _ (d e : Shown) (p q : Pool) (reads : Reads d p e q) (states : States) (l
   unfolding machine_held
   machine_becomes =
       let map : now.volumes ≡ fin.insert was.volumes x.name volume = fin.same_map name_total name_ties _ _ (λ n. by_name n ∙ sym (fin.get-insert name_total was.volumes x.name volume n)) in
-      λ j. record { blocks = (reads.leaves.found j).blocks; version = (reads.leaves.found j).root.version; volumes = map j }
+      λ j. record { blocks = (reads.leaves.found j).blocks; version = reads.leaves.version j; volumes = map j }
 
   -- and where it stands for the same one, the machine stays
   pub machine_stays : volume ≡ volume_for d p x → now ≡ was
   unfolding machine_held
   machine_stays same =
       let map : now.volumes ≡ was.volumes = fin.same_map name_total name_ties _ _ (λ n. by_name n ∙ kept n (eq_by_cmp name_cmp n x.name) refl) in
-      λ j. record { blocks = (reads.leaves.found j).blocks; version = (reads.leaves.found j).root.version; volumes = map j }
+      λ j. record { blocks = (reads.leaves.found j).blocks; version = reads.leaves.version j; volumes = map j }
     where
       kept : (n : List ℕ) (b : Bool) → eq_by_cmp name_cmp n x.name ≡ b → cond b (Some volume) (fin.get was.volumes n) ≡ fin.get was.volumes n
       kept n true is = ap (λ (v : Volume). Some v) same ∙ sym (is_there d p states long last held s x there) ∙ ap (fin.get was.volumes) (sym (same_name n x.name is))

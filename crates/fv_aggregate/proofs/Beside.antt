@@ -378,5 +378,5 @@ module _ (disk : Shown) (pool : Pool) (states : States) (slot : ℕ) (name : Lis
         ∙ (λ j. cond (eq_by_cmp name_cmp q (called j)) (Some (volume j)) (find name_cmp q (old_same j)))
         ∙ ap (λ (o : Option Volume). cond (eq_by_cmp name_cmp q name) (Some (empty_volume size kind)) o) (sym (at_name disk pool states fit.housed.long q))
         ∙ sym (fin.get-insert name_total m.volumes name (empty_volume size kind) q)) in
-        (λ j. record { blocks = pool.found.blocks; version = pool.found.root.version; volumes = map j })
+        (λ j. record { blocks = pool.found.blocks; version = pool.version; volumes = map j })
         ∙ sym (ap (λ (r : Option Refusal). cond (is_some r) m (effect m (VolCreate name size kind))) (accepted_held disk pool states fit.housed.long last held name size kind admits.0 span admits.1))

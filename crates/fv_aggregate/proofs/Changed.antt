@@ -68,6 +68,7 @@ module _ (d e : Shown) (p q : Pool) (states : States) (s : ℕ) (x y : VolumeSta
   fit_changed fit = record {
     range = subst IsInRange (sym reads.leaves.found) fit.range;
     size = ap blocks_of reads.leaves.map ∙ fit.size ∙ sym (ap (λ (f : Found). f.blocks) reads.leaves.found);
+    version = reads.leaves.version ∙ fit.version ∙ sym (ap (λ (f : Found). f.root.version) reads.leaves.found);
     housed = subst (λ (c : Slots). AreHoused c stay) (sym reads.leaves.containers) (housed fit.housed);
     kept = λ b taken. subst (λ (k : Blocks). IsUnkept k b) (sym reads.leaves.kept) (fit.kept b (subst (λ (m : Space). IsTaken (on_disk m) b) reads.leaves.map taken));
   }

@@ -65,6 +65,7 @@ loaded_after d e tells reads s new was = (
     map = was.0.map;
     kept = was.0.kept;
     found = was.0.found;
+    version = was.0.version;
     containers = record {
       maps = was.0.containers.maps;
       parents = was.0.containers.parents;
@@ -127,6 +128,7 @@ module _ (d e : Shown) (tells : e.tells ≡ d.tells) (reads : e.reads ≡ d.read
         root = is.files.root;
         committed = is.files.committed;
         placed = is.files.placed;
+        shapes = is.files.shapes;
         entries = is.files.entries;
         between = is.files.between;
         ahead = is.files.ahead;
@@ -274,7 +276,7 @@ damage_room asked room old before after new at want found is = damage_part AsksN
 -- blocks were read, and then again
 pub as_read_then : (s n p : Session) → IsAsRead s n → IsAsRead n p → IsAsRead s p
 as_read_then s n p first second = record {
-  pool = record { map = second.pool.map ∙ first.pool.map; containers = second.pool.containers ∙ first.pool.containers; kept = second.pool.kept ∙ first.pool.kept; found = second.pool.found ∙ first.pool.found };
+  pool = record { map = second.pool.map ∙ first.pool.map; containers = second.pool.containers ∙ first.pool.containers; kept = second.pool.kept ∙ first.pool.kept; found = second.pool.found ∙ first.pool.found; version = second.pool.version ∙ first.pool.version };
   volumes = λ k. second.volumes k ∙ first.volumes k;
   same = second.same ∙ ap (λ (k : Session). record k { volumes = p.volumes; pool = p.pool }) first.same;
 }

@@ -1,12 +1,11 @@
 -- How many entries a volume has: those of the VVBNs that it holds, all of which have one where it stands on no other, and the delayed ones.
-use Rattle.std.proofs.Common.{◌≡◌, ℕ, zero, suc, ◌+◌, ◌-◌, ◌*◌, ◌/◌, ◌<◌, ◌≤◌, Bool, true, false, cond, not, ◌&&◌, inl, refl, sym, ap, subst, ◌∙◌, arith}
+use Rattle.std.proofs.Common.{◌≡◌, ℕ, zero, suc, ◌+◌, ◌-◌, ◌*◌, ◌<◌, ◌≤◌, Bool, true, false, cond, not, ◌&&◌, inl, refl, sym, ap, subst, ◌∙◌, arith}
 use Rattle.std.specs.Prelude.{Option, Some, None, IfSome, ◌==◌, nat_lt, nat_le, count_by, sum_by, if◌then◌else◌}
 use Rattle.std.specs.List.{list_all, list_any, range_with_len}
 use Rattle.std.specs.Option.{is_some, option_map, option_map_or}
 use Rattle.std.proofs.lemmas.Bool.{and_from, and_parts, and_right, both_ways, or_left}
 use Rattle.std.proofs.lemmas.Bool.Decides.{nat_tests}
 use Rattle.std.proofs.lemmas.List.Sums.{sum_by-cons}
-use Rattle.std.proofs.Math.Nat.{div-eq_of_lt}
 use Rattle.fv_disk.specs.Shown.{Image}
 use Rattle.fv_bits.proofs.Counts.{passing, passing-add, passing-suc, passing_same, none_pass}
 use Rattle.fv_laws.proofs.Lists.{in_range}
@@ -16,9 +15,10 @@ use Rattle.fv_image.specs.Mapped.{AreInSlots}
 use Rattle.fv_image.specs.ReachRules.{has_map_blocks}
 use Rattle.fv_image.specs.Seen.{own_blocks, roots_of, seen}
 use Rattle.fv_image.specs.Soundness.{AreMaps, AreTables}
-use Rattle.fv_image.specs.Views.{Head, Rooted, View, delayed, entry_count, is_active_map, is_delayed, is_held_in, is_own, map_vvbn, slots, used_slots, volume_bit, vvbns}
+use Rattle.fv_image.specs.Views.{Head, Rooted, View, delayed, entry_count, is_active_map, is_delayed, is_held_in, is_own, map_slot, map_vvbn, slots, used_slots, volume_bit, vvbns}
 use Rattle.fv_image.specs.Volumes.{volume_told, volume_with}
-use Rattle.fv_image.proofs.Counts.{none_between, others}
+use Rattle.fv_image.proofs.Behind.{first_there}
+use Rattle.fv_image.proofs.Counts.{none_between}
 use Rattle.fv_image.proofs.LabelNumbers.{label_numbers}
 use Rattle.fv_image.proofs.LoneTables.{form_base}
 use Rattle.fv_image.proofs.OwnBlocks.{own_tests}
@@ -38,7 +38,7 @@ use Rattle.fv_volume.specs.Trees.{no_trees}
 use Rattle.fv_volume.proofs.Labels.{label_head}
 use Rattle.fv_volumes.proofs.Standings.{active_is}
 use Rattle.fv_volumes.proofs.Told.{head_at, head_there}
-use Rattle.fv_cp.proofs.OwnCharged.{own_charged}
+use Rattle.fv_cp.proofs.OwnCharged.{all_pass, own_charged}
 use Rattle.fv_aggregate.specs.Delayed.{held_by, held_in}
 use Rattle.fv_aggregate.proofs.UnderEntries.{entries_at, entries_of}
 
@@ -48,10 +48,6 @@ use Rattle.fv_aggregate.proofs.UnderEntries.{entries_at, entries_of}
 of_three : (p q r t : ℕ → Bool) (a n : ℕ) → ((k : ℕ) → cond {A = ℕ} (p k) 1 0 ≡ cond (q k) 1 0 + cond (r k) 1 0 + cond (t k) 1 0) → passing p a n ≡ passing q a n + passing r a n + passing t a n
 of_three p q r t a zero each = refl
 of_three p q r t a (suc n) each = omega (arith, passing-suc p a n, passing-suc q a n, passing-suc r a n, passing-suc t a n, each a, of_three p q r t (a + 1) n each)
-
--- all numbers of a range pass
-all_pass : (p : ℕ → Bool) (a n : ℕ) → ((k : ℕ) → a ≤ k → k < a + n → p k ≡ true) → passing p a n ≡ n
-all_pass p a n all = let none = none_between (λ b. not (p b)) a n (λ k low high. ap not (all k low high)) in omega (arith, others p a n, none)
 
 -- the active map has just so many blocks
 active_count : (h : Head) → count_by (is_active_map h) (vvbns h.span) ≡ map_blocks h.span
@@ -95,11 +91,11 @@ module _ (w : View) (s : ℕ) (h : Head) (small : s < 64) (there : w.head s ≡ 
       let high : v < h.span + map_blocks h.span = grind (arith, nat_tests, parts.1) in
       let index : v - h.span < map_blocks h.span = omega (arith, low, high) in
       let past : nat_lt v h.span ≡ false = grind (arith, nat_tests, low) in
-      let zero_slot : (v - h.span) / map_blocks h.span ≡ 0 = div-eq_of_lt index in
-      let first : (0 == (v - h.span) / map_blocks h.span) ≡ true = grind (arith, nat_tests, zero_slot) in
+      let zero_slot : map_slot h.span v ≡ 0 = first_there h.span v low high in
+      let first : (0 == map_slot h.span v) ≡ true = grind (arith, nat_tests, zero_slot) in
       let at : map_vvbn h.span 0 (v - h.span) ≡ v = omega (arith, low) in (
-        ap (λ (b : Bool). if b then list_any (λ slot. volume_bit w s h.span slot v) (used_slots h) else list_any (λ slot. slot == (v - h.span) / map_blocks h.span) (used_slots h)) past
-            ∙ or_left (0 == (v - h.span) / map_blocks h.span) _ first,
+        ap (λ (b : Bool). if b then list_any (λ slot. volume_bit w s h.span slot v) (used_slots h) else list_any (λ slot. slot == map_slot h.span v) (used_slots h)) past
+            ∙ or_left (0 == map_slot h.span v) _ first,
         subst (λ (n : ℕ). is_some (w.entry s n) ≡ true) at (map_there (v - h.span) index),
       )
 

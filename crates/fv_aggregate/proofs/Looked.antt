@@ -50,7 +50,7 @@ module _ (d e : Shown) (p q : Pool) (reads : Reads d p e q) where
   unfolding machine_held
   machine_read states = λ j. record {
     blocks = (reads.leaves.found j).blocks;
-    version = (reads.leaves.found j).root.version;
+    version = reads.leaves.version j;
     volumes = fin.from_entries {R = name_cmp} (flat_map (λ s. named s (state_at states s) j) slots);
   }
     where
@@ -65,6 +65,7 @@ module _ (d e : Shown) (p q : Pool) (reads : Reads d p e q) where
   fit_read states fit = record {
     range = subst IsInRange (sym reads.leaves.found) fit.range;
     size = ap blocks_of reads.leaves.map ∙ fit.size ∙ sym (ap (λ (f : Found). f.blocks) reads.leaves.found);
+    version = reads.leaves.version ∙ fit.version ∙ sym (ap (λ (f : Found). f.root.version) reads.leaves.found);
     housed = subst (λ (c : Slots). AreHoused c states) (sym reads.leaves.containers) fit.housed;
     kept = λ b taken. subst (λ (k : Blocks). IsUnkept k b) (sym reads.leaves.kept) (fit.kept b (subst (λ (m : Space). IsTaken (on_disk m) b) reads.leaves.map taken));
   }
@@ -138,12 +139,12 @@ module _ (d e : Shown) (s : Session) (q : Pool) (reads : Reads d s.pool e q) whe
 
 -- nothing was
 pub was_unread : (d : Shown) (s : Session) → WasRead d s d s
-was_unread d s = record { only_reads = reads_itself d; pool = record { map = refl; containers = refl; kept = refl; found = refl }; volumes = λ k. refl; same = refl }
+was_unread d s = record { only_reads = reads_itself d; pool = record { map = refl; containers = refl; kept = refl; found = refl; version = refl }; volumes = λ k. refl; same = refl }
 
 -- over a disk that was only read the pool is as it was read
 pub reads_alone : (d e : Shown) (pool : Pool) → OnlyReads d e → StandsOn d pool.store.pairs → Reads d pool e pool
 reads_alone d e pool reads held = record {
-  leaves = record { map = refl; containers = refl; kept = refl; found = refl };
+  leaves = record { map = refl; containers = refl; kept = refl; found = refl; version = refl };
   only_reads = reads;
   stands = record { same = λ tells pvbn block has. held.same (subst IsTrue reads.stays.tells tells) pvbn block has ∙ ap (λ (i : Image). i pvbn) (sym reads.stays.reads) };
 }

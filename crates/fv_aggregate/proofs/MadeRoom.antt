@@ -76,6 +76,7 @@ by_reads want first mid e k is = record {
   mid = is.mid;
   between = is.between;
   found = is.found;
+  version = is.version;
   same = is.same;
   maps = is.maps;
   placed = is.placed;
@@ -102,7 +103,7 @@ pointed_read want first mid e k m reads stands is = record {
     all_read : Reads e mid.pool k mid.pool
     all_read = record {
       only_reads = reads;
-      leaves = record { map = refl; containers = refl; kept = refl; found = refl };
+      leaves = record { map = refl; containers = refl; kept = refl; found = refl; version = refl };
       stands = record { same = λ tells pvbn block has. subst (λ (i : Image). block ≡ i pvbn) (sym reads.stays.reads) (stands.stands.cache.same (subst IsTrue reads.stays.tells tells) pvbn block has) };
     }
 
@@ -112,7 +113,7 @@ pointed_read want first mid e k m reads stands is = record {
 pub made_room : (room : ℕ) (s : Session) (e : Shown) (mid : Session) (m : Machine) → HasPointed room s e mid m → HasMadeRoom room s e m
 made_room room s e mid m pointed = record {
   first = s;
-  read = record { map = refl; containers = refl; kept = refl; found = refl };
+  read = record { map = refl; containers = refl; kept = refl; found = refl; version = refl };
   same = λ k. refl;
   mid = mid;
   pointed = pointed;
@@ -127,6 +128,7 @@ read_room room d s e n read g m made = record {
     containers = made.read.containers ∙ read.pool.containers;
     kept = made.read.kept ∙ read.pool.kept;
     found = made.read.found ∙ read.pool.found;
+    version = made.read.version ∙ read.pool.version;
   };
   same = λ k. made.same k ∙ read.volumes k;
   mid = made.mid;

@@ -70,11 +70,12 @@ load_fault i found is Memory fault = tt
 -- ---- what fits together
 
 -- what was just read fits together: each slot has its volume, and nothing waits to be written
-pub fits_opened : (root : Found) (pool left : Pool) (states : States) → IsInRange root → blocks_of pool.map ≡ root.blocks → pool.found ≡ root → pool.kept ≡ fin.empty → KeptTo slot_count states left.containers
-    → left.map ≡ pool.map → left.kept ≡ pool.kept → left.found ≡ pool.found → FitTogether left states
-fits_opened root pool left states range size of none kept map still same = record {
+pub fits_opened : (root : Found) (pool left : Pool) (states : States) → IsInRange root → blocks_of pool.map ≡ root.blocks → pool.found ≡ root → pool.version ≡ root.root.version → pool.kept ≡ fin.empty → KeptTo slot_count states left.containers
+    → left.map ≡ pool.map → left.kept ≡ pool.kept → left.found ≡ pool.found → left.version ≡ pool.version → FitTogether left states
+fits_opened root pool left states range size of its none kept map still same stays = record {
   range = subst IsInRange (sym (same ∙ of)) range;
   size = ap blocks_of map ∙ size ∙ ap (λ (f : Found). f.blocks) (sym (same ∙ of));
+  version = stays ∙ its ∙ sym (ap (λ (f : Found). f.root.version) (same ∙ of));
   housed = record { long = kept.long; volumes = kept.each; each = kept.housed; parents = kept.parents };
   kept = λ b taken. ap (λ (k : Blocks). fin.get k b) (still ∙ none) ∙ fin.get-empty nat_cmp b;
 }

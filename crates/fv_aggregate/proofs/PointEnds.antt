@@ -32,6 +32,7 @@ use Rattle.fv_cp.specs.Lent.{blocks_asked, maps_waiting, HaveNoneWaiting, IsLent
 use Rattle.fv_pool.specs.BlocksOver.{LacksLeaf}
 use Rattle.fv_cp.specs.Placing.{pending_files, core_of, FailsToPlace, HaveNoFiles, KeepCores}
 use Rattle.fv_cp.specs.Points.{IsNextRoot, LacksRoom}
+use Rattle.fv_cp.proofs.CameIn.{leaf_unmoved}
 use Rattle.fv_cp.proofs.Flushing.{files_there, may_on}
 use Rattle.fv_cp.specs.Settling.{GoesOnWhole, HaveFullRoom, IsHeldPoint, IsStill, OldOrHeld, StillHeld, WholeCounts, WholeFails}
 use Rattle.fv_disk.specs.declared.fault.BlockFault.TheVariants as block
@@ -155,6 +156,7 @@ filed_as disk session after reads at want found fresh fails = record {
   root = fails.placed.found;
   committed = fails.placed.committed;
   placed = fails.placed.entries;
+  shapes = fails.placed.shapes;
   entries = fails.entries;
   between = fails.between;
   ahead = fails.ahead;
@@ -229,7 +231,20 @@ module _ (before : Shown) (old : Session) (after : Shown) (new : Session) (has :
 
   -- a leaf isn't there
   lost_leaf : (at want found : ℕ) → IsNone old.failed → LacksLeaf after new.pool.containers at want found → HasLostLeaf after old new at want found
-  lost_leaf at want found was leaf = record { fresh = was; leaf = leaf; same = λ none. loaded_after before after reads.stays.tells reads.stays.reads old new (still_unpointed.loads none) }
+  lost_leaf at want found was leaf = record {
+    fresh = was;
+    leaf = λ tells. leaf_unmoved after.reads old.pool.containers new.pool.containers at want found still.placed.shapes (leaf tells);
+    root = still.placed.found;
+    version = still.placed.version;
+    committed = still.placed.committed;
+    shapes = still.placed.shapes;
+    parents = still.placed.parents;
+    placed = still.placed.entries;
+    others = still.placed.others;
+    rest = still.placed.rest;
+    parts = parts;
+    same = λ none. loaded_after before after reads.stays.tells reads.stays.reads old new (still_unpointed.loads none);
+  }
 
   -- or a place for a file
   pub still_wants : (at want found : ℕ) → IsNone old.failed → StandsReady before old → WholeFails before old.pool old.volumes after new.pool new.volumes (cp.Damaged at want found) → IsForWant before old after new (Damaged at want found)
@@ -269,6 +284,7 @@ module _ (before : Shown) (old : Session) (after : Shown) (new : Session) (has :
                 root = lacks.placed.found;
                 committed = lacks.placed.committed;
                 placed = lacks.placed.entries;
+                shapes = lacks.placed.shapes;
                 entries = lacks.entries;
                 between = lacks.between;
                 ahead = lacks.ahead;

@@ -97,6 +97,7 @@ module _ (old : Shown) (before : Session) (want : ℕ) (new : Shown) (after : Se
     between = e.between;
     there = λ s x at. housed_there x (container_at e.mid.containers s) (subst (λ (o : Option VolumeState). Houses o (container_at e.mid.containers s)) at (e.housed.each s));
     found = e.found;
+    version = e.version;
     same = e.others;
     maps = e.maps;
     placed = e.placed;

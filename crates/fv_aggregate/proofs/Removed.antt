@@ -19,13 +19,13 @@ use Rattle.fv_image.specs.Views.{overheads}
 use Rattle.fv_root.specs.declared.find.Found.{Found}
 use Rattle.fv_root.specs.Finding.{root_found}
 use Rattle.fv_store.specs.Held.{StandsOn}
-use Rattle.fv_container.specs.Chains.{IsLeafDamage, IsSlots, KeepsMaps, Slots, TellsEntries}
+use Rattle.fv_container.specs.Chains.{IsLeafDamage, IsSlots, KeepsMaps, Slots, TellsEntries, container_at, own_entry}
 use Rattle.fv_container.proofs.Changing.{maps_same}
 use Rattle.fv_container.proofs.Damage.{none_damaged}
 use Rattle.fv_pool.specs.declared.fault.VolumeFault.{VolumeFault}
 use Rattle.fv_pool.specs.declared.fault.VolumeFault.TheVariants as volume
 use Rattle.fv_pool.specs.declared.pool.Pool.{Pool}
-use Rattle.fv_pool.specs.BlocksOver.{LeavesPool}
+use Rattle.fv_pool.specs.BlocksOver.{HasShapeOf, LeavesPool}
 use Rattle.fv_pool.specs.Calls.{Reads}
 use Rattle.fv_pool.specs.Causes.{HasVolumeCause}
 use Rattle.fv_volume.specs.States.{States}
@@ -213,8 +213,17 @@ module _ {D : Type 0} (d e : Shown) (laws : IsDisk d) (at left : D) (s : Session
         lost : HasLostLeaf e s now a w f
         lost = record {
           fresh = fresh;
-          leaf = λ tells. subst (λ (c : Slots). IsLeafDamage e.reads c a w f) (sym leaves.containers) (subst (λ (i : Image). IsLeafDamage i s.pool.containers a w f) (sym only.stays.reads) (did.fails (subst IsTrue only.stays.tells tells)));
-          same = λ none. (record { map = leaves.map; kept = leaves.kept; found = leaves.found; containers = subst (KeepsMaps e s.pool.containers) (sym leaves.containers) (maps_same e s.pool.containers) }, refl);
+          leaf = λ tells. subst (λ (i : Image). IsLeafDamage i s.pool.containers a w f) (sym only.stays.reads) (did.fails (subst IsTrue only.stays.tells tells));
+          root = leaves.found;
+          version = leaves.version;
+          committed = ap (λ (m : Space). m.committed) leaves.map;
+          shapes = λ k. subst (λ (c : Slots). HasShapeOf (container_at s.pool.containers k) (container_at c k)) (sym leaves.containers) (record { there = refl; count = refl; tree = refl });
+          parents = ap (λ (c : Slots). c.parents) leaves.containers;
+          placed = λ k v. inl (ap (λ (c : Slots). own_entry (container_at c k) v) leaves.containers);
+          others = λ k. refl;
+          rest = λ k none. (refl, ap (λ (c : Slots). container_at c k) leaves.containers);
+          parts = refl;
+          same = λ none. (record { map = leaves.map; kept = leaves.kept; found = leaves.found; version = leaves.version; containers = subst (KeepsMaps e s.pool.containers) (sym leaves.containers) (maps_same e s.pool.containers) }, refl);
         }
 
         whole : IsTrue d.tells → (last m : Machine) → StandsFor d s last m → ⊥

@@ -79,6 +79,7 @@ module _ {told : Type 0} (pool : Pool) (states : States) (fit : FitTogether pool
   fit_left = record {
     range = subst IsInRange (sym gone.found) fit.range;
     size = ap (λ (c : List Bool). length c) gone.some.given.committed ∙ fit.size ∙ sym (ap (λ (f : Found). f.blocks) gone.found);
+    version = gone.version ∙ fit.version ∙ sym (ap (λ (f : Found). f.root.version) gone.found);
     housed = housed_left pool states fit.housed is.slot is.state is.map is.there new left gone;
     kept = λ b taken. unkept_left pool.kept left.kept gone.fewer.gone gone.fewer.forgotten b
         (fit.kept b (subst (λ (c : List Bool). IsTaken (record { committed = c; next = c }) b) gone.some.given.committed taken));
@@ -176,7 +177,7 @@ module _ (disk : Shown) (pool : Pool) (states : States) (fit : FitTogether pool 
   unfolding machine_held
   machine_without =
       let map : now.volumes ≡ fin.remove was.volumes is.state.name = fin.same_map name_total name_ties _ _ (λ n. by_name n ∙ sym (fin.get-remove name_total was.volumes is.state.name n)) in
-      λ j. record { blocks = (its_gone.found j).blocks; version = (its_gone.found j).root.version; volumes = (map ∙ ap (fin.remove was.volumes) is.named) j }
+      λ j. record { blocks = (its_gone.found j).blocks; version = its_gone.version j; volumes = (map ∙ ap (fin.remove was.volumes) is.named) j }
 
 -- ---- whatever was answered
 

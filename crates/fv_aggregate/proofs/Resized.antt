@@ -47,6 +47,7 @@ module _ (session : Session) (c : Command) (name : List ℕ) (size : VolumeState
   fit_promised fit = record {
     range = fit.range;
     size = fit.size;
+    version = fit.version;
     housed = housed_promised session.volumes pool.found.blocks c name size kind new is pool.containers fit.housed;
     kept = fit.kept;
   }

@@ -194,6 +194,7 @@ module _ {D : Type 0} (shown : D → Shown) (disk left : D) (laws : IsDisk (show
             root = refl;
             committed = refl;
             placed = (passed_none d s.pool s.volumes fit stands.ready stands.stands.cache).come.placed.entries;
+            shapes = (passed_none d s.pool s.volumes fit stands.ready stands.stands.cache).come.placed.shapes;
             entries = refl;
             between = s.volumes;
             ahead = λ k behind. (refl, refl);

@@ -48,7 +48,7 @@ module _ (d e : Shown) (reads : OnlyReads d e) (s : Session) (stands : StandsRea
   for_over last m is = stands_for_read d e s s.pool over last m is
 
   read_over : WasRead d s e s
-  read_over = record { only_reads = reads; pool = record { map = refl; containers = refl; kept = refl; found = refl }; volumes = λ k. refl; same = refl }
+  read_over = record { only_reads = reads; pool = record { map = refl; containers = refl; kept = refl; found = refl; version = refl }; volumes = λ k. refl; same = refl }
 
 -- what a command that was refused did: nothing
 pub refused_snapped : {D : Type 0} (d e : Shown) (disk left : D) (laws : IsDisk d) (reads : OnlyReads d e) → e.faults ≡ d.faults → left ≡ disk → (s : Session) → IsNone s.failed → StandsReady d s → (c : Command) (r : Refusal) → ((last m : Machine) → StandsFor d s last m → refusal m c ≡ Some r)

@@ -58,6 +58,7 @@ module _ (d : Shown) (p : Pool) (states : States) (long : length states ≡ 64) 
   fit_stepped fit = record {
     range = fit.range;
     size = fit.size;
+    version = fit.version;
     housed = housed_as states long s x y there p.containers ready.labelled (ap (λ (z : VolumeState). z.slot) step.same) (ap (λ (z : VolumeState). z.span) step.same) (ap (λ (z : VolumeState). parent_in (Some z)) step.same) fit.housed;
     kept = fit.kept;
   }

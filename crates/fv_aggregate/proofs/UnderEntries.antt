@@ -25,22 +25,11 @@ use Rattle.fv_volume.specs.States.{States, state_at}
 use Rattle.fv_volume.specs.Stored.{AreApartIn, AreSpacedIn, has_block, leads, place_at, place_in}
 use Rattle.fv_volumes.specs.UnderRoot.{IsLentAt}
 use Rattle.fv_volumes.proofs.SlotBlocks.{at_is}
+use Rattle.fv_cp.proofs.OwnCharged.{passing_either}
 use Rattle.fv_container.specs.Chains.{container_at}
 use Rattle.fv_aggregate.specs.Delayed.{blocks_under, is_frame, is_framed}
 
 -- ---- tests of ranges
-
--- two tests that no number passes both
-passing_either : (p q : ℕ → Bool) (a n : ℕ) → ((k : ℕ) → p k ≡ true → q k ≡ false) → passing (λ v. p v || q v) a n ≡ passing p a n + passing q a n
-passing_either p q a zero apart = refl
-passing_either p q a (suc n) apart =
-    omega (arith, passing-suc (λ v. p v || q v) a n, passing-suc p a n, passing-suc q a n, one (p a) (q a) (apart a), passing_either p q (a + 1) n apart)
-  where
-    one : (t u : Bool) → (t ≡ true → u ≡ false) → cond {A = ℕ} (t || u) 1 0 ≡ cond t 1 0 + cond u 1 0
-    one true true off = absurd (both_ways true (off refl) refl)
-    one true false off = refl
-    one false true off = refl
-    one false false off = refl
 
 -- where no number of a range passes, none is found
 none_in_range : (p : ℕ → Bool) (a n : ℕ) → ((k : ℕ) → a ≤ k → k < a + n → p k ≡ false) → list_any p (range_with_len a n) ≡ false

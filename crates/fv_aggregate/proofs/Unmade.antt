@@ -93,6 +93,7 @@ unmade_both d s slot e n g new first second = record {
     containers = second.pool.containers ∙ first.pool.containers;
     kept = second.pool.kept ∙ first.pool.kept;
     found = second.pool.found ∙ first.pool.found;
+    version = second.pool.version ∙ first.pool.version;
   };
   state = first.state;
   there = first.there;

@@ -18,7 +18,7 @@ use Rattle.fv_volume.specs.Asking.{standing_of, table_named, TellsAsked}
 use Rattle.fv_volume.specs.OneVolume.{home_in}
 use Rattle.fv_volume.specs.States.{States, state_at}
 use Rattle.fv_cp.specs.Lent.{blocks_asked}
-use Rattle.fv_cp.specs.Placing.{AreButPlaced, HaveNoFiles, HaveNoneBefore, MayFail, PlacesEntries, RestsPlaced}
+use Rattle.fv_cp.specs.Placing.{AreButPlaced, HaveNoFiles, HaveNoneBefore, KeepShapes, MayFail, PlacesEntries, RestsPlaced}
 use Rattle.fv_aggregate.specs.declared.session.Session.{Session}
 use Rattle.fv_aggregate.specs.Adding.{IsPointed}
 use Rattle.fv_aggregate.specs.Asking.{AsksWithin, IsShort}
@@ -45,8 +45,8 @@ pub record LacksBlocks (before : Shown) (old new : Session) (at want found : ℕ
 
 -- The files of a volume of the session couldn't be placed, since no number of the volume was free, or no block, or a leaf of its container isn't there.
 -- What the volumes share was `mid` then, and the volumes were `between`: this one and each behind it as before, with their containers, and those
--- before it too, but for the placing of their files, none of which is in memory any more; or nothing was placed before. Where none of those slots
--- has files in memory all stayed.
+-- before it too, but for the placing of their files, none of which is in memory any more; or nothing was placed before. No tree of a container moved
+-- on the disk. Where none of those slots has files in memory all stayed.
 pub record HasFilesToPlace (disk : Shown) (session : Session) (at want found : ℕ) : Type 0 where
   pub fresh : IsNone session.failed
   pub files : HaveNoFiles session.volumes → ⊥
@@ -57,6 +57,7 @@ pub record HasFilesToPlace (disk : Shown) (session : Session) (at want found : �
   pub root : mid.found ≡ session.pool.found
   pub committed : mid.map.committed ≡ session.pool.map.committed
   pub placed : PlacesEntries session.pool.map session.pool.containers mid.containers
+  pub shapes : KeepShapes session.pool.containers mid.containers
   pub entries : container_at mid.containers slot ≡ container_at session.pool.containers slot
   pub between : States
   pub ahead : (s : ℕ) → slot ≤ s → (state_at between s ≡ state_at session.volumes s) × (container_at mid.containers s ≡ container_at session.pool.containers s)
@@ -66,11 +67,23 @@ pub record HasFilesToPlace (disk : Shown) (session : Session) (at want found : �
   pub first : HaveNoneBefore session.volumes slot → mid ≡ session.pool
   pub fails : MayFail disk mid (Some state) (volume.Damaged at want found)
 
--- A leaf of the container of a volume doesn't stand where that has it; at a point so once the files have their places. Without a file in memory the
--- session is as it was, but for leaves that came into memory.
+-- A leaf of the container of a volume of the session doesn't stand where that has it. At a point files may have been placed before. In the
+-- session that is left no tree of a container moved on the disk, and each entry is as it was or leads to a block that the root on the disk
+-- doesn't hold. The volumes are as they were but for what placing changes; each one without files in memory stayed, with its container. Of
+-- the session all else stayed. Without a file in memory it is as it was, but for leaves that came into memory.
 pub record HasLostLeaf (disk : Shown) (session new : Session) (at want found : ℕ) : Type 0 where
   pub fresh : IsNone session.failed
-  pub leaf : LacksLeaf disk new.pool.containers at want found
+  pub leaf : LacksLeaf disk session.pool.containers at want found
+  -- what is left of it
+  pub root : new.pool.found ≡ session.pool.found
+  pub version : new.pool.version ≡ session.pool.version
+  pub committed : new.pool.map.committed ≡ session.pool.map.committed
+  pub shapes : KeepShapes session.pool.containers new.pool.containers
+  pub parents : new.pool.containers.parents ≡ session.pool.containers.parents
+  pub placed : PlacesEntries session.pool.map session.pool.containers new.pool.containers
+  pub others : AreButPlaced session.volumes new.volumes
+  pub rest : RestsPlaced session.pool session.volumes new.pool new.volumes
+  pub parts : new ≡ record session { pool = new.pool; volumes = new.volumes }
   pub same : HaveNoFiles session.volumes → HasLoaded disk session new
 
 -- ---- in a table

@@ -53,6 +53,7 @@ pub record ReclaimsEntries (want : ℕ) (old : Session) (after : Shown) (new : S
   pub mid : Pool
   pub between : States
   pub found : mid.found ≡ old.pool.found
+  pub version : mid.version ≡ old.pool.version
   pub same : AreButPlaced old.volumes between
   pub maps : (s : ℕ) → option_map (λ (x : VolumeState). x.map) (state_at new.volumes s) ≡ option_map (λ (x : VolumeState). x.map) (state_at between s)
   pub placed : PlacesEntries old.pool.map old.pool.containers mid.containers

@@ -1,3 +1,4 @@
+mod Apart
 mod Bytes
 pub mod Counts
 pub mod Laws

@@ -1,13 +1,13 @@
 -- What the words of a map say of its members.
-use Rattle.std.proofs.Common.{◌≡◌, ◌≢◌, ℕ, Option, Some, None, IfSome, IfNone, ◌+◌, ◌-◌, ◌*◌, ◌/◌, ◌%◌, ◌<◌, ◌≤◌, List, length, get_or, set, replicate, Bool, true, false, cond, ◌==◌, ◌||◌, count_by, sym, refl, ap, subst, ◌∙◌, inl, inr, arith, length-set}
+use Rattle.std.proofs.Common.{◌≡◌, ◌≢◌, ℕ, Option, Some, None, IfSome, IfNone, ◌+◌, ◌-◌, ◌*◌, ◌/◌, ◌%◌, ◌<◌, ◌≤◌, List, length, get_or, set, replicate, Bool, true, false, not, cond, ◌==◌, ◌&&◌, ◌||◌, count_by, sym, refl, ap, ap₂, subst, ◌∙◌, inl, inr, arith, length-set}
 use Rattle.std.specs.List.{range_with_len}
 use Rattle.std.proofs.lemmas.Bool.{cases_eq, cases_lt, true≢false}
 use Rattle.std.proofs.lemmas.Bool.Decides.{nat_tests}
 use Rattle.std.proofs.lemmas.List.{get_or_past, ext_get_or, length-replicate, get_or-replicate}
 use Rattle.std.proofs.lemmas.List.FromFn.{length-map-range_with_len, get_or-map-range_with_len}
 use Rattle.fv_bits.specs.Bits.{bit_of_number, block_bits}
-use Rattle.fv_bits.specs.Members.{is_member, count_between, count_of, IsFirstFree, IsFullFrom, IsUnion, IsBlockOf, TakesBlock, IsFirstPast}
-use Rattle.fv_bits.specs.Stored.{bit_of_words, map_of, IsStored, IsFirst, AreSet, IsFirstAbove, HasNoneAbove, PutsBitOf, Unites, HasBitsOf, PutsBlock}
+use Rattle.fv_bits.specs.Members.{is_member, apart_between, count_between, count_of, HasNoneFrom, IsFirstFree, IsFirstMember, IsFullFrom, IsUnion, IsBlockOf, TakesBlock, IsFirstPast}
+use Rattle.fv_bits.specs.Stored.{AreClearFrom, bit_of_words, is_apart, map_of, IsStored, IsFirst, AreSet, IsFirstAbove, HasNoneAbove, PutsBitOf, Unites, HasBitsOf, PutsBlock}
 use Rattle.fv_bits.proofs.Numbers.{bit_zero}
 use Rattle.fv_bits.proofs.Rows.{bit_at_place, bit_past}
 use Rattle.fv_bits.proofs.Counts.{passing_same}
@@ -73,6 +73,13 @@ count_all len ws stored =
     ap (λ n. count_by (bit_of_words ws) (range_with_len 0 n)) size
     ∙ count_map len ws stored 0 len ∙ ap (count_between (map_of len ws) 0) (sym (length-map_of len ws))
 
+-- a count of what another map hasn't
+pub apart_map : (len n : ℕ) (ws os : List ℕ) → IsStored len ws → IsStored n os → (from to : ℕ) → count_by (is_apart ws os) (range_with_len from (to - from)) ≡ apart_between (map_of len ws) (map_of n os) from to
+unfolding apart_between is_apart
+apart_map len n ws os mine theirs from to =
+    passing_same (is_apart ws os) (λ i. is_member (map_of len ws) i && not (is_member (map_of n os) i)) from from (to - from) (λ j _.
+    ap₂ (λ s t. s && not t) (sym (member_of len ws mine (from + j))) (sym (member_of n os theirs (from + j))))
+
 -- the first number that is no member
 pub free_map : (len : ℕ) (ws : List ℕ) → IsStored len ws → (from at : ℕ) → IsFirst ws false from at → at < len → IsFirstFree (map_of len ws) from at
 free_map len ws stored from at first inside = record {
@@ -91,6 +98,26 @@ full_map len ws stored from (Some at) all = all
 pub found_map : (len : ℕ) (ws : List ℕ) → IsStored len ws → (from : ℕ) (r : Option ℕ) → IfSome r (IsFirst ws false from) → IfSome r (λ at. at < len) → IfSome r (IsFirstFree (map_of len ws) from)
 found_map len ws stored from None first inside = first
 found_map len ws stored from (Some at) first inside = free_map len ws stored from at first inside
+
+-- the first member
+pub set_below : (len : ℕ) (ws : List ℕ) (from at : ℕ) → IsStored len ws → IsFirst ws true from at → at < len
+set_below len ws from at stored first = elim (cases_lt at len) [
+  | inl inside ↦ inside
+  | inr past ↦ absurd (true≢false (sym first.here ∙ stored.clear at past))
+]
+
+pub first_map : (len : ℕ) (ws : List ℕ) → IsStored len ws → (from : ℕ) (r : Option ℕ) → IfSome r (IsFirst ws true from) → IfSome r (IsFirstMember (map_of len ws) from)
+first_map len ws stored from None first = first
+first_map len ws stored from (Some at) first = record {
+  after = first.after;
+  within = omega (arith, length-map_of len ws, set_below len ws from at stored first);
+  here = member_of len ws stored at ∙ first.here;
+  before = λ k low high. member_of len ws stored k ∙ first.before k low high;
+}
+
+pub none_map : (len : ℕ) (ws : List ℕ) → IsStored len ws → (from : ℕ) (r : Option ℕ) → IfNone r (AreClearFrom ws from) → IfNone r (HasNoneFrom (map_of len ws) from)
+none_map len ws stored from None clear = record { none = λ k low. member_of len ws stored k ∙ clear.bits k low }
+none_map len ws stored from (Some at) clear = clear
 
 -- the union
 pub unite_stored : (len : ℕ) (ws os new : List ℕ) → IsStored len ws → IsStored len os → Unites ws os new → IsStored len new

@@ -1,9 +1,9 @@
 -- What each call says of the map that a caller sees, from what the functions over words say.
-use Rattle.std.proofs.Common.{◌≡◌, ℕ, Option, IfSome, IfNone, ◌-◌, ◌*◌, ◌<◌, ◌≤◌, List, length, set, Bool, false, count_by, sym, ap, subst, ◌∙◌, arith}
+use Rattle.std.proofs.Common.{◌≡◌, ℕ, Option, IfSome, IfNone, ◌-◌, ◌*◌, ◌<◌, ◌≤◌, List, length, set, Bool, true, false, count_by, sym, ap, ap₂, subst, ◌∙◌, arith}
 use Rattle.std.specs.List.{range_with_len}
-use Rattle.fv_bits.specs.Members.{is_member, count_between, count_of, IsFirstFree, IsFullFrom, IsUnion, IsBlockOf, TakesBlock, IsFirstPast}
-use Rattle.fv_bits.specs.Stored.{bit_of_words, map_of, IsStored, IsFirst, AreSet, IsFirstAbove, HasNoneAbove, PutsBitOf, Unites, HasBitsOf, PutsBlock}
-use Rattle.fv_bits.proofs.Maps.{length-map_of, member_of, put_stored, put_map, count_map, count_all, full_map, found_map, unite_stored, unite_map, block_map, past_block, block_stored, block_taken, same_union, same_taken}
+use Rattle.fv_bits.specs.Members.{is_member, apart_between, count_between, count_of, HasNoneFrom, IsFirstFree, IsFirstMember, IsFullFrom, IsUnion, IsBlockOf, TakesBlock, IsFirstPast}
+use Rattle.fv_bits.specs.Stored.{AreClearFrom, bit_of_words, is_apart, map_of, IsStored, IsFirst, AreSet, IsFirstAbove, HasNoneAbove, PutsBitOf, Unites, HasBitsOf, PutsBlock}
+use Rattle.fv_bits.proofs.Maps.{apart_map, length-map_of, member_of, put_stored, put_map, count_map, count_all, first_map, full_map, found_map, none_map, unite_stored, unite_map, block_map, past_block, block_stored, block_taken, same_union, same_taken}
 
 pub length_seen : (seen : List Bool) (len : ℕ) (ws : List ℕ) → map_of len ws ≡ seen → len ≡ length seen
 length_seen seen len ws same = sym (length-map_of len ws) ∙ ap length same
@@ -15,6 +15,11 @@ member_seen seen len ws xs i r same stored read is =
 pub count_seen : (seen : List Bool) (len : ℕ) (ws xs : List ℕ) (from to r : ℕ) → map_of len ws ≡ seen → IsStored len ws → xs ≡ ws → r ≡ count_by (bit_of_words xs) (range_with_len from (to - from)) → r ≡ count_between seen from to
 count_seen seen len ws xs from to r same stored read is =
     is ∙ ap (λ l. count_by (bit_of_words l) (range_with_len from (to - from))) read ∙ count_map len ws stored from to ∙ ap (λ m. count_between m from to) same
+
+pub apart_seen : (mine theirs : List Bool) (len n : ℕ) (ws os xs ys : List ℕ) (from to r : ℕ) → map_of len ws ≡ mine → IsStored len ws → xs ≡ ws → map_of n os ≡ theirs → IsStored n os → ys ≡ os → r ≡ count_by (is_apart xs ys) (range_with_len from (to - from)) → r ≡ apart_between mine theirs from to
+apart_seen mine theirs len n ws os xs ys from to r my_view my_words my_read their_view their_words their_read is =
+    is ∙ ap₂ (λ l m. count_by (is_apart l m) (range_with_len from (to - from))) my_read their_read
+    ∙ apart_map len n ws os my_words their_words from to ∙ ap₂ (λ l m. apart_between l m from to) my_view their_view
 
 pub count_all_seen : (seen : List Bool) (len : ℕ) (ws xs : List ℕ) (r : ℕ) → map_of len ws ≡ seen → IsStored len ws → xs ≡ ws → r ≡ count_by (bit_of_words xs) (range_with_len 0 len) → r ≡ count_of seen
 count_all_seen seen len ws xs r same stored read is =
@@ -42,6 +47,14 @@ full_seen seen len ws xs from r same stored read all =
 pub found_seen : (seen : List Bool) (len : ℕ) (ws xs : List ℕ) (from : ℕ) (r : Option ℕ) → map_of len ws ≡ seen → IsStored len ws → xs ≡ ws → IfSome r (IsFirst xs false from) → IfSome r (λ at. at < len) → IfSome r (IsFirstFree seen from)
 found_seen seen len ws xs from r same stored read first inside =
     subst (λ m. IfSome r (IsFirstFree m from)) same (found_map len ws stored from r (subst (λ l. IfSome r (IsFirst l false from)) read first) inside)
+
+pub first_seen : (seen : List Bool) (len : ℕ) (ws xs : List ℕ) (from : ℕ) (r : Option ℕ) → map_of len ws ≡ seen → IsStored len ws → xs ≡ ws → IfSome r (IsFirst xs true from) → IfSome r (IsFirstMember seen from)
+first_seen seen len ws xs from r same stored read first =
+    subst (λ m. IfSome r (IsFirstMember m from)) same (first_map len ws stored from r (subst (λ l. IfSome r (IsFirst l true from)) read first))
+
+pub none_seen : (seen : List Bool) (len : ℕ) (ws xs : List ℕ) (from : ℕ) (r : Option ℕ) → map_of len ws ≡ seen → IsStored len ws → xs ≡ ws → IfNone r (AreClearFrom xs from) → IfNone r (HasNoneFrom seen from)
+none_seen seen len ws xs from r same stored read clear =
+    subst (λ m. IfNone r (HasNoneFrom m from)) same (none_map len ws stored from r (subst (λ l. IfNone r (AreClearFrom l from)) read clear))
 
 -- two maps with one length have as many words
 pub words_seen : (mine theirs : List Bool) (len n : ℕ) (ws os xs ys : List ℕ) → map_of len ws ≡ mine → IsStored len ws → xs ≡ ws → map_of n os ≡ theirs → IsStored n os → ys ≡ os → length theirs ≡ length mine → length ys ≡ length xs

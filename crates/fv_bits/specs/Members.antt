@@ -1,5 +1,5 @@
 -- A set of numbers below a length, as the list that says for each number whether it is a member.
-use Rattle.std.specs.Prelude.{◌≡◌, ◌≢◌, ℕ, ◌+◌, ◌-◌, ◌*◌, ◌/◌, ◌%◌, ◌<◌, ◌≤◌, Bool, true, false, ◌||◌, List, length, slice_index_or, count_by, filter}
+use Rattle.std.specs.Prelude.{◌≡◌, ◌≢◌, ℕ, ◌+◌, ◌-◌, ◌*◌, ◌/◌, ◌%◌, ◌<◌, ◌≤◌, Bool, true, false, not, ◌&&◌, ◌||◌, List, length, slice_index_or, count_by, filter}
 use Rattle.std.specs.FinSet.{FinSet, from_list}
 use Rattle.std.specs.List.{range_with_len}
 use Rattle.std.specs.Ordering.{nat_cmp}
@@ -17,6 +17,10 @@ count_between map from to = count_by (is_member map) (range_with_len from (to - 
 unfoldable pub count_of : List Bool → ℕ
 count_of map = count_between map 0 (length map)
 
+-- how many members there are from `from` up to `to`, without `to`, that are no members of another map
+unfoldable pub apart_between : List Bool → List Bool → ℕ → ℕ → ℕ
+apart_between map other from to = count_by (λ i. is_member map i && not (is_member other i)) (range_with_len from (to - from))
+
 -- the members as a finite set
 unfoldable pub members_of : List Bool → FinSet nat_cmp
 members_of map = from_list (filter (is_member map) (range_with_len 0 (length map)))
@@ -31,6 +35,17 @@ pub record IsFirstFree (map : List Bool) (from i : ℕ) : Type 0 where
 -- each number below the length, from `from` on, is a member
 pub record IsFullFrom (map : List Bool) (from : ℕ) : Type 0 where
   pub full : (k : ℕ) → from ≤ k → k < length map → is_member map k ≡ true
+
+-- i is the least member from `from` on
+pub record IsFirstMember (map : List Bool) (from i : ℕ) : Type 0 where
+  pub after : from ≤ i
+  pub within : i < length map
+  pub here : is_member map i ≡ true
+  pub before : (k : ℕ) → from ≤ k → k < i → is_member map k ≡ false
+
+-- no number from `from` on is a member
+pub record HasNoneFrom (map : List Bool) (from : ℕ) : Type 0 where
+  pub none : (k : ℕ) → from ≤ k → is_member map k ≡ false
 
 -- the map has the members of two others, and the length of the first
 pub record IsUnion (map left right : List Bool) : Type 0 where

@@ -1,5 +1,5 @@
 -- How a map is kept: in words of 64 bits, and which words stand for which map.
-use Rattle.std.specs.Prelude.{◌≡◌, ℕ, ◌+◌, ◌*◌, ◌/◌, ◌%◌, ◌^◌, ◌<◌, ◌≤◌, Bool, not, true, false, ◌||◌, ◌==◌, if◌then◌else◌, List, length, map, slice_index}
+use Rattle.std.specs.Prelude.{◌≡◌, ℕ, ◌+◌, ◌*◌, ◌/◌, ◌%◌, ◌^◌, ◌<◌, ◌≤◌, Bool, not, true, false, ◌&&◌, ◌||◌, ◌==◌, if◌then◌else◌, List, length, map, slice_index}
 use Rattle.std.specs.List.{range_with_len}
 use Rattle.fv_bits.specs.Bits.{bit_of_number, bit_of_bytes, block_bits}
 
@@ -43,6 +43,14 @@ pub record PutsBitOf (old : List ℕ) (b : ℕ) (value : Bool) (new : List ℕ) 
 pub record Unites (left right new : List ℕ) : Type 0 where
   pub len : length new ≡ length left
   pub bits : (k : ℕ) → bit_of_words new k ≡ (bit_of_words left k || bit_of_words right k)
+
+-- whether bit b is set in some words and clear in others
+unfoldable pub is_apart : List ℕ → List ℕ → ℕ → Bool
+is_apart words others b = bit_of_words words b && not (bit_of_words others b)
+
+-- a word has the bits of word `at` of some words that are clear in others
+pub record IsApart (words others : List ℕ) (at word : ℕ) : Type 0 where
+  pub bits : (k : ℕ) → k < 64 → bit_of_number word k ≡ is_apart words others (64 * at + k)
 
 -- each word from `from` up to `to` is the one given
 pub record AreAll (words : List ℕ) (word from to : ℕ) : Type 0 where

@@ -2,8 +2,8 @@
 
 ghost use Rattle.std.specs.Prelude.{◌≡◌, ℕ, ◌*◌, ◌^◌, ◌<◌, ◌≤◌, true, false, length, replicate, slice_set, count_by, IfOk, IfSome, IfNone, OnSome};
 ghost use Rattle.fv_bits.specs.Bits.{block_bits};
-ghost use Rattle.fv_bits.specs.Members.{IsBlockOf, IsFirstFree, IsFirstPast, IsFullFrom, IsUnion, TakesBlock, count_between, count_of, is_member};
-ghost use Rattle.fv_bits.specs.Stored.{AreSet, HasNoneAbove, IsFirst, IsFirstAbove, IsStored, bit_of_words};
+ghost use Rattle.fv_bits.specs.Members.{HasNoneFrom, IsBlockOf, IsFirstFree, IsFirstMember, IsFirstPast, IsFullFrom, IsUnion, TakesBlock, apart_between, count_between, count_of, is_member};
+ghost use Rattle.fv_bits.specs.Stored.{AreClearFrom, AreSet, HasNoneAbove, IsFirst, IsFirstAbove, IsStored, bit_of_words};
 ghost use Rattle.std.specs.List.{range_with_len};
 
 use crate::{block, words};
@@ -88,6 +88,16 @@ impl BitMap {
         first_free(&self.words, self.len, from)
     }
 
+    /// The least member from `from` on, and `None` exactly where there is none. Costs a step for each word of 64
+    /// numbers that is passed over, which is read once.
+    #[tactic(auto, using(crate::proofs::Seen::none_seen, crate::proofs::Seen::first_seen, crate::proofs::Seen::stored_seen))]
+    pub fn first_member(&self, from: u32) -> Option<u32>
+        ensures none { IfNone result (HasNoneFrom self.now from) }
+        ensures first { IfSome result (IsFirstMember self.now from) }
+    {
+        first_member(&self.words, self.len, from)
+    }
+
     /// How many members there are. Costs a step for each word of 64 numbers, which is read once.
     #[tactic(auto, using(crate::proofs::Seen::count_all_seen, crate::proofs::Seen::stored_seen))]
     pub fn count(&self) -> u32
@@ -105,6 +115,17 @@ impl BitMap {
         ensures { result ≡ count_between self.now from to }
     {
         words::count_between(&self.words, from, to)
+    }
+
+    /// How many members there are from `from` up to `to`, without `to`, that are no members of `other`, which may
+    /// have another length: from its end on it has no member. `from` is at most `to`. Costs a step for each word
+    /// of 64 numbers in between.
+    #[tactic(auto, using(crate::proofs::Seen::apart_seen))]
+    pub fn count_apart(&self, other: &BitMap, from: u32, to: u32) -> u32
+        requires { from ≤ to }
+        ensures { result ≡ apart_between self.now other.now from to }
+    {
+        words::count_apart(&self.words, &other.words, from, to)
     }
 
     /// Makes each member of `other`, which has the same length, a member of this map. Costs a step for
@@ -170,6 +191,17 @@ fn first_free(words: &[u64], len: u32, from: u32) -> Option<u32>
     } else {
         None
     }
+}
+
+/// The first set bit from `from` on.
+#[tactic(auto, using(crate::proofs::Maps::set_below))]
+fn first_member(words: &[u64], len: u32, from: u32) -> Option<u32>
+    requires { IsStored len words.now }
+    ensures none { IfNone result (AreClearFrom words.now from) }
+    ensures first { IfSome result (IsFirst words.now true from) }
+{
+    let at = words::first_set(words, from)?;
+    Some(at as u32)
 }
 
 /// The first number past the length whose bit is set in block `index`, which has these words.

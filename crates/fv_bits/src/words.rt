@@ -2,7 +2,7 @@
 
 ghost use Rattle.std.specs.Prelude.{◌≡◌, ◌≢◌, ℕ, ◌+◌, ◌-◌, ◌*◌, ◌/◌, ◌%◌, ◌^◌, ◌<◌, ◌≤◌, true, false, length, slice_index, max, IfSome, IfNone, sum_by, count_ones, count_by};
 ghost use Rattle.std.specs.List.{range_with_len};
-ghost use Rattle.fv_bits.specs.Stored.{bit_of_words, IsFirst, PutsBitOf, Unites, AreAll, AreClearFrom};
+ghost use Rattle.fv_bits.specs.Stored.{bit_of_words, is_apart, IsApart, IsFirst, PutsBitOf, Unites, AreAll, AreClearFrom};
 
 use crate::word;
 
@@ -84,6 +84,42 @@ pub(crate) fn count_between(words: &[u64], from: u32, to: u32) -> u32
     let whole = ones(&words[first..last]);
     let above = word::low_bits(word_at(words, last), to % 64).count_ones();
     let below = word::low_bits(word_at(words, first), from % 64).count_ones();
+    (whole + above as u64 - below as u64) as u32
+}
+
+/// The bits of the word at this place that are clear in the word of another row there.
+#[tactic(auto, using(crate::proofs::Apart::apart_word))]
+fn apart_at(words: &[u64], others: &[u64], at: usize) -> u64
+    ensures { IsApart words.now others.now at result }
+{
+    word_at(words, at) & !word_at(others, at)
+}
+
+/// How many bits of the words from `first` up to `last`, without `last`, are set and clear in another row.
+fn ones_apart(words: &[u64], others: &[u64], first: usize, last: usize) -> u64
+    requires ordered { first ≤ last }
+    requires few { last < 2 ^ 40 }
+    ensures { result ≡ count_by (is_apart words.now others.now) (range_with_len (64 * first) (64 * (last - first))) }
+{
+    let mut total = 0;
+    for at in first..last {
+        total += apart_at(words, others, at).count_ones() as u64;
+    }
+    total
+}
+
+/// How many bits are set from `from` up to `to`, without `to`, that are clear in another row. Each word in
+/// between is read once, and the words of the two ends once more.
+#[tactic(auto, using(crate::proofs::Apart::apart_by_words, crate::proofs::Counts::passing_le))]
+pub(crate) fn count_apart(words: &[u64], others: &[u64], from: u32, to: u32) -> u32
+    requires { from ≤ to }
+    ensures { result ≡ count_by (is_apart words.now others.now) (range_with_len from (to - from)) }
+{
+    let first = (from / 64) as usize;
+    let last = (to / 64) as usize;
+    let whole = ones_apart(words, others, first, last);
+    let above = word::low_bits(apart_at(words, others, last), to % 64).count_ones();
+    let below = word::low_bits(apart_at(words, others, first), from % 64).count_ones();
     (whole + above as u64 - below as u64) as u32
 }
 

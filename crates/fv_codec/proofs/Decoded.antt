@@ -13,7 +13,7 @@ use Rattle.fv_codec.specs.declared.container.ContainerLeaf.{ContainerLeaf}
 use Rattle.fv_codec.specs.declared.container.ContainerInner.{ContainerInner}
 use Rattle.fv_codec.specs.Bytes.{word_at, half_at, byte_at}
 use Rattle.fv_codec.specs.Fields.{none_filled, up_to}
-use Rattle.fv_codec.specs.Blocks.{super_fields, super_at, IsSuper, asks_place, place_of, root_fields, root_at, IsRoot, last_place, greatest_word, pointed, pointer_fields, asks_pointer, pointer_of, IsPointerIf, IsPointer, node_fields, node_at, IsNode, is_hole_at, is_used, most_cells, file_fields, asks_file, file_of, IsInodeRecord, inodes_fields, inodes_at, IsInodeBlock, is_free_at, inner_fields, inner_at, IsContainerInner, entry_fields, asks_entry, leaf_fields, leaf_at, IsEntry, IsContainerLeaf, snap_fields, asks_snap, snap_of, IsSnapRecord, most_stamps, label_fields, label_at, IsLabel}
+use Rattle.fv_codec.specs.Blocks.{super_fields, super_at, IsSuper, asks_place, place_of, root_fields, root_at, IsRoot, last_place, greatest_word, pointed, pointer_fields, asks_pointer, pointer_of, IsPointerIf, IsPointer, node_fields, node_at, IsNode, is_hole_at, is_used, most_cells, file_fields, asks_file, file_of, IsInodeRecord, inodes_fields, inodes_at, IsInodeBlock, is_free_at, inner_fields, inner_at, IsContainerInner, entry_fields, asks_entry, leaf_fields, leaf_in, IsEntryIn, IsLeafIn, snap_fields, asks_snap, snap_of, IsSnapRecord, most_stamps, label_fields, label_at, IsLabel}
 use Rattle.fv_codec.proofs.Differs.{Differs, in_range_differs, verdicts_differ, read_differs}
 use Rattle.fv_codec.proofs.Ranges.{then_ok, as_said, within, divided, filled, in_range_of, all_are}
 use Rattle.fv_codec.proofs.Nodes.{holes_alone}
@@ -134,25 +134,27 @@ pub inner_differs : (block : List ℕ) (r : Result ContainerInner Shape) → r �
 unfolding inner_at
 inner_differs block r is = read_differs inner_fields block _ r (tt, (tt, (tt, (tt, (place_differs, (tt, tt)))))) is
 
-entry_is : (item : List ℕ) → 12 ≤ length item → asks_entry item ≡ Ok tt → IsEntry (entry_of item)
+entry_is : (most : ℕ) (item : List ℕ) → 12 ≤ length item → asks_entry most item ≡ Ok tt → IsEntryIn most (entry_of item)
 unfolding asks_entry
-entry_is item room said =
-    let f = as_said (entry_fields item) item said in
-    ((within 0 (up_to (is_used (half_at 8 item)) last_place) (word_at 0 item) f.0).1, (within 0 8 (half_at 8 item) f.1.0).1)
+entry_is most item room said =
+    let f = as_said (entry_fields most item) item said in
+    ((within 0 (up_to (is_used (half_at 8 item)) last_place) (word_at 0 item) f.0).1, (within 0 most (half_at 8 item) f.1.0).1)
 
-entry_differs : (item : List ℕ) → Differs (asks_entry item)
+entry_differs : (most : ℕ) (item : List ℕ) → Differs (asks_entry most item)
 unfolding asks_entry
-entry_differs item = verdicts_differ (entry_fields item) item (tt, (tt, tt))
+entry_differs most item = verdicts_differ (entry_fields most item) item (tt, (tt, tt))
 
-pub leaf_in_range : (block : List ℕ) (r : Result ContainerLeaf Shape) → length block ≡ 4096 → r ≡ leaf_at block → IfOk r IsContainerLeaf
-unfolding leaf_at
-leaf_in_range block r long is = in_range_of leaf_fields block _ IsContainerLeaf r is (λ f. record {
-  entries = subst (All IsEntry) (sym (zip_items 256 12 (drop 1024 block))) (all_are 12 asks_entry entry_of IsEntry entry_is 256 (drop 1024 block) (omega (arith, length-drop 1024 block)) f.1.1.1.0);
+pub leaf_in_range : (most : ℕ) (block : List ℕ) (r : Result ContainerLeaf Shape) → length block ≡ 4096 → r ≡ leaf_in most block → IfOk r (IsLeafIn most)
+unfolding leaf_in
+leaf_in_range most block r long is = in_range_of (leaf_fields most) block _ (IsLeafIn most) r is (λ f. record {
+  entries = subst (All (IsEntryIn most)) (sym (zip_items 256 12 (drop 1024 block))) (
+      all_are 12 (asks_entry most) entry_of (IsEntryIn most) (entry_is most) 256 (drop 1024 block) (omega (arith, length-drop 1024 block)) f.1.1.1.0
+      );
 })
 
-pub leaf_differs : (block : List ℕ) (r : Result ContainerLeaf Shape) → r ≡ leaf_at block → IfErr r (λ s. s.want ≢ s.found)
-unfolding leaf_at
-leaf_differs block r is = read_differs leaf_fields block _ r (tt, (tt, (tt, (entry_differs, tt)))) is
+pub leaf_differs : (most : ℕ) (block : List ℕ) (r : Result ContainerLeaf Shape) → r ≡ leaf_in most block → IfErr r (λ s. s.want ≢ s.found)
+unfolding leaf_in
+leaf_differs most block r is = read_differs (leaf_fields most) block _ r (tt, (tt, (tt, (entry_differs most, tt)))) is
 
 -- ---- snapshots and labels
 

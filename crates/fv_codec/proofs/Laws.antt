@@ -10,7 +10,7 @@ use Rattle.fv_codec.specs.declared.container.ContainerLeaf.{ContainerLeaf}
 use Rattle.fv_codec.specs.declared.container.ContainerInner.{ContainerInner}
 use Rattle.fv_codec.specs.Bytes.{word_at, half_at, byte_at, word, half, zeros}
 use Rattle.fv_codec.specs.Fields.{Field, verdicts, reading, in_range, all_zero, each, items}
-use Rattle.fv_codec.specs.Blocks.{super_fields, super_at, asks_place, place_of, root_fields, root_at, asks_pointer, pointer_of, node_fields, node_at, is_used, file_fields, asks_file, file_of, inodes_fields, inodes_at, inner_fields, inner_at, asks_entry, kind_of, leaf_fields, leaf_at, snap_fields, asks_snap, snap_of, label_fields, label_at}
+use Rattle.fv_codec.specs.Blocks.{super_fields, super_at, asks_place, place_of, root_fields, root_at, asks_pointer, pointer_of, node_fields, node_at, is_used, file_fields, asks_file, file_of, inodes_fields, inodes_at, inner_fields, inner_at, asks_entry, greatest_kind, kind_of, leaf_fields, leaf_at, leaf_in, snap_fields, asks_snap, snap_of, label_fields, label_at}
 use Rattle.fv_codec.specs.Spelling.{super_bytes, root_bytes, pointer_bytes, node_bytes, file_bytes, inodes_bytes, inner_bytes, entry_bytes, leaf_bytes, snap_bytes, label_bytes}
 use Rattle.fv_codec.proofs.Ranges.{as_said, within, reading_ok}
 use Rattle.fv_codec.proofs.Leaves.{entry_of, zip_items}
@@ -55,7 +55,7 @@ file_back b are room said =
     zeros_back 120 120 b room f.1.1.1.1.1.1.1.0)))))))
     ∙ simp append_assoc
 
-entry_back : (b : List ℕ) → IsBytes b → 12 ≤ length b → asks_entry b ≡ Ok tt → b ≡ entry_bytes (entry_of b) ++ drop 12 b
+entry_back : (b : List ℕ) → IsBytes b → 12 ≤ length b → asks_entry greatest_kind b ≡ Ok tt → b ≡ entry_bytes (entry_of b) ++ drop 12 b
 unfolding entry_bytes
 entry_back b are room said =
     before (word (word_at 0 b)) (word_back 0 b are (omega arith)) (half_back 8 b are room)
@@ -152,9 +152,9 @@ pub inodes_only : (a b : List ℕ) (v : InodeBlock) → IsBlock a → IsBlock b 
 inodes_only a b v is-a is-b said-a said-b = inodes_spelled a v is-a said-a ∙ sym (inodes_spelled b v is-b said-b)
 
 pub leaf_spelled : (b : List ℕ) (v : ContainerLeaf) → IsBlock b → leaf_at b ≡ Ok v → b ≡ leaf_bytes v
-unfolding leaf_at
-leaf_spelled b v is said = spelled leaf_fields b _ v leaf_bytes said (λ f.
-    let entries = items_back 12 entry_bytes asks_entry entry_of entry_back 1024 256 b is.bytes (omega (arith, is.long)) f.1.1.1.0 in
+unfolding leaf_in
+leaf_spelled b v is said = spelled (leaf_fields greatest_kind) b _ v leaf_bytes said (λ f.
+    let entries = items_back 12 entry_bytes (asks_entry greatest_kind) entry_of entry_back 1024 256 b is.bytes (omega (arith, is.long)) f.1.1.1.0 in
     let apart = ap (λ (es : List (ℕ × ℕ)). flat_map entry_bytes es ++ drop 4096 b) (sym (zip_items 256 12 (drop 1024 b))) in
     head_then 0x4656434c45414630 b is f.0 (zeros_then 16 1008 b is (omega arith) f.1.1.0 (
     entries ∙ apart ∙ last 4096 (flat_map entry_bytes (zip (items 256 12 place_of (drop 1024 b)) (items 256 12 kind_of (drop 1024 b)))) b is refl)))

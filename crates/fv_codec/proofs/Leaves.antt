@@ -9,7 +9,7 @@ use Rattle.std.proofs.lemmas.Slice.Zip.{length-zip, get_or-zip}
 use Rattle.fv_codec.specs.declared.container.ContainerLeaf.{ContainerLeaf}
 use Rattle.fv_codec.specs.Bytes.{word, half, half_at, zeros}
 use Rattle.fv_codec.specs.Fields.{items, up_to}
-use Rattle.fv_codec.specs.Blocks.{leaf_at, leaf_fields, IsEntry, IsContainerLeaf, greatest_word, last_place, is_used, entry_fields, asks_entry, place_of, kind_of}
+use Rattle.fv_codec.specs.Blocks.{greatest_kind, leaf_at, leaf_in, leaf_fields, IsEntry, IsContainerLeaf, greatest_word, last_place, is_used, entry_fields, asks_entry, place_of, kind_of}
 use Rattle.fv_codec.specs.Spelling.{entry_bytes, leaf_bytes}
 use Rattle.fv_codec.proofs.Numbers.{word_said, word_there, half_said, half_there, zeros_said, past_word, past_zeros, all_said, length-word, length-half, up_to-le}
 use Rattle.fv_codec.proofs.Items.{ReadsBack, items_said, items_there}
@@ -69,7 +69,7 @@ length-entry : (e : ℕ × ℕ) → length (entry_bytes e) ≡ 12
 unfolding entry_bytes
 length-entry e = simp (length-append, length-word, length-half) refl
 
-entry_again : (e : ℕ × ℕ) → IsEntry e → ReadsBack 12 entry_bytes asks_entry entry_of e
+entry_again : (e : ℕ × ℕ) → IsEntry e → ReadsBack 12 entry_bytes (asks_entry greatest_kind) entry_of e
 unfolding asks_entry entry_bytes
 entry_again e is =
     let last = up_to-le (is_used e.1) last_place in
@@ -81,19 +81,19 @@ entry_again e is =
     let h8 : (rest : List ℕ) → half_at 8 (whole rest) ≡ e.1 = λ rest. half_there 8 e.1 (whole rest) rest (d8 rest) kind in
     record {
       long = length-entry e;
-      fine = λ rest. all_said (entry_fields (whole rest)) (whole rest) (
+      fine = λ rest. all_said (entry_fields greatest_kind (whole rest)) (whole rest) (
         rw (h8 rest) (word_said 0 0 (up_to (is_used e.1) last_place) e.0 (whole rest) _ (d0 rest) pvbn (omega arith) is.0),
-        (half_said 8 0 8 e.1 (whole rest) rest (d8 rest) kind (omega arith) is.1, tt),
+        (half_said 8 0 greatest_kind e.1 (whole rest) rest (d8 rest) kind (omega arith) is.1, tt),
       );
       same = λ rest. rw (word_there 0 e.0 (whole rest) _ (d0 rest) pvbn, h8 rest) refl;
     }
 
-entries_again : (es : List (ℕ × ℕ)) → All IsEntry es → AllByRecursion (ReadsBack 12 entry_bytes asks_entry entry_of) es
+entries_again : (es : List (ℕ × ℕ)) → All IsEntry es → AllByRecursion (ReadsBack 12 entry_bytes (asks_entry greatest_kind) entry_of) es
 entries_again [] are = tt
 entries_again (e ∷ es) are = (entry_again e (All-head IsEntry e es are), entries_again es (All-tail IsEntry e es are))
 
 pub leaf_again : (l : ContainerLeaf) → IsContainerLeaf l → l.index < 2 ^ 64 → length l.pvbns ≡ 256 → length l.kinds ≡ 256 → leaf_at (leaf_bytes l) ≡ Ok l
-unfolding leaf_at
+unfolding leaf_in
 leaf_again l is index pvbns kinds =
     let b = leaf_bytes l in
     let mark : ℕ = 0x4656434c45414630 in
@@ -106,16 +106,16 @@ leaf_again l is index pvbns kinds =
     let d16 = past_word 8 l.index b r16 d8 in
     let d1024 = past_zeros 16 1008 b r1024 d16 ∙ sym (append-nil r1024) in
     let entries = entries_again es is.entries in
-    let there = items_there 1024 256 12 entry_bytes asks_entry entry_of es b [] long entries d1024 in
+    let there = items_there 1024 256 12 entry_bytes (asks_entry greatest_kind) entry_of es b [] long entries d1024 in
     let ps : items 256 12 place_of (drop 1024 b) ≡ l.pvbns = places_of 256 12 (drop 1024 b) ∙ ap (map (λ (e : ℕ × ℕ). e.0)) there ∙ firsts l.pvbns l.kinds same in
     let ks : items 256 12 kind_of (drop 1024 b) ≡ l.kinds = kinds_of 256 12 (drop 1024 b) ∙ ap (map (λ (e : ℕ × ℕ). e.1)) there ∙ seconds l.pvbns l.kinds same in
-    let all = all_said leaf_fields b (
+    let all = all_said (leaf_fields greatest_kind) b (
       word_said 0 mark mark mark b _ refl (lit< tt) (lit≤ tt) (lit≤ tt),
       (
         word_said 8 0 greatest_word l.index b _ d8 index (omega arith) (omega (arith, index)),
         (
           zeros_said 16 1008 b _ d16,
-          (items_said 1024 256 12 entry_bytes asks_entry entry_of es b [] long entries d1024, tt),
+          (items_said 1024 256 12 entry_bytes (asks_entry greatest_kind) entry_of es b [] long entries d1024, tt),
         ),
       ),
     ) in

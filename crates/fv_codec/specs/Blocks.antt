@@ -236,39 +236,53 @@ pub record IsContainerInner (n : ContainerInner) : Type 0 where
   pub children : All (λ place. place ≤ last_place) n.children
 
 -- ---- a container's leaf: the mark FVCLEAF0, its index, and from 1024 on 256 entries, a PVBN and a kind; a hole has kind 0 and PVBN 0
+-- Its form is said for any greatest kind.
 
-abbrev pub entry_fields : List ℕ → List Field
-entry_fields item =
+-- the kinds of a block are 1 to 8
+abbrev pub greatest_kind : ℕ
+greatest_kind = 8
+
+abbrev pub entry_fields : ℕ → List ℕ → List Field
+entry_fields most item =
     word_in 0 0 (up_to (is_used (half_at 8 item)) last_place)
-    ∷ half_in 8 0 8 ∷ []
+    ∷ half_in 8 0 most ∷ []
 
-unfoldable pub asks_entry : List ℕ → Verdict
-asks_entry item = verdicts (entry_fields item) item
+unfoldable pub asks_entry : ℕ → List ℕ → Verdict
+asks_entry most item = verdicts (entry_fields most item) item
 
 abbrev pub kind_of : List ℕ → ℕ
 kind_of item = half_at 8 item
 
-abbrev pub leaf_fields : List Field
-leaf_fields =
+abbrev pub leaf_fields : ℕ → List Field
+leaf_fields most =
     word_in 0 0x4656434c45414630 0x4656434c45414630
     ∷ word_in 8 0 greatest_word
     ∷ zeros_in 16 1008
-    ∷ items_in 1024 256 12 asks_entry ∷ []
+    ∷ items_in 1024 256 12 (asks_entry most) ∷ []
 
-unfoldable pub leaf_at : List ℕ → Result ContainerLeaf Shape
-leaf_at block = reading (verdicts leaf_fields block) (record {
+unfoldable pub leaf_in : ℕ → List ℕ → Result ContainerLeaf Shape
+leaf_in most block = reading (verdicts (leaf_fields most) block) (record {
   index = word_at 8 block;
   pvbns = items 256 12 place_of (drop 1024 block);
   kinds = items 256 12 kind_of (drop 1024 block);
 })
 
+abbrev pub leaf_at : List ℕ → Result ContainerLeaf Shape
+leaf_at = leaf_in greatest_kind
+
 -- the numbers of an entry are in range
+abbrev pub IsEntryIn : ℕ → ℕ × ℕ → Type 0
+IsEntryIn most entry = (entry.0 ≤ up_to (is_used entry.1) last_place) × (entry.1 ≤ most)
+
 abbrev pub IsEntry : ℕ × ℕ → Type 0
-IsEntry entry = (entry.0 ≤ up_to (is_used entry.1) last_place) × (entry.1 ≤ 8)
+IsEntry = IsEntryIn greatest_kind
 
 -- the numbers of a leaf are in range
-pub record IsContainerLeaf (l : ContainerLeaf) : Type 0 where
-  pub entries : All IsEntry (zip l.pvbns l.kinds)
+pub record IsLeafIn (most : ℕ) (l : ContainerLeaf) : Type 0 where
+  pub entries : All (IsEntryIn most) (zip l.pvbns l.kinds)
+
+abbrev pub IsContainerLeaf : ContainerLeaf → Type 0
+IsContainerLeaf = IsLeafIn greatest_kind
 
 -- ---- a label: the mark FVLABEL0, the volume's name and numbers, and from 256 on 24 records of snapshots
 

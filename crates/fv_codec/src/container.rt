@@ -8,6 +8,9 @@ const LEAF_MARK: u64 = 0x4656_434c_4541_4630;
 /// `FVCINNER` as a word.
 const INNER_MARK: u64 = 0x4656_4349_4e4e_4552;
 
+/// The greatest kind of a block.
+pub const GREATEST_KIND: u32 = 8;
+
 /// A leaf of a container: where the blocks under 256 VVBNs stand, and what they are.
 #[derive(Clone, Copy, Debug, PartialEq, Eq)]
 pub struct ContainerLeaf {
@@ -15,7 +18,7 @@ pub struct ContainerLeaf {
     pub index: u64,
     /// The place of each entry's block, below 1,048,576; 0 in a hole.
     pub pvbns: [u32; 256],
-    /// The kind of each entry, 0 to 8; 0 is a hole.
+    /// The kind of each entry, 0 to 8 (in `decode_in` to the number given); 0 is a hole.
     pub kinds: [u32; 256],
 }
 
@@ -23,29 +26,38 @@ impl ContainerLeaf {
     ghost use Rattle.std.specs.Prelude.{◌≡◌, ◌≢◌, ◌≤◌, ◌<◌, ◌^◌, ◌+◌, ◌*◌, ◌++◌, length, IfOk, IfErr, OnOk};
     ghost use Rattle.std.specs.List.{flat_map, zip};
     ghost use Rattle.fv_codec.specs.Fields.{each, items, verdict_of};
-    ghost use Rattle.fv_codec.specs.Blocks.{asks_entry, kind_of, leaf_at, place_of, IsContainerLeaf};
+    ghost use Rattle.fv_codec.specs.Blocks.{asks_entry, kind_of, leaf_at, leaf_in, place_of, IsContainerLeaf, IsLeafIn};
     ghost use Rattle.fv_codec.specs.Spelling.{entry_bytes, leaf_bytes};
 
     /// The leaf that a block spells, or the first field that isn't as said. Goes over the block once.
-    #[tactic(auto, using(crate::proofs::Decoded::leaf_in_range, crate::proofs::Decoded::leaf_differs))]
     pub fn decode(block: &[u8; 4096]) -> Result<ContainerLeaf, Shape>
         ensures exact { result ≡ leaf_at block.now }
         ensures in_range { IfOk result IsContainerLeaf }
         ensures differs { IfErr result (λ s. s.want ≢ s.found) }
     {
-        ContainerLeaf::read(block)
+        ContainerLeaf::decode_in(block, GREATEST_KIND)
     }
 
-    #[tactic(auto, unfolding(crate::specs::Blocks::leaf_at))]
-    fn read(block: &[u8; 4096]) -> Result<ContainerLeaf, Shape>
-        ensures { result ≡ leaf_at block.now }
+    /// The leaf that a block spells where the kinds are 1 to `most_kind`, or the first field that isn't as said. Goes over the block once.
+    #[tactic(auto, using(crate::proofs::Decoded::leaf_in_range, crate::proofs::Decoded::leaf_differs))]
+    pub fn decode_in(block: &[u8; 4096], most_kind: u32) -> Result<ContainerLeaf, Shape>
+        ensures exact { result ≡ leaf_in most_kind block.now }
+        ensures in_range { IfOk result (IsLeafIn most_kind) }
+        ensures differs { IfErr result (λ s. s.want ≢ s.found) }
+    {
+        ContainerLeaf::read(block, most_kind)
+    }
+
+    #[tactic(auto, unfolding(crate::specs::Blocks::leaf_in))]
+    fn read(block: &[u8; 4096], most_kind: u32) -> Result<ContainerLeaf, Shape>
+        ensures { result ≡ leaf_in most_kind block.now }
     {
         word_in(block, 0, LEAF_MARK, LEAF_MARK)?;
         let index = word_in(block, 8, 0, u64::MAX)?;
         zeros_in(block, 16, 1008)?;
         let mut pvbns = [0; 256];
         let mut kinds = [0; 256];
-        ContainerLeaf::read_entries(tail(block, 1024), &mut pvbns, &mut kinds)?;
+        ContainerLeaf::read_entries(tail(block, 1024), most_kind, &mut pvbns, &mut kinds)?;
         Ok(ContainerLeaf {
             index,
             pvbns,
@@ -79,27 +91,32 @@ impl ContainerLeaf {
 
     /// The entry that bytes begin with.
     #[tactic(auto, unfolding(crate::specs::Blocks::asks_entry))]
-    fn read_entry(bytes: &[u8]) -> Result<(u32, u32), Shape>
+    fn read_entry(bytes: &[u8], most_kind: u32) -> Result<(u32, u32), Shape>
         requires { 12 ≤ length bytes.now }
-        ensures verdict { verdict_of result ≡ asks_entry bytes.now }
+        ensures verdict { verdict_of result ≡ asks_entry most_kind bytes.now }
         ensures value { IfOk result (λ e. (e.0 ≡ place_of bytes.now) × (e.1 ≡ kind_of bytes.now)) }
     {
         let used = half_at(bytes, 8) != 0;
         let pvbn = word_in(bytes, 0, 0, up_to(used, LAST_PLACE))?;
-        let kind = half_in(bytes, 8, 0, 8)?;
+        let kind = half_in(bytes, 8, 0, u64::from(most_kind))?;
         Ok((pvbn as u32, kind as u32))
     }
 
     /// Entries one after the other.
-    fn read_entries(bytes: &[u8], pvbns: &mut [u32], kinds: &mut [u32]) -> Result<(), Shape>
+    fn read_entries(
+        bytes: &[u8],
+        most_kind: u32,
+        pvbns: &mut [u32],
+        kinds: &mut [u32],
+    ) -> Result<(), Shape>
         requires room { 12 * length pvbns.old ≤ length bytes.now }
         requires same { length kinds.old ≡ length pvbns.old }
-        ensures verdict { result ≡ each (length pvbns.old) 12 asks_entry bytes.now }
+        ensures verdict { result ≡ each (length pvbns.old) 12 (asks_entry most_kind) bytes.now }
         ensures pvbns { OnOk result (pvbns.new ≡ items (length pvbns.old) 12 place_of bytes.now) }
         ensures kinds { OnOk result (kinds.new ≡ items (length pvbns.old) 12 kind_of bytes.now) }
     {
         for i in 0..pvbns.len() {
-            let entry = ContainerLeaf::read_entry(tail(bytes, 12 * i))?;
+            let entry = ContainerLeaf::read_entry(tail(bytes, 12 * i), most_kind)?;
             pvbns[i] = entry.0;
             kinds[i] = entry.1;
         }

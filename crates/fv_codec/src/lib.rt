@@ -15,7 +15,7 @@ mod root;
 mod shape;
 mod superblock;
 
-pub use container::{ContainerInner, ContainerLeaf};
+pub use container::{ContainerInner, ContainerLeaf, GREATEST_KIND};
 pub use form::{Form, has_form};
 pub use gate::{gate_open, open_gate};
 pub use inode::{InodeBlock, InodeRecord};

@@ -1,15 +1,15 @@
 -- A walk along a chain of parents.
-use Rattle.std.proofs.Common.{◌≡◌, ℕ, zero, suc, ◌+◌, ◌-◌, ◌<◌, ◌≤◌, Option, Some, None, refl, sym, ap, subst, ◌∙◌, arith}
+use Rattle.std.proofs.Common.{◌≡◌, ℕ, zero, suc, ◌+◌, ◌-◌, ◌<◌, ◌≤◌, List, length-set, set, Option, Some, None, refl, sym, ap, subst, ◌∙◌, arith}
 use Rattle.std.specs.Prelude.{IfSome, length}
 use Rattle.std.proofs.lemmas.List.{get_or_past}
-use Rattle.std.proofs.lemmas.List.Elements.{All-get_or, All-replicate}
+use Rattle.std.proofs.lemmas.List.Elements.{All-get_or, All-replicate, All-set}
 use Rattle.fv_disk.specs.Shown.{Image}
 use Rattle.fv_disk.specs.declared.fault.BlockFault.{BlockFault}
 use Rattle.fv_container.specs.Paged.{Paged}
 use Rattle.fv_container.specs.Clean.{IsCleanOn}
 use Rattle.fv_container.specs.declared.entry.Entry.{Entry}
 use Rattle.fv_container.specs.Mapped.{Mapped, IsMapped, IsHeld, entry_under}
-use Rattle.fv_container.specs.Chains.{AreCleanOn, IsFaultIn, IsLeafFault, Slots, IsSlots, slot_count, container_at, paged_at, parent_at, own_entry, or_else, along, no_containers}
+use Rattle.fv_container.specs.Chains.{AreCleanOn, IsFaultIn, IsLeafFault, Slots, IsSlots, slot_count, container_at, paged_at, parent_at, own_entry, or_else, along, no_containers, slots_of}
 
 -- the slot's own entry, or else what follows
 along_step : (slots : Slots) (n slot v : ℕ) → 0 < n → along slots n (Some slot) v ≡ or_else (own_entry (container_at slots slot) v) (along slots (n - 1) (parent_at slots slot) v)
@@ -53,6 +53,15 @@ slots_at_first = record {
   containers = refl;
   parents = refl;
   within = All-replicate (λ p. IfSome p (λ slot. slot < slot_count)) 64 None tt;
+}
+
+-- a slot is put
+pub slots_put : (containers : List (Option Paged)) (parents : List (Option ℕ)) (slot : ℕ) (container : Option Paged) (parent : Option ℕ) → IsSlots (slots_of containers parents) → IfSome parent (λ p. p < slot_count)
+    → IsSlots (slots_of (set containers slot container) (set parents slot parent))
+slots_put containers parents slot container parent is below = record {
+  containers = length-set containers slot container ∙ is.containers;
+  parents = length-set parents slot parent ∙ is.parents;
+  within = All-set (λ p. IfSome p (λ s. s < slot_count)) parents slot parent below is.within;
 }
 
 pub held_under : (map : Mapped) (v : ℕ) → IsMapped map → v < length map.entries → IfSome (entry_under map v) IsHeld

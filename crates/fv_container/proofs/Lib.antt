@@ -19,9 +19,11 @@ mod Flushed
 pub mod Clean
 mod Loaded
 mod Puts
+mod Finding
 mod Stored
 mod Opened
 mod Counting
+mod Occupied
 mod Marked
 mod Moving
 pub mod Laws

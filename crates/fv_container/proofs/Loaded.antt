@@ -84,7 +84,7 @@ kind_bit : (o : Option Entry) → IfSome o IsHeld → not ((pair_of o).1 == 0) �
 kind_bit None own = refl
 kind_bit (Some e) own = (let z : (e.kind == 0) ≡ false = grind (arith, nat_tests, own.kind_least) in rw z refl)
 
-pub learned_right : (es : List (Option Entry)) (k : ℕ) (leaf : ContainerLeaf) (old new : List Bool) → length old ≡ length es → LearnsIn (256 * k) leaf old new → ((v : ℕ) → IfSome (get_or es v None) IsHeld)
+pub learned_right : (es : List (Option Entry)) (k : ℕ) (leaf : ContainerLeaf) (old new : List Bool) → length es ≤ length old → LearnsIn (256 * k) leaf old new → ((v : ℕ) → IfSome (get_or es v None) IsHeld)
     → ((c : ℕ) → c < 256 → pair_at leaf c ≡ pair_of (get_or es (256 * k + c) None)) → is_right es k new ≡ true
 learned_right es k leaf old new long learns held said = right_of es k new (λ c lt. ⊎_elim
     (λ (inside : 256 * k + c < length old). learns.here c lt inside ∙ ap (λ (p : ℕ × ℕ). not (p.1 == 0)) (said c lt) ∙ kind_bit (get_or es (256 * k + c) None) (held (256 * k + c)))
@@ -215,7 +215,7 @@ module _ (es after : List (Option Entry)) (tree : List ℕ) (dirty : List Bool) 
       long = comes.long ∙ was.long;
       known = ap (λ (l : List Bool). length l) known_is ∙ length-set known k true ∙ was.known;
       sure = ap (λ (l : List Bool). length l) sure_is ∙ length-set sure k (is_told es k (leaf_here now k) bits) ∙ was.sure;
-      bits = learns.long ∙ was.bits;
+      bits = omega (arith, learns.long, was.bits);
       well = comes.well;
       learned = learned_now;
       held = λ j lt marked. comes.stays j (was.held j (omega (arith, lt, comes.long)) marked);
@@ -245,7 +245,7 @@ module _ (es after : List (Option Entry)) (tree : List ℕ) (dirty : List Bool) 
       said_now c lt = read c lt ∙ clean_loaded i es tree dirty count k c was.size clean.over was.mapped.tree low unmarked lt
 
       sure_now : is_sure now_paged k ≡ true
-      sure_now = sure_here ∙ and_from (is_as_said es k (leaf_here now k)) (is_right es k bits) (comes.said es said_now) (learned_right es k leaf used bits (was.bits ∙ was.size) learns held_all said_now)
+      sure_now = sure_here ∙ and_from (is_as_said es k (leaf_here now k)) (is_right es k bits) (comes.said es said_now) (learned_right es k leaf used bits (omega (arith, was.bits, was.size)) learns held_all said_now)
 
       here_sure : (j : ℕ) → is_here now_paged j ≡ true → is_sure now_paged j ≡ true
       here_sure j is = ⊎_elim

@@ -149,6 +149,46 @@ wants_move held tree dirty entries places n there stays wanted is so apart want 
     place_of : (a : ℕ) → not (a == 0) ≡ true → a ≢ 0
     place_of a some none = let test : (a == 0) ≡ true = grind (arith, nat_tests, none) in true≢false (sym some ∙ ap not test)
 
+there_clean : (held : Leaves) (tree : List ℕ) (dirty : List Bool) (entries n : ℕ) → n < level_width entries 0 → get_or dirty n true ≡ false → is_there held tree dirty entries n ≡ not (get_or tree n 0 == 0)
+unfolding is_there
+there_clean held tree dirty entries n low clean = let test : nat_lt n (level_width entries 0) ≡ true = grind (arith, nat_tests) in rw (test, clean) refl
+
+-- a leaf that isn't dirty stands where it stood
+placed_clean : (held : Leaves) (tree : List ℕ) (dirty : List Bool) (entries : ℕ) (fresh places : List ℕ) (n : ℕ) → n < level_width entries 0 → get_or dirty n true ≡ false
+    → get_or places n 0 ≡ get_or tree n 0 → get_or fresh n 0 ≡ 0 → IsPlaced (is_there held tree dirty entries) entries tree dirty fresh places n
+placed_clean held tree dirty entries fresh places n low clean same none = record {
+  absent = λ out. same ∙ no_place (get_or tree n 0) (sym there ∙ out);
+  written = λ is z. some_place (get_or tree n 0) (sym there ∙ is) (sym same ∙ z);
+  anew = λ some. absurd (some none);
+  stays = λ z some. record {
+    place = same;
+    clean = clean;
+    below = record {
+      inner = λ past high k from to end. absurd (omega (arith, low, past));
+      top = λ is k from to. absurd (omega (arith, low, is));
+    };
+  };
+  keeps = λ is some so below. same;
+}
+  where
+    there : is_there held tree dirty entries n ≡ not (get_or tree n 0 == 0)
+    there = there_clean held tree dirty entries n low clean
+
+    no_place : (a : ℕ) → not (a == 0) ≡ false → a ≡ 0
+    no_place a is = grind (arith, nat_tests, is)
+
+    some_place : (a : ℕ) → not (a == 0) ≡ true → a ≢ 0
+    some_place a is zero = let test : (a == 0) ≡ true = grind (arith, nat_tests, zero) in true≢false (sym is ∙ ap not test)
+
+-- leaves that aren't dirty, behind nodes that are placed
+pub placed_up : (held : Leaves) (tree : List ℕ) (dirty : List Bool) (entries : ℕ) (fresh places : List ℕ) (n to : ℕ) → ArePlaced (is_there held tree dirty entries) entries tree dirty fresh places n
+    → ((m : ℕ) → n ≤ m → m < to → m < level_width entries 0) → ((m : ℕ) → n ≤ m → m < to → get_or dirty m true ≡ false)
+    → ((m : ℕ) → n ≤ m → get_or places m 0 ≡ get_or tree m 0) → ((m : ℕ) → n ≤ m → m < to → get_or fresh m 0 ≡ 0) → ArePlaced (is_there held tree dirty entries) entries tree dirty fresh places to
+placed_up held tree dirty entries fresh places n to so_far low clean same none m lt = ⊎_elim
+    (λ (before : m < n). so_far m before)
+    (λ (past : n ≤ m). placed_clean held tree dirty entries fresh places m (low m past lt) (clean m past lt) (same m past) (none m past lt))
+    (cases_lt m n)
+
 -- ---- the whole tree
 
 module _ (held : Leaves) (entries : ℕ) (tree : List ℕ) (dirty : List Bool) (fresh places next room_row : List ℕ) (rows : AreRows held entries tree dirty next room_row)

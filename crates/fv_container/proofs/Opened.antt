@@ -11,13 +11,13 @@ use Rattle.std.proofs.lemmas.List.FromFn.{get_or-map-range_with_len, length-map-
 use Rattle.fv_disk.specs.Shown.{Image, IsBlock, IsDisk, Shown}
 use Rattle.fv_codec.specs.declared.container.ContainerLeaf.{ContainerLeaf}
 use Rattle.fv_codec.specs.declared.shape.Shape.{Shape}
-use Rattle.fv_codec.specs.Blocks.{IsContainerLeaf, IsEntry as IsLeafEntry, is_used, kind_of, last_place, leaf_at, place_of}
+use Rattle.fv_codec.specs.Blocks.{IsContainerLeaf, IsEntry as IsLeafEntry, is_used, greatest_kind, kind_of, last_place, leaf_at, leaf_in, place_of}
 use Rattle.fv_codec.specs.Fields.{Verdict, items, reading, up_to}
 use Rattle.fv_codec.proofs.Decoded.{leaf_in_range}
 use Rattle.fv_image.specs.Containers.{entry_in, level_width, lying, most_entries, shaped}
 use Rattle.fv_container.specs.declared.entry.Entry.{Entry}
 use Rattle.fv_container.specs.Kept.{IsKept, map_of, paged_of}
-use Rattle.fv_container.specs.Mapped.{IsHeld, empty_map, marks_above, node_count}
+use Rattle.fv_container.specs.Mapped.{IsHeld, empty_map, grown, marks_above, node_count}
 use Rattle.fv_container.specs.Paged.{IsLeafFor, IsSureOf, Leaves, empty_paged, entries_spelled, entry_for, here_of, is_as_said, is_right, is_told, leaf_here, pair_there}
 use Rattle.fv_container.specs.Spelled.{IsOpened, IsShapedAbove, pair_of}
 use Rattle.fv_container.specs.Clean.{IsCleanOn, IsCleanTree, IsOver}
@@ -67,7 +67,7 @@ by_verdict (Ok u) x r is long = subst (λ (q : Result ContainerLeaf Shape). IfOk
 by_verdict (Err s) x r is long = subst (λ (q : Result ContainerLeaf Shape). IfOk q IsLong) (sym is) tt
 
 rows_long : (block : List ℕ) (r : Result ContainerLeaf Shape) → r ≡ leaf_at block → IfOk r IsLong
-unfolding leaf_at
+unfolding leaf_in
 rows_long block r is = by_verdict _ _ r is (items_long 256 12 place_of (drop 1024 block), items_long 256 12 kind_of (drop 1024 block))
 
 block_long : (disk : Shown) → IsTrue disk.tells → IsDisk disk → (at : ℕ) → length (disk.reads at) ≡ 4096
@@ -78,7 +78,7 @@ block_long disk tells laws at =
 
 said_range : (block : List ℕ) (leaf : ContainerLeaf) → length block ≡ 4096 → leaf_at block ≡ Ok leaf → (c : ℕ) → c < 256 → IsLeafEntry (get_or leaf.pvbns c 0, get_or leaf.kinds c 0)
 said_range block leaf long said =
-    let range : IsContainerLeaf leaf = subst (λ (r : Result ContainerLeaf Shape). IfOk r IsContainerLeaf) said (leaf_in_range block (leaf_at block) long refl) in
+    let range : IsContainerLeaf leaf = subst (λ (r : Result ContainerLeaf Shape). IfOk r IsContainerLeaf) said (leaf_in_range greatest_kind block (leaf_at block) long refl) in
     let rows : IsLong leaf = subst (λ (r : Result ContainerLeaf Shape). IfOk r IsLong) said (rows_long block (leaf_at block) refl) in
     leaf_range leaf range rows.0 rows.1
 
@@ -173,7 +173,7 @@ module _ (n : ℕ) (es : List (Option Entry)) (tree : List ℕ) (value : Bool) (
 
   pub fresh_kept : (next fresh : List ℕ) → n ≤ most_entries → All (λ e. IfSome e IsHeld) es → length tree ≡ node_count n → ((m : ℕ) → get_or (marks_above n value) m true ≡ false → get_or tree m 0 ≤ last_place) → length known ≡ level_width n 0
       → ((k c : ℕ) → get_or known k false ≡ true → c < 256 → get_or es (256 * k + c) None ≡ None) → length next ≡ node_count n → length fresh ≡ node_count n
-      → IsKept (paged_of es tree (marks_above n value) (replicate (level_width n 0) None) known known) n (replicate (level_width n 0) None) (replicate n false) next fresh
+      → IsKept (paged_of es tree (marks_above n value) (replicate (level_width n 0) None) known known) n (replicate (level_width n 0) None) (replicate (grown n) false) next fresh
   fresh_kept next fresh few held long bounded wide holes room anew = record {
     mapped = record {
       few = omega (arith, few, size);
@@ -188,15 +188,15 @@ module _ (n : ℕ) (es : List (Option Entry)) (tree : List ℕ) (value : Bool) (
     long = length-replicate {A = Option (Box ContainerLeaf)} (level_width n 0) None;
     known = wide;
     sure = wide;
-    bits = length-replicate {A = Bool} n false;
+    bits = (let e = length-replicate {A = Bool} (grown n) false in omega (arith, e));
     well = λ k. subst (λ (b : Option (Box ContainerLeaf)). IfSome b (λ x. IsLeafFor k x.value)) (sym (no_leaf (level_width n 0) k)) tt;
     learned = λ k is. absurd (true≢false (sym is ∙ ap is_some (no_leaf (level_width n 0) k)));
     held = λ k lt is. absurd (true≢false (sym is ∙ marks_low n k value (let e = length-replicate {A = Option (Box ContainerLeaf)} (level_width n 0) None in omega (arith, lt, e))));
     told = λ k. by k (get_or known k false) refl;
   }
     where
-      by : (k : ℕ) (b : Bool) → get_or known k false ≡ b → IsSureOf es k b (leaf_here (replicate (level_width n 0) None) k) (replicate n false)
-      by k true is = subst (λ (b : Option (Box ContainerLeaf)). is_told es k b (replicate n false) ≡ true) (sym (no_leaf (level_width n 0) k)) (none_told es k n (λ c lt. holes k c is lt))
+      by : (k : ℕ) (b : Bool) → get_or known k false ≡ b → IsSureOf es k b (leaf_here (replicate (level_width n 0) None) k) (replicate (grown n) false)
+      by k true is = subst (λ (b : Option (Box ContainerLeaf)). is_told es k b (replicate (grown n) false) ≡ true) (sym (no_leaf (level_width n 0) k)) (none_told es k (grown n) (λ c lt. holes k c is lt))
       by k false is = tt
 
   pub fresh_clean : (i : Image) → IsOver i (map_of es tree (marks_above n value)) → IsCleanOn i (paged_of es tree (marks_above n value) (replicate (level_width n 0) None) known known)
@@ -242,7 +242,7 @@ zero_of n m = ⊎_elim
     (cases_lt m n)
 
 pub made_kept : (n : ℕ) (es : List (Option Entry)) (tree : List ℕ) (dirty : List Bool) (leaves : Leaves) (known sure used : List Bool) (next fresh : List ℕ) → n ≤ most_entries
-    → es ≡ replicate n None → tree ≡ replicate (node_count n) 0 → dirty ≡ marks_above n true → leaves ≡ replicate (level_width n 0) None → known ≡ replicate (level_width n 0) true → sure ≡ known → used ≡ replicate n false
+    → es ≡ replicate n None → tree ≡ replicate (node_count n) 0 → dirty ≡ marks_above n true → leaves ≡ replicate (level_width n 0) None → known ≡ replicate (level_width n 0) true → sure ≡ known → used ≡ replicate (grown n) false
     → next ≡ replicate (node_count n) 0 → fresh ≡ replicate (node_count n) 0 → IsKept (paged_of es tree dirty leaves known sure) n leaves used next fresh
 made_kept n es tree dirty leaves known sure used next fresh few es_is tree_is dirty_is leaves_is known_is sure_is used_is next_is fresh_is = rw (sure_is, es_is, tree_is, dirty_is, leaves_is, known_is, used_is, next_is, fresh_is)
     (fresh_kept n (replicate n None) (replicate (node_count n) 0) true (replicate (level_width n 0) true) (length-replicate {A = Option Entry} n None) (replicate (node_count n) 0) (replicate (node_count n) 0) few
@@ -258,7 +258,7 @@ made_empty n es tree dirty leaves known sure es_is tree_is dirty_is leaves_is kn
 module _ (i : Image) (n : ℕ) (value : Bool) (es : List (Option Entry)) (tree : List ℕ) (dirty : List Bool) (leaves : Leaves) (known sure used : List Bool) (next fresh : List ℕ)
     (few : n ≤ most_entries) (es_is : es ≡ entries_spelled i tree n) (long : length tree ≡ node_count n) (low : (m : ℕ) → m < level_width n 0 → get_or tree m 0 ≤ last_place) (high : value ≡ false → (m : ℕ) → get_or tree m 0 ≤ last_place)
     (dirty_is : dirty ≡ marks_above n value) (leaves_is : leaves ≡ replicate (level_width n 0) None) (wide : length known ≡ level_width n 0) (absent : (k : ℕ) → k < level_width n 0 → get_or known k false ≡ true → get_or tree k 0 ≡ 0)
-    (sure_is : sure ≡ known) (used_is : used ≡ replicate n false) (room : length next ≡ node_count n) (anew : length fresh ≡ node_count n)
+    (sure_is : sure ≡ known) (used_is : used ≡ replicate (grown n) false) (room : length next ≡ node_count n) (anew : length fresh ≡ node_count n)
   where
     bounded : (m : ℕ) → get_or (marks_above n value) m true ≡ false → get_or tree m 0 ≤ last_place
     bounded m un = ⊎_elim

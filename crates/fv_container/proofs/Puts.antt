@@ -93,7 +93,7 @@ said_apart : (es after : List (Option Entry)) (k : ℕ) (b : Option (Box Contain
 said_apart es after k None same said = none_said after k
 said_apart es after k (Some b) same said = as_said after k b (λ d lt. said_as es k b said d lt ∙ ap pair_of (sym (same d lt)))
 
-right_put : (es : List (Option Entry)) (k v : ℕ) (entry : Option Entry) (used : List Bool) → v < length es → length used ≡ length es → is_right es k used ≡ true → is_right (slice_set es v entry) k (slice_set used v (is_some entry)) ≡ true
+right_put : (es : List (Option Entry)) (k v : ℕ) (entry : Option Entry) (used : List Bool) → v < length es → length es ≤ length used → is_right es k used ≡ true → is_right (slice_set es v entry) k (slice_set used v (is_some entry)) ≡ true
 right_put es k v entry used within long right = right_of (slice_set es v entry) k (slice_set used v (is_some entry)) (λ c lt. ⊎_elim
     (λ (e : 256 * k + c ≡ v). ap (λ (n : ℕ). get_or (slice_set used v (is_some entry)) n false) e ∙ get_or-set_same used v (is_some entry) false (omega (arith, within, long))
     ∙ sym (ap (λ (n : ℕ). is_some (get_or (slice_set es v entry) n None)) e ∙ ap is_some (get_or-set_same es v entry None within)))
@@ -172,11 +172,11 @@ module _ (es after : List (Option Entry)) (tree : List ℕ) (dirty marks : List 
         (said_put es put k c entry (leaf_here leaves k) (leaf_here now k) puts.set here
         (ap (λ (n : ℕ). get_or put n None) parts ∙ get_or-set_same es v entry None within)
         (λ d lt ne. get_or-set_other es v (256 * k + d) entry None (λ q. ne (omega (arith, q, parts, lt)))))
-        (right_put es k v entry used within (was.bits ∙ was.size)) (was.told k)))
+        (right_put es k v entry used within (omega (arith, was.bits, was.size))) (was.told k)))
         (λ (ne : j ≢ k). subst (λ (b : Option (Box ContainerLeaf)). IsSureOf put j (get_or sure j false) b (slice_set used v (is_some entry))) (sym (puts.others j ne))
         (told_again es put j (get_or sure j false) (leaf_here leaves j) (leaf_here leaves j) used (slice_set used v (is_some entry))
         (said_apart es put j (leaf_here leaves j) (λ d lt. get_or-set_other es v (256 * j + d) entry None (λ q. ne (omega (arith, q, parts, lt)))))
-        (right_put es j v entry used within (was.bits ∙ was.size)) (was.told j)))
+        (right_put es j v entry used within (omega (arith, was.bits, was.size))) (was.told j)))
         (cases_eq j k)
 
     kept_put : IsKept (paged_of put tree (dirty_after changed dirty v) now known sure) count now (slice_set used v (is_some entry)) next fresh
@@ -194,7 +194,7 @@ module _ (es after : List (Option Entry)) (tree : List ℕ) (dirty marks : List 
       long = long ∙ was.long;
       known = was.known;
       sure = was.sure;
-      bits = length-set used v (is_some entry) ∙ was.bits;
+      bits = omega (arith, length-set used v (is_some entry), was.bits);
       well = well;
       learned = λ j is. was.learned j (sym (still j) ∙ is);
       held = λ j lt marked. marked_held j lt (ap (λ (l : List Bool). get_or l j true) marks_is ∙ marked);

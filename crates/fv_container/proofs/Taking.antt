@@ -1,5 +1,5 @@
 -- Places that are taken and given back one after another.
-use Rattle.std.proofs.Common.{◌≡◌, ◌≢◌, ℕ, zero, suc, ◌+◌, ◌-◌, ◌<◌, ◌≤◌, ◌⊎◌, List, [], ◌∷◌, length, get_or, take, Bool, true, false, not, ◌&&◌, ◌||◌, cond, nat_eq, ◌==◌, if◌then◌else◌, refl, sym, ap, ◌∙◌, inl, inr, arith, ⊎_elim}
+use Rattle.std.proofs.Common.{◌≡◌, ◌≢◌, ℕ, zero, suc, ◌+◌, ◌-◌, ◌<◌, ◌≤◌, ◌⊎◌, List, [], ◌∷◌, length, get_or, take, Bool, true, false, not, ◌&&◌, ◌||◌, cond, nat_eq, ◌==◌, if◌then◌else◌, refl, sym, ap, subst, ◌∙◌, inl, inr, arith, ⊎_elim}
 use Rattle.std.specs.Prelude.{slice_set}
 use Rattle.std.specs.FinSet as set
 use Rattle.std.specs.FinSet.{FinSet}
@@ -8,7 +8,7 @@ use Rattle.std.proofs.lemmas.Cmp.{nat_cmp_total}
 use Rattle.std.proofs.lemmas.Bool.{cases_Bool, cases_eq, true≢false}
 use Rattle.std.proofs.lemmas.Bool.Decides.{nat_tests}
 use Rattle.std.proofs.Math.Bool.{and-false, and-true, or_assoc, or_comm}
-use Rattle.std.proofs.lemmas.List.{get_or-set_same, get_or-set_other, get_or-take, length-take, take_more_set}
+use Rattle.std.proofs.lemmas.List.{get_or-set_same, get_or-set_other, get_or-take, length-take, set-get_or, take_more_set}
 use Rattle.std.proofs.lemmas.List.Folds.{list_any-append, list_any_more}
 use Rattle.fv_container.specs.Spelled.{is_at, names}
 use Rattle.fv_container.specs.Freeing.{IsRoom, Releases, Room}
@@ -219,6 +219,33 @@ module _ (old mid new : Room) (test : ℕ → Bool) (ps : List ℕ) (n b : ℕ) 
       (λ (not_so : wanted ≡ false). taken_nothing (takes.none not_so) (takes.stays not_so))
       (cases_Bool wanted)
 
+-- a node for which there is no new place takes none
+taken_still : (old mid : Room) (test : ℕ → Bool) (ps : List ℕ) (n : ℕ) → IsRoom old → n < length ps → get_or ps n 0 ≡ 0 → HasTaken old test ps n mid → HasTaken old test ps (n + 1) mid
+taken_still old mid test ps n laws within none so_far =
+    let same : slice_set ps n 0 ≡ ps = ap (λ (b : ℕ). slice_set ps n b) (sym none) ∙ set-get_or ps n 0 in
+    let takes : TakesIf false mid 0 mid = record {
+      some = λ is. absurd (true≢false (sym is));
+      taken = λ is. absurd (true≢false (sym is));
+      held = λ is. absurd (true≢false (sym is));
+      none = λ is. refl;
+      stays = λ is. refl;
+      committed = refl;
+    } in
+    subst (λ (l : List ℕ). HasTaken old test l (n + 1) mid) same (taken_more old mid mid test ps n 0 laws within so_far false (λ is. absurd (true≢false (sym is))) takes)
+
+taken_by : (old mid : Room) (test : ℕ → Bool) (ps : List ℕ) (n k : ℕ) → IsRoom old → n + k ≤ length ps → ((m : ℕ) → n ≤ m → m < n + k → get_or ps m 0 ≡ 0) → HasTaken old test ps n mid → HasTaken old test ps (n + k) mid
+taken_by old mid test ps n zero laws within none so_far = let e : n ≡ n + 0 = omega arith in subst (λ (m : ℕ). HasTaken old test ps m mid) e so_far
+taken_by old mid test ps n (suc k) laws within none so_far =
+    let e : (n + k) + 1 ≡ n + suc k = omega arith in
+    let before : HasTaken old test ps (n + k) mid = taken_by old mid test ps n k laws (omega (arith, within)) (λ m low high. none m low (omega (arith, high))) so_far in
+    subst (λ (m : ℕ). HasTaken old test ps m mid) e (taken_still old mid test ps (n + k) laws (omega (arith, within)) (none (n + k) (omega arith) (omega arith)) before)
+
+-- nor do several
+pub taken_up : (old mid : Room) (test : ℕ → Bool) (ps : List ℕ) (n to : ℕ) → IsRoom old → n ≤ to → to ≤ length ps → ((m : ℕ) → n ≤ m → m < to → get_or ps m 0 ≡ 0) → HasTaken old test ps n mid → HasTaken old test ps to mid
+taken_up old mid test ps n to laws le within none so_far =
+    let e : n + (to - n) ≡ to = omega (arith, le) in
+    subst (λ (m : ℕ). HasTaken old test ps m mid) e (taken_by old mid test ps n (to - n) laws (omega (arith, e, within)) (λ m low high. none m low (omega (arith, high, e))) so_far)
+
 -- ---- giving back
 
 pub released_skip : (old mid : Room) (ps : List ℕ) (n : ℕ) → n < length ps → get_or ps n 0 ≡ 0 → HasReleased old ps n mid → HasReleased old ps (n + 1) mid
@@ -231,6 +258,28 @@ released_skip old mid ps n within none so_far =
       held = λ a. so_far.held a ∙ sym (ap (λ t. not t && old.held a) (same a));
       committed = so_far.committed;
     }
+
+pub released_none : (room : Room) (ps : List ℕ) → HasReleased room ps 0 room
+released_none room ps = record {
+  keeps = λ b in_it. in_it;
+  grows = omega arith;
+  adds = λ b in_it. inl in_it;
+  held = λ b. refl;
+  committed = refl;
+}
+
+released_by : (old mid : Room) (ps : List ℕ) (n k : ℕ) → n + k ≤ length ps → ((m : ℕ) → n ≤ m → m < n + k → get_or ps m 0 ≡ 0) → HasReleased old ps n mid → HasReleased old ps (n + k) mid
+released_by old mid ps n zero within none so_far = let e : n ≡ n + 0 = omega arith in subst (λ (m : ℕ). HasReleased old ps m mid) e so_far
+released_by old mid ps n (suc k) within none so_far =
+    let e : (n + k) + 1 ≡ n + suc k = omega arith in
+    let before : HasReleased old ps (n + k) mid = released_by old mid ps n k (omega (arith, within)) (λ m low high. none m low (omega (arith, high))) so_far in
+    subst (λ (m : ℕ). HasReleased old ps m mid) e (released_skip old mid ps (n + k) (omega (arith, within)) (none (n + k) (omega arith) (omega arith)) before)
+
+-- where there is no place nothing is given back
+pub released_up : (old mid : Room) (ps : List ℕ) (n to : ℕ) → n ≤ to → to ≤ length ps → ((m : ℕ) → n ≤ m → m < to → get_or ps m 0 ≡ 0) → HasReleased old ps n mid → HasReleased old ps to mid
+released_up old mid ps n to le within none so_far =
+    let e : n + (to - n) ≡ to = omega (arith, le) in
+    subst (λ (m : ℕ). HasReleased old ps m mid) e (released_by old mid ps n (to - n) (omega (arith, e, within)) (λ m low high. none m low (omega (arith, high, e))) so_far)
 
 or_left : (a b : Bool) → a ≡ true → (a || b) ≡ true
 or_left a b is = rw is refl

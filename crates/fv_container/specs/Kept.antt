@@ -1,9 +1,11 @@
 -- How a container is kept.
-use Rattle.std.specs.Prelude.{◌≡◌, ◌<◌, ℕ, Bool, true, false, List, length, get_or, Option}
+use Rattle.std.specs.Prelude.{◌≡◌, ◌<◌, ◌≤◌, ◌*◌, ℕ, Bool, true, false, List, length, count_by, get_or, nat_lt, Option}
+use Rattle.std.specs.List.{range_with_len}
 use Rattle.std.specs.Option.{is_some}
+use Rattle.fv_codec.specs.Blocks.{greatest_kind}
 use Rattle.fv_image.specs.Containers.{level_width}
 use Rattle.fv_container.specs.declared.entry.Entry.{Entry}
-use Rattle.fv_container.specs.Mapped.{Mapped, IsMapped, node_count}
+use Rattle.fv_container.specs.Mapped.{Mapped, IsMapped, grown, node_count}
 use Rattle.fv_container.specs.Paged.{AreWell, IsSureOf, Leaves, Paged, here_of, leaf_here}
 
 abbrev pub map_of : List (Option Entry) → List ℕ → List Bool → Mapped
@@ -22,8 +24,31 @@ pub record IsKept (paged : Paged) (count : ℕ) (leaves : Leaves) (used : List B
   pub long : length leaves ≡ level_width count 0
   pub known : length paged.known ≡ level_width count 0
   pub sure : length paged.sure ≡ level_width count 0
-  pub bits : length used ≡ count
+  pub bits : count ≤ length used
   pub well : AreWell leaves
   pub learned : (k : ℕ) → is_some (leaf_here leaves k) ≡ true → get_or paged.known k false ≡ true
   pub held : (k : ℕ) → k < length leaves → get_or paged.map.dirty k true ≡ true → is_some (leaf_here leaves k) ≡ true
   pub told : (k : ℕ) → IsSureOf paged.map.entries k (get_or paged.sure k false) (leaf_here leaves k) used
+
+-- There is memory for the rows of as many entries as a container may grow to, by how much each row has. The kinds that it reads are those
+-- of a block.
+pub record CanGrow (count leaf_room tree_room dirty_room next_room fresh_room known_room used_room most_kind : ℕ) : Type 0 where
+  pub leaves : level_width (grown count) 0 ≤ leaf_room
+  pub tree : node_count (grown count) ≤ tree_room
+  pub dirty : node_count (grown count) ≤ dirty_room
+  pub next : node_count (grown count) ≤ next_room
+  pub fresh : node_count (grown count) ≤ fresh_room
+  pub known : level_width (grown count) 0 ≤ known_room
+  pub used : grown count ≤ used_room
+  pub kinds : most_kind ≡ greatest_kind
+
+-- whether one of the numbers of a region is a member
+abbrev pub has_number : List Bool → ℕ → Bool
+has_number used k = nat_lt 0 (count_by (λ v. get_or used v false) (range_with_len (256 * k) 256))
+
+-- The regions that have a member among their numbers, each with a number below that of the entries. So a region that isn't one has no entry,
+-- where it is known which of its entries are holes, and that is sure. There is room for as many regions as a container may grow to.
+pub record AreOccupied (count : ℕ) (used occupied : List Bool) : Type 0 where
+  pub room : level_width (grown count) 0 ≤ length occupied
+  pub within : (k : ℕ) → get_or occupied k false ≡ true → 256 * k < count
+  pub exact : (k : ℕ) → 256 * k < count → get_or occupied k false ≡ has_number used k

@@ -14,3 +14,4 @@ pub mod Putting
 pub mod Leading
 pub mod Flushed
 pub mod Storing
+pub mod Finding

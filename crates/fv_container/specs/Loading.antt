@@ -1,5 +1,5 @@
 -- What calls make of a container that read a leaf, or change an entry.
-use Rattle.std.specs.Prelude.{◌≡◌, ◌≢◌, ◌<◌, ◌*◌, ◌/◌, ℕ, Bool, true, false, not, ◌&&◌, ◌||◌, if◌then◌else◌, List, length, get_or, slice_set, count_by, IsTrue, Option}
+use Rattle.std.specs.Prelude.{◌≡◌, ◌≢◌, ◌<◌, ◌≤◌, ◌*◌, ◌/◌, ℕ, Bool, true, false, not, ◌&&◌, ◌||◌, if◌then◌else◌, List, length, get_or, slice_set, count_by, IsTrue, Option}
 use Rattle.std.specs.Option.{is_some}
 use Rattle.std.specs.List.{range_with_len}
 use Rattle.fv_disk.specs.Shown.{Shown}
@@ -88,3 +88,17 @@ has_entry_at map v = is_some (entry_under map v)
 -- how many entries of a region aren't holes and stand under numbers that aren't held
 unfoldable pub delayed_in_region : Mapped → List Bool → ℕ → ℕ
 delayed_in_region map held region = count_by (λ v. has_entry_at map v && not (get_or held v false)) (range_with_len (256 * region) 256)
+
+-- how many entries of a region aren't holes
+unfoldable pub entries_in_region : Mapped → ℕ → ℕ
+entries_in_region map region = count_by (has_entry_at map) (range_with_len (256 * region) 256)
+
+-- no region from one on has an entry, as far as what is known of them is sure
+pub record HasNoRegionFrom (paged : Paged) (from : ℕ) : Type 0 where
+  pub none : (k : ℕ) → from ≤ k → is_sure paged k ≡ true → entries_in_region paged.map k ≡ 0
+
+-- a region from one on, and none in front of it has an entry, as far as what is known of them is sure
+pub record IsNextRegion (paged : Paged) (from region : ℕ) : Type 0 where
+  pub after : from ≤ region
+  pub within : 256 * region < length paged.map.entries
+  pub before : (k : ℕ) → from ≤ k → k < region → is_sure paged k ≡ true → entries_in_region paged.map k ≡ 0

@@ -1,5 +1,5 @@
 -- A container as a map from VVBNs to entries.
-use Rattle.std.specs.Prelude.{◌≡◌, ◌≤◌, ◌+◌, ◌/◌, ◌++◌, ℕ, Bool, true, false, List, length, replicate, slice_set, slice_index_or, get_or, All, Option, None, IfSome}
+use Rattle.std.specs.Prelude.{◌≡◌, ◌≤◌, ◌+◌, ◌*◌, ◌/◌, ◌++◌, ℕ, Bool, true, false, List, length, replicate, slice_set, slice_index_or, get_or, All, Option, None, IfSome}
 use Rattle.fv_codec.specs.Blocks.{last_place}
 use Rattle.fv_image.specs.Containers.{level_width, most_entries}
 use Rattle.fv_container.specs.declared.entry.Entry.{Entry}
@@ -24,6 +24,11 @@ with_entry map v entry = record { entries = slice_set map.entries v entry; tree 
 -- how many nodes a tree can have: leaves, the level above them, and a root above that
 abbrev pub node_count : ℕ → ℕ
 node_count entries = level_width entries 0 + (level_width entries 1 + 1)
+
+-- How many entries a container of so many may grow to. A volume of whose maps each takes m blocks has 25 of them in a container of the
+-- first format, and 256 in one with a number for each record behind them; its span is at most 32,768 * m.
+abbrev pub grown : ℕ → ℕ
+grown entries = entries + 231 * ((entries + 32792) / 32793) + 256
 
 -- marks of nodes: no leaf is dirty, and the nodes above the leaves all are, or none
 abbrev pub marks_above : ℕ → Bool → List Bool

@@ -1,7 +1,8 @@
 //! Bits of the entries that aren't holes.
 
-ghost use Rattle.std.specs.Prelude.{◌≡◌, ◌<◌, ◌≤◌, ◌*◌, ◌+◌, ◌^◌, false, not, ◌&&◌, length, get_or, slice_set, count_by};
+ghost use Rattle.std.specs.Prelude.{◌≡◌, ◌<◌, ◌≤◌, ◌*◌, ◌+◌, ◌^◌, false, length, get_or, slice_set, count_by};
 ghost use Rattle.std.specs.List.{range_with_len};
+ghost use Rattle.fv_container.specs.Kept.{has_number};
 ghost use Rattle.fv_container.specs.Putting.{LearnsIn};
 
 use crate::layout::FAN;
@@ -34,32 +35,22 @@ pub(crate) fn learn_in(used: &mut BitMap, from: u32, leaf: &ContainerLeaf)
     }
 }
 
-/// Whether a number is a member of a map; none is from its end on.
-#[tactic(auto, unfolding(fv_bits::specs::Members::is_member))]
-fn is_in(bits: &BitMap, at: u32) -> bool
-    ensures { result ≡ get_or bits.now at false }
+/// How many of the 256 numbers from one on, which is below its length, are members of a map. Costs a step for each word of 64 numbers.
+#[tactic(auto, using(crate::proofs::Counting::members_from))]
+fn count_from(used: &BitMap, from: u32) -> u32
+    requires few { from < 2 ^ 30 }
+    requires within { from < length used.now }
+    ensures { result ≡ count_by (λ v. get_or used.now v false) (range_with_len from 256) }
 {
-    at < bits.len() && bits.get(at)
+    used.count_range(from, (from + 256).min(used.len()))
 }
 
-/// Whether a number is a member of one map and not of another.
-fn is_apart(used: &BitMap, held: &BitMap, at: u32) -> bool
-    ensures { result ≡ (get_or used.now at false && not (get_or held.now at false)) }
+/// Puts the bit that says whether a region has a number that is a member of a map. Costs a step for each word of 64 numbers.
+pub(crate) fn occupy(occupied: &mut BitMap, used: &BitMap, region: u32)
+    requires few { region < 65536 }
+    requires within { 256 * region < length used.now }
+    requires room { region < length occupied.old }
+    ensures { occupied.new ≡ slice_set occupied.old region (has_number used.now region) }
 {
-    is_in(used, at) && !is_in(held, at)
-}
-
-/// How many of the 256 numbers from one on are members of one map and not of another.
-#[tactic(auto, using(crate::proofs::Counting::counted_none, crate::proofs::Counting::counted_yes, crate::proofs::Counting::counted_no))]
-pub(crate) fn count_in(used: &BitMap, held: &BitMap, from: u32) -> u32
-    requires { from < 2 ^ 30 }
-    ensures { result ≡ count_by (λ v. get_or used.now v false && not (get_or held.now v false)) (range_with_len from 256) }
-{
-    let mut count = 0;
-    for c in 0..256 {
-        if is_apart(used, held, from + c) {
-            count += 1;
-        }
-    }
-    count
+    put_bit(occupied, region, count_from(used, 256 * region) > 0);
 }

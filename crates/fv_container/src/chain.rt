@@ -55,7 +55,7 @@ impl Containers {
     {
         Ok(Containers {
             containers: free_slots(alloc)?,
-            parents: filled(alloc, SLOTS, None)?,
+            parents: filled(alloc, SLOTS, SLOTS, None)?,
         })
     }
 

@@ -18,13 +18,13 @@ ghost use Rattle.fv_container.specs.Loading.{HasLoaded, HasPut, HasSet, KeepsMap
 ghost use Rattle.fv_container.specs.Reading.{IsBadNode};
 ghost use Rattle.fv_container.specs.Seeing.{IsSomeFault};
 
-use crate::bits::{learn_in, put_bit};
+use crate::bits::{learn_in, occupy, put_bit};
 use crate::entry::Entry;
 use crate::fault::ContainerFault;
 use crate::flush::flush_tree;
 use crate::free::Free;
 use crate::layout::{
-    FAN, above_count, absent_leaves, fill, filled, leaf_count, marks_above, node_count,
+    FAN, above_count, absent_leaves, fill, filled, grown, leaf_count, marks_above, node_count,
 };
 use crate::leaf::{
     boxed, drop_leaves, entry_in, has_leaf, mark_changed, no_leaves, put_in, read_region,
@@ -37,7 +37,7 @@ use crate::telling::{
 };
 use crate::told::Told;
 use fv_bits::BitMap;
-use fv_codec::ContainerLeaf;
+use fv_codec::{ContainerLeaf, GREATEST_KIND};
 use fv_disk::{Disk, Failed};
 use fv_store::Store;
 use std::alloc::{AllocError, Global};
@@ -49,6 +49,8 @@ use std::marker::Model;
 /// was loaded. Contracts see the entries by VVBN, each an entry or a hole, the places of the tree's nodes, and which of these are dirty.
 /// Beside these they see of which regions the leaf is in memory, of which it is known which entries are holes, and whether that is as the
 /// entries say, which it is where the container is clean on the disk.
+///
+/// Its rows have memory enough for the entries that it may grow to.
 #[derive(Drop)]
 pub struct Container {
     alloc: Global,
@@ -63,25 +65,31 @@ pub struct Container {
     pub(crate) tree: Vec<u32>,
     /// Which nodes may say something else on the disk.
     dirty: Vec<bool>,
-    /// Room for the places of the next tree, so that a flush takes no memory.
+    /// Room for the places of the next tree, so that a flush needs no memory.
     next: Vec<u32>,
     /// And room for those of them that are new.
     fresh: Vec<u32>,
-    /// The VVBNs whose entries aren't holes.
+    /// The VVBNs whose entries aren't holes, with room for all that there may be.
     pub(crate) used: BitMap,
+    /// The regions that have such a VVBN, with room for all that there may be. As long as the leaf of a region wasn't read, it isn't one.
+    pub(crate) occupied: BitMap,
     /// Of which regions these are known.
     pub(crate) known: Vec<bool>,
+    /// The greatest kind of an entry, by which leaves are read.
+    pub(crate) most_kind: u32,
 }
 
 impl Model for Container {
     ghost use Rattle.fv_container.specs.Paged.{Paged};
-    ghost use Rattle.fv_container.specs.Kept.{IsKept, paged_of};
+    ghost use Rattle.std.specs.Prelude.{length};
+    ghost use Rattle.std.specs.Vec.{vec_capacity};
+    ghost use Rattle.fv_container.specs.Kept.{AreOccupied, CanGrow, IsKept, paged_of};
 
     ghost Value = { Paged };
 
     ghost view = { λ c. paged_of c.told.entries c.tree.items c.dirty.items c.leaves.items c.known.items c.told.sure };
 
-    ghost invariant = { λ c. IsKept (paged_of c.told.entries c.tree.items c.dirty.items c.leaves.items c.known.items c.told.sure) c.count c.leaves.items c.used c.next.items c.fresh.items };
+    ghost invariant = { λ c. IsKept (paged_of c.told.entries c.tree.items c.dirty.items c.leaves.items c.known.items c.told.sure) c.count c.leaves.items c.used c.next.items c.fresh.items × CanGrow c.count (vec_capacity c.leaves) (vec_capacity c.tree) (vec_capacity c.dirty) (vec_capacity c.next) (vec_capacity c.fresh) (vec_capacity c.known) (length c.used) c.most_kind × AreOccupied c.count c.used c.occupied };
 }
 
 impl Container {
@@ -92,15 +100,18 @@ impl Container {
         ensures empty { IfOk result (λ container. container ≡ empty_paged entries) }
     {
         let count = entries as usize;
+        let most = grown(count);
         let nodes = node_count(count);
+        let room = node_count(most);
         let regions = leaf_count(count);
-        let known = filled(alloc, regions, true)?;
-        let leaves = no_leaves(alloc, regions)?;
-        let tree = filled(alloc, nodes, 0)?;
-        let dirty = marks_above(alloc, regions, above_count(count), true)?;
-        let next = filled(alloc, nodes, 0)?;
-        let fresh = filled(alloc, nodes, 0)?;
-        let used = BitMap::new(alloc, entries)?;
+        let known = filled(alloc, regions, leaf_count(most), true)?;
+        let leaves = no_leaves(alloc, regions, leaf_count(most))?;
+        let tree = filled(alloc, nodes, room, 0)?;
+        let dirty = marks_above(alloc, regions, above_count(count), room, true)?;
+        let next = filled(alloc, nodes, room, 0)?;
+        let fresh = filled(alloc, nodes, room, 0)?;
+        let used = BitMap::new(alloc, most as u32)?;
+        let occupied = BitMap::new(alloc, leaf_count(most) as u32)?;
         let told = Told::of::<Making<'_>, AfterMake>(&Making {
             count: entries,
             known: &known,
@@ -115,7 +126,9 @@ impl Container {
             next,
             fresh,
             used,
+            occupied,
             known,
+            most_kind: GREATEST_KIND,
         })
     }
 
@@ -161,17 +174,20 @@ impl Container {
         ensures cause { HasBlockCause (D.shown disk.old).faults (D.shown disk.new).faults result }
     {
         let count = entries as usize;
+        let most = grown(count);
         let nodes = node_count(count);
+        let room = node_count(most);
         let regions = leaf_count(count);
-        let mut tree = filled(alloc, nodes, 0)?;
-        let next = filled(alloc, nodes, 0)?;
-        let fresh = filled(alloc, nodes, 0)?;
-        let leaves = no_leaves(alloc, regions)?;
-        let used = BitMap::new(alloc, entries)?;
+        let mut tree = filled(alloc, nodes, room, 0)?;
+        let next = filled(alloc, nodes, room, 0)?;
+        let fresh = filled(alloc, nodes, room, 0)?;
+        let leaves = no_leaves(alloc, regions, leaf_count(most))?;
+        let used = BitMap::new(alloc, most as u32)?;
+        let occupied = BitMap::new(alloc, leaf_count(most) as u32)?;
         let whole = read_tree(store, disk, &mut tree, count, height, root)?;
         let stands = both(whole, are_places(&tree));
-        let dirty = marks_above(alloc, regions, above_count(count), !stands)?;
-        let known = absent_leaves(alloc, &tree, regions)?;
+        let dirty = marks_above(alloc, regions, above_count(count), room, !stands)?;
+        let known = absent_leaves(alloc, &tree, regions, leaf_count(most))?;
         let told = Told::of::<Opening<'_, D>, AfterOpen>(&Opening {
             disk,
             tree: &tree,
@@ -188,7 +204,9 @@ impl Container {
             next,
             fresh,
             used,
+            occupied,
             known,
+            most_kind: GREATEST_KIND,
         })
     }
 
@@ -219,9 +237,11 @@ impl Container {
         if self.leaves[at].is_some() {
             return Ok(());
         }
-        let leaf = read_region(store, disk, self.tree[at], at, self.count as usize)?;
+        let count = self.count as usize;
+        let leaf = read_region(store, disk, self.tree[at], at, count, self.most_kind)?;
         let held = boxed(self.alloc, leaf)?;
         learn_in(&mut self.used, 256 * region, &leaf);
+        occupy(&mut self.occupied, &self.used, region);
         self.leaves[at] = Some(held);
         self.known[at] = true;
         self.told = Told::of::<Learning<'_>, AfterLearn>(&Learning {
@@ -341,6 +361,7 @@ impl Container {
         let at = vvbn as usize;
         let changed = put_in(&mut self.leaves, at / FAN, at % FAN, entry);
         put_bit(&mut self.used, vvbn, entry.is_some());
+        occupy(&mut self.occupied, &self.used, vvbn / 256);
         self.told = Told::of::<Setting<'_>, AfterSet>(&Setting {
             told: &self.told,
             vvbn: at,
@@ -356,9 +377,10 @@ impl Container {
     /// has as many free blocks as the tree has dirty leaves with an entry and nodes above the leaves, and has at most so many fewer
     /// afterwards. No leaf is in memory afterwards.
     ///
-    /// It takes no memory and reads nothing, and no block is written that wasn't free in `map` at the call. The one error is a failed
-    /// write; the container then stands as before, with its old tree, and the blocks that were taken are lost to `map`. Costs a step for
-    /// each node and each entry of a dirty leaf, and a write for each node that moves.
+    /// It needs no memory and reads nothing, and no block is written that wasn't free in `map` at the call. The store may take memory for
+    /// the leaves that are written, which it holds where memory is found for them; where none is found, that is no error. The one error is
+    /// a failed write; the container then stands as before, with its old tree, and the blocks that were taken are lost to `map`. Costs a
+    /// step for each node and each entry of a dirty leaf, and a write for each node that moves.
     pub fn flush<D: Disk, F: Free>(
         &mut self,
         store: &mut Store,

@@ -1,7 +1,8 @@
 //! The leaves in memory.
 
 ghost use Rattle.std.specs.Prelude.{◌≡◌, ◌≢◌, ◌<◌, ◌≤◌, ◌*◌, ◌+◌, ℕ, true, false, None, IfSome, IfOk, IfErr, IsTrue, is_some, length, replicate, slice_set, if◌then◌else◌, nat_lt};
-ghost use Rattle.fv_codec.specs.Blocks.{IsEntry as IsLeafEntry};
+ghost use Rattle.std.specs.Vec.{vec_capacity};
+ghost use Rattle.fv_codec.specs.Blocks.{IsEntry as IsLeafEntry, greatest_kind};
 ghost use Rattle.fv_store.specs.Held.{StandsOn};
 ghost use Rattle.fv_image.specs.Containers.{most_entries};
 ghost use Rattle.fv_container.specs.Mapped.{IsHeld};
@@ -63,9 +64,11 @@ pub(crate) fn read_region<D: Disk>(
     at: u32,
     region: usize,
     count: usize,
+    most_kind: u32,
 ) -> Result<ContainerLeaf, BlockFault>
     requires few { count ≤ most_entries }
     requires region { region < 65536 }
+    requires kinds { most_kind ≡ greatest_kind }
     requires stands { StandsOn (D.shown disk.old) store.old.pairs }
     ensures well { IfOk result (IsLeafFor region) }
     ensures pairs { IsTrue (D.shown disk.old).tells
@@ -74,7 +77,7 @@ pub(crate) fn read_region<D: Disk>(
     ensures kind { IfErr result IsReadFault }
     ensures read { HasRead (D.shown disk.old) (D.shown disk.new) store.new.pairs result }
 {
-    let leaf = read_leaf(store, disk, at)?;
+    let leaf = read_leaf(store, disk, at, most_kind)?;
     Ok(fitted(leaf, region, count))
 }
 
@@ -120,7 +123,7 @@ fn entry_from(pvbn: u32, kind: u32) -> Option<Entry>
 }
 
 /// The entry of a leaf.
-fn entry_of(leaf: &ContainerLeaf, c: usize) -> Option<Entry>
+pub(crate) fn entry_of(leaf: &ContainerLeaf, c: usize) -> Option<Entry>
     requires within { c < 256 }
     requires pvbns { length leaf.now.pvbns ≡ 256 }
     requires kinds { length leaf.now.kinds ≡ 256 }
@@ -164,10 +167,12 @@ pub(crate) fn look_in<D: Disk>(
     at: u32,
     region: usize,
     c: usize,
+    most_kind: u32,
 ) -> Result<Option<Entry>, BlockFault>
     requires within { region < length leaves.now }
     requires number { c < 256 }
     requires well { AreWell leaves.now }
+    requires kinds { most_kind ≡ greatest_kind }
     requires stands { StandsOn (D.shown disk.old) store.old.pairs }
     ensures pair { IfOk result (λ entry. LooksUp (D.shown disk.old) at c (leaf_here leaves.now region) (pair_of entry)) }
     ensures held { IfOk result (λ entry. IfSome entry IsHeld) }
@@ -178,7 +183,7 @@ pub(crate) fn look_in<D: Disk>(
     match &leaves[region] {
         Some(leaf) => Ok(entry_of(leaf, c)),
         None => {
-            let leaf = read_leaf(store, disk, at)?;
+            let leaf = read_leaf(store, disk, at, most_kind)?;
             Ok(entry_of(&leaf, c))
         }
     }
@@ -225,14 +230,16 @@ pub(crate) fn put_in(
     }
 }
 
-/// No leaf is in memory.
+/// No leaf is in memory, and there is room for so many.
 pub(crate) fn no_leaves(
     alloc: Global,
     regions: usize,
+    room: usize,
 ) -> Result<Vec<Option<Box<ContainerLeaf>>>, AllocError>
-    ensures { IfOk result (λ leaves. leaves.items ≡ replicate regions None) }
+    ensures leaves { IfOk result (λ leaves. leaves.items ≡ replicate regions None) }
+    ensures room { IfOk result (λ leaves. room ≤ vec_capacity leaves) }
 {
-    let mut leaves = Vec::with_capacity(alloc, regions)?;
+    let mut leaves = Vec::with_capacity(alloc, room)?;
     for _ in 0..regions {
         leaves.push(None)?;
     }
@@ -244,7 +251,9 @@ pub(crate) fn drop_leaves(leaves: &mut [Option<Box<ContainerLeaf>>])
     ensures { leaves.new ≡ replicate (length leaves.old) None }
 {
     for k in 0..leaves.len() {
-        leaves[k] = None;
+        if leaves[k].is_some() {
+            leaves[k] = None;
+        }
     }
 }
 

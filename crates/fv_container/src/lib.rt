@@ -16,6 +16,8 @@ mod looking;
 mod marking;
 mod places;
 mod position;
+mod row;
+mod rows;
 mod steps;
 mod telling;
 mod told;

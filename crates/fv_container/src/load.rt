@@ -2,7 +2,7 @@
 //! its shape alone is judged, and of a leaf the position that it names isn't asked.
 
 ghost use Rattle.std.specs.Prelude.{◌≡◌, ◌≢◌, ◌<◌, ◌≤◌, ◌+◌, ◌*◌, ◌^◌, ◌-◌, ◌==◌, if◌then◌else◌, ℕ, true, length, get_or, replicate, IsTrue, Ok, IfOk, IfErr, OnOk};
-ghost use Rattle.fv_codec.specs.Blocks.{IsContainerInner, IsContainerLeaf, IsEntry as IsLeafEntry, inner_at, last_place, leaf_at};
+ghost use Rattle.fv_codec.specs.Blocks.{IsContainerInner, IsContainerLeaf, IsEntry as IsLeafEntry, greatest_kind, inner_at, last_place, leaf_at};
 ghost use Rattle.fv_image.specs.Containers.{child_in, entry_in, level_width, lying, node_below, node_shape};
 ghost use Rattle.fv_store.specs.Held.{StandsOn};
 ghost use Rattle.fv_disk.specs.DiskCalls.{OnlyReads};
@@ -76,14 +76,15 @@ fn inner_in(block: &Block, at: u32) -> Result<ContainerInner, BlockFault>
 }
 
 /// The leaf that a block spells.
-fn leaf_in(block: &Block, at: u32) -> Result<ContainerLeaf, BlockFault>
+fn leaf_in(block: &Block, at: u32, most_kind: u32) -> Result<ContainerLeaf, BlockFault>
+    requires { most_kind ≡ greatest_kind }
     ensures said { ReadsAs at (λ leaf. leaf) (leaf_at block.now) result }
     ensures kind { IfErr result IsReadFault }
     ensures range { IfOk result IsContainerLeaf }
     ensures pvbns { IfOk result (λ leaf. length leaf.pvbns ≡ 256) }
     ensures kinds { IfOk result (λ leaf. length leaf.kinds ≡ 256) }
 {
-    match ContainerLeaf::decode(block) {
+    match ContainerLeaf::decode_in(block, most_kind) {
         Ok(leaf) => Ok(leaf),
         Err(shape) => Err(damaged(at, shape.want, shape.found)),
     }
@@ -119,7 +120,9 @@ pub(crate) fn read_leaf<D: Disk>(
     store: &mut Store,
     disk: &mut D,
     at: u32,
+    most_kind: u32,
 ) -> Result<ContainerLeaf, BlockFault>
+    requires kinds { most_kind ≡ greatest_kind }
     requires stands { StandsOn (D.shown disk.old) store.old.pairs }
     ensures entries { IsTrue (D.shown disk.old).tells
         → IfOk result (λ leaf. (c : ℕ) → (get_or leaf.pvbns c 0, get_or leaf.kinds c 0) ≡ entry_in (lying leaf_at (D.shown disk.old).reads at) c) }
@@ -136,7 +139,7 @@ pub(crate) fn read_leaf<D: Disk>(
         return Ok(no_entries());
     }
     let block = read_block(store, disk, at)?;
-    let leaf = leaf_in(&block, at)?;
+    let leaf = leaf_in(&block, at, most_kind)?;
     Ok(leaf)
 }
 

@@ -84,6 +84,7 @@ impl Container {
             self.tree[at / FAN],
             at / FAN,
             at % FAN,
+            self.most_kind,
         )
     }
 

@@ -1,6 +1,7 @@
 //! Marking the blocks to which leaves lead.
 
 ghost use Rattle.std.specs.Prelude.{◌≡◌, ◌<◌, ◌≤◌, IfSome, IfErr, OnOk, IsTrue, length};
+ghost use Rattle.fv_codec.specs.Blocks.{greatest_kind};
 ghost use Rattle.fv_image.specs.Containers.{level_width, most_entries};
 ghost use Rattle.fv_store.specs.Held.{StandsOn};
 ghost use Rattle.fv_container.specs.Paged.{AreWell, IsLeafFor};
@@ -45,10 +46,12 @@ fn mark_region<D: Disk>(
     region: usize,
     count: usize,
     bits: &mut BitMap,
+    most_kind: u32,
 ) -> Result<(), BlockFault>
     requires few { count ≤ most_entries }
     requires region { region < 65536 }
     requires well { IfSome leaf.now (λ b. IsLeafFor region b.value) }
+    requires kinds { most_kind ≡ greatest_kind }
     requires stands { StandsOn (D.shown disk.old) store.old.pairs }
     ensures marked { IsTrue (D.shown disk.old).tells
         → OnOk result (Marks bits.old (leads_seen (D.shown disk.old).reads count at region leaf.now) bits.new) }
@@ -62,7 +65,7 @@ fn mark_region<D: Disk>(
             Ok(())
         }
         None => {
-            let leaf = read_region(store, disk, at, region, count)?;
+            let leaf = read_region(store, disk, at, region, count, most_kind)?;
             mark_leaf(&leaf, bits);
             Ok(())
         }
@@ -78,11 +81,13 @@ pub(crate) fn mark_all<D: Disk>(
     tree: &[u32],
     count: usize,
     bits: &mut BitMap,
+    most_kind: u32,
 ) -> Result<(), BlockFault>
     requires few { count ≤ most_entries }
     requires long { length leaves.now ≡ level_width count 0 }
     requires tree { length leaves.now ≤ length tree.now }
     requires well { AreWell leaves.now }
+    requires kinds { most_kind ≡ greatest_kind }
     requires stands { StandsOn (D.shown disk.old) store.old.pairs }
     ensures marked { IsTrue (D.shown disk.old).tells
         → OnOk result (Marks bits.old (leads_first (D.shown disk.old).reads count leaves.now tree.now (length leaves.now)) bits.new) }
@@ -91,7 +96,7 @@ pub(crate) fn mark_all<D: Disk>(
     ensures read { HasRead (D.shown disk.old) (D.shown disk.new) store.new.pairs result }
 {
     for k in 0..leaves.len() {
-        mark_region(store, disk, &leaves[k], tree[k], k, count, bits)?;
+        mark_region(store, disk, &leaves[k], tree[k], k, count, bits, most_kind)?;
     }
     Ok(())
 }

@@ -10,7 +10,8 @@ ghost use Rattle.fv_container.specs.Paged.{leaf_here};
 ghost use Rattle.fv_container.specs.Written.{AreLeft, ArePlaced, HasReleased, HasTaken, IsSameBelow, TakesIf, is_full, is_there, may_move, passed_before, root_number};
 
 use crate::free::Free;
-use crate::layout::{FAN, inner_count, leaf_count};
+use crate::layout::{FAN, clear, inner_count, leaf_count};
+use crate::rows::{next_mark, next_place};
 use fv_codec::ContainerLeaf;
 
 /// Whether a leaf has an entry that isn't a hole.
@@ -84,19 +85,20 @@ fn take_place<F: Free>(map: &mut F, wanted: bool) -> u32
     if wanted { map.take_free().unwrap() } else { 0 }
 }
 
-/// Whether two rows of places are the same from a number on, up to another one.
+/// Whether two rows of places are the same from a number on, up to another one. It asks all of them, so that several are asked at once.
 fn is_same_between(tree: &[u32], places: &[u32], from: usize, end: usize) -> bool
     requires tree { end ≤ length tree.now }
     requires places { end ≤ length places.now }
     ensures same { result ≡ true → (k : ℕ) → from ≤ k → k < end → get_or places.now k 0 ≡ get_or tree.now k 0 }
     ensures differs { result ≡ false → ((k : ℕ) → from ≤ k → k < end → get_or places.now k 0 ≡ get_or tree.now k 0) → ⊥ }
 {
+    let mut same = true;
     for k in from..end {
         if places[k] != tree[k] {
-            return false;
+            same = false;
         }
     }
-    true
+    same
 }
 
 /// Whether the nodes below a node stay at their places.
@@ -151,8 +153,26 @@ fn is_wanted(there: bool, stays: bool) -> bool
     !stays && there
 }
 
+/// The first node from a number on that isn't a leaf that stays: one that is dirty, or a node above the leaves.
+fn next_moving(dirty: &[bool], count: usize, from: usize) -> usize
+    requires few { count ≤ most_entries }
+    requires dirty { length dirty.now ≡ node_count count }
+    requires within { from ≤ node_count count }
+    ensures least { from ≤ result }
+    ensures most { result ≤ node_count count }
+    ensures low { (m : ℕ) → from ≤ m → m < result → m < level_width count 0 }
+    ensures clean { (m : ℕ) → from ≤ m → m < result → get_or dirty.now m true ≡ false }
+{
+    let leaves = leaf_count(count);
+    if from < leaves {
+        next_mark(dirty, from, leaves)
+    } else {
+        from
+    }
+}
+
 /// Puts the places of the next tree into `places`: a node that is there stays where it can, and else has a free block, which is in `fresh`,
-/// too; for each other node there is 0.
+/// too; for each other node there is 0. A leaf that isn't dirty stays, and costs less than a step.
 pub(crate) fn take_places<F: Free>(
     map: &mut F,
     leaves: &[Option<Box<ContainerLeaf>>],
@@ -174,12 +194,16 @@ pub(crate) fn take_places<F: Free>(
     ensures taken { HasTaken (F.room map.old) (may_move leaves.now dirty.now count) fresh.new (length fresh.new) (F.room map.new) }
     ensures placed { ArePlaced (is_there leaves.now tree.now dirty.now count) count tree.now dirty.now fresh.new places.new (length places.new) }
 {
-    for n in 0..places.len() {
+    places.copy_from_slice(tree);
+    clear(fresh);
+    let mut n = next_moving(dirty, count, 0);
+    while n < places.len() {
         let there = is_there(leaves, tree, dirty, count, n);
         let stays = may_stay(there, count, tree, dirty, places, n);
         let place = take_place(map, is_wanted(there, stays));
         fresh[n] = place;
         places[n] = if stays { tree[n] } else { place };
+        n = next_moving(dirty, count, n + 1);
     }
 }
 
@@ -209,7 +233,9 @@ fn release_place<F: Free>(map: &mut F, place: u32)
 pub(crate) fn release_places<F: Free>(map: &mut F, places: &[u32])
     ensures { HasReleased (F.room map.old) places.now (length places.now) (F.room map.new) }
 {
-    for n in 0..places.len() {
+    let mut n = next_place(places, 0);
+    while n < places.len() {
         release_place(map, places[n]);
+        n = next_place(places, n + 1);
     }
 }

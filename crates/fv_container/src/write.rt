@@ -2,6 +2,7 @@
 
 ghost use Rattle.std.specs.Prelude.{◌≡◌, ◌≢◌, ◌<◌, ◌≤◌, ◌^◌, ℕ, length, get_or, IfSome, IsTrue, Ok, OnOk};
 ghost use Rattle.fv_disk.specs.Shown.{SameBut};
+ghost use Rattle.fv_disk.specs.DiskCalls.{Writes};
 ghost use Rattle.fv_codec.specs.Blocks.{last_place, leaf_at};
 ghost use Rattle.fv_store.specs.Held.{StandsOn};
 ghost use Rattle.fv_disk.specs.Sparing.{Spares};
@@ -9,6 +10,7 @@ ghost use Rattle.fv_container.specs.Paged.{AreWell, leaf_here};
 ghost use Rattle.fv_container.specs.Written.{AreAnew, AreWritable, IsElsewhere, IsInnerOf, IsPutOf, child_from};
 
 use crate::layout::{FAN, inner_count, leaf_count};
+use crate::rows::next_place;
 use fv_codec::{ContainerInner, ContainerLeaf};
 use fv_disk::{Block, Disk, Failed, ZERO};
 use fv_store::Store;
@@ -81,6 +83,26 @@ fn node_block(
     }
 }
 
+/// Writes the block of a node to its place. A leaf is held by the store from then on, where memory is found for it: so the next read of it
+/// makes no disk call. The places of the nodes above are in memory, so these aren't read again.
+fn put_node<D: Disk>(
+    store: &mut Store,
+    disk: &mut D,
+    is_leaf: bool,
+    at: u32,
+    block: &Block,
+) -> Result<(), Failed>
+    requires stands { StandsOn (D.shown disk.old) store.old.pairs }
+    ensures writes { Writes (D.shown disk.old) at block.now (D.shown disk.new) result }
+    ensures stands { StandsOn (D.shown disk.new) store.new.pairs }
+{
+    if is_leaf {
+        store.put_and_hold(disk, at, block)
+    } else {
+        store.put(disk, at, block)
+    }
+}
+
 /// Writes a node to its new place; one whose new place is 0 stays, or is absent.
 #[tactic(auto, using(fv_disk::proofs::Sparing::spares_none, fv_disk::proofs::Sparing::spares_then))]
 fn write_node<D: Disk>(
@@ -108,7 +130,7 @@ fn write_node<D: Disk>(
     }
     let mut block = ZERO;
     node_block(leaves, count, places, node, &mut block);
-    store.put(disk, fresh[node], &block)
+    put_node(store, disk, node < leaf_count(count), fresh[node], &block)
 }
 
 /// Writes each node that has a new place.
@@ -130,8 +152,10 @@ pub(crate) fn write_tree<D: Disk>(
     ensures spares { Spares (IsElsewhere fresh.now) (D.shown disk.old) (D.shown disk.new) result }
     ensures stands { StandsOn (D.shown disk.new) store.new.pairs }
 {
-    for n in 0..fresh.len() {
+    let mut n = next_place(fresh, 0);
+    while n < fresh.len() {
         write_node(store, disk, leaves, count, places, fresh, n)?;
+        n = next_place(fresh, n + 1);
     }
     Ok(())
 }

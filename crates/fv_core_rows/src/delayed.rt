@@ -123,6 +123,24 @@ fn delayed<D: Disk>(
     ])
 }
 
+/// Reclaims region 1, and answers how many entries became holes.
+fn reclaim_second<D: Disk>(
+    container: &mut Container,
+    store: &mut Store,
+    disk: &mut D,
+    map: &VolMap,
+    pool_map: &mut AggMap,
+) -> Result<u32, ContainerFault>
+    requires size { length container.old.map.entries ≡ 325 }
+    requires span { map.now.span ≡ 300 }
+    requires stands { StandsOn (D.shown disk.old) store.old.pairs }
+    ensures size { length container.new.map.entries ≡ 325 }
+    ensures stands { StandsOn (D.shown disk.new) store.new.pairs }
+{
+    container.load(store, disk, 1)?;
+    Ok(reclaim(container, map, 1, pool_map))
+}
+
 /// Reclaims region 1. Answers the delayed entries before and afterwards, how many became holes, and the free blocks before, afterwards and once
 /// the next root is committed.
 #[tactic(auto, using(fv_store::proofs::Laws::stands_at_first))]
@@ -135,8 +153,7 @@ fn reclaimed<D: Disk>(alloc: Global, disk: &mut D) -> Option<([u32; 3], [u32; 3]
     pool_map.committed();
     let before = delayed(&mut container, &mut store, disk, &map).ok()?;
     let free = pool_map.free_count();
-    container.load(&mut store, disk, 1).ok()?;
-    let count = reclaim(&mut container, &map, 1, &mut pool_map);
+    let count = reclaim_second(&mut container, &mut store, disk, &map, &mut pool_map).ok()?;
     let soon = pool_map.free_count();
     pool_map.committed();
     let behind = delayed(&mut container, &mut store, disk, &map).ok()?;

@@ -27,6 +27,15 @@ fn put<D: Disk>(store: &mut Store, disk: &mut D, pvbn: u32, byte: u8) -> bool
     answer.is_ok()
 }
 
+/// Whether a block of this byte is written, to be held.
+fn hold<D: Disk>(store: &mut Store, disk: &mut D, pvbn: u32, byte: u8) -> bool
+    requires { StandsOn (D.shown disk.old) store.old.pairs }
+    ensures { StandsOn (D.shown disk.new) store.new.pairs }
+{
+    let answer = store.put_and_hold(disk, pvbn, &[byte; 4096]);
+    answer.is_ok()
+}
+
 #[tactic(auto, using(fv_store::proofs::Laws::stands_at_first))]
 fn reads<D: Disk>(alloc: Global, disk: &mut D) -> Result<[Option<u8>; 5], AllocError> {
     let mut store = Store::new(alloc, 2)?;
@@ -46,6 +55,18 @@ fn rewrites<D: Disk>(alloc: Global, disk: &mut D) -> Result<[Option<u8>; 3], All
     put(&mut store, disk, 7, 2);
     let second = get(&mut store, disk, 7);
     put(&mut store, disk, 7, 3);
+    let third = get(&mut store, disk, 7);
+    Ok([first, second, third])
+}
+
+#[tactic(auto, using(fv_store::proofs::Laws::stands_at_first))]
+fn holds<D: Disk>(alloc: Global, disk: &mut D) -> Result<[Option<u8>; 3], AllocError> {
+    let mut store = Store::new(alloc, 2)?;
+    hold(&mut store, disk, 7, 1);
+    let first = get(&mut store, disk, 7);
+    hold(&mut store, disk, 7, 2);
+    let second = get(&mut store, disk, 7);
+    hold(&mut store, disk, 7, 3);
     let third = get(&mut store, disk, 7);
     Ok([first, second, third])
 }
@@ -71,6 +92,19 @@ fn a_write_renews_what_is_held(rt: HostRuntime) -> Result<(), Fail> {
     host.fail(Call::Read, 1)?;
     host.fail(Call::Write, 2)?;
     assert_eq!(rt; rewrites(rt.alloc(), &mut host)?, [Some(1), Some(2), None]);
+    assert_eq!(rt; host.faults(), 2);
+    assert_eq!(rt; host.write_faults(), 1);
+    Ok(())
+}
+
+/// The first read and the third write of the disk fail. A block that is written to be held is read without the disk, until a write of it
+/// fails: it is read anew then.
+#[test]
+fn a_block_is_held_from_its_write_on(rt: HostRuntime) -> Result<(), Fail> {
+    let mut host = MemHost::new(rt.alloc(), Vec::new(rt.alloc()));
+    host.fail(Call::Read, 0)?;
+    host.fail(Call::Write, 2)?;
+    assert_eq!(rt; holds(rt.alloc(), &mut host)?, [Some(1), Some(2), None]);
     assert_eq!(rt; host.faults(), 2);
     assert_eq!(rt; host.write_faults(), 1);
     Ok(())

@@ -14,11 +14,11 @@ use Rattle.fv_volumes.specs.Housed.{settled_at}
 use Rattle.fv_volume.specs.States.{States, state_at}
 use Rattle.fv_cp.specs.declared.planning.Plan.{Plan}
 use Rattle.fv_cp.specs.Choosing.{CanChoose, asked_with, holdings, marked_at, missing_for, regions_chosen}
-use Rattle.fv_cp.specs.Course.{HasCome}
+use Rattle.fv_cp.specs.Course.{HasCome, root_with}
 use Rattle.fv_cp.specs.Lent.{FitTogether, IsLent}
 use Rattle.fv_cp.specs.Planning.{AreCounted, IsPlan, LeaveDelays, is_set, taken}
 use Rattle.fv_cp.specs.Points.{IsPoint, IsSwitched, OldOrLent}
-use Rattle.fv_cp.proofs.Ending.{moments, point, root_with}
+use Rattle.fv_cp.proofs.Ending.{moments, point}
 use Rattle.fv_cp.proofs.Marking.{fit_marked, lent_marked}
 use Rattle.fv_cp.proofs.Pointing.{come_chosen, marked_chosen, none_left}
 

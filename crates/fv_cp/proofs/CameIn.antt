@@ -1,5 +1,5 @@
 -- Leaves of containers came into memory: volumes are what they were, and stand for what they stood for.
-use Rattle.std.proofs.Common.{◌≡◌, ℕ, ◌+◌, ◌-◌, ◌<◌, ◌≤◌, ◌⊎◌, max, min, true, Bool, List, [], ◌∷◌, length, Option, Some, None, inl, ⊎_elim, refl, sym, ap, subst, ◌∙◌, arith}
+use Rattle.std.proofs.Common.{◌≡◌, ℕ, ◌+◌, ◌-◌, ◌<◌, ◌≤◌, ◌⊎◌, max, min, true, true≢false, Bool, List, [], ◌∷◌, length, Option, Some, None, inl, ⊎_elim, refl, sym, ap, subst, ◌∙◌, arith}
 use Rattle.std.specs.Prelude.{IfSome, slice_index_or}
 use Rattle.std.specs.FinMap as fin
 use Rattle.std.proofs.lemmas.Bool.{cases_lt}
@@ -28,8 +28,9 @@ use Rattle.fv_container.specs.Mapped.{Mapped}
 use Rattle.fv_container.specs.Paged.{Paged}
 use Rattle.fv_container.specs.Spelled.{names}
 use Rattle.fv_container.proofs.Changing.{maps_then}
+use Rattle.fv_container.proofs.Damage.{HasTree, damage_stays}
 use Rattle.fv_pool.specs.declared.pool.Pool.{Pool}
-use Rattle.fv_pool.specs.BlocksOver.{LoadsPool, entries_in}
+use Rattle.fv_pool.specs.BlocksOver.{HasShapeOf, LoadsPool, entries_in}
 use Rattle.fv_pool.specs.Keeping.{Blocks, IsUnkept}
 use Rattle.fv_pool.specs.Lending.{lent_for, no_damage}
 use Rattle.fv_pool.specs.Placing.{Goes, KeepsUnused}
@@ -59,7 +60,7 @@ use Rattle.fv_cp.specs.Choosing.{asked_with, claimed, counts_at, greatest_number
 use Rattle.fv_cp.specs.Planning.{AreCounted, IsPlan, Plans}
 use Rattle.fv_cp.specs.Held.{IsHeld, IsHeldIn, machine_held, named_held}
 use Rattle.fv_cp.specs.Lent.{FitTogether}
-use Rattle.fv_cp.specs.Placing.{ArePlaced, AreReady, HaveSpent, IsReadyIn, IsSpareEntry}
+use Rattle.fv_cp.specs.Placing.{ArePlaced, AreReady, HaveSpent, IsReadyIn, IsSpareEntry, KeepShapes}
 
 module _ (disk after : Shown) (pool left : Pool) (states : States) (loads : LoadsPool disk pool left) (reads : OnlyReads disk after) (stands : StandsOn after left.store.pairs) (few : IsSlots pool.containers) (fit : FitTogether pool states) where
   map_at : (s : ℕ) → container_at left.containers s ≡ container_at pool.containers s
@@ -69,6 +70,7 @@ module _ (disk after : Shown) (pool left : Pool) (states : States) (loads : Load
   fit_loaded = record {
     range = subst IsInRange (sym loads.found) fit.range;
     size = ap blocks_of loads.map ∙ fit.size ∙ ap (λ (f : Found). f.blocks) (sym loads.found);
+    version = loads.version ∙ fit.version ∙ ap (λ (f : Found). f.root.version) (sym loads.found);
     housed = record {
       long = fit.housed.long;
       volumes = fit.housed.volumes;
@@ -201,7 +203,7 @@ module _ (disk after : Shown) (pool left : Pool) (states : States) (loads : Load
     unfolding machine_held slots
     machine_loaded = λ j. record {
       blocks = (loads.found j).blocks;
-      version = (loads.found j).root.version;
+      version = loads.version j;
       volumes = fin.from_entries {R = name_cmp} (same_parts (λ k. named_held after left (state_at states k)) (λ k. named_held disk pool (state_at states k)) 0 64 (λ k low high. named_same k (state_at states k) refl (held.each k)) j);
     }
       where
@@ -219,6 +221,7 @@ placed_loaded disk mid after pool held left states between placed loads reads st
   machine = λ before was. machine_loaded mid after held left between loads reads stands few placed.fit before (placed.held before was) ∙ placed.machine before was;
   fit = fit_loaded mid after held left between loads reads stands few placed.fit;
   found = loads.found ∙ placed.found;
+  version = loads.version ∙ placed.version;
   committed = ap (λ (m : Space). m.committed) loads.map ∙ placed.committed;
   cores = placed.cores;
   asked = placed.asked;
@@ -227,6 +230,8 @@ placed_loaded disk mid after pool held left states between placed loads reads st
   spent = λ before was room. spent_on (placed.spent before was room);
   others = placed.others;
   entries = λ s v. subst (λ (c : Option Mapped). EntryAt s v c) (sym (loads.containers.maps s)) (placed.entries s v);
+  shapes = λ s. subst (λ (c : Option Mapped). HasShapeOf (container_at pool.containers s) c) (sym (loads.containers.maps s)) (placed.shapes s);
+  parents = loads.containers.parents ∙ placed.parents;
   unused = λ before was s. unused_on s (state_at between s) (placed.unused before was s);
   rest = λ s none. let rests = placed.rest s none in (rests.0, loads.containers.maps s ∙ rests.1);
   only_reads = reads_then disk mid after placed.only_reads reads;
@@ -236,6 +241,7 @@ placed_loaded disk mid after pool held left states between placed loads reads st
           map = loads.map ∙ was.0.map;
           kept = loads.kept ∙ was.0.kept;
           found = loads.found ∙ was.0.found;
+          version = loads.version ∙ was.0.version;
           containers = maps_then disk mid pool.containers held.containers left.containers placed.only_reads.stays.tells placed.only_reads.stays.reads was.0.containers loads.containers;
         },
         was.1,
@@ -277,6 +283,15 @@ leaf_still i j old new at want found same maps bad = record {
   there = maps bad.slot ∙ bad.there;
   leaf = subst (λ (k : Image). IsBadLeaf k bad.map at want found) (sym same) bad.leaf;
 }
+
+-- A leaf that doesn't stand once files are placed didn't stand before: no tree moves.
+pub leaf_unmoved : (i : Image) (old new : Slots) (at want found : ℕ) → KeepShapes old new → IsLeafDamage i new at want found → IsLeafDamage i old at want found
+leaf_unmoved i old new at want found shapes bad = damage_stays i new old at want found (λ s. unmoved (container_at old s) (container_at new s) (shapes s)) bad
+  where
+    unmoved : (was now : Option Mapped) → HasShapeOf was now → IfSome now (λ map. HasTree map was)
+    unmoved was None shape = tt
+    unmoved None (Some map) shape = absurd (true≢false shape.there)
+    unmoved (Some before) (Some map) shape = (sym shape.tree, sym shape.count)
 
 -- ---- a plan
 

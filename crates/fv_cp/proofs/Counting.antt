@@ -10,24 +10,7 @@ use Rattle.fv_delay.specs.declared.counts.Count.{Count}
 use Rattle.fv_delay.specs.Delay.{delayed_in, is_delayed, region_of}
 use Rattle.fv_delay.specs.Holding.{Holding, counted, counts_in, has_some}
 use Rattle.fv_delay.specs.Reclaims.{goes_with}
-use Rattle.fv_delay.proofs.Parts.{none_past, region_within}
-
--- where none of a row of numbers passes a test, each of them fails it
-none_passes : (p : ℕ → Bool) (a n k : ℕ) → k < n → passing p a n ≡ 0 → p (a + k) ≡ false
-none_passes p a n k lt none = so (p (a + k)) refl
-  where
-    rest : ℕ
-    rest = n - k - 1
-
-    parts : passing p a n ≡ passing p a k + passing p (a + k) (suc rest)
-    parts = ap (passing p a) (let long : n ≡ k + suc rest = omega (arith, lt) in long) ∙ passing-add p a k (suc rest)
-
-    so : (t : Bool) → p (a + k) ≡ t → t ≡ false
-    so false e = refl
-    so true e =
-        let one : ◌≡◌ {A = ℕ} (cond (p (a + k)) 1 0) 1 = ap (λ (t : Bool). cond {A = ℕ} t 1 0) e in
-        let step = passing-suc p (a + k) rest in
-        absurd (omega (arith, parts, step, one, none))
+use Rattle.fv_delay.proofs.Parts.{none_passes, none_past, region_within}
 
 -- a row of regions with none that has some
 row_none : (f : ℕ → Count) (a n k : ℕ) → k < n → filter has_some (map f (range_with_len a n)) ≡ [] → has_some (f (a + k)) ≡ false

@@ -57,7 +57,7 @@ use Rattle.fv_volumes.proofs.StoredTold.{stays_now as stays_now_told}
 use Rattle.fv_volumes.proofs.Told.{head_at, is_inside}
 use Rattle.fv_volumes.proofs.Viewed.{entry_of}
 use Rattle.fv_volumes.proofs.Waiting.{none_waits}
-use Rattle.fv_cp.specs.Course.{HasCome, IsOnCourse, as_lent, found_with, label_lent, renewed, IsCourse, StaysFrom}
+use Rattle.fv_cp.specs.Course.{HasCome, IsOnCourse, as_lent, found_with, root_with, label_lent, renewed, IsCourse, StaysFrom}
 use Rattle.fv_cp.specs.Lent.{FitTogether, IsLent, IsLentAt}
 use Rattle.fv_cp.specs.Points.{GoesOn, IsNew, IsNextRoot, IsOld, IsPoint, IsSwitched, LeavesEntries, OldOrLent, is_due, machine_lent}
 use Rattle.fv_cp.specs.Choosing.{CountsMissing, LeavesRoom, has_slot, holding_with, holdings, lacking, marked_as, marked_at, regions_chosen}
@@ -83,10 +83,6 @@ use Rattle.fv_cp.proofs.Crashing.{old_stays, switching}
 
 -- ---- what a point ends with
 
--- the root of a point: the one that was found, with these labels
-abbrev pub root_with : Pool → List ℕ → Root
-root_with pool labels = record pool.found.root { labels = labels }
-
 -- ---- whatever the disk tells
 
 module _ (regions : ℕ → ℕ → Bool) (disk : Shown) (pool : Pool) (states : States) (fit : FitTogether pool states) (labels : List ℕ) (left : Pool) (mid : Shown) (told : Type 0) (come : HasCome regions told disk pool states 64 labels left mid) where
@@ -97,7 +93,7 @@ module _ (regions : ℕ → ℕ → Bool) (disk : Shown) (pool : Pool) (states :
       subst (λ (x : Found). IsFoundOn mid x) (sym come.found) (found_still pool.found (on_disk pool.map) disk mid (Ok tt) come.spares tells (found tells))
 
   module _ (new : Shown) (last : Pool) (stay : States) (switched : IsSwitched left (root_with pool labels) last) (containers : last.containers ≡ left.containers) (kept : last.kept ≡ left.kept) (settled : (s : ℕ) → state_at stay s ≡ settled_at labels states s) where
-    pub found_last : last.found ≡ found_with pool.found labels
+    pub found_last : last.found ≡ found_with pool labels
     found_last = switched.found ∙ ap (λ (x : Found). next_found x (root_with pool labels)) come.found
 
     pub goes_on : (given : States) (marks : ℕ → Bool) → ((s : ℕ) → state_at states s ≡ option_map (marked_as (marks s)) (state_at given s))
@@ -105,17 +101,20 @@ module _ (regions : ℕ → ℕ → Bool) (disk : Shown) (pool : Pool) (states :
     goes_on given marks marked committed stands long = record {
       stands = stands;
       next = subst (λ (x : Found). IsNextRoot pool.found x) (sym found_last) (record { slot = refl; generation = refl });
+      version = switched.version ∙ come.version;
+      root_version = ap (λ (x : Found). x.root.version) found_last;
       found = λ tells. subst (λ (x : Found). IsFoundOn new x) (sym switched.found) (done tells).stands;
       loaded = λ tells. map_now mid left.found (root_with pool labels) left.map.next new (done tells) last.found last.map switched.found switched.map switched.size;
       fit = record {
-        range = subst IsInRange (sym found_last) (next_in_range pool.found (root_with pool labels) fit.range (record { least = fit.range.root.least; greatest = fit.range.root.greatest; labels = come.places }));
+        range = subst IsInRange (sym found_last) (next_in_range pool.found (root_with pool labels) fit.range (record { least = omega (arith, fit.version, fit.range.root.least); greatest = omega (arith, fit.version, fit.range.root.greatest); labels = come.places }));
         size = switched.size ∙ sym (ap (λ (x : Found). x.blocks) switched.found);
+        version = switched.version ∙ come.version ∙ sym (ap (λ (x : Found). x.root.version) found_last);
         housed = housed_after states stay labels settled last.containers long (subst (λ (x : Slots). AreHoused x states) (sym containers) come.housed);
         kept = λ b taken. ap (λ (k : Blocks). fin.get k b) (kept ∙ come.kept) ∙ fin.get-empty nat_cmp b;
       };
       unkept = kept ∙ come.kept;
       settled = λ s. (marks s, (get_or labels s 0, settled s ∙ ap (option_map (settled_as (get_or labels s 0))) (marked s)));
-      free = λ s inside none. ap (λ (x : Found). label_place (root_found x) s) found_last ∙ place_is (found_with pool.found labels) s inside ∙ come.free s inside (was (state_at states s) (get_or labels s 0) (sym (settled s) ∙ none));
+      free = λ s inside none. ap (λ (x : Found). label_place (root_found x) s) found_last ∙ place_is (found_with pool labels) s inside ∙ come.free s inside (was (state_at states s) (get_or labels s 0) (sym (settled s) ∙ none));
       parents = λ s. ap (λ (x : Slots). parent_at x s) containers ∙ come.housed.parents s ∙ sym (fit.housed.parents s);
       blocks = ap (λ (x : Found). x.blocks) found_last;
     }
@@ -142,7 +141,7 @@ module _ (disk : Shown) (pool : Pool) (states : States) (before : Machine) (lent
   root = root_with pool labels
 
   abbrev f : Found
-  f = found_with pool.found labels
+  f = found_with pool labels
 
   abbrev u : Taken
   u = root_found f
@@ -315,7 +314,7 @@ module _ (disk : Shown) (pool : Pool) (states : States) (before : Machine) (lent
 
     view_stays : ((view_over last stay new.reads).blocks ≡ w.blocks) × (((view_over last stay new.reads).version ≡ w.version) × ((s : ℕ) → (view_over last stay new.reads).head s ≡ w.head s))
     unfolding view_over
-    view_stays = (ap (λ (x : Found). x.blocks) found, (ap (λ (x : Found). x.root.version) found, heads_stay states stay labels settled))
+    view_stays = (ap (λ (x : Found). x.blocks) found, (switched.version ∙ come.version, heads_stay states stay labels settled))
 
     stays_now : StaysHeld w (view_over last stay new.reads)
     stays_now = stays_in pool states disk.reads fit.housed lent.tables lent.reach (view_over last stay new.reads) view_stays.0 view_stays.1.0 view_stays.1.1 (λ s v x inside there on.

@@ -26,7 +26,7 @@ use Rattle.fv_container.specs.Mapped.{Mapped}
 use Rattle.fv_volmap.specs.Slots.{active_of}
 use Rattle.fv_pool.specs.declared.pool.Pool.{Pool}
 use Rattle.fv_volume.specs.declared.state.VolumeState.{VolumeState}
-use Rattle.fv_pool.specs.BlocksOver.{LoadsPool}
+use Rattle.fv_pool.specs.BlocksOver.{HasShapeOf, LoadsPool}
 use Rattle.fv_pool.specs.Causes.{IsNoDamage}
 use Rattle.fv_pool.specs.Lending.{IsNewEntry}
 use Rattle.fv_volume.specs.OneVolume.{IsReady}
@@ -43,7 +43,7 @@ use Rattle.fv_volumes.proofs.Staying.{only_itself}
 use Rattle.fv_cp.specs.Held.{machine_held, named_held, IsHeld, IsHeldIn}
 use Rattle.fv_cp.specs.Lent.{asked_all, asked_by, asked_of, blocks_asked, maps_waiting, waiting_by, FitTogether}
 use Rattle.fv_volume.specs.Held.{HasPlaceCause}
-use Rattle.fv_cp.specs.Placing.{pending_by, pending_files, HasNumbers, HaveNoFiles, HaveRoom, HaveSpent, IsPlacedAs, AreButPlaced, ArePlaced, AreReady, but_placed, FailsToPlace, HasNoFiles, HasWholeMap, HaveNoneBefore, IsReadyIn, IsSlotPlaced, IsSpareEntry, MayFail, LeavesUnused, PlacesEntries, PlacesSlot, RestsPlaced}
+use Rattle.fv_cp.specs.Placing.{pending_by, pending_files, HasNumbers, HaveNoFiles, HaveRoom, HaveSpent, IsPlacedAs, AreButPlaced, ArePlaced, AreReady, but_placed, FailsToPlace, HasNoFiles, HasWholeMap, HaveNoneBefore, IsReadyIn, IsSlotPlaced, IsSpareEntry, KeepShapes, MayFail, LeavesUnused, PlacesEntries, PlacesSlot, RestsPlaced}
 use Rattle.fv_disk.proofs.Resting.{reads_then}
 use Rattle.fv_disk.specs.DiskCalls.{OnlyReads}
 use Rattle.fv_cp.proofs.CameIn.{placed_loaded}
@@ -51,11 +51,18 @@ use Rattle.fv_store.specs.Held.{StandsOn}
 use Rattle.fv_pool.specs.declared.fault.VolumeFault.{VolumeFault}
 use Rattle.fv_pool.specs.declared.fault.VolumeFault.TheVariants.{Refused, DiskFault, Damaged, Memory}
 
+-- what stays has the shape that it had
+shape_none : (c : Option Mapped) → HasShapeOf c c
+shape_none c = record { there = refl; count = refl; tree = refl }
+
 -- ---- one volume: the session is what it was between points
 
 module _ (disk after : Shown) (pool left : Pool) (states stay : States) (x y : VolumeState) (there : state_at states x.slot ≡ Some x) (now : stay ≡ with_state states x.slot (Some y)) (fit : FitTogether pool states) (placed : IsPlacedAs disk pool x after left y) where
   found_same : left.found ≡ pool.found
   found_same = placed.goes.goes.goes.found
+
+  version_same : left.version ≡ pool.version
+  version_same = placed.goes.goes.goes.version
 
   in_list : x.slot < length states
   in_list = let low = is_inside states x.slot x fit.housed.long there in let long = fit.housed.long in omega (arith, low, long)
@@ -64,6 +71,7 @@ module _ (disk after : Shown) (pool left : Pool) (states stay : States) (x y : V
   fit_still = record {
     range = subst IsInRange (sym found_same) fit.range;
     size = ap (λ (c : List Bool). length c) placed.goes.goes.goes.committed ∙ fit.size ∙ ap (λ (f : Found). f.blocks) (sym found_same);
+    version = version_same ∙ fit.version ∙ ap (λ (f : Found). f.root.version) (sym found_same);
     housed = one.housed_still disk after pool left states stay x y there now fit.housed placed;
     kept = one.kept_still disk after pool left states stay x y there now fit.housed placed fit.kept;
   }
@@ -88,6 +96,13 @@ module _ (disk after : Shown) (pool left : Pool) (states stay : States) (x y : V
           (λ (same : own_entry (container_at left.containers x.slot) v ≡ own_entry (container_at pool.containers x.slot) v). inl same)
           (λ (new : IsNewEntry (TellsEntries disk pool.containers) pool.map pool.containers left.containers x.slot v). inr (record { entry = new.entry; stands = new.stands; lies = new.takes.lies; spare = new.takes.spare }))
           (placed.goes.goes.goes.entries v)
+
+  -- no tree of a container moves
+  pub shapes_still : KeepShapes pool.containers left.containers
+  shapes_still s = ⊎_elim
+      (λ (here : s ≡ x.slot). subst (λ (n : ℕ). HasShapeOf (container_at pool.containers n) (container_at left.containers n)) (sym here) placed.goes.goes.goes.shape)
+      (λ (differ : s ≢ x.slot). subst (λ (c : Option Mapped). HasShapeOf (container_at pool.containers s) c) (sym (placed.goes.goes.goes.others s differ)) (shape_none (container_at pool.containers s)))
+      (cases_eq s x.slot)
 
   -- a volume without files in memory stays
   pub rest_still : RestsPlaced pool states left stay
@@ -157,7 +172,7 @@ module _ (disk after : Shown) (pool left : Pool) (states stay : States) (x y : V
     unfolding machine_held slots
     machine_still = λ j. record {
       blocks = (found_same j).blocks;
-      version = (found_same j).root.version;
+      version = version_same j;
       volumes = fin.from_entries {R = name_cmp} (same_parts (λ k. named_held after left (state_at stay k)) (λ k. named_held disk pool (state_at states k)) 0 64
           (λ k low high. one.named_still disk after pool left states stay x y there now fit.housed placed fit.size held.slots held.spaced held.each k) j);
     }
@@ -176,6 +191,10 @@ entries_then space later old mid new same first second s v = ⊎_elim
       spare = subst (λ (c : List Bool). is_member c placed.entry.pvbn ≡ false) same placed.spare;
     }))
     (second s v)
+
+-- what keeps its shape, and then keeps it again
+shape_then : (old mid new : Option Mapped) → HasShapeOf old mid → HasShapeOf mid new → HasShapeOf old new
+shape_then old mid new first second = record { there = second.there ∙ first.there; count = second.count ∙ first.count; tree = second.tree ∙ first.tree }
 
 -- ---- slot by slot
 
@@ -204,12 +223,12 @@ unused_none containers s (Some y) = λ v out. refl
 
 -- nothing came into memory
 loads_none : (disk : Shown) (pool : Pool) → LoadsPool disk pool pool
-loads_none disk pool = record { map = refl; kept = refl; found = refl; containers = maps_same disk pool.containers }
+loads_none disk pool = record { map = refl; kept = refl; found = refl; version = refl; containers = maps_same disk pool.containers }
 
 pub passed_none : (disk : Shown) (pool : Pool) (states : States) → FitTogether pool states → AreReady disk pool states → StandsOn disk pool.store.pairs → HasPassed disk pool states 0 disk pool states
 passed_none disk pool states fit ready stands = record {
   come = record {
-    placed = record { held = λ before held. held; machine = λ before held. refl; fit = fit; found = refl; committed = refl; cores = λ s. refl; asked = refl; all = refl; waiting = refl; spent = λ before held room. record { fewer = omega arith; numbers = room.numbers; blocks = omega arith }; others = λ s. refl; entries = λ s v. inl refl; unused = λ before held s. unused_none pool.containers s (state_at states s); rest = λ s none. (refl, refl); only_reads = only_itself disk; idle = λ none. (loads_none disk pool, refl) };
+    placed = record { held = λ before held. held; machine = λ before held. refl; fit = fit; found = refl; version = refl; committed = refl; cores = λ s. refl; asked = refl; all = refl; waiting = refl; spent = λ before held room. record { fewer = omega arith; numbers = room.numbers; blocks = omega arith }; others = λ s. refl; entries = λ s v. inl refl; shapes = λ s. shape_none (container_at pool.containers s); parents = refl; unused = λ before held s. unused_none pool.containers s (state_at states s); rest = λ s none. (refl, refl); only_reads = only_itself disk; idle = λ none. (loads_none disk pool, refl) };
     ready = ready;
     stands = stands;
   };
@@ -287,6 +306,7 @@ module _ (disk : Shown) (pool : Pool) (states : States) (mid : Shown) (held : Po
           machine = λ before was. machine_still mid after held left between stay x did.now here now come.placed.fit did.placed before (come.placed.held before was) ∙ come.placed.machine before was;
           fit = fit_still mid after held left between stay x did.now here now come.placed.fit did.placed;
           found = did.placed.goes.goes.goes.found ∙ come.placed.found;
+          version = did.placed.goes.goes.goes.version ∙ come.placed.version;
           committed = did.placed.goes.goes.goes.committed ∙ come.placed.committed;
           cores = λ s. one.cores_still mid after held left between stay x did.now here now come.placed.fit.housed did.placed s ∙ come.placed.cores s;
           asked = asked_still mid after held left between stay x did.now here now come.placed.fit did.placed ready.ready ∙ come.placed.asked;
@@ -299,6 +319,9 @@ module _ (disk : Shown) (pool : Pool) (states : States) (mid : Shown) (held : Po
           others = λ s. others_still mid after held left between stay x did.now here now come.placed.fit did.placed ready.ready s ∙ come.placed.others s;
           entries = entries_then pool.map held.map pool.containers held.containers left.containers come.placed.committed come.placed.entries
               (entries_still mid after held left between stay x did.now here now come.placed.fit did.placed);
+          shapes = λ s. shape_then (container_at pool.containers s) (container_at held.containers s) (container_at left.containers s) (come.placed.shapes s)
+              (shapes_still mid after held left between stay x did.now here now come.placed.fit did.placed s);
+          parents = did.placed.goes.goes.goes.parents ∙ come.placed.parents;
           unused = λ before was. unused_more x here did now before was (subst (λ (s : ℕ). container_at held.containers s ≡ container_at pool.containers s) (sym ready.slot) first);
           rest = λ s none.
               let first = come.placed.rest s none in

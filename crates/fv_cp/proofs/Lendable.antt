@@ -24,6 +24,7 @@ use Rattle.fv_image.specs.WholeMachine.{has_no_reserves, is_built}
 use Rattle.fv_image.proofs.LoneTables.{form_base}
 use Rattle.fv_volmap.specs.Slots.{IsVolume}
 use Rattle.fv_pool.specs.declared.pool.Pool.{Pool}
+use Rattle.fv_pool.specs.Opening.{IsAsFound}
 use Rattle.fv_volume.specs.declared.state.VolumeState.{VolumeState}
 use Rattle.fv_volume.specs.Files.{AreStates, IsState, has_form}
 use Rattle.fv_volumes.specs.Housed.{HaveReaches, ReachesAll}
@@ -143,7 +144,7 @@ module _ (disk : Shown) (pool : Pool) (states : States) (before : Machine) (held
   unfolding machine_held slots told_with view_over volumes_with
   held_machine = λ j. record {
     blocks = pool.found.blocks;
-    version = pool.found.root.version;
+    version = pool.version;
     volumes = fin.from_entries {R = name_cmp} (same_parts (λ k. named_held disk pool (state_at states k)) (λ k. named_with w (active_at w) k (w.head k)) 0 64
         (λ k low high. of_each states fit.housed.volumes (λ k o. named_held disk pool o ≡ named_with w (active_at w) k (option_map head_in o)) (λ k. refl) (λ x e. alone.named_is disk pool states fit.housed held.slots held.spaced x e (one x e) (no_files x e) (whole x e)) k) j);
   }
@@ -165,13 +166,16 @@ module _ (disk : Shown) (pool : Pool) (states : States) (m : Machine) (lent : Is
   loaded : LoadedTo disk.reads pool.found slot_count states pool.containers
   loaded = record { each = λ s inside. loaded_from_lent disk.reads pool.found s (state_at states s) (paged_at pool.containers s) (lent.slots s inside) (unchanged s) (free s inside) }
 
+  as_found : IsAsFound pool
+  as_found = record { kept = unkept; version = fit.version }
+
   of_loaded : (P : VolumeState → Type 0) → ((x : VolumeState) → state_at states x.slot ≡ Some x → x.files ≡ None → P x) → (s : ℕ) → IfSome (state_at states s) P
   of_loaded P some s = of_each states fit.housed.volumes (λ s o. HasNoFiles o → IfSome o P) (λ s no_files. tt) some s (none s)
 
   -- So they are after a point that was done, and after opening.
   pub past_held : ((s : ℕ) → IfSome (state_at states s) (IsReady disk pool)) → ((s : ℕ) → AreNumbersSeen (view_over pool states disk.reads) s (state_at states s)) → IsHeld disk pool states m
   past_held ready numbered = lent_held disk pool states m lent fit.housed.long ready
-      (of_loaded (IsStanding disk pool) (λ x there no_files. loaded_alone.standing disk pool states fit.housed loaded unkept few whole m lent.tells x there no_files lent.states map tells
+      (of_loaded (IsStanding disk pool) (λ x there no_files. loaded_alone.standing disk pool states fit.housed loaded as_found few whole m lent.tells x there no_files lent.states map tells
       (subst (AreNumbersSeen (view_over pool states disk.reads) x.slot) there (numbered x.slot))))
-      (of_loaded (IsLedTo disk pool) (λ x there no_files. loaded_alone.led disk pool states fit.housed loaded unkept few whole m lent.tells x there no_files))
-      (of_loaded (IsStoredWell disk pool) (λ x there no_files. loaded_alone.well disk pool states fit.housed loaded unkept few whole m lent.tells x there no_files))
+      (of_loaded (IsLedTo disk pool) (λ x there no_files. loaded_alone.led disk pool states fit.housed loaded as_found few whole m lent.tells x there no_files))
+      (of_loaded (IsStoredWell disk pool) (λ x there no_files. loaded_alone.well disk pool states fit.housed loaded as_found few whole m lent.tells x there no_files))

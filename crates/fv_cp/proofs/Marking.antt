@@ -186,7 +186,7 @@ module _ (states now : States) (marks : ℕ → Bool) (marks_are : (s : ℕ) →
   }
 
   pub fit_marked : (pool : Pool) → length now ≡ 64 → FitTogether pool states → FitTogether pool now
-  fit_marked pool long fit = record { range = fit.range; size = fit.size; housed = housed_marked pool.containers long fit.housed; kept = fit.kept }
+  fit_marked pool long fit = record { range = fit.range; size = fit.size; version = fit.version; housed = housed_marked pool.containers long fit.housed; kept = fit.kept }
 
   has_marked : (c : Option Mapped) (s b : ℕ) → has_block (state_at now s) c b ≡ has_block (state_at states s) c b
   has_marked c s b = ap (λ (o : Option VolumeState). has_block o c b) (marks_are s) ∙ marked_same (λ o. has_block o c b) (same c) (marks s) (state_at states s)

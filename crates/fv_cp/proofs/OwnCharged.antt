@@ -1,14 +1,13 @@
 -- A volume without a base has just as many entries of its own as it is charged for: below the span each number that its roots reach has
 -- one, and past it each block of a snapshot's map.
-use Rattle.std.proofs.Common.{◌≡◌, ◌≢◌, ℕ, zero, suc, ◌+◌, ◌-◌, ◌*◌, ◌/◌, ◌%◌, ◌<◌, ◌≤◌, Bool, true, false, cond, not, List, [], ◌∷◌, length, inl, inr, refl, sym, ap, subst, ◌∙◌, arith, ⊎_elim}
+use Rattle.std.proofs.Common.{◌≡◌, ◌≢◌, ℕ, zero, suc, ◌+◌, ◌-◌, ◌*◌, ◌/◌, ◌<◌, ◌≤◌, Bool, true, false, cond, not, List, [], ◌∷◌, length, inl, inr, refl, sym, ap, subst, ◌∙◌, arith, ⊎_elim}
 use Rattle.std.specs.Prelude.{Option, Some, None, ◌&&◌, ◌||◌, ◌==◌, map, nat_lt, nat_le, count_by, if◌then◌else◌}
 use Rattle.std.specs.List.{list_all, list_any, range_with_len}
 use Rattle.std.specs.Option.{is_some, option_map_or}
 use Rattle.std.proofs.lemmas.Bool.{and_parts, and_from, cases_eq, cases_lt}
 use Rattle.std.proofs.lemmas.Bool.Decides.{nat_tests}
 use Rattle.std.proofs.lemmas.List.{length-map}
-use Rattle.std.proofs.lemmas.Nat.{div-mul-add, le-div, mod_below}
-use Rattle.std.proofs.Math.Nat.{div-eq_of_lt, mod-add-div}
+use Rattle.std.proofs.lemmas.Nat.{div-mul-add, mod_below}
 use Rattle.std.proofs.lemmas.Option.{none-some}
 use Rattle.fv_bits.proofs.Counts.{passing, passing-add, passing-suc, passing_same}
 use Rattle.fv_model.specs.Space.{map_blocks, charge, need, use_of}
@@ -23,9 +22,10 @@ use Rattle.fv_image.specs.ReachRules.{is_reach, is_same_position, has_map_blocks
 use Rattle.fv_image.specs.Seen.{Reached, Root, VolumeSeen, own_blocks, roots_of, seen, volume_seen}
 use Rattle.fv_image.specs.Soundness.{AreMaps, AreTables}
 use Rattle.fv_image.specs.Staying.{own_items}
-use Rattle.fv_image.specs.Views.{Footing, Head, Rooted, Snap, View, is_active_map, is_held_in, is_own, map_vvbn, own, slots, used_slots, volume_bit, vvbns}
+use Rattle.fv_image.specs.Views.{Footing, Head, Rooted, Snap, View, is_active_map, is_held_in, is_own, map_index, map_slot, map_vvbn, own, slots, used_slots, volume_bit, vvbns}
 use Rattle.fv_image.specs.VolumeRules.{uses_seen}
 use Rattle.fv_image.specs.Volumes.{volume_told}
+use Rattle.fv_image.proofs.Behind.{first_there, in_first, vvbn_there}
 use Rattle.fv_image.proofs.CountedCharge.{charge_by_sets, held_is_listed}
 use Rattle.fv_image.proofs.Counting.{in_slot}
 use Rattle.fv_image.proofs.Counts.{none_between, others, same_sum}
@@ -39,7 +39,7 @@ use Rattle.fv_cp.proofs.Missing.{none_seen}
 -- ---- numbers by their slots
 
 -- all numbers of a range pass
-all_pass : (p : ℕ → Bool) (a n : ℕ) → ((k : ℕ) → a ≤ k → k < a + n → p k ≡ true) → passing p a n ≡ n
+pub all_pass : (p : ℕ → Bool) (a n : ℕ) → ((k : ℕ) → a ≤ k → k < a + n → p k ≡ true) → passing p a n ≡ n
 all_pass p a n all = let none = none_between (λ b. not (p b)) a n (λ k low high. ap not (all k low high)) in omega (arith, others p a n, none)
 
 -- a slot of this width has so many numbers of a range in which it lies
@@ -62,7 +62,7 @@ slot_whole from m slot n some fits =
         grind (arith, nat_tests, at)
 
 -- two tests that no number passes both
-passing_either : (p q : ℕ → Bool) (a n : ℕ) → ((k : ℕ) → p k ≡ true → q k ≡ false) → passing (λ v. p v || q v) a n ≡ passing p a n + passing q a n
+pub passing_either : (p q : ℕ → Bool) (a n : ℕ) → ((k : ℕ) → p k ≡ true → q k ≡ false) → passing (λ v. p v || q v) a n ≡ passing p a n + passing q a n
 passing_either p q a zero apart = refl
 passing_either p q a (suc n) apart =
     omega (arith, passing-suc (λ v. p v || q v) a n, passing-suc p a n, passing-suc q a n, one (p a) (q a) (apart a), passing_either p q (a + 1) n apart)
@@ -154,7 +154,7 @@ module _ (w : View) (s : ℕ) (h : Head) (small : s < 64) (there : w.head s ≡ 
   own_listed v below =
       let low : nat_lt v h.span ≡ true = grind (arith, nat_tests, below) in
       let past : nat_le h.span v ≡ false = grind (arith, nat_tests, below) in
-      let held : is_held_in w s h v ≡ is_listed (own_items w s h) v = ap (λ (b : Bool). if b then list_any (λ slot. volume_bit w s h.span slot v) (used_slots h) else list_any (λ slot. slot == (v - h.span) / map_blocks h.span) (used_slots h)) low
+      let held : is_held_in w s h v ≡ is_listed (own_items w s h) v = ap (λ (b : Bool). if b then list_any (λ slot. volume_bit w s h.span slot v) (used_slots h) else list_any (λ slot. slot == map_slot h.span v) (used_slots h)) low
       ∙ held_is_listed w s h reach v (omega (arith, below)) in
       let active : is_active_map h v ≡ false = ap (λ (b : Bool). b && nat_lt v (h.span + map_blocks h.span)) past in
       (λ i. is_some (w.entry s v) && (held i && not (active i))) ∙ absorbed (is_some (w.entry s v)) (is_listed (own_items w s h) v) (listed_there v)
@@ -194,24 +194,24 @@ module _ (w : View) (s : ℕ) (h : Head) (small : s < 64) (there : w.head s ≡ 
       (from_all (λ k. is_some (w.entry s (map_vvbn h.span p.0.slot k))) (range_with_len 0 (map_blocks h.span)) of_root j (in_range 0 (map_blocks h.span) j (omega arith) (omega (arith, within))))
 
   -- past the span just the blocks of snapshots' maps are the volume's own
-  own_high : (v : ℕ) → h.span ≤ v → is_own w s h v ≡ list_any (λ slot. slot == (v - h.span) / map_blocks h.span) snap_slots
+  own_high : (v : ℕ) → h.span ≤ v → is_own w s h v ≡ list_any (λ slot. slot == map_slot h.span v) snap_slots
   unfolding is_held_in
   own_high v past = ⊎_elim
-      (λ (zero_slot : (v - h.span) / map_blocks h.span ≡ 0).
-      let near : v < h.span + map_blocks h.span = in_first zero_slot in
+      (λ (zero_slot : map_slot h.span v ≡ 0).
+      let near : v < h.span + map_blocks h.span = in_first h.span v some_blocks zero_slot in
       let upper : nat_lt v (h.span + map_blocks h.span) ≡ true = grind (arith, nat_tests, near) in
       let active : is_active_map h v ≡ true = and_from (nat_le h.span v) _ least upper in
-      let none : list_any (λ slot. slot == (v - h.span) / map_blocks h.span) snap_slots ≡ false = to_none (λ slot. slot == (v - h.span) / map_blocks h.span) snap_slots (λ y one. differ y ((v - h.span) / map_blocks h.span) (bounds y one).0 zero_slot) in
+      let none : list_any (λ slot. slot == map_slot h.span v) snap_slots ≡ false = to_none (λ slot. slot == map_slot h.span v) snap_slots (λ y one. differ y (map_slot h.span v) (bounds y one).0 zero_slot) in
       (λ i. is_some (w.entry s v) && (is_held_in w s h v && not (active i))) ∙ never (is_some (w.entry s v)) (is_held_in w s h v) ∙ sym none)
       (λ other.
       let far : h.span + map_blocks h.span ≤ v = not_first other in
       let upper : nat_lt v (h.span + map_blocks h.span) ≡ false = grind (arith, nat_tests, far) in
       let active : is_active_map h v ≡ false = ap (λ (b : Bool). nat_le h.span v && b) upper ∙ (ap (λ (b : Bool). b && false) least) in
-      let first : (0 == (v - h.span) / map_blocks h.span) ≡ false = unlike ((v - h.span) / map_blocks h.span) other in
-      let held : is_held_in w s h v ≡ list_any (λ slot. slot == (v - h.span) / map_blocks h.span) snap_slots = ap (λ (b : Bool). if b then list_any (λ slot. volume_bit w s h.span slot v) (used_slots h) else list_any (λ slot. slot == (v - h.span) / map_blocks h.span) (used_slots h)) below
-      ∙ ap (λ (b : Bool). b || list_any (λ slot. slot == (v - h.span) / map_blocks h.span) snap_slots) first in
-      (λ i. is_some (w.entry s v) && (held i && not (active i))) ∙ absorbed (is_some (w.entry s v)) (list_any (λ slot. slot == (v - h.span) / map_blocks h.span) snap_slots) entry_there)
-      (cases_eq ((v - h.span) / map_blocks h.span) 0)
+      let first : (0 == map_slot h.span v) ≡ false = unlike (map_slot h.span v) other in
+      let held : is_held_in w s h v ≡ list_any (λ slot. slot == map_slot h.span v) snap_slots = ap (λ (b : Bool). if b then list_any (λ slot. volume_bit w s h.span slot v) (used_slots h) else list_any (λ slot. slot == map_slot h.span v) (used_slots h)) below
+      ∙ ap (λ (b : Bool). b || list_any (λ slot. slot == map_slot h.span v) snap_slots) first in
+      (λ i. is_some (w.entry s v) && (held i && not (active i))) ∙ absorbed (is_some (w.entry s v)) (list_any (λ slot. slot == map_slot h.span v) snap_slots) entry_there)
+      (cases_eq (map_slot h.span v) 0)
     where
       least : nat_le h.span v ≡ true
       least = grind (arith, nat_tests, past)
@@ -225,31 +225,19 @@ module _ (w : View) (s : ℕ) (h : Head) (small : s < 64) (there : w.head s ≡ 
       unlike : (q : ℕ) → q ≢ 0 → (0 == q) ≡ false
       unlike q other = grind (arith, nat_tests, other)
 
-      in_first : (v - h.span) / map_blocks h.span ≡ 0 → v < h.span + map_blocks h.span
-      in_first none = ⊎_elim
-          (λ (near : v < h.span + map_blocks h.span). near)
-          (λ (far : h.span + map_blocks h.span ≤ v). let some : 1 ≤ (v - h.span) / map_blocks h.span = le-div 1 (v - h.span) (map_blocks h.span) some_blocks (omega (arith, far)) in absurd (omega (arith, some, none)))
-          (cases_lt v (h.span + map_blocks h.span))
-
-      not_first : (v - h.span) / map_blocks h.span ≢ 0 → h.span + map_blocks h.span ≤ v
+      not_first : map_slot h.span v ≢ 0 → h.span + map_blocks h.span ≤ v
       not_first other = ⊎_elim
-          (λ (near : v < h.span + map_blocks h.span). absurd (other (div-eq_of_lt (omega (arith, near, past)))))
+          (λ (near : v < h.span + map_blocks h.span). absurd (other (first_there h.span v past near)))
           (λ (far : h.span + map_blocks h.span ≤ v). far)
           (cases_lt v (h.span + map_blocks h.span))
 
-      commutes : (a b : ℕ) → a * b ≡ b * a
-      commutes a b = grind (arith)
-
-      entry_there : list_any (λ slot. slot == (v - h.span) / map_blocks h.span) snap_slots ≡ true → is_some (w.entry s v) ≡ true
+      entry_there : list_any (λ slot. slot == map_slot h.span v) snap_slots ≡ true → is_some (w.entry s v) ≡ true
       entry_there any =
-          let one = from_any (λ slot. slot == (v - h.span) / map_blocks h.span) snap_slots any in
+          let one = from_any (λ slot. slot == map_slot h.span v) snap_slots any in
           let same = one.1.1 in
-          let is : one.0 ≡ (v - h.span) / map_blocks h.span = grind (arith, nat_tests, same) in
-          let within : (v - h.span) % map_blocks h.span < map_blocks h.span = mod_below (v - h.span) (map_blocks h.span) some_blocks in
-          let parts = mod-add-div (v - h.span) (map_blocks h.span) in
-          let turned = commutes (map_blocks h.span) ((v - h.span) / map_blocks h.span) in
-          let at : map_vvbn h.span ((v - h.span) / map_blocks h.span) ((v - h.span) % map_blocks h.span) ≡ v = omega (arith, parts, turned, past) in
-          subst (λ (n : ℕ). is_some (w.entry s n) ≡ true) at (map_there ((v - h.span) / map_blocks h.span) ((v - h.span) % map_blocks h.span) (subst (λ (k : ℕ). In k snap_slots) is one.1.0) within)
+          let is : one.0 ≡ map_slot h.span v = grind (arith, nat_tests, same) in
+          let within = mod_below (v - h.span) (map_blocks h.span) some_blocks in
+          subst (λ (n : ℕ). is_some (w.entry s n) ≡ true) (vvbn_there h.span v past) (map_there (map_slot h.span v) (map_index h.span v) (subst (λ (k : ℕ). In k snap_slots) is one.1.0) within)
 
   -- ---- the count
 
@@ -260,7 +248,7 @@ module _ (w : View) (s : ℕ) (h : Head) (small : s < 64) (there : w.head s ≡ 
 
   snaps_whole : passing (is_own w s h) h.span (25 * map_blocks h.span) ≡ map_blocks h.span * length h.snapshots
   snaps_whole =
-      passing_same (is_own w s h) (λ v. list_any (λ slot. slot == (v - h.span) / map_blocks h.span) snap_slots) h.span h.span (25 * map_blocks h.span) (λ j lt. own_high (h.span + j) (omega arith))
+      passing_same (is_own w s h) (λ v. list_any (λ slot. slot == map_slot h.span v) snap_slots) h.span h.span (25 * map_blocks h.span) (λ j lt. own_high (h.span + j) (omega arith))
       ∙ slots_whole h.span (map_blocks h.span) snap_slots (25 * map_blocks h.span) some_blocks order.rising (λ k one. fits k (map_blocks h.span) (bounds k one).1)
       ∙ ap (λ (k : ℕ). map_blocks h.span * k) (length-map h.snapshots (λ (p : Snap). p.slot))
     where

@@ -82,6 +82,7 @@ module _ (f g : ℕ → ℕ → Bool) (pool : Pool) (states : States) (same : (s
     room = come.room;
     committed = come.committed;
     found = come.found;
+    version = come.version;
     kept = come.kept;
     spares = come.spares;
     written = λ tells before lent here. course_as (seen pool.kept disk.reads) count labels left.map.next left.containers now.reads (come.written tells before lent here);

@@ -31,7 +31,7 @@ use Rattle.fv_cp.specs.declared.planning.Plan.{Plan}
 use Rattle.fv_volume.specs.Writing.{HasMapLeaves}
 use Rattle.fv_cp.specs.Choosing.{holding_with, holdings}
 use Rattle.fv_cp.specs.Course.{AreHereIn}
-use Rattle.fv_cp.specs.Planning.{AreSlotsKnown, AreSlotsSure, HasLeaves, HasLeavesAt, IsSlotKnown, is_set, start_at, taken, takes_of}
+use Rattle.fv_cp.specs.Planning.{AreOthersLeft, AreSlotsKnown, AreSlotsSure, HasLeaves, HasLeavesAt, IsSlotKnown, is_counted, is_set, start_at, taken, takes_of}
 use Rattle.fv_cp.specs.Points.{LacksPoint}
 use Rattle.fv_cp.proofs.CameIn.{leaf_still}
 
@@ -142,16 +142,23 @@ loads_then disk mid old now new reads first second = record {
   map = second.map ∙ first.map;
   kept = second.kept ∙ first.kept;
   found = second.found ∙ first.found;
+  version = second.version ∙ first.version;
   containers = maps_then disk mid old.containers now.containers new.containers reads.stays.tells reads.stays.reads first.containers second.containers;
 }
 
--- what is known of the first slots
-pub known_more : (old new : Slots) (states : States) (delays : List Bool) (slot : ℕ) → ((s : ℕ) → s ≢ slot → paged_at new s ≡ paged_at old s) → ((s : ℕ) → s < slot → IsSlotKnown old states s (get_or delays s true)) → IsSlotKnown new states slot (get_or delays slot true)
-    → (s : ℕ) → s < slot + 1 → IsSlotKnown new states s (get_or delays s true)
-known_more old new states delays slot others was here s low = ⊎_elim
-    (λ (e : s ≡ slot). subst (λ (n : ℕ). IsSlotKnown new states n (get_or delays n true)) (sym e) here)
-    (λ (differ : s ≢ slot). λ counted. subst (λ (c : Option Paged). IfSome c AreKnown) (sym (others s differ)) (was s (omega (arith, low, differ)) counted))
+-- what is known of the first slots, of those among them
+pub known_more : (changed : Bool) (old new : Slots) (states : States) (delays : List Bool) (slot : ℕ) → ((s : ℕ) → s ≢ slot → paged_at new s ≡ paged_at old s)
+    → ((s : ℕ) → s < slot → is_counted false (state_at states s) ≡ changed → IsSlotKnown old states s (get_or delays s true)) → (is_counted false (state_at states slot) ≡ changed → IsSlotKnown new states slot (get_or delays slot true))
+    → (s : ℕ) → s < slot + 1 → is_counted false (state_at states s) ≡ changed → IsSlotKnown new states s (get_or delays s true)
+known_more changed old new states delays slot others was here s low = ⊎_elim
+    (λ (e : s ≡ slot). subst (λ (n : ℕ). is_counted false (state_at states n) ≡ changed → IsSlotKnown new states n (get_or delays n true)) (sym e) here)
+    (λ (differ : s ≢ slot). λ among counted. subst (λ (c : Option Paged). IfSome c AreKnown) (sym (others s differ)) (was s (omega (arith, low, differ)) among counted))
     (cases_eq s slot)
+
+-- those that aren't among them stay
+pub others_more : (changed : Bool) (first old new : Slots) (states : States) (slot : ℕ) → is_counted false (state_at states slot) ≡ changed → ((s : ℕ) → s ≢ slot → paged_at new s ≡ paged_at old s)
+    → AreOthersLeft changed states first old → AreOthersLeft changed states first new
+others_more changed first old new states slot among others was s other = others s (λ e. other (subst (λ (n : ℕ). is_counted false (state_at states n) ≡ changed) (sym e) among)) ∙ was s other
 
 -- what is held for the first slots
 pub leaves_more : (plan : Plan) (old new : Slots) (states : States) (slot : ℕ) → ((s : ℕ) → s ≢ slot → paged_at new s ≡ paged_at old s) → ((s : ℕ) → s < slot → HasLeavesAt plan s (state_at states s) (paged_at old s)) → HasLeavesAt plan slot (state_at states slot) (paged_at new slot)

@@ -315,9 +315,9 @@ asked_none states s past = ap (λ (xs : States). sum_by asked_by xs) (drop_of_le
 -- ---- the start
 
 pub come_first : (regions : ℕ → ℕ → Bool) (disk mid : Shown) (pool left : Pool) (states : States) (labels : List ℕ) → AreNamedFor states pool.found.root.labels labels → StandsOn mid left.store.pairs → AreHoused pool.containers states → blocks_asked states ≤ free_blocks pool.map
-    → left.map ≡ pool.map → left.containers ≡ pool.containers → left.found ≡ pool.found → left.kept ≡ fin.empty → Spares (IsTaken (on_disk pool.map)) disk mid (Ok tt)
+    → left.map ≡ pool.map → left.containers ≡ pool.containers → left.found ≡ pool.found → left.version ≡ pool.version → left.kept ≡ fin.empty → Spares (IsTaken (on_disk pool.map)) disk mid (Ok tt)
     → (IsTrue disk.tells → (b : ℕ) → mid.reads b ≡ seen pool.kept disk.reads b) → HasCome regions (HaveHere regions pool.containers) disk pool states 0 labels left mid
-come_first regions disk mid pool left states labels are stands housed room map containers found kept spares reads = record {
+come_first regions disk mid pool left states labels are stands housed room map containers found version kept spares reads = record {
   long = are.long;
   places = are.places;
   free = λ s low none. are.each s low ∙ ap (λ (o : Option VolumeState). label_lent o (get_or pool.found.root.labels s 0)) none;
@@ -327,6 +327,7 @@ come_first regions disk mid pool left states labels are stands housed room map c
   room = subst (λ (m : Space). blocks_asked states ≤ free_blocks m) (sym map) room;
   committed = ap (λ (m : Space). m.committed) map;
   found = found;
+  version = version;
   kept = kept;
   spares = spares;
   written = λ tells before lent here. same_course regions pool states (seen pool.kept disk.reads) 0 labels labels pool.map.next left.map.next pool.containers left.containers mid.reads mid.reads refl (ap (λ (m : Space). m.next) map) containers refl
@@ -406,7 +407,7 @@ module _ (regions : ℕ → ℕ → Bool) (disk : Shown) (pool : Pool) (states :
       (λ b is. taken_alike pool.map left.map b come.committed is) come.spares second
 
   pub come_more : GoesPast regions (state_at states s) s labels left mid now after new → free_blocks left.map ≤ free_blocks after.map + asked_by (state_at states s) → Spares (IsTaken (on_disk left.map)) mid new (Ok tt)
-      → after.map.committed ≡ left.map.committed → after.found ≡ left.found → after.kept ≡ left.kept → StandsOn new after.store.pairs → HasCome regions (HaveHere regions pool.containers) disk pool states (suc s) now after new
-  come_more past count spares committed found kept stands =
+      → after.map.committed ≡ left.map.committed → after.found ≡ left.found → after.version ≡ left.version → after.kept ≡ left.kept → StandsOn new after.store.pairs → HasCome regions (HaveHere regions pool.containers) disk pool states (suc s) now after new
+  come_more past count spares committed found version kept stands =
       let l = step_leaves (state_at states s) refl past in
-      record { long = l.long; places = l.places; free = l.free; stands = stands; housed = l.housed; rest = l.rest; room = more_room count; committed = committed ∙ come.committed; found = found ∙ come.found; kept = kept ∙ come.kept; spares = spares_on (Ok tt) spares; written = l.written }
+      record { long = l.long; places = l.places; free = l.free; stands = stands; housed = l.housed; rest = l.rest; room = more_room count; committed = committed ∙ come.committed; found = found ∙ come.found; version = version ∙ come.version; kept = kept ∙ come.kept; spares = spares_on (Ok tt) spares; written = l.written }

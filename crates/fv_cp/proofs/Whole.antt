@@ -146,6 +146,8 @@ module _ (disk : Shown) (pool : Pool) (states : States) (mid : Shown) (held : Po
       goes_whole = record {
         stands = goes.stands;
         next = subst (λ (f : Found). IsNextRoot f left.found) placed.found goes.next;
+        version = goes.version ∙ placed.version;
+        root_version = goes.root_version ∙ placed.version;
         found = λ told. goes.found (subst IsTrue (sym placed.only_reads.stays.tells) told);
         loaded = λ told. goes.loaded (subst IsTrue (sym placed.only_reads.stays.tells) told);
         fit = goes.fit;
@@ -196,7 +198,7 @@ module _ (disk : Shown) (pool : Pool) (states : States) (mid : Shown) (held : Po
             unchanged = point.unchanged;
             room = point.room;
             delays = point.delays;
-            entries = record { mid = held; between = between; found = placed.found; others = placed.others; maps = maps_now; housed = placed.fit.housed; placed = placed.entries; unused = placed.unused before was; rest = placed.rest; chosen = chosen_now before was want; containers = subst (λ (c : List Bool). LeavesContainers c (regions_chosen held between want) between held.containers left.containers) placed.committed (record { written = point.entries; stays = point.containers }) };
+            entries = record { mid = held; between = between; found = placed.found; version = placed.version; others = placed.others; maps = maps_now; housed = placed.fit.housed; placed = placed.entries; unused = placed.unused before was; rest = placed.rest; chosen = chosen_now before was want; containers = subst (λ (c : List Bool). LeavesContainers c (regions_chosen held between want) between held.containers left.containers) placed.committed (record { written = point.entries; stays = point.containers }) };
             missing = point.missing;
             free = goes.free;
           }

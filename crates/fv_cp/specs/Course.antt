@@ -6,6 +6,7 @@ use Rattle.std.specs.FinMap as fin
 use Rattle.fv_disk.specs.Shown.{Image, Shown}
 use Rattle.fv_disk.specs.Sparing.{Spares}
 use Rattle.fv_bits.specs.Members.{is_member}
+use Rattle.fv_codec.specs.declared.root.Root.{Root}
 use Rattle.fv_codec.specs.Blocks.{last_place}
 use Rattle.fv_model.specs.Machines.{Machine}
 use Rattle.fv_image.specs.Views.{entry_count}
@@ -73,9 +74,13 @@ GoesPast regions (Some x) s labels pool disk now left after = cond x.changed (Is
 
 -- ---- the first slots
 
--- what is found once a root with these labels counts
-abbrev pub found_with : Found → List ℕ → Found
-found_with found labels = next_found found (record found.root { labels = labels })
+-- the root of a point: the one that was found, with the pool's version and these labels
+abbrev pub root_with : Pool → List ℕ → Root
+root_with pool labels = record pool.found.root { version = pool.version; labels = labels }
+
+-- what is found once that counts
+abbrev pub found_with : Pool → List ℕ → Found
+found_with pool labels = next_found pool.found (root_with pool labels)
 
 -- the blocks of the entries that stay are in one image as in another
 abbrev pub StaysFrom : VolumeState → Mapped → Image → Image → Type 0
@@ -152,6 +157,7 @@ pub record HasCome (regions : ℕ → ℕ → Bool) (told : Type 0) (disk : Show
   pub room : asked_from count states ≤ free_blocks left.map
   pub committed : left.map.committed ≡ pool.map.committed
   pub found : left.found ≡ pool.found
+  pub version : left.version ≡ pool.version
   pub kept : left.kept ≡ fin.empty
   pub spares : Spares (IsTaken (on_disk pool.map)) disk now (Ok tt)
   pub written : IsTrue disk.tells → (before : Machine) → IsLent disk pool states before → told → IsCourse regions pool states (seen pool.kept disk.reads) count labels left.map.next left.containers now.reads

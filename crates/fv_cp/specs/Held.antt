@@ -36,6 +36,6 @@ pub record IsHeld (disk : Shown) (pool : Pool) (states : States) (before : Machi
 unfoldable pub machine_held : Shown → Pool → States → Machine
 machine_held disk pool states = record {
   blocks = pool.found.blocks;
-  version = pool.found.root.version;
+  version = pool.version;
   volumes = fin.from_entries {R = name_cmp} (flat_map (λ s. named_held disk pool (state_at states s)) slots);
 }

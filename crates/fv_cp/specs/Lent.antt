@@ -30,11 +30,12 @@ pub use Rattle.fv_volumes.specs.UnderRoot.{IsLentAt, IsLentSlot, IsMapOf}
 abbrev pub AreKept : Pool → Type 0
 AreKept pool = (b : ℕ) → IsTaken (on_disk pool.map) b → IsUnkept pool.kept b
 
--- The pool and the volumes fit together, whatever the disk tells: the root is in range and of the map's size, the volumes are housed, and
--- the blocks that wait to be written lie where they can.
+-- The pool and the volumes fit together, whatever the disk tells: the root is in range and of the map's size and the pool's version, the
+-- volumes are housed, and the blocks that wait to be written lie where they can.
 pub record FitTogether (pool : Pool) (states : States) : Type 0 where
   pub range : IsInRange pool.found
   pub size : blocks_of pool.map ≡ pool.found.blocks
+  pub version : pool.version ≡ pool.found.root.version
   pub housed : AreHoused pool.containers states
   pub kept : AreKept pool
 

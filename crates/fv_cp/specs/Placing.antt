@@ -15,7 +15,7 @@ use Rattle.fv_volume.specs.declared.state.VolumeState.{VolumeState}
 use Rattle.fv_aggmap.specs.Space.{Space, blocks_of, free_blocks}
 use Rattle.fv_volmap.specs.Slots.{empty_volume}
 pub use Rattle.fv_volume.specs.Held.{core_of, pending_by, HasNoFiles, HasNumbers, HasPlaceCause, HasSpent, HasWholeMap, IsPlaceFault, IsPlacedAs, IsReadyIn, MayFail}
-use Rattle.fv_pool.specs.BlocksOver.{LoadsPool}
+use Rattle.fv_pool.specs.BlocksOver.{HasShapeOf, LoadsPool}
 use Rattle.fv_pool.specs.Placing.{KeepsUnused}
 use Rattle.fv_volume.specs.SnapRecords.{hole}
 use Rattle.fv_volume.specs.States.{States, state_at, with_state}
@@ -75,6 +75,10 @@ pub record IsSpareEntry (space : Space) (now : Option Entry) : Type 0 where
 abbrev pub PlacesEntries : Space → Slots → Slots → Type 0
 PlacesEntries space old new = (s v : ℕ) → (own_entry (container_at new s) v ≡ own_entry (container_at old s) v) ⊎ IsSpareEntry space (own_entry (container_at new s) v)
 
+-- each container has as many entries as before, and its tree the same places on the disk
+abbrev pub KeepShapes : Slots → Slots → Type 0
+KeepShapes old new = (s : ℕ) → HasShapeOf (container_at old s) (container_at new s)
+
 -- a volume without what the placing of its files changes: its active root, the numbers in use and the trees in memory
 abbrev pub but_placed : VolumeState → VolumeState
 but_placed x = record x { active = record { levels = 0; root = hole }; map = empty_volume 0; files = None }
@@ -102,6 +106,7 @@ pub record ArePlaced (disk : Shown) (pool : Pool) (states : States) (after : Sho
   pub machine : (before : Machine) → IsHeld disk pool states before → machine_held after left stay ≡ machine_held disk pool states
   pub fit : FitTogether left stay
   pub found : left.found ≡ pool.found
+  pub version : left.version ≡ pool.version
   -- the map of the root that counts stays; the next root's may differ
   pub committed : left.map.committed ≡ pool.map.committed
   pub cores : KeepCores states stay
@@ -112,6 +117,9 @@ pub record ArePlaced (disk : Shown) (pool : Pool) (states : States) (after : Sho
   pub spent : (before : Machine) → IsHeld disk pool states before → HaveRoom pool states → HaveSpent pool states left stay
   pub others : AreButPlaced states stay
   pub entries : PlacesEntries pool.map pool.containers left.containers
+  -- no tree of a container moves on the disk, and no slot has another parent
+  pub shapes : KeepShapes pool.containers left.containers
+  pub parents : left.containers.parents ≡ pool.containers.parents
   pub unused : (before : Machine) → IsHeld disk pool states before → LeavesUnused pool left stay
   -- a volume without files in memory stays, and so does its container
   pub rest : RestsPlaced pool states left stay

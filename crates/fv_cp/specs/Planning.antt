@@ -53,6 +53,14 @@ IsSlotKnown containers states s may_delay = is_counted may_delay (state_at state
 abbrev pub AreSlotsKnown : Slots → States → List Bool → Type 0
 AreSlotsKnown containers states delays = (s : ℕ) → s < 64 → IsSlotKnown containers states s (get_or delays s true)
 
+-- It is known of those whose volume changed, or of the others: `is_counted false` says that a slot has a volume that changed.
+abbrev pub AreKnownAmong : Bool → Slots → States → List Bool → Type 0
+AreKnownAmong changed containers states delays = (s : ℕ) → s < 64 → is_counted false (state_at states s) ≡ changed → IsSlotKnown containers states s (get_or delays s true)
+
+-- The containers of the volumes that aren't among them stay.
+abbrev pub AreOthersLeft : Bool → States → Slots → Slots → Type 0
+AreOthersLeft changed states old new = (s : ℕ) → is_counted false (state_at states s) ≢ changed → paged_at new s ≡ paged_at old s
+
 -- What is known so is as the container's map says.
 abbrev pub IsSlotSure : Slots → States → ℕ → Bool → Type 0
 IsSlotSure containers states s may_delay = is_counted may_delay (state_at states s) ≡ true → IfSome (paged_at containers s) AreSure

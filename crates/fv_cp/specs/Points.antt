@@ -111,6 +111,7 @@ AreWritten states stay = (s : ℕ) → (marks : Bool) × ((label : ℕ) × (stat
 -- The pool once another root counts: that root is the one found, and the map of the next root is the one that it has.
 pub record IsSwitched (pool : Pool) (root : Root) (left : Pool) : Type 0 where
   pub found : left.found ≡ next_found pool.found root
+  pub version : left.version ≡ pool.version
   pub map : left.map ≡ record { committed = pool.map.next; next = pool.map.next }
   pub size : blocks_of left.map ≡ pool.found.blocks
 
@@ -125,6 +126,9 @@ pub record GoesOn (old : Shown) (pool : Pool) (states : States) (new : Shown) (l
   pub stands : StandsOn new left.store.pairs
   -- the point was made: another root counts
   pub next : IsNextRoot pool.found left.found
+  -- the version stays, and the new root has it
+  pub version : left.version ≡ pool.version
+  pub root_version : left.found.root.version ≡ pool.version
   pub found : IsTrue old.tells → IsFoundOn new left.found
   pub loaded : IsTrue old.tells → IsMapLoaded new.reads left.found left.map
   pub fit : FitTogether left stay

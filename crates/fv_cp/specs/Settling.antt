@@ -40,6 +40,7 @@ pub record LeavesPlaced (pool : Pool) (states : States) (want : ℕ) (left : Poo
   pub mid : Pool
   pub between : States
   pub found : mid.found ≡ pool.found
+  pub version : mid.version ≡ pool.version
   pub others : AreButPlaced states between
   pub maps : (s : ℕ) → option_map (λ (x : VolumeState). x.map) (state_at stay s) ≡ option_map (λ (x : VolumeState). x.map) (state_at between s)
   pub housed : AreHoused mid.containers between
@@ -72,8 +73,10 @@ pub record IsHeldPoint (old : Shown) (pool : Pool) (states : States) (want : ℕ
 -- on each volume, and of each only that is new which placing and a point change.
 pub record GoesOnWhole (old : Shown) (pool : Pool) (states : States) (new : Shown) (left : Pool) (stay : States) : Type 0 where
   pub stands : StandsOn new left.store.pairs
-  -- the point was made: another root counts
+  -- the point was made: another root counts, of the pool's version
   pub next : IsNextRoot pool.found left.found
+  pub version : left.version ≡ pool.version
+  pub root_version : left.found.root.version ≡ pool.version
   pub found : IsTrue old.tells → IsFoundOn new left.found
   pub loaded : IsTrue old.tells → IsMapLoaded new.reads left.found left.map
   pub fit : FitTogether left stay

@@ -61,7 +61,7 @@ impl Plan {
 /// is reclaimed. Only of volumes that changed, or of which `delays` says that an entry may be delayed, the entries are counted; of these
 /// it is known which are holes.
 ///
-/// It takes no memory and reads nothing. Costs a step for each entry of these volumes, and up to 25 more for one that is no hole.
+/// It takes no memory and reads nothing. Costs what `table_of` of `fv_delay` costs for each of these volumes.
 pub(crate) fn choose(
     volumes: &Volumes,
     pool: &Pool,

@@ -46,16 +46,15 @@ use fv_volumes::{Volumes, write_volume};
 /// leaves an image that stands for the machine of before, with each block that the root on the disk holds as it was; or one in which the
 /// new root counts and that stands for the machine of the volumes lent. After `Ok` it is the latter, on a settled disk. On any disk
 /// another root counts then, in the other slot and one generation on, also where nothing changed. Each slot keeps its parent in the chain
-/// of containers. It takes no memory, and reads nothing.
+/// of containers. It reads nothing and needs no memory: the cache holds the leaves that are written where it finds some.
 ///
 /// # Errors
 /// `DiskFault` comes only where a write or a barrier failed in this call; of what is in memory nothing is said then, of images as above. No
 /// other error comes.
 ///
-/// Costs a step for each entry of each volume of which a region is reclaimed, and up to 25 more for one that is no hole, twice in these
-/// regions; a write for each kept block, and for each volume that is written a step for each node of its container and each entry of a
-/// dirty leaf and a write for each of at most as many blocks as it asks for; beside that a commit, a step for each fixed block, and one
-/// for each 64 blocks.
+/// Costs what `reclaim_taken` of `fv_delay` costs for each volume of which a region is reclaimed; a write for each kept block, and for each
+/// volume that is written a step for 64 nodes of its container, one for each entry of a dirty leaf, and a write for each of at most as many
+/// blocks as it asks for; beside that a commit, a step for each fixed block, and one for each 64 blocks.
 pub fn consistency_point<D: Disk>(
     volumes: &mut Volumes,
     pool: &mut Pool,
@@ -81,6 +80,7 @@ pub fn consistency_point<D: Disk>(
 {
     mark(volumes, &plan.due);
     let mut root = pool.found.root;
+    root.version = pool.version;
     let mut left = plan.delays;
     clear_free(volumes, &mut root.labels);
     write_volumes(volumes, plan, pool, disk, &mut root.labels, &mut left)?;
@@ -162,6 +162,7 @@ fn write_slot<D: Disk>(
     ensures spares { Spares (IsTaken (on_disk pool.old.map)) (D.shown disk.old) (D.shown disk.new) result }
     ensures committed { pool.new.map.committed ≡ pool.old.map.committed }
     ensures found { pool.new.found ≡ pool.old.found }
+    ensures version { pool.new.version ≡ pool.old.version }
     ensures kept { pool.new.kept ≡ pool.old.kept }
     ensures stands { StandsOn (D.shown disk.new) pool.new.store.pairs }
 {

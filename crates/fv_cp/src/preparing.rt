@@ -23,7 +23,7 @@ ghost use Rattle.fv_volume.specs.Writing.{HasMapLeaves};
 ghost use Rattle.fv_volumes.specs.Housed.{AreHoused};
 ghost use Rattle.fv_cp.specs.Choosing.{asked_marked, holdings};
 ghost use Rattle.fv_cp.specs.Course.{AreHereIn, HaveHere};
-ghost use Rattle.fv_cp.specs.Planning.{AreSlotsKnown, HasLeavesAt, HaveLeaves, IsSlotKnown, Plans, is_set, taken};
+ghost use Rattle.fv_cp.specs.Planning.{AreKnownAmong, AreOthersLeft, AreSlotsKnown, HasLeavesAt, HaveLeaves, IsSlotKnown, Plans, is_counted, is_set, taken};
 ghost use Rattle.fv_cp.specs.Points.{LacksPoint};
 
 use crate::asking::blocks_asked;
@@ -41,7 +41,7 @@ use fv_volumes::{Volumes, mark_maps};
 /// As many regions as the largest container has.
 const REGIONS: usize = 4100;
 
-/// Plans a consistency point, and holds in memory what it needs: after `Ok` `consistency_point` reads nothing and takes no memory.
+/// Plans a consistency point, and holds in memory what it needs: after `Ok` `consistency_point` reads nothing and needs no memory.
 ///
 /// It plans to reclaim the regions with 64 or more delayed entries, and then those with most while the space rule lacks blocks for what is
 /// used, delayed and wanted; a volume with such a region is written, too. Where with these the volumes ask for more blocks than are free
@@ -57,8 +57,8 @@ const REGIONS: usize = 4100;
 /// `Memory` where there was none for a leaf.
 ///
 /// Costs a read for each leaf of which it isn't known yet which entries are holes, of each volume that changed or of which `delays` says
-/// that an entry may be delayed, and for each that is changed and isn't in memory; and a step for each entry of these volumes, with up to
-/// 25 more for one that is no hole, so again for each volume of which a region is chosen.
+/// that an entry may be delayed, and for each that is changed and isn't in memory; and what `table_of` of `fv_delay` costs for these volumes,
+/// so again for each volume of which a region is chosen.
 pub fn prepare<D: Disk>(
     volumes: &Volumes,
     pool: &mut Pool,
@@ -94,7 +94,8 @@ pub fn prepare<D: Disk>(
     load(volumes, pool, disk, plan)
 }
 
-/// Learns of the volumes of all slots that changed or may have delayed entries which entries of their containers are holes.
+/// Learns of the volumes of all slots that changed or may have delayed entries which entries of their containers are holes. Those that changed
+/// come last: the next changes need their leaves, so these are the ones that stay in the cache.
 fn learn<D: Disk>(
     volumes: &Volumes,
     pool: &mut Pool,
@@ -109,8 +110,32 @@ fn learn<D: Disk>(
     ensures only_reads { OnlyReads (D.shown disk.old) (D.shown disk.new) }
     ensures cause { HasBlockCause (D.shown disk.old).faults (D.shown disk.new).faults result }
 {
+    learn_among(volumes, pool, disk, delays, false)?;
+    learn_among(volumes, pool, disk, delays, true)
+}
+
+/// Learns it of those among them that changed, or of the others.
+fn learn_among<D: Disk>(
+    volumes: &Volumes,
+    pool: &mut Pool,
+    disk: &mut D,
+    delays: &[bool; 64],
+    changed: bool,
+) -> Result<(), BlockFault>
+    requires stands { StandsOn (D.shown disk.old) pool.old.store.pairs }
+    ensures loads { LoadsPool (D.shown disk.old) pool.old pool.new }
+    ensures known { OnOk result (AreKnownAmong changed pool.new.containers volumes.now delays.now) }
+    ensures others { AreOthersLeft changed volumes.now pool.old.containers pool.new.containers }
+    ensures fault { IfErr result (IsHoldFault (D.shown disk.old) pool.old.containers) }
+    ensures stands { StandsOn (D.shown disk.new) pool.new.store.pairs }
+    ensures only_reads { OnlyReads (D.shown disk.old) (D.shown disk.new) }
+    ensures cause { HasBlockCause (D.shown disk.old).faults (D.shown disk.new).faults result }
+{
     for slot in 0..SLOTS {
         let may_delay = delays[slot as usize];
+        if has_changed(volumes, slot) != changed {
+            continue;
+        }
         learn_slot(
             volumes,
             &mut pool.containers,
@@ -121,6 +146,17 @@ fn learn<D: Disk>(
         )?;
     }
     Ok(())
+}
+
+/// Whether a slot has a volume that changed.
+fn has_changed(volumes: &Volumes, slot: u8) -> bool
+    requires { slot < slot_count }
+    ensures { result ≡ is_counted false (state_at volumes.now slot) }
+{
+    match volumes.get(slot) {
+        Some(state) => state.is_changed(),
+        None => false,
+    }
 }
 
 /// Learns it of the volume of a slot, if it changed or may have delayed entries.

@@ -48,8 +48,7 @@ fn mark_slot(volumes: &mut Volumes, due: bool, slot: u8)
 /// each block of 25 maps. Where the volume is due, it is known which entries are holes, the leaves of the regions that are taken are in
 /// memory, and `delays` says of its slot whether an entry is delayed then.
 ///
-/// It takes no memory and reads nothing. Costs a step for each entry of a volume that is due, and up to 25 more for one that is no hole, a
-/// map slot each; twice in a region that is taken.
+/// It takes no memory and reads nothing. Costs what `reclaim_taken` of `fv_delay` costs for a volume that is due.
 pub(crate) fn reclaim_due(
     plan: &Plan,
     slot: u8,

@@ -297,7 +297,7 @@ sparing_below (suc n) missing cs = so (nat_le missing (total (level (suc n) cs))
     so false rest none = rest none
 
 -- and stays so
-sparing_behind : (t : Threshold) (cs : List Count) → IsSparing t → IsSparing (behind t cs)
+pub sparing_behind : (t : Threshold) (cs : List Count) → IsSparing t → IsSparing (behind t cs)
 unfolding IsSparing behind
 sparing_behind t [] is = is
 sparing_behind t (c ∷ cs) is = sparing_behind (passed t c.count) cs (so (c.count == t.count))
@@ -307,7 +307,7 @@ sparing_behind t (c ∷ cs) is = sparing_behind (passed t c.count) cs (so (c.cou
     so false none = is none
 
 -- a region without delayed entries isn't taken
-none_taken : (t : Threshold) → IsSparing t → takes t 0 ≡ false
+pub none_taken : (t : Threshold) → IsSparing t → takes t 0 ≡ false
 unfolding IsSparing
 none_taken t is = so (0 == t.count) refl
   where

@@ -1,6 +1,5 @@
 mod Rows
 pub mod AllVolumes
-pub mod AnyDelayed
 pub mod Ascending
 pub mod Enough
 pub mod Giving
@@ -13,6 +12,7 @@ pub mod Parts
 pub mod Passing
 pub mod Reclaimed
 pub mod RoomLeft
+mod Skipping
 pub mod Sorting
 pub mod Taking
 pub mod TakenRegions

@@ -1,17 +1,18 @@
 -- The regions of a container part it: a count over all regions is a count over the container.
-use Rattle.std.proofs.Common.{◌≡◌, ℕ, zero, suc, ◌+◌, ◌-◌, ◌*◌, ◌/◌, ◌<◌, ◌≤◌, min, Bool, true, false, cond, not, ◌&&◌, length, sum_by, refl, sym, ap, ap₂, ◌∙◌, ⊎_elim, add-zero, arith}
+use Rattle.std.proofs.Common.{◌≡◌, ℕ, zero, suc, ◌+◌, ◌-◌, ◌*◌, ◌/◌, ◌<◌, ◌≤◌, min, Bool, true, false, cond, not, ◌&&◌, List, get_or, length, sum_by, refl, sym, ap, ap₂, ◌∙◌, ⊎_elim, add-zero, arith}
 use Rattle.std.specs.Prelude.{◌==◌, nat_le, nat_lt, None}
 use Rattle.std.specs.Int.{div_ceil, from_bool}
 use Rattle.std.specs.List.{range_with_len}
 use Rattle.std.specs.Option.{is_some}
-use Rattle.std.proofs.lemmas.Bool.{cases_lt}
+use Rattle.std.proofs.lemmas.Bool.{cases_lt, true≢false}
 use Rattle.std.proofs.lemmas.Bool.Decides.{nat_tests}
 use Rattle.std.proofs.lemmas.List.{get_or_past}
 use Rattle.std.proofs.lemmas.List.Sums.{sum_by-cons}
 use Rattle.fv_bits.proofs.Counts.{passing, passing-add, passing-suc}
 use Rattle.fv_image.specs.Containers.{fan, level_width}
-use Rattle.fv_image.proofs.Counts.{none_between}
+use Rattle.fv_image.proofs.Counts.{none_between, within_two}
 use Rattle.fv_container.specs.Mapped.{Mapped}
+use Rattle.fv_container.specs.Loading.{delayed_in_region, entries_in_region, has_entry_at}
 use Rattle.fv_volmap.specs.Slots.{Volume}
 use Rattle.fv_delay.specs.Delay.{delayed_in, delayed_of, is_delayed, is_held}
 
@@ -27,9 +28,65 @@ region_within entries v within = omega (arith, within)
 pub region_has : (entries v : ℕ) → v < entries → fan * (v / 256) < entries
 region_has entries v within = omega (arith, within)
 
+-- where none of a row of numbers passes a test, each of them fails it
+pub none_passes : (p : ℕ → Bool) (a n k : ℕ) → k < n → passing p a n ≡ 0 → p (a + k) ≡ false
+none_passes p a n k lt none = so (p (a + k)) refl
+  where
+    rest : ℕ
+    rest = n - k - 1
+
+    parts : passing p a n ≡ passing p a k + passing p (a + k) (suc rest)
+    parts = ap (passing p a) (let long : n ≡ k + suc rest = omega (arith, lt) in long) ∙ passing-add p a k (suc rest)
+
+    so : (t : Bool) → p (a + k) ≡ t → t ≡ false
+    so false e = refl
+    so true e =
+        let one : ◌≡◌ {A = ℕ} (cond (p (a + k)) 1 0) 1 = ap (λ (t : Bool). cond {A = ℕ} t 1 0) e in
+        let step = passing-suc p (a + k) rest in
+        absurd (omega (arith, parts, step, one, none))
+
 -- behind the last entry none is delayed
 pub none_past : (map : Volume) (container : Mapped) (v : ℕ) → length container.entries ≤ v → is_delayed map container v ≡ false
 none_past map container v past = ap (λ entry. is_some entry && not (is_held map v)) (get_or_past container.entries v None past)
+
+-- where no entry of a region is there, none is delayed
+entry_there : (map : Volume) (container : Mapped) (v : ℕ) → cond {A = ℕ} (is_delayed map container v) 1 0 ≤ cond {A = ℕ} (has_entry_at container v) 1 0 + cond {A = ℕ} (has_entry_at container v) 1 0
+entry_there map container v = each (has_entry_at container v) (is_held map v)
+  where
+    each : (a h : Bool) → cond {A = ℕ} (a && not h) 1 0 ≤ cond {A = ℕ} a 1 0 + cond {A = ℕ} a 1 0
+    each true true = omega arith
+    each true false = omega arith
+    each false h = omega arith
+
+none_of : (m n : ℕ) → m ≤ n + n → n ≡ 0 → m ≡ 0
+none_of m n most none = omega (arith, most, none)
+
+pub none_there : (map : Volume) (container : Mapped) (region : ℕ) → entries_in_region container region ≡ 0 → delayed_in map container region ≡ 0
+unfolding delayed_in entries_in_region
+none_there map container region none =
+    let p : ℕ → Bool = is_delayed map container in
+    let q : ℕ → Bool = has_entry_at container in
+    none_of (passing p (fan * region) fan) (passing q (fan * region) fan) (within_two p q q (fan * region) fan (entry_there map container)) none
+
+-- what is held besides isn't delayed
+unmapped_there : (a h b : Bool) → (b ≡ true → h ≡ true) → cond {A = ℕ} (a && not h) 1 0 ≤ cond {A = ℕ} (a && not b) 1 0 + cond {A = ℕ} (a && not b) 1 0
+unmapped_there false h b so = omega arith
+unmapped_there true true b so = omega arith
+unmapped_there true false false so = omega arith
+unmapped_there true false true so = absurd (true≢false (sym (so refl)))
+
+-- nor where each entry that is there has a VVBN that is a member of a map, whose members are held
+pub none_unmapped : (map : Volume) (container : Mapped) (bits : List Bool) (region : ℕ) → ((v : ℕ) → get_or bits v false ≡ true → is_held map v ≡ true) → delayed_in_region container bits region ≡ 0 → delayed_in map container region ≡ 0
+unfolding delayed_in delayed_in_region
+none_unmapped map container bits region held none =
+    let p : ℕ → Bool = is_delayed map container in
+    let q : ℕ → Bool = λ v. has_entry_at container v && not (get_or bits v false) in
+    none_of (passing p (fan * region) fan) (passing q (fan * region) fan) (within_two p q q (fan * region) fan (λ v. unmapped_there (has_entry_at container v) (is_held map v) (get_or bits v false) (held v))) none
+
+-- nor in a region behind the last entry
+pub none_behind : (map : Volume) (container : Mapped) (region : ℕ) → length container.entries ≤ fan * region → delayed_in map container region ≡ 0
+unfolding delayed_in
+none_behind map container region past = none_between (is_delayed map container) (fan * region) fan (λ k low high. none_past map container k (omega (arith, past, low)))
 
 -- one number more
 pub count_more : (p : ℕ → Bool) (first v : ℕ) → first ≤ v → passing p first ((v + 1) - first) ≡ passing p first (v - first) + cond (p v) 1 0

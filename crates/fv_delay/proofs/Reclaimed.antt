@@ -234,9 +234,9 @@ module _ (map : Volume) (regions : ℕ → Bool) (old new : Paged) (has : HasEmp
       so false t e f =
           ap (λ (k : Bool). is_some (if k && regions (region_of v) then None else entry_under old.map v) && not (is_held map v)) e ∙ e ∙ sym (ap (λ (k : Bool). k && not (regions (region_of v))) e)
 
--- the same of other regions, where they agree on those of the container
-pub reclaimed_same : (map : Volume) (f g : ℕ → Bool) (old new : Paged) (space left : Space) → ((r : ℕ) → r < level_width (length old.map.entries) 0 → g r ≡ f r) → HasReclaimed map f old space new left → HasReclaimed map g old space new left
-reclaimed_same map f g old new space left same has = record {
+-- the same of other regions, where the same entries go with them
+pub reclaimed_going : (map : Volume) (f g : ℕ → Bool) (old new : Paged) (space left : Space) → ((v : ℕ) → goes_with map old.map g v ≡ goes_with map old.map f v) → HasReclaimed map f old space new left → HasReclaimed map g old space new left
+reclaimed_going map f g old new space left goes has = record {
   entries = record {
     entries = λ v. has.entries.entries v ∙ sym (ap (λ (t : Bool). if t then None else entry_under old.map v) (goes v));
     long = has.entries.long;
@@ -246,6 +246,10 @@ reclaimed_same map f g old new space left same has = record {
   blocks = given_same space left (lead_to old.map (goes_with map old.map f) 0 (length old.map.entries)) (lead_to old.map (goes_with map old.map g) 0 (length old.map.entries))
       (λ b. any_same (λ v. goes_with map old.map g v && is_at b (place_at old.map v)) (λ v. goes_with map old.map f v && is_at b (place_at old.map v)) 0 (length old.map.entries) (λ v low high. ap (λ (t : Bool). t && is_at b (place_at old.map v)) (goes v))) has.blocks;
 }
+
+-- so it is where they agree on those of the container
+pub reclaimed_same : (map : Volume) (f g : ℕ → Bool) (old new : Paged) (space left : Space) → ((r : ℕ) → r < level_width (length old.map.entries) 0 → g r ≡ f r) → HasReclaimed map f old space new left → HasReclaimed map g old space new left
+reclaimed_same map f g old new space left same has = reclaimed_going map f g old new space left goes has
   where
     goes : (v : ℕ) → goes_with map old.map g v ≡ goes_with map old.map f v
     goes v = ⊎_elim

@@ -153,7 +153,3 @@ table_more table new x r count is some before add = subst (IsTable new)
 -- one without
 pub table_still : (table : Table) (x : Holding) (r count : ℕ) → count ≡ delayed_in x.map x.container r → count ≡ 0 → IsTable table (counts_front 0 x r) → IsTable table (counts_front 0 x (r + 1))
 table_still table x r count is none before = subst (IsTable table) (sym (front_none 0 x r (sym is ∙ none))) before
-
--- where the walk ends
-pub at_width : (entries n end at : ℕ) → entries ≡ n → end ≡ level_width n 0 → at ≤ end → end ≤ at → at ≡ level_width entries 0
-at_width entries n end at long is most least = (let last : at ≡ end = omega (arith, most, least) in last ∙ is ∙ ap (λ (k : ℕ). level_width k 0) (sym long))

@@ -130,7 +130,7 @@ one_more k =
     from_zero (k + 1) k (omega arith) ∙ ap (λ (m : ℕ). range_with_len 0 k ++ k ∷ range_with_len (k + 1) m) none
 
 -- a region without delayed entries leaves the threshold
-passed_none : (t : Threshold) (n : ℕ) → n ≡ 0 → t ≡ passed t n
+pub passed_none : (t : Threshold) (n : ℕ) → n ≡ 0 → t ≡ passed t n
 passed_none t n none = so (n == t.count)
   where
     left : t.left ≡ t.left - n

@@ -1,9 +1,9 @@
 -- Delayed entries: those whose block was freed in its volume and not yet in the aggregate. And the regions of a container.
-use Rattle.std.specs.Prelude.{◌≡◌, ◌<◌, true, ℕ, ◌-◌, ◌*◌, ◌/◌, Bool, not, ◌&&◌, ◌||◌, ◌==◌, List, length, take, count_by, nat_lt, if◌then◌else◌}
-use Rattle.std.specs.List.{list_any, range_with_len}
+use Rattle.std.specs.Prelude.{◌≡◌, ◌<◌, true, ℕ, ◌*◌, ◌/◌, Bool, not, ◌&&◌, ◌||◌, ◌==◌, List, length, take, count_by, nat_lt, if◌then◌else◌}
+use Rattle.std.specs.List.{range_with_len}
 use Rattle.std.specs.Option.{is_some}
-use Rattle.fv_model.specs.Space.{map_blocks}
 use Rattle.fv_image.specs.Containers.{fan}
+use Rattle.fv_image.specs.Views.{map_slot}
 use Rattle.fv_container.specs.Mapped.{Mapped, entry_under}
 use Rattle.fv_container.specs.Paged.{Paged, is_here, is_known, is_sure}
 use Rattle.fv_volmap.specs.Slots.{Volume, slot_at, stored_count, taken_in}
@@ -19,15 +19,11 @@ is_used map slot = nat_lt slot stored_count && is_used_slot map slot
 -- Whether a VVBN is held: one of the span where it is in some map. Behind the span stand the blocks of the maps, slot after slot, and their
 -- VVBNs are held exactly while the slot is in use.
 unfoldable pub is_held : Volume → ℕ → Bool
-is_held map v = if nat_lt v map.span then taken_in (take stored_count map.slots) v else is_used map ((v - map.span) / map_blocks map.span)
+is_held map v = if nat_lt v map.span then taken_in (take stored_count map.slots) v else is_used map (map_slot map.span v)
 
 -- an entry is delayed where it isn't a hole and its VVBN isn't held
 abbrev pub is_delayed : Volume → Mapped → ℕ → Bool
 is_delayed map container v = is_some (entry_under container v) && not (is_held map v)
-
--- Whether there is such an entry: its block was freed in the volume and not yet in the aggregate, so a consistency point can give it back.
-unfoldable pub has_delayed : Volume → Mapped → Bool
-has_delayed map container = list_any (is_delayed map container) (range_with_len 0 (length container.entries))
 
 -- ---- regions
 

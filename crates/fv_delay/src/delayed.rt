@@ -1,14 +1,15 @@
 //! Which entries of a container are delayed.
 
-ghost use Rattle.std.specs.Prelude.{◌≡◌, ◌<◌, ◌≤◌, ◌*◌, ◌+◌, ◌-◌, ◌/◌, true, length, min};
+ghost use Rattle.std.specs.Prelude.{◌≡◌, ◌<◌, ◌≤◌, ◌*◌, ◌+◌, ◌-◌, ◌/◌, true, false, length, min};
 ghost use Rattle.fv_image.specs.Containers.{fan, level_width, most_entries};
 ghost use Rattle.fv_image.specs.Views.{entry_count};
 ghost use Rattle.fv_model.specs.Numbers.{greatest_span};
 ghost use Rattle.fv_container.specs.Paged.{is_known, is_sure};
-ghost use Rattle.fv_delay.specs.Delay.{AreKnown, AreSure, IsKnownIn, IsSureIn, delayed_in, has_delayed, is_delayed, is_held, is_used};
+ghost use Rattle.fv_volmap.specs.Slots.{stored_count};
+ghost use Rattle.fv_delay.specs.Delay.{IsKnownIn, IsSureIn, delayed_in, is_delayed, is_held, is_used};
 
 use fv_container::Container;
-use fv_model::map_blocks;
+use fv_model::{map_blocks, map_slot};
 use fv_volmap::VolMap;
 
 /// The slots whose maps stand on the disk: the active one and 24 for snapshots.
@@ -19,13 +20,17 @@ const STORED: u32 = 25;
 /// of the map's span and for each block of 25 maps, and it is known which entries of the region are holes. From its last region on none is
 /// delayed.
 ///
-/// Costs a step for each of the at most 256 entries and each slot. It takes no memory and makes no disk call.
+/// Costs a step for each word of 64 VVBNs. Where an entry isn't a hole whose VVBN the active map hasn't, it costs one besides for each of
+/// the at most 256 entries, and up to 25 more for each that isn't a hole. It takes no memory and makes no disk call.
 pub fn delayed_by_region(container: &Container, map: &VolMap, region: u32) -> u32
     requires span { map.now.span ≤ greatest_span }
     requires entries { length container.now.map.entries ≡ entry_count map.now.span }
     requires known { IsKnownIn container.now region }
     ensures { IsSureIn container.now region → result ≡ delayed_in map.now container.now.map region }
 {
+    if !has_unmapped(container, map, region) {
+        return 0;
+    }
     let entries = entry_count(map);
     let first = first_of(region, entries);
     let end = end_of(first, entries);
@@ -36,6 +41,17 @@ pub fn delayed_by_region(container: &Container, map: &VolMap, region: u32) -> u3
     count
 }
 
+/// Whether an entry of a region isn't a hole and has a VVBN that the active map hasn't: else none is delayed. VVBNs behind the span aren't
+/// in that map.
+fn has_unmapped(container: &Container, map: &VolMap, region: u32) -> bool
+    requires span { map.now.span ≤ greatest_span }
+    requires entries { length container.now.map.entries ≡ entry_count map.now.span }
+    requires known { IsKnownIn container.now region }
+    ensures { IsSureIn container.now region → result ≡ false → delayed_in map.now container.now.map region ≡ 0 }
+{
+    region < region_count(map) && container.delayed(map.active(), region) != 0
+}
+
 /// How many regions a volume's container has, which has an entry for each VVBN of the map's span and for each block of 25 maps. From that
 /// number on no region has an entry.
 #[tactic(auto, using(crate::proofs::Parts::regions_are))]
@@ -44,24 +60,6 @@ pub fn region_count(map: &VolMap) -> u32
     ensures { result ≡ level_width (entry_count map.now.span) 0 }
 {
     entry_count(map).div_ceil(256)
-}
-
-/// Whether an entry of a volume's container is delayed: there is something to give back. The container has an entry for each VVBN of the
-/// map's span and for each block of 25 maps, and it is known of all regions which entries are holes.
-///
-/// Costs a step for a hole, and one for each slot for another entry. It takes no memory and makes no disk call.
-pub fn has_delayed(container: &Container, map: &VolMap) -> bool
-    requires span { map.now.span ≤ greatest_span }
-    requires entries { length container.now.map.entries ≡ entry_count map.now.span }
-    requires known { AreKnown container.now }
-    ensures { AreSure container.now → result ≡ has_delayed map.now container.now.map }
-{
-    for vvbn in 0..entry_count(map) {
-        if is_delayed(container, map, vvbn) {
-            return true;
-        }
-    }
-    false
 }
 
 /// Whether the entry of a VVBN is delayed, where it is known which entries of its region are holes.
@@ -83,15 +81,16 @@ pub(crate) fn is_held(map: &VolMap, vvbn: u32) -> bool
     if vvbn < span {
         map.held(vvbn)
     } else {
-        is_used(map, (vvbn - span) / map_blocks(span))
+        is_used(map, map_slot(span, vvbn))
     }
 }
 
 /// Whether a slot is in use whose map stands on the disk; that of the active table always is.
-fn is_used(map: &VolMap, slot: u32) -> bool
+fn is_used(map: &VolMap, slot: u8) -> bool
+    requires { slot < stored_count }
     ensures { result ≡ is_used map.now slot }
 {
-    slot < STORED && (slot == 0 || map.snapshot(slot as u8).is_some())
+    slot == 0 || map.snapshot(slot).is_some()
 }
 
 /// The span of a volume's maps.

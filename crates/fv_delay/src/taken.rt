@@ -21,7 +21,8 @@ use fv_volmap::VolMap;
 /// The table of a volume's regions with delayed entries. The container has an entry for each VVBN of the map's span and for each block of 25
 /// maps, and it is known of all regions which entries are holes.
 ///
-/// It takes no memory and makes no disk call. Costs a step for each entry, and up to 25 more for one that is no hole.
+/// It takes no memory and makes no disk call. Costs a step for each word of 64 regions, and what `delayed_by_region` costs for each region
+/// with an entry that is no hole.
 pub fn table_of(container: &Container, map: &VolMap) -> Table
     requires span { map.now.span ≤ greatest_span }
     requires entries { length container.now.map.entries ≡ entry_count map.now.span }
@@ -29,7 +30,8 @@ pub fn table_of(container: &Container, map: &VolMap) -> Table
     ensures { AreSure container.now → (slot : ℕ) → IsTable result (counts_in slot (held_by map.now container.now.map)) }
 {
     let mut table = Table::new();
-    for region in 0..region_count(map) {
+    let mut from = 0;
+    while let Some(region) = container.next_region(from) {
         let count = delayed_by_region(container, map, region);
         if count != 0 {
             table.add(Count {
@@ -38,6 +40,7 @@ pub fn table_of(container: &Container, map: &VolMap) -> Table
                 count,
             });
         }
+        from = region + 1;
     }
     table
 }
@@ -46,7 +49,8 @@ pub fn table_of(container: &Container, map: &VolMap) -> Table
 /// `reclaim_taken` needs in memory. A mark that is there stays. The container has an entry for each VVBN of the map's span and for each block
 /// of 25 maps, it is known of all regions which entries are holes, and the plan has a mark for each region. Marks behind them stay.
 ///
-/// It takes no memory and makes no disk call. Costs a step for each entry, and up to 25 more for one that is no hole.
+/// It takes no memory and makes no disk call. Costs a step for each word of 64 regions, and what `delayed_by_region` costs for each region
+/// with an entry that is no hole. A threshold that takes regions without delayed entries, too, costs a step for each region.
 pub fn mark_taken(start: Threshold, container: &Container, map: &VolMap, plan: &mut [bool])
     requires span { map.now.span ≤ greatest_span }
     requires entries { length container.now.map.entries ≡ entry_count map.now.span }
@@ -58,10 +62,28 @@ pub fn mark_taken(start: Threshold, container: &Container, map: &VolMap, plan: &
     ensures others { (k : ℕ) → level_width (length container.now.map.entries) 0 ≤ k → get_or plan.new k false ≡ get_or plan.old k false }
 {
     let mut threshold = start;
-    for region in 0..region_count(map) {
+    if threshold.takes(0) {
+        mark_before(plan, region_count(map));
+        return;
+    }
+    let mut from = 0;
+    while let Some(region) = container.next_region(from) {
         let count = delayed_by_region(container, map, region);
         let is_taken = threshold.takes(count);
         mark(plan, region as usize, is_taken);
+        from = region + 1;
+    }
+}
+
+/// Marks the regions before one.
+fn mark_before(plan: &mut [bool], end: u32)
+    requires { end ≤ length plan.old }
+    ensures long { length plan.new ≡ length plan.old }
+    ensures marked { (k : ℕ) → k < end → get_or plan.new k false ≡ true }
+    ensures others { (k : ℕ) → end ≤ k → get_or plan.new k false ≡ get_or plan.old k false }
+{
+    for region in 0..end {
+        plan[region as usize] = true;
     }
 }
 
@@ -82,8 +104,8 @@ fn mark(plan: &mut [bool], region: usize, is_taken: bool)
 /// of 25 maps, and it is known of all regions which entries are holes. The leaves of the regions that are taken are in memory; a region whose
 /// leaf isn't stays as it is.
 ///
-/// It takes no memory and makes no disk call. Costs a step for each entry, and up to 25 more for one that is no hole, twice in a region that is
-/// taken.
+/// It takes no memory and makes no disk call. Costs a step for each word of 64 regions, and what `delayed_by_region` costs for each region
+/// with an entry that is no hole, and what `reclaim` costs for each that is taken.
 pub fn reclaim_taken(
     start: Threshold,
     container: &mut Container,
@@ -104,13 +126,15 @@ pub fn reclaim_taken(
 {
     let mut threshold = start;
     let mut is_left = false;
-    for region in 0..region_count(map) {
+    let mut from = 0;
+    while let Some(region) = container.next_region(from) {
         let count = delayed_by_region(container, map, region);
         if takes_here(&mut threshold, container, region, count) {
             reclaim(container, map, region, pool_map);
         } else if count != 0 {
             is_left = true;
         }
+        from = region + 1;
     }
     is_left
 }

@@ -12,7 +12,7 @@ use Rattle.fv_codec.specs.declared.container.ContainerLeaf.{ContainerLeaf}
 use Rattle.fv_codec.specs.declared.container.ContainerInner.{ContainerInner}
 use Rattle.fv_codec.specs.Bytes.{word_at}
 use Rattle.fv_codec.specs.Fields.{Verdict, verdict_of, verdicts, reading, items, in_range, ◌then◌}
-use Rattle.fv_codec.specs.Blocks.{leaf_at, inner_at, leaf_fields, inner_fields, place_of, kind_of}
+use Rattle.fv_codec.specs.Blocks.{leaf_at, leaf_in, inner_at, greatest_kind, leaf_fields, inner_fields, place_of, kind_of}
 use Rattle.fv_image.proofs.WellNodes.{length_items}
 use Rattle.fv_model.specs.Machines.{first_block}
 use Rattle.fv_image.specs.Containers.{fan, level_width, shaped, child_in, entry_in, judged, leaf_for, inner_for, node_verdict, has_none_past}
@@ -48,8 +48,8 @@ module _ {X A : Type 0} (f : ℕ × X → List A) (d : X) where
 -- ---- lengths
 
 leaf_long : (block : List ℕ) (n : ContainerLeaf) → leaf_at block ≡ Ok n → (length n.pvbns ≡ 256) × (length n.kinds ≡ 256)
-unfolding leaf_at
-leaf_long block n e = so (verdicts leaf_fields block) e
+unfolding leaf_in
+leaf_long block n e = so (verdicts (leaf_fields greatest_kind) block) e
   where
     so : (v : Verdict) → reading v (record { index = word_at 8 block; pvbns = items 256 12 place_of (drop 1024 block); kinds = items 256 12 kind_of (drop 1024 block) }) ≡ Ok n → (length n.pvbns ≡ 256) × (length n.kinds ≡ 256)
     so (Ok fine) e =

@@ -8,7 +8,7 @@ use Rattle.fv_disk.specs.Shown.{Image}
 use Rattle.fv_codec.specs.declared.shape.Shape.{Shape}
 use Rattle.fv_codec.specs.declared.container.ContainerLeaf.{ContainerLeaf}
 use Rattle.fv_codec.specs.Fields.{Verdict, reading, verdicts}
-use Rattle.fv_codec.specs.Blocks.{leaf_at, leaf_fields, place_of, kind_of}
+use Rattle.fv_codec.specs.Blocks.{leaf_at, leaf_in, greatest_kind, leaf_fields, place_of, kind_of}
 use Rattle.fv_codec.proofs.Decoded.{leaf_in_range}
 use Rattle.fv_image.specs.Containers.{fan, shaped, lying, entry_in, node_below, container_entry}
 use Rattle.fv_image.specs.Held.{placed}
@@ -35,12 +35,12 @@ read_as f (Ok fine) x y e = let same : x ≡ y = cc in ap f same
 read_as f (Err fault) x y e = absurd cc
 
 pvbns_long : (block : List ℕ) (l : ContainerLeaf) → leaf_at block ≡ Ok l → length l.pvbns ≡ 256
-unfolding leaf_at
-pvbns_long block l e = sym (read_as (λ (l : ContainerLeaf). length l.pvbns) (verdicts leaf_fields block) _ l e) ∙ length_items 256 12 place_of (drop 1024 block)
+unfolding leaf_in
+pvbns_long block l e = sym (read_as (λ (l : ContainerLeaf). length l.pvbns) (verdicts (leaf_fields greatest_kind) block) _ l e) ∙ length_items 256 12 place_of (drop 1024 block)
 
 kinds_long : (block : List ℕ) (l : ContainerLeaf) → leaf_at block ≡ Ok l → length l.kinds ≡ 256
-unfolding leaf_at
-kinds_long block l e = sym (read_as (λ (l : ContainerLeaf). length l.kinds) (verdicts leaf_fields block) _ l e) ∙ length_items 256 12 kind_of (drop 1024 block)
+unfolding leaf_in
+kinds_long block l e = sym (read_as (λ (l : ContainerLeaf). length l.kinds) (verdicts (leaf_fields greatest_kind) block) _ l e) ∙ length_items 256 12 kind_of (drop 1024 block)
 
 module _ (i : Image) (long : (b : ℕ) → length (i b) ≡ 4096) where
   in_leaf : (p c : ℕ) → c < 256 → (entry_in (lying leaf_at i p) c).0 < 16777216
@@ -50,7 +50,7 @@ module _ (i : Image) (long : (b : ℕ) → length (i b) ≡ 4096) where
       so : (r : Result ContainerLeaf Shape) → leaf_at (i (suc p)) ≡ r → (entry_in (shaped r) c).0 < 16777216
       so (Err fault) is = omega arith
       so (Ok l) is =
-          let range = leaf_in_range (i (suc p)) (Ok l) (long (suc p)) (sym is) in
+          let range = leaf_in_range greatest_kind (i (suc p)) (Ok l) (long (suc p)) (sym is) in
           let most = (few (get_or l.pvbns c 0) (get_or l.kinds c 0) (entry_of l c range (pvbns_long (i (suc p)) l is) (kinds_long (i (suc p)) l is) low)).0 in
           omega (arith, most)
 

@@ -1,25 +1,17 @@
 -- How many entries are a volume's own and how many are delayed.
-use Rattle.std.proofs.Common.{◌≡◌, ◌≢◌, ℕ, ◌-◌, ◌*◌, ◌/◌, ◌<◌, ◌≤◌, Bool, true, false, List, [], ◌∷◌, map, refl, sym, ap, ◌∙◌, arith}
+use Rattle.std.proofs.Common.{◌≡◌, ◌≢◌, ℕ, ◌<◌, ◌≤◌, Bool, true, false, List, [], ◌∷◌, map, refl, sym, ap, ◌∙◌, arith}
 use Rattle.std.specs.Prelude.{Option, Some, None, not, ◌&&◌, ◌||◌, count_by, find, nat_lt, ◌==◌, if◌then◌else◌}
 use Rattle.std.specs.List.{list_any, range_with_len}
 use Rattle.std.specs.Option.{is_some, option_map}
 use Rattle.std.proofs.lemmas.Bool.Decides.{nat_tests}
-use Rattle.std.proofs.lemmas.Nat.{div_below}
 use Rattle.fv_bits.specs.Members.{is_member}
-use Rattle.fv_model.specs.Space.{map_blocks}
-use Rattle.fv_image.specs.Views.{Head, Snap, View, entry_count, is_active_map, is_delayed, is_held_in, is_own, used_slots, volume_bit, vvbns}
+use Rattle.fv_image.specs.Views.{Head, Snap, View, entry_count, is_active_map, is_delayed, is_held_in, is_own, map_slot, used_slots, volume_bit, vvbns}
 use Rattle.fv_image.specs.Volumes.{snap_at}
 use Rattle.fv_walk.specs.declared.visit.Table.{Table}
 use Rattle.fv_walk.specs.Visits.{rooted}
 use Rattle.fv_fourth_pass.specs.Filled.{HasFilled, is_delayed_by, is_kept, is_own_by, is_used_slot}
 use Rattle.fv_fourth_pass.proofs.Once.{any_mapped}
 use Rattle.fv_fourth_pass.proofs.Totals.{same_counts}
-
-pub slot_low : (span v : ℕ) → span ≤ v → v < entry_count span → (v - span) / map_blocks span ≤ 24
-slot_low span v past within =
-    let some : 0 < map_blocks span = omega (arith, within, past) in
-    let below : (v - span) / map_blocks span < 25 = div_below (v - span) (map_blocks span) 25 some (let low : v - span < 25 * map_blocks span = omega (arith, within, past) in low) in
-    omega (arith, below)
 
 -- ---- map slots
 
@@ -55,12 +47,12 @@ module _ (h : Head) (held : List Bool) (v : ℕ) where
   pub kept_low : v < h.span → is_kept h held v ≡ is_member held v
   kept_low low =
       let test : nat_lt v h.span ≡ true = grind (arith, nat_tests, low) in
-      ap (λ (b : Bool). if b then is_member held v else is_used_slot h ((v - h.span) / map_blocks h.span)) test
+      ap (λ (b : Bool). if b then is_member held v else is_used_slot h (map_slot h.span v)) test
 
-  pub kept_high : h.span ≤ v → is_kept h held v ≡ is_used_slot h ((v - h.span) / map_blocks h.span)
+  pub kept_high : h.span ≤ v → is_kept h held v ≡ is_used_slot h (map_slot h.span v)
   kept_high high =
       let test : nat_lt v h.span ≡ false = grind (arith, nat_tests, high) in
-      ap (λ (b : Bool). if b then is_member held v else is_used_slot h ((v - h.span) / map_blocks h.span)) test
+      ap (λ (b : Bool). if b then is_member held v else is_used_slot h (map_slot h.span v)) test
 
 -- ---- counts
 
@@ -74,8 +66,8 @@ module _ (w : View) (s : ℕ) (h : Head) (held : List Bool) (row : List ℕ) (ha
           let low : v < h.span = grind (arith, nat_tests, test) in
           kept_low h held v low ∙ has.reached v low
       so false test =
-          ap (λ (b : Bool). if b then is_member held v else is_used_slot h ((v - h.span) / map_blocks h.span)) test
-          ∙ sym (ap (λ (b : Bool). if b then list_any (λ slot. volume_bit w s h.span slot v) (used_slots h) else is_used_slot h ((v - h.span) / map_blocks h.span)) test)
+          ap (λ (b : Bool). if b then is_member held v else is_used_slot h (map_slot h.span v)) test
+          ∙ sym (ap (λ (b : Bool). if b then list_any (λ slot. volume_bit w s h.span slot v) (used_slots h) else is_used_slot h (map_slot h.span v)) test)
 
   pub own_count : count_by (is_own_by h held row) (range_with_len 0 (entry_count h.span)) ≡ count_by (is_own w s h) (vvbns h.span)
   unfolding vvbns

@@ -11,8 +11,7 @@ use Rattle.fv_codec.specs.declared.label.Label.{Label}
 use Rattle.fv_laws.proofs.Lists.{In}
 use Rattle.fv_tables.specs.Reached.{Item, items, is_listed}
 use Rattle.fv_image.specs.NewerRoot.{Taken}
-use Rattle.fv_model.specs.Space.{map_blocks}
-use Rattle.fv_image.specs.Views.{Footing, Head, Placed, Rooted, Snap, View, head_of, is_held_in, used_slots, volume_bit}
+use Rattle.fv_image.specs.Views.{Footing, Head, Placed, Rooted, Snap, View, head_of, is_held_in, map_slot, used_slots, volume_bit}
 use Rattle.fv_image.specs.Held.{layout_at}
 use Rattle.fv_image.specs.Seen.{roots_of}
 use Rattle.fv_image.specs.Volumes.{standing_of}
@@ -221,7 +220,7 @@ module _ (t : Taken) (i : Image) (long : (b : ℕ) → length (i b) ≡ 4096) (s
     unfolding is_held_in
     held_listed v below =
         let test : nat_lt v h.span ≡ true = grind (arith, nat_tests, below) in
-        ap (λ (b : Bool). if b then list_any (λ slot. volume_bit w s h.span slot v) (used_slots h) else list_any (λ slot. slot == (v - h.span) / map_blocks h.span) (used_slots h)) test
+        ap (λ (b : Bool). if b then list_any (λ slot. volume_bit w s h.span slot v) (used_slots h) else list_any (λ slot. slot == map_slot h.span v) (used_slots h)) test
         ∙ held_is_listed w s h mapped v (omega (arith, below))
 
   -- ---- the sets

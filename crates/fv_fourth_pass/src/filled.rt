@@ -10,11 +10,11 @@ use crate::bases::has_entry_at;
 use crate::space::Filled;
 use fv_bits::BitMap;
 use fv_codec::Label;
-use fv_model::map_blocks;
+use fv_model::{map_blocks, map_slot};
 use fv_third_pass::{entry_count, snap_table};
 
 /// Whether a map slot of a volume is in use.
-fn is_used_slot(label: &Label, slot: usize) -> bool
+fn is_used_slot(label: &Label, slot: u8) -> bool
     requires label { IsLabel label.now }
     requires long { length label.now.snapshots ≡ 24 }
     requires low { slot ≤ 24 }
@@ -23,11 +23,10 @@ fn is_used_slot(label: &Label, slot: usize) -> bool
     if slot == 0 {
         return true;
     }
-    snap_table(label, slot as u8).is_some()
+    snap_table(label, slot).is_some()
 }
 
 /// Whether an entry of a volume is held: its VVBN is reached, or it is that of a map block whose slot is in use.
-#[tactic(auto, using(crate::proofs::Filling::slot_low))]
 fn is_kept(label: &Label, held: &BitMap, vvbn: usize) -> bool
     requires label { IsLabel label.now }
     requires long { length label.now.snapshots ≡ 24 }
@@ -39,7 +38,7 @@ fn is_kept(label: &Label, held: &BitMap, vvbn: usize) -> bool
     if vvbn < span {
         return held.get(vvbn as u32);
     }
-    is_used_slot(label, (vvbn - span) / map_blocks(label.span) as usize)
+    is_used_slot(label, map_slot(label.span, vvbn as u32))
 }
 
 /// Whether an entry is that of a block of the active map.

@@ -54,3 +54,4 @@ pub mod SnapLists
 pub mod LabelSlots
 pub mod SettledItems
 pub mod Moved
+pub mod Behind

@@ -8,7 +8,7 @@ use Rattle.fv_codec.specs.declared.container.ContainerLeaf.{ContainerLeaf}
 use Rattle.fv_codec.specs.declared.container.ContainerInner.{ContainerInner}
 use Rattle.fv_codec.specs.Bytes.{word_at}
 use Rattle.fv_codec.specs.Fields.{Verdict, verdict_of, verdicts, reading, in_range, ◌then◌}
-use Rattle.fv_codec.specs.Blocks.{leaf_at, inner_at, leaf_fields, inner_fields}
+use Rattle.fv_codec.specs.Blocks.{leaf_at, leaf_in, inner_at, greatest_kind, leaf_fields, inner_fields}
 use Rattle.fv_image.specs.Containers.{level_width, node_of, node_shape, judged, leaf_for, inner_for, node_verdict, IsShapedTree, IsWholeTree}
 
 -- ---- verdicts
@@ -45,8 +45,8 @@ well_judged {X} (Ok x) asks e = so (asks x) refl e
 -- ---- marks
 
 leaf_mark : (block : List ℕ) (l : ContainerLeaf) → leaf_at block ≡ Ok l → word_at 0 block ≡ 0x4656434c45414630
-unfolding leaf_at
-leaf_mark block l e = in_one 0x4656434c45414630 (word_at 0 block) (both_fine _ _ (was_fine (verdicts leaf_fields block) _ l e)).0
+unfolding leaf_in
+leaf_mark block l e = in_one 0x4656434c45414630 (word_at 0 block) (both_fine _ _ (was_fine (verdicts (leaf_fields greatest_kind) block) _ l e)).0
 
 inner_mark : (block : List ℕ) (n : ContainerInner) → inner_at block ≡ Ok n → word_at 0 block ≡ 0x465643494e4e4552
 unfolding inner_at

@@ -1,6 +1,6 @@
 -- A volume has at most as many entries of its own as it uses: below the span each is reached and has an id that the volume is charged for,
 -- and past it lie the blocks of snapshots' maps.
-use Rattle.std.proofs.Common.{◌≡◌, ℕ, ◌+◌, ◌-◌, ◌*◌, ◌/◌, ◌<◌, ◌≤◌, Bool, true, false, cond, not, List, [], ◌∷◌, ◌++◌, length, refl, sym, ap, ap₂, subst, ◌∙◌, arith, ⊎_elim}
+use Rattle.std.proofs.Common.{◌≡◌, ℕ, ◌+◌, ◌*◌, ◌<◌, ◌≤◌, Bool, true, false, cond, not, List, [], ◌∷◌, ◌++◌, length, refl, sym, ap, ap₂, subst, ◌∙◌, arith, ⊎_elim}
 use Rattle.std.specs.Prelude.{Option, Some, None, ◌&&◌, ◌||◌, ◌==◌, map, flat_map, nat_lt, nat_le, count_by, if◌then◌else◌}
 use Rattle.std.specs.List.{list_all, list_any}
 use Rattle.std.specs.Option.{is_some, option_map_or}
@@ -8,11 +8,10 @@ use Rattle.std.specs.Ordering.{eq_by_cmp}
 use Rattle.std.specs.FinMap as fin
 use Rattle.std.specs.FinMap.{find}
 use Rattle.std.specs.FinSet as set
-use Rattle.std.proofs.lemmas.Bool.{and_parts, and_from, both_ways, cases_lt, or_left, or_right, or_cases, not-true}
+use Rattle.std.proofs.lemmas.Bool.{and_parts, and_from, both_ways, or_left, or_right, or_cases, not-true}
 use Rattle.std.proofs.lemmas.Bool.Decides.{nat_tests}
 use Rattle.std.proofs.lemmas.List.Folds.{list_all-append, list_any-append}
 use Rattle.std.proofs.lemmas.List.{length-map}
-use Rattle.std.proofs.lemmas.Nat.{le-div}
 use Rattle.fv_bits.proofs.Counts.{passing, passing-add, passing_same}
 use Rattle.fv_model.specs.Spelling.{name_cmp, is_same_name}
 use Rattle.fv_model.specs.Tables.{Table}
@@ -27,7 +26,7 @@ use Rattle.fv_tables.specs.Ids.{id_of}
 use Rattle.fv_tables.proofs.Lists.{tied, all_in_range}
 use Rattle.fv_tables.proofs.Listed.{picked, picked_all, picked_is}
 use Rattle.fv_image.specs.Layout.{block_bits}
-use Rattle.fv_image.specs.Views.{Rooted, Snap, Head, View, vvbns, volume_bit, used_slots, is_held_in, is_active_map, is_own}
+use Rattle.fv_image.specs.Views.{Rooted, Snap, Head, View, vvbns, volume_bit, used_slots, is_held_in, is_active_map, is_own, map_slot}
 use Rattle.fv_image.specs.BlockRules.{agree}
 use Rattle.fv_image.specs.Volumes.{standing_of, table_at, snap_told, volume_with, volume_told}
 use Rattle.fv_image.specs.Seen.{Reached, Root, Based, reached_at, root_seen, roots_of, volume_seen, seen}
@@ -37,6 +36,7 @@ use Rattle.fv_image.specs.VolumeRules.{has_distinct_snapshots}
 use Rattle.fv_image.specs.Soundness.{AreTables, AreMaps}
 use Rattle.fv_image.specs.Staying.{items_of, own_items}
 use Rattle.fv_image.proofs.SnapTables as tables
+use Rattle.fv_image.proofs.Behind.{in_first}
 use Rattle.fv_image.proofs.SoundFacts.{of_slot}
 use Rattle.fv_image.proofs.SameSeen.{of_volume}
 use Rattle.fv_image.proofs.Counts.{within_two, none_between}
@@ -182,7 +182,7 @@ module _ (w : View) (s : ℕ) (h : Head) (small : s < 64) (there : w.head s ≡ 
   own_listed v below own =
       let parts = and_parts (is_held_in w s h v) (not (is_active_map h v)) (and_parts (is_some (w.entry s v)) _ own).1 in
       let test : nat_lt v h.span ≡ true = grind (arith, nat_tests, below) in
-      let bit : list_any (λ slot. volume_bit w s h.span slot v) (used_slots h) ≡ true = subst (λ (b : Bool). (if b then list_any (λ slot. volume_bit w s h.span slot v) (used_slots h) else list_any (λ slot. slot == (v - h.span) / map_blocks h.span) (used_slots h)) ≡ true) test parts.0 in
+      let bit : list_any (λ slot. volume_bit w s h.span slot v) (used_slots h) ≡ true = subst (λ (b : Bool). (if b then list_any (λ slot. volume_bit w s h.span slot v) (used_slots h) else list_any (λ slot. slot == map_slot h.span v) (used_slots h)) ≡ true) test parts.0 in
       let within : v < block_bits * map_blocks h.span = omega (arith, below) in
       bit_is_listed w s h v within (roots_of h) reach (subst (λ (xs : List ℕ). list_any (λ slot. volume_bit w s h.span slot v) xs ≡ true) slots_are bit)
 
@@ -241,41 +241,35 @@ module _ (w : View) (s : ℕ) (h : Head) (small : s < 64) (there : w.head s ≡ 
   some_blocks : 0 < map_blocks h.span
   some_blocks = let span = numbers.span in omega (arith, span)
 
-  high_slot : (v : ℕ) → high v ≡ true → list_any (λ slot. slot == (v - h.span) / map_blocks h.span) snap_slots ≡ true
+  high_slot : (v : ℕ) → high v ≡ true → list_any (λ slot. slot == map_slot h.span v) snap_slots ≡ true
   unfolding is_held_in
   high_slot v is =
       let parts = and_parts (nat_le h.span v) (is_own w s h v) is in
       let past : h.span ≤ v = grind (arith, nat_tests, parts.0) in
       let own = and_parts (is_held_in w s h v) (not (is_active_map h v)) (and_parts (is_some (w.entry s v)) _ parts.1).1 in
       let test : nat_lt v h.span ≡ false = grind (arith, nat_tests, past) in
-      let held : list_any (λ slot. slot == (v - h.span) / map_blocks h.span) (used_slots h) ≡ true = subst (λ (b : Bool). (if b then list_any (λ slot. volume_bit w s h.span slot v) (used_slots h) else list_any (λ slot. slot == (v - h.span) / map_blocks h.span) (used_slots h)) ≡ true) test own.0 in ⊎_elim
-      (λ (active : (0 == (v - h.span) / map_blocks h.span) ≡ true).
-      let zero_slot : (v - h.span) / map_blocks h.span ≡ 0 = grind (arith, nat_tests, active) in
-      let near : v < h.span + map_blocks h.span = in_first v past zero_slot in
+      let held : list_any (λ slot. slot == map_slot h.span v) (used_slots h) ≡ true = subst (λ (b : Bool). (if b then list_any (λ slot. volume_bit w s h.span slot v) (used_slots h) else list_any (λ slot. slot == map_slot h.span v) (used_slots h)) ≡ true) test own.0 in ⊎_elim
+      (λ (active : (0 == map_slot h.span v) ≡ true).
+      let zero_slot : map_slot h.span v ≡ 0 = grind (arith, nat_tests, active) in
+      let near : v < h.span + map_blocks h.span = in_first h.span v some_blocks zero_slot in
       let le : nat_le h.span v ≡ true = parts.0 in
       let lt : nat_lt v (h.span + map_blocks h.span) ≡ true = grind (arith, nat_tests, near) in
       absurd (both_ways (is_active_map h v) (not-true (is_active_map h v) own.1) (and_from (nat_le h.span v) _ le lt)))
       (λ later. later)
-      (or_cases (0 == (v - h.span) / map_blocks h.span) (list_any (λ slot. slot == (v - h.span) / map_blocks h.span) snap_slots) held)
-    where
-      in_first : (v : ℕ) → h.span ≤ v → (v - h.span) / map_blocks h.span ≡ 0 → v < h.span + map_blocks h.span
-      in_first v past none = ⊎_elim
-          (λ (near : v < h.span + map_blocks h.span). near)
-          (λ (far : h.span + map_blocks h.span ≤ v). let some : 1 ≤ (v - h.span) / map_blocks h.span = le-div 1 (v - h.span) (map_blocks h.span) some_blocks (omega (arith, far)) in absurd (omega (arith, some, none)))
-          (cases_lt v (h.span + map_blocks h.span))
+      (or_cases (0 == map_slot h.span v) (list_any (λ slot. slot == map_slot h.span v) snap_slots) held)
 
   high_within : passing (is_own w s h) h.span (25 * map_blocks h.span) ≤ map_blocks h.span * length h.snapshots
   high_within =
       let n = 25 * map_blocks h.span in
       let same : passing (is_own w s h) h.span (25 * map_blocks h.span) ≡ passing high h.span (25 * map_blocks h.span) = passing_same (is_own w s h) high h.span h.span (25 * map_blocks h.span) (λ j lt. let test : nat_le h.span (h.span + j) ≡ true = grind (arith, nat_tests) in ap (λ (b : Bool). b && is_own w s h (h.span + j)) (sym test)) in
-      let less = within_two high (λ v. list_any (λ slot. slot == (v - h.span) / map_blocks h.span) snap_slots) (λ v. false) h.span (25 * map_blocks h.span) (λ k. so k (high k) refl) in
+      let less = within_two high (λ v. list_any (λ slot. slot == map_slot h.span v) snap_slots) (λ v. false) h.span (25 * map_blocks h.span) (λ k. so k (high k) refl) in
       let none : passing (λ v. false) h.span (25 * map_blocks h.span) ≡ 0 = none_between (λ v. false) h.span (25 * map_blocks h.span) (λ k low high. refl) in
       let few = in_slots h.span (map_blocks h.span) snap_slots (25 * map_blocks h.span) some_blocks in
       let long : map_blocks h.span * length snap_slots ≡ map_blocks h.span * length h.snapshots = ap (λ (k : ℕ). map_blocks h.span * k) (length-map h.snapshots (λ (p : Snap). p.slot)) in
       omega (arith, same, less, none, few, long)
     where
-      so : (k : ℕ) (b : Bool) → high k ≡ b → cond {A = ℕ} b 1 0 ≤ cond (list_any (λ slot. slot == (k - h.span) / map_blocks h.span) snap_slots) 1 0 + 0
-      so k true e = let there : cond {A = ℕ} (list_any (λ slot. slot == (k - h.span) / map_blocks h.span) snap_slots) 1 0 ≡ 1 = ap {B = ℕ} (λ t. cond t 1 0) (high_slot k e) in omega (arith, there)
+      so : (k : ℕ) (b : Bool) → high k ≡ b → cond {A = ℕ} b 1 0 ≤ cond (list_any (λ slot. slot == map_slot h.span k) snap_slots) 1 0 + 0
+      so k true e = let there : cond {A = ℕ} (list_any (λ slot. slot == map_slot h.span k) snap_slots) 1 0 ≡ 1 = ap {B = ℕ} (λ t. cond t 1 0) (high_slot k e) in omega (arith, there)
       so k false e = omega arith
 
   snaps_told : ℕ

@@ -1,6 +1,6 @@
 -- What an aggregate holds, as functions of numbers alone: the head of the volume in each slot, and what each VVBN
 -- of it leads to, with the block itself. Images with equal views are told apart by nothing that is said of views.
-use Rattle.std.specs.Prelude.{ℕ, ◌+◌, ◌-◌, ◌*◌, ◌/◌, max, Bool, not, ◌&&◌, List, [], ◌∷◌, map, take, sum_by, count_by, Option, Some, None, nat_lt, nat_le, ◌==◌, if◌then◌else◌}
+use Rattle.std.specs.Prelude.{ℕ, ◌+◌, ◌-◌, ◌*◌, max, Bool, not, ◌&&◌, List, [], ◌∷◌, map, take, sum_by, count_by, Option, Some, None, nat_lt, nat_le, ◌==◌, if◌then◌else◌}
 use Rattle.std.specs.List.{list_any, range_with_len}
 use Rattle.std.specs.Option.{is_some, option_map_or}
 use Rattle.fv_bits.specs.Bits.{bit_of_area}
@@ -11,6 +11,7 @@ use Rattle.fv_model.specs.declared.commands.Kind.{Kind}
 use Rattle.fv_model.specs.declared.commands.Kind.TheVariants.{Volume as Whole, File as ByFile, Thin}
 use Rattle.fv_model.specs.Machines.{first_block}
 use Rattle.fv_model.specs.Space.{map_blocks, entries_by, overhead}
+pub use Rattle.fv_model.specs.Space.{map_slot, map_index}
 use Rattle.fv_image.specs.Layout.{block_bits}
 
 -- an entry of a container that isn't a hole: its place and its kind, with the block at that place
@@ -106,15 +107,29 @@ entry_count span = entries_by 1 span
 unfoldable pub vvbns : ℕ → List ℕ
 vvbns span = range_with_len 0 (entry_count span)
 
--- the VVBN of block k of the map of a slot; slot 0 has the active map, slots 1 to 24 have those of snapshots
+-- The VVBN of block k of the map of a slot; slot 0 has the active map, slots 1 to 24 have those of snapshots. The other side, slot and block by
+-- the VVBN, are `map_slot` and `map_index`.
 abbrev pub map_vvbn : ℕ → ℕ → ℕ → ℕ
 map_vvbn span slot k = span + (slot * map_blocks span + k)
-
--- ---- the maps of a volume
 
 -- the kind of an entry that leads to a block of a map
 abbrev pub map_kind : ℕ
 map_kind = 8
+
+-- what a VVBN behind the span belongs to: a slot of the volume's maps, and there a block of this kind, the one with this index
+pub record Behind : Type 0 where
+  pub slot : ℕ
+  pub kind : ℕ
+  pub index : ℕ
+
+-- What lies behind the span, by VVBN: the blocks of 25 maps, slot after slot. So with a span of 40,960, of which a map has 2 blocks, 40,965 is
+-- block 1 of the map of slot 2. A VVBN of the span isn't behind it, and past the last map lies nothing.
+abbrev pub behind : ℕ → ℕ → Option Behind
+behind span v = if nat_le span v && nat_lt v (entry_count span)
+    then Some (record { slot = map_slot span v; kind = map_kind; index = map_index span v })
+    else None
+
+-- ---- the maps of a volume
 
 -- the kind of an entry, 0 for a hole
 abbrev pub kind_at : Option Placed → ℕ
@@ -138,7 +153,7 @@ used_slots h = 0 ∷ map (λ p. p.slot) h.snapshots
 unfoldable pub is_held_in : View → ℕ → Head → ℕ → Bool
 is_held_in w s h v = if nat_lt v h.span
     then list_any (λ slot. volume_bit w s h.span slot v) (used_slots h)
-    else list_any (λ slot. slot == (v - h.span) / map_blocks h.span) (used_slots h)
+    else list_any (λ slot. slot == map_slot h.span v) (used_slots h)
 
 -- the VVBNs of the active map's blocks
 abbrev pub is_active_map : Head → ℕ → Bool

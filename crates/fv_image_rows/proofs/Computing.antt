@@ -3,7 +3,7 @@
 use Rattle.fv_bits.specs.Bits.{bit_of_area, bit_of_bytes, bit_of_number}
 use Rattle.fv_codec.specs.Bytes.{word_at, half_at, byte_at, word, half, zeros}
 use Rattle.fv_codec.specs.Fields.{all_zero, each, items, none_filled, all_name, name_filled}
-use Rattle.fv_codec.specs.Blocks.{super_at, gate_open, open_gate, root_at, label_at, asks_snap, snap_of, asks_pointer, pointer_of, leaf_at, asks_entry, inner_at, inodes_at, asks_file, file_of, node_at}
+use Rattle.fv_codec.specs.Blocks.{super_at, gate_open, open_gate, root_at, label_at, asks_snap, snap_of, asks_pointer, pointer_of, leaf_in, asks_entry, inner_at, inodes_at, asks_file, file_of, node_at}
 use Rattle.fv_model.specs.Trees.{least_levels}
 use Rattle.fv_model.specs.Space.{overhead, nodes_above}
 use Rattle.fv_tables.specs.Spelled.{pointers_at, pointer_below, pointer_at, block_at}
@@ -26,7 +26,7 @@ use Rattle.fv_image.specs.Soundness.{are_blocks, are_maps, is_sound}
 
 -- what blocks spell
 unfoldable pub blocks_compute : Unit {0}
-unfolding word_at half_at byte_at word half zeros all_zero each items none_filled all_name name_filled super_at gate_open open_gate root_at label_at asks_snap snap_of asks_pointer pointer_of leaf_at asks_entry inner_at inodes_at asks_file file_of node_at
+unfolding word_at half_at byte_at word half zeros all_zero each items none_filled all_name name_filled super_at gate_open open_gate root_at label_at asks_snap snap_of asks_pointer pointer_of leaf_in asks_entry inner_at inodes_at asks_file file_of node_at
 blocks_compute = tt
 
 -- which root counts

@@ -5,7 +5,7 @@ use Rattle.fv_disk.specs.Shown.{Image}
 use Rattle.fv_bits.specs.Bits.{bit_of_area, bit_of_bytes, bit_of_number}
 use Rattle.fv_codec.specs.Bytes.{word_at, half_at, word, half, zeros}
 use Rattle.fv_codec.specs.Fields.{all_zero, each, items, all_name, name_filled}
-use Rattle.fv_codec.specs.Blocks.{label_at, asks_snap, snap_of, asks_pointer, pointer_of, leaf_at, asks_entry, inner_at}
+use Rattle.fv_codec.specs.Blocks.{label_at, asks_snap, snap_of, asks_pointer, pointer_of, leaf_in, asks_entry, inner_at}
 use Rattle.fv_model.specs.Space.{overhead, nodes_above}
 use Rattle.fv_image.specs.NewerRoot.{Taken}
 use Rattle.fv_image.specs.Containers.{node_below, leaf_for, inner_for}
@@ -39,7 +39,7 @@ leaf_as_label = refl
 
 -- leaf 15 where leaf 16 should be
 other_leaf : is_in_position (layout_at root_one (with_blocks (word 0x4656434c45414630 ++ (word 15 ++ zeros 4080)) (label_of name_a 0 100 200 9))) ≡ false
-unfolding is_in_position slots layout_at label_place label_in label_at at_positions node_from node_below leaf_for inner_for leaf_at inner_at asks_entry word_at half_at word half zeros all_zero each items all_name name_filled asks_snap snap_of asks_pointer pointer_of
+unfolding is_in_position slots layout_at label_place label_in label_at at_positions node_from node_below leaf_for inner_for leaf_in inner_at asks_entry word_at half_at word half zeros all_zero each items all_name name_filled asks_snap snap_of asks_pointer pointer_of
 other_leaf = refl
 
 -- ---- places and spans

@@ -8,7 +8,7 @@ use Rattle.fv_disk.specs.Shown.{Image}
 use Rattle.fv_bits.specs.Bits.{bit_of_area, bit_of_bytes, bit_of_number}
 use Rattle.fv_codec.specs.Bytes.{word_at, half_at, word, half, zeros}
 use Rattle.fv_codec.specs.Fields.{all_zero, each, items, all_name, name_filled}
-use Rattle.fv_codec.specs.Blocks.{super_at, gate_open, root_at, open_gate, label_at, asks_snap, snap_of, asks_pointer, pointer_of, leaf_at, asks_entry, inner_at}
+use Rattle.fv_codec.specs.Blocks.{super_at, gate_open, root_at, open_gate, label_at, asks_snap, snap_of, asks_pointer, pointer_of, leaf_in, asks_entry, inner_at}
 use Rattle.fv_codec.specs.declared.label.Label.{Label}
 use Rattle.fv_model.specs.declared.commands.Kind.TheVariants.{Volume as Whole, File as ByFile, Thin}
 use Rattle.fv_image.specs.NewerRoot.{Taken, root_of}
@@ -104,7 +104,7 @@ module _ (a b c d e f g : List ℕ) where
   given_one (suc s) = None
 
   slot_one : (slot generation s : ℕ) → HasSlot (root_of_slot 1024 slot generation 10 0 0) one_like s (given_one s)
-  unfolding label_place label_in label_at leaf_at inner_at asks_entry word_at half_at word half zeros all_zero each items all_name name_filled asks_snap snap_of asks_pointer pointer_of
+  unfolding label_place label_in label_at leaf_in inner_at asks_entry word_at half_at word half zeros all_zero each items all_name name_filled asks_snap snap_of asks_pointer pointer_of
   slot_one slot generation zero = record {
     place = refl;
     says = refl;
@@ -141,7 +141,7 @@ module _ (a b c d e f g : List ℕ) where
   spans_one (suc s) = tt
 
   sound_one : (slot generation : ℕ) → IsEmptySound (layout_one slot generation)
-  unfolding has_shapes is_in_range has_entries_within has_distinct_names is_in_position is_held_once has_true_map has_true_kinds has_true_levels has_true_labels is_in_capacity has_room committed overheads overhead nodes_above empty_volume_of slots vvbns head_of snaps_from at_positions label_in label_at leaf_at inner_at leaf_for inner_for asks_entry word_at half_at word half zeros all_zero each items all_name name_filled asks_snap snap_of asks_pointer pointer_of
+  unfolding has_shapes is_in_range has_entries_within has_distinct_names is_in_position is_held_once has_true_map has_true_kinds has_true_levels has_true_labels is_in_capacity has_room committed overheads overhead nodes_above empty_volume_of slots vvbns head_of snaps_from at_positions label_in label_at leaf_in inner_at leaf_for inner_for asks_entry word_at half_at word half zeros all_zero each items all_name name_filled asks_snap snap_of asks_pointer pointer_of
   sound_one slot generation = record {
     shapes = refl;
     ranges = rw (holds_one slot generation) refl;
@@ -257,7 +257,7 @@ abbrev leaf_said : ℕ → ContainerLeaf
 leaf_said place = record { index = 16; pvbns = place ∷ replicate 255 0; kinds = 8 ∷ replicate 255 0 }
 
 slot_three : (s : ℕ) → HasSlot root_three three_volumes s (given_three s)
-unfolding label_place label_in label_at leaf_at inner_at asks_entry word_at half_at word half zeros all_zero each items all_name name_filled asks_snap snap_of asks_pointer pointer_of
+unfolding label_place label_in label_at leaf_in inner_at asks_entry word_at half_at word half zeros all_zero each items all_name name_filled asks_snap snap_of asks_pointer pointer_of
 slot_three zero = record { place = refl; says = refl; height = refl; span = refl; clear = refl; tree = record { node = inner_said 8; is_node = refl; children = refl; entries = leaf_said 7; is_leaf = refl; pvbns = refl; kinds = refl } }
 slot_three (suc zero) = record { place = refl; says = refl; height = refl; span = refl; clear = refl; tree = record { node = inner_said 12; is_node = refl; children = refl; entries = leaf_said 11; is_leaf = refl; pvbns = refl; kinds = refl } }
 slot_three (suc (suc zero)) = record { place = refl; says = refl; height = refl; span = refl; clear = refl; tree = record { node = inner_said 16; is_node = refl; children = refl; entries = leaf_said 15; is_leaf = refl; pvbns = refl; kinds = refl } }
@@ -291,7 +291,7 @@ committed_three =
     rw (commit_is first, commit_is second) (refl {a = 220})
 
 sound_three : IsEmptySound layout_three
-unfolding has_shapes is_in_range has_entries_within has_distinct_names is_in_position is_held_once has_true_map has_true_kinds has_true_levels has_true_labels is_in_capacity has_room overheads overhead nodes_above slots vvbns head_of snaps_from at_positions label_in label_at leaf_at inner_at leaf_for inner_for asks_entry word_at half_at word half zeros all_zero each items all_name name_filled asks_snap snap_of asks_pointer pointer_of
+unfolding has_shapes is_in_range has_entries_within has_distinct_names is_in_position is_held_once has_true_map has_true_kinds has_true_levels has_true_labels is_in_capacity has_room overheads overhead nodes_above slots vvbns head_of snaps_from at_positions label_in label_at leaf_in inner_at leaf_for inner_for asks_entry word_at half_at word half zeros all_zero each items all_name name_filled asks_snap snap_of asks_pointer pointer_of
 sound_three = record {
   shapes = refl;
   ranges = rw holds_three refl;

@@ -4,7 +4,7 @@ use Rattle.std.proofs.Common.{refl}
 use Rattle.fv_disk.specs.Shown.{Image}
 use Rattle.fv_codec.specs.Bytes.{word_at, half_at, word, half, zeros}
 use Rattle.fv_codec.specs.Fields.{all_zero, each, items, all_name, name_filled}
-use Rattle.fv_codec.specs.Blocks.{super_at, gate_open, root_at, open_gate, label_at, asks_snap, snap_of, asks_pointer, pointer_of, leaf_at, asks_entry, inner_at}
+use Rattle.fv_codec.specs.Blocks.{super_at, gate_open, root_at, open_gate, label_at, asks_snap, snap_of, asks_pointer, pointer_of, leaf_in, asks_entry, inner_at}
 use Rattle.fv_model.specs.declared.commands.Kind.TheVariants.{Volume as Whole}
 use Rattle.fv_image.specs.NewerRoot.{Taken, root_of}
 use Rattle.fv_image.specs.Containers.{node_below, container_entry}
@@ -81,5 +81,5 @@ unfolding view_at label_place label_in label_at head_of snaps_from word_at word 
 first_head = refl
 
 map_entry : (view_at (root_of_slot 1024 1 2 10 0 0) one_volume).entry 0 4096 ≡ Some (record { pvbn = 7; kind = 8; block = zeros 4096 })
-unfolding view_at label_place label_in label_at entry_from container_entry node_below inner_at leaf_at asks_entry word_at half_at word half zeros all_zero each items all_name name_filled asks_snap snap_of asks_pointer pointer_of open_gate
+unfolding view_at label_place label_in label_at entry_from container_entry node_below inner_at leaf_in asks_entry word_at half_at word half zeros all_zero each items all_name name_filled asks_snap snap_of asks_pointer pointer_of open_gate
 map_entry = refl

@@ -1,6 +1,6 @@
 -- Space: what a volume is charged for, what its files' reserves still need, and what it commits of its aggregate.
 -- A name that ends in `_by` takes the version of the format. The same name without it is that of version 1, the only one that there is today.
-use Rattle.std.specs.Prelude.{◌≡◌, ℕ, zero, suc, ◌+◌, ◌*◌, ◌^◌, ◌≤◌, max, Bool, true, false, cond, nat_lt, nat_le, List, [], ◌∷◌, ◌++◌, map, filter, flat_map, sum_by, count_by, Option, Some, None}
+use Rattle.std.specs.Prelude.{◌≡◌, ℕ, zero, suc, ◌+◌, ◌-◌, ◌*◌, ◌/◌, ◌%◌, ◌^◌, ◌≤◌, max, Bool, true, false, cond, nat_lt, nat_le, List, [], ◌∷◌, ◌++◌, map, filter, flat_map, sum_by, count_by, Option, Some, None}
 use Rattle.std.specs.List.{range_with_len}
 use Rattle.std.specs.Option.{option_map_or}
 use Rattle.std.specs.FinMap as fin
@@ -94,6 +94,14 @@ nodes_above (suc fuel) n = cond (nat_le n 256) 1 (ceil_div n 256 + nodes_above f
 -- the entries of a container: one for each number of the span and for each block of 25 maps, from version 2 on of 256 maps and for 256 records
 abbrev pub entries_by : ℕ → ℕ → ℕ
 entries_by version span = cond (nat_lt 1 version) (span + 256 * map_blocks span + 256) (span + 25 * map_blocks span)
+
+-- Behind the span lie the blocks of the maps, slot after slot: the slot whose map has the block of a number there, and which block of that map it
+-- is. A span of 40,960 has 2 blocks to a map; so the number 40,965 is that of block 1 of the map of slot 2.
+abbrev pub map_slot : ℕ → ℕ → ℕ
+map_slot span v = (v - span) / map_blocks span
+
+abbrev pub map_index : ℕ → ℕ → ℕ
+map_index span v = (v - span) % map_blocks span
 
 -- the leaves of a container
 abbrev pub leaves_by : ℕ → ℕ → ℕ

@@ -15,4 +15,4 @@ pub use answers::{Refusal, Reply, Stat};
 pub use commands::{Block, Command, Kind};
 pub use naming::{Name, Names};
 pub use ranges::{in_index, in_reserve, in_size, in_steps};
-pub use sizes::map_blocks;
+pub use sizes::{map_blocks, map_index, map_slot};

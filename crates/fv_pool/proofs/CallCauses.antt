@@ -87,7 +87,7 @@ module _ (narrow wide : Type 0) (widens : narrow → wide) (old : Lent) (faults 
 
 pub lent_reads : (p q : Pool) (m n : Volume) (d e : Disk) (s t : ℕ) (h k : Home) (r u : ℕ) (a b : ℕ) (v w : Noted) → ReadsOver (lent_by p m d s h r a v) (lent_by q n e t k u b w) → StandsOn e q.store.pairs → Reads d p e q
 lent_reads p q m n d e s t h k r u a b v w reads stands = record {
-  leaves = record { map = reads.space; containers = reads.containers; kept = reads.kept; found = reads.found };
+  leaves = record { map = reads.space; containers = reads.containers; kept = reads.kept; found = reads.found; version = reads.version };
   only_reads = reads.only_reads;
   stands = stands;
 }

@@ -98,7 +98,7 @@ drops_cause told x old new (Err e) drops none same counts untouched fails = tabl
 
 pub drops_reads : (p q : Pool) (m n : Volume) (d e : Disk) (s t : ℕ) (h k : Home) (r u : ℕ) (a b : ℕ) (v w : Noted) → DropsOver (lent_by p m d s h r a v) (lent_by q n e t k u b w) → StandsOn e q.store.pairs → Reads d p e q
 drops_reads p q m n d e s t h k r u a b v w drops stands = record {
-  leaves = record { map = drops.space; containers = drops.containers; kept = drops.kept; found = drops.found };
+  leaves = record { map = drops.space; containers = drops.containers; kept = drops.kept; found = drops.found; version = drops.version };
   only_reads = drops.only_reads;
   stands = stands;
 }

@@ -23,7 +23,7 @@ use Rattle.fv_pool.specs.declared.noted.Noted.{Noted}
 use Rattle.fv_pool.specs.declared.pool.Pool.{Pool}
 use Rattle.fv_pool.specs.BlocksOver.{AreApart, HasShapeOf, HoldsMore, IsLooseFault, LacksPlace, LeavesPool, LoadsPool, PlacesBlock, entries_in, tree_in}
 use Rattle.fv_pool.specs.Lending.{Notes, WasDamage, WasHole, WasLack, no_damage}
-use Rattle.fv_pool.specs.LendingLaws.{leaf_before}
+use Rattle.fv_pool.specs.LendingLaws.{apart_by, leaf_before}
 use Rattle.fv_pool.proofs.Going.{apart_still, load_notes, place_notes}
 
 -- ---- the trees of containers stay
@@ -61,86 +61,90 @@ noted_damage old now P was (inr is) some = is
 
 -- ---- nothing changed but the cache
 
-module _ (disk later : Disk) (pool new : Pool) where
-  leaves_shapes : LeavesPool pool new → (s : ℕ) → HasShapeOf (container_at pool.containers s) (container_at new.containers s)
-  leaves_shapes leaves s = shape_same (container_at pool.containers s) (container_at new.containers s) (ap (λ (slots : Slots). container_at slots s) leaves.containers)
+module _ {pool new : Pool} (leaves : LeavesPool pool new) where
+  leaves_shapes : (s : ℕ) → HasShapeOf (container_at pool.containers s) (container_at new.containers s)
+  leaves_shapes s = shape_same (container_at pool.containers s) (container_at new.containers s) (ap (λ (slots : Slots). container_at slots s) leaves.containers)
 
-  pub leaves_clean : (told : Type 0) → (told → ∥ AreCleanOn disk.reads pool.containers ∥₁) → LeavesPool pool new → OnlyReads disk later → told → ∥ AreCleanOn later.reads new.containers ∥₁
-  leaves_clean told clean leaves reads is = ∥∥₁_map (clean is) (λ was.
-      subst (λ (i : Image). AreCleanOn i new.containers) (sym reads.stays.reads) (subst (AreCleanOn disk.reads) (sym leaves.containers) was))
+  pub leaves_apart : (map : Volume) (slot : ℕ) → AreApart pool map slot → AreApart new map slot
+  leaves_apart map slot apart = apart_by pool new map slot leaves.map leaves.containers apart
 
-  pub leaves_damage : (home : Home) (noted : Noted) → (noted.count ≢ 0 → ∥ WasDamage disk pool home noted ∥₁) → LeavesPool pool new → OnlyReads disk later → noted.count ≢ 0 → ∥ WasDamage later new home noted ∥₁
-  leaves_damage home noted damage leaves reads some = still_damage disk later pool new reads home noted (leaves_shapes leaves) leaves.found (damage some)
+  module _ {disk later : Disk} (reads : OnlyReads disk later) where
+    pub leaves_clean : ∥ AreCleanOn disk.reads pool.containers ∥₁ → ∥ AreCleanOn later.reads new.containers ∥₁
+    leaves_clean clean = ∥∥₁_map clean (λ was. subst (λ (i : Image). AreCleanOn i new.containers) (sym reads.stays.reads) (subst (AreCleanOn disk.reads) (sym leaves.containers) was))
 
-  -- a block wasn't read
-  pub loose_damage : (home : Home) (old now : Noted) (entry : Option Entry) (fault : BlockFault) → (old.count ≢ 0 → ∥ WasDamage disk pool home old ∥₁) → IsLooseFault disk pool.containers entry home.label fault → Notes old fault now
-      → LeavesPool pool new → OnlyReads disk later → now.count ≢ 0 → ∥ WasDamage later new home now ∥₁
-  loose_damage home old now entry fault damage loose notes leaves reads =
-      noted_damage old now (WasDamage later new home) (leaves_damage home old damage leaves reads) (⊎_elim (λ same. inl same) (λ why. inr (⊎_elim
-      (λ hole. ∣ inl (hole_lacks home.label (root_place new.found.slot) now hole) ∣₁)
-      (λ leaf. still_damage disk later pool new reads home now (leaves_shapes leaves) leaves.found ∣ inr leaf ∣₁)
-      why)) (load_notes disk pool.containers entry home.label fault old now loose notes))
+    pub leaves_damage : (home : Home) (noted : Noted) → ∥ WasDamage disk pool home noted ∥₁ → ∥ WasDamage later new home noted ∥₁
+    leaves_damage home noted damage = still_damage disk later pool new reads home noted leaves_shapes leaves.found damage
 
-  -- ---- leaves came into memory
+    -- a block wasn't read
+    pub loose_damage : (home : Home) (old now : Noted) (entry : Option Entry) (fault : BlockFault) → (old.count ≢ 0 → ∥ WasDamage disk pool home old ∥₁) → IsLooseFault disk pool.containers entry home.label fault → Notes old fault now
+        → now.count ≢ 0 → ∥ WasDamage later new home now ∥₁
+    loose_damage home old now entry fault damage loose notes =
+        noted_damage old now (WasDamage later new home) (λ some. leaves_damage home old (damage some)) (⊎_elim (λ same. inl same) (λ why. inr (⊎_elim
+        (λ hole. ∣ inl (hole_lacks home.label (root_place new.found.slot) now hole) ∣₁)
+        (λ leaf. still_damage disk later pool new reads home now leaves_shapes leaves.found ∣ inr leaf ∣₁)
+        why)) (load_notes disk pool.containers entry home.label fault old now loose notes))
 
-  loads_shapes : LoadsPool disk pool new → (s : ℕ) → HasShapeOf (container_at pool.containers s) (container_at new.containers s)
-  loads_shapes loads s = shape_same (container_at pool.containers s) (container_at new.containers s) (loads.containers.maps s)
+-- ---- leaves came into memory
 
-  pub loads_clean : (told : Type 0) → (told → IsTrue disk.tells) → (told → ∥ AreCleanOn disk.reads pool.containers ∥₁) → LoadsPool disk pool new → OnlyReads disk later → told → ∥ AreCleanOn later.reads new.containers ∥₁
-  loads_clean told tells clean loads reads is = ∥∥₁_map (clean is) (λ was. subst (λ (i : Image). AreCleanOn i new.containers) (sym reads.stays.reads) (loads.containers.clean (tells is, was)))
+module _ {disk : Disk} {pool new : Pool} (loads : LoadsPool disk pool new) where
+  loads_shapes : (s : ℕ) → HasShapeOf (container_at pool.containers s) (container_at new.containers s)
+  loads_shapes s = shape_same (container_at pool.containers s) (container_at new.containers s) (loads.containers.maps s)
 
-  pub loads_apart : (told : Type 0) (map after : Volume) (home : Home) → (told → AreApart pool map home.slot) → after ≡ map → LoadsPool disk pool new → OnlyReads disk later → told → AreApart new after home.slot
-  loads_apart told map after home apart same loads reads is = subst (λ (m : Volume). AreApart new m home.slot) (sym same) (apart_still pool new map disk later 0 home 0 0 no_damage no_damage loads reads (apart is))
-
-  pub loads_entries : (map after : Volume) (slot : ℕ) → map.span ≤ length (entries_in (container_at pool.containers slot)) → after ≡ map → LoadsPool disk pool new → after.span ≤ length (entries_in (container_at new.containers slot))
-  loads_entries map after slot fits same loads =
+  pub loads_entries : {map after : Volume} (slot : ℕ) → after ≡ map → map.span ≤ length (entries_in (container_at pool.containers slot)) → after.span ≤ length (entries_in (container_at new.containers slot))
+  loads_entries {map = map} {after = after} slot same fits =
       let span : after.span ≡ map.span = ap (λ (m : Volume). m.span) same in
       let count : length (entries_in (container_at new.containers slot)) ≡ length (entries_in (container_at pool.containers slot)) = ap (λ m. length (entries_in m)) (loads.containers.maps slot) in
       omega (arith, span, count, fits)
 
-  pub loads_blocks : (room : ℕ) → room ≤ free_blocks pool.map → LoadsPool disk pool new → room ≤ free_blocks new.map
-  loads_blocks room fits loads = let free : free_blocks new.map ≡ free_blocks pool.map = ap free_blocks loads.map in omega (arith, free, fits)
+  pub loads_blocks : (room : ℕ) → room ≤ free_blocks pool.map → room ≤ free_blocks new.map
+  loads_blocks room fits = let free : free_blocks new.map ≡ free_blocks pool.map = ap free_blocks loads.map in omega (arith, free, fits)
 
-  -- no block was placed
-  pub unplaced_damage : (map : Volume) (home : Home) (old now : Noted) (fault : BlockFault) → (old.count ≢ 0 → ∥ WasDamage disk pool home old ∥₁)
-      → LacksPlace disk pool.containers pool.map map (root_place pool.found.slot) home.label fault → Notes old fault now → LoadsPool disk pool new → OnlyReads disk later → now.count ≢ 0 → ∥ WasDamage later new home now ∥₁
-  unplaced_damage map home old now fault damage lacks notes loads reads =
-      noted_damage old now (WasDamage later new home) (λ some. still_damage disk later pool new reads home old (loads_shapes loads) loads.found (damage some)) (⊎_elim (λ same. inl same)
-      (λ why. inr (still_damage disk later pool new reads home now (loads_shapes loads) loads.found (⊎_elim (λ lack. ∣ inl lack.0 ∣₁) (λ leaf. ∣ inr leaf ∣₁) why)))
-      (place_notes disk pool.containers pool.map map (root_place pool.found.slot) home.label fault old now lacks notes))
+  module _ {later : Disk} (reads : OnlyReads disk later) where
+    pub loads_clean : IsTrue disk.tells → ∥ AreCleanOn disk.reads pool.containers ∥₁ → ∥ AreCleanOn later.reads new.containers ∥₁
+    loads_clean tells clean = ∥∥₁_map clean (λ was. subst (λ (i : Image). AreCleanOn i new.containers) (sym reads.stays.reads) (loads.containers.clean (tells, was)))
 
-  -- ---- a block was placed
+    pub loads_apart : {map after : Volume} (home : Home) → after ≡ map → AreApart pool map home.slot → AreApart new after home.slot
+    loads_apart {map = map} home same apart = subst (λ (m : Volume). AreApart new m home.slot) (sym same) (apart_still pool new map disk later 0 home 0 0 no_damage no_damage loads reads apart)
 
-  module _ (map after : Volume) (kind : ℕ) (block : List ℕ) (placed : Placed) where
-    placed_shapes : (slot : ℕ) → PlacesBlock disk pool map slot kind block new after placed → (s : ℕ) → HasShapeOf (container_at pool.containers s) (container_at new.containers s)
-    placed_shapes slot places s = ⊎_elim
+    -- no block was placed
+    pub unplaced_damage : (map : Volume) (home : Home) (old now : Noted) (fault : BlockFault) → (old.count ≢ 0 → ∥ WasDamage disk pool home old ∥₁)
+        → LacksPlace disk pool.containers pool.map map (root_place pool.found.slot) home.label fault → Notes old fault now → now.count ≢ 0 → ∥ WasDamage later new home now ∥₁
+    unplaced_damage map home old now fault damage lacks notes =
+        noted_damage old now (WasDamage later new home) (λ some. still_damage disk later pool new reads home old loads_shapes loads.found (damage some)) (⊎_elim (λ same. inl same)
+        (λ why. inr (still_damage disk later pool new reads home now loads_shapes loads.found (⊎_elim (λ lack. ∣ inl lack.0 ∣₁) (λ leaf. ∣ inr leaf ∣₁) why)))
+        (place_notes disk pool.containers pool.map map (root_place pool.found.slot) home.label fault old now lacks notes))
+
+-- ---- a block was placed
+
+apart_prop : (pool : Pool) (map : Volume) (slot : ℕ) → IsProp (AreApart pool map slot)
+apart_prop pool map slot = hlevel props
+
+module _ {disk : Disk} {pool new : Pool} {map after : Volume} {slot kind : ℕ} {block : List ℕ} {placed : Placed} where
+  pub placed_apart : HoldsMore disk pool map slot kind block new after placed → IsTrue disk.tells → ∥ AreCleanOn disk.reads pool.containers ∥₁ → AreApart pool map slot → AreApart new after slot
+  placed_apart holds tells clean apart = ∥∥₁_elim clean (apart_prop new after slot) (λ was. holds.apart (tells, was) apart)
+
+  module _ (places : PlacesBlock disk pool map slot kind block new after placed) where
+    placed_shapes : (s : ℕ) → HasShapeOf (container_at pool.containers s) (container_at new.containers s)
+    placed_shapes s = ⊎_elim
         (λ (e : s ≡ slot). subst (λ (k : ℕ). HasShapeOf (container_at pool.containers k) (container_at new.containers k)) (sym e) places.entry.shape)
         (λ (ne : s ≢ slot). shape_same (container_at pool.containers s) (container_at new.containers s) (places.entry.others s ne))
         (cases_eq s slot)
 
-    pub placed_clean : (told : Type 0) (slot : ℕ) → (told → IsTrue disk.tells) → (told → ∥ AreCleanOn disk.reads pool.containers ∥₁) → PlacesBlock disk pool map slot kind block new after placed → OnlyReads disk later
-        → told → ∥ AreCleanOn later.reads new.containers ∥₁
-    placed_clean told slot tells clean places reads is = ∥∥₁_map (clean is) (λ was. subst (λ (i : Image). AreCleanOn i new.containers) (sym reads.stays.reads) (places.entry.clean (tells is, was)))
+    placed_span : after.span ≡ map.span
+    placed_span = ap (λ (m : Volume). m.span) places.takes.number.volume
 
-    pub placed_damage : (home : Home) (noted : Noted) → (noted.count ≢ 0 → ∥ WasDamage disk pool home noted ∥₁) → PlacesBlock disk pool map home.slot kind block new after placed → OnlyReads disk later
-        → noted.count ≢ 0 → ∥ WasDamage later new home noted ∥₁
-    placed_damage home noted damage places reads some = still_damage disk later pool new reads home noted (placed_shapes home.slot places) places.found (damage some)
+    pub placed_few : map.span ≤ last_place + 1 → after.span ≤ last_place + 1
+    placed_few few = omega (arith, placed_span, few)
 
-    placed_span : (slot : ℕ) → PlacesBlock disk pool map slot kind block new after placed → after.span ≡ map.span
-    placed_span slot places = ap (λ (m : Volume). m.span) places.takes.number.volume
+    pub placed_entries : map.span ≤ length (entries_in (container_at pool.containers slot)) → after.span ≤ length (entries_in (container_at new.containers slot))
+    placed_entries fits = let count = places.entry.shape.count in omega (arith, placed_span, count, fits)
 
-    pub placed_few : (slot : ℕ) → map.span ≤ last_place + 1 → PlacesBlock disk pool map slot kind block new after placed → after.span ≤ last_place + 1
-    placed_few slot few places = let span = placed_span slot places in omega (arith, span, few)
+    module _ {later : Disk} (reads : OnlyReads disk later) where
+      pub placed_clean : IsTrue disk.tells → ∥ AreCleanOn disk.reads pool.containers ∥₁ → ∥ AreCleanOn later.reads new.containers ∥₁
+      placed_clean tells clean = ∥∥₁_map clean (λ was. subst (λ (i : Image). AreCleanOn i new.containers) (sym reads.stays.reads) (places.entry.clean (tells, was)))
 
-    pub placed_entries : (slot : ℕ) → map.span ≤ length (entries_in (container_at pool.containers slot)) → PlacesBlock disk pool map slot kind block new after placed → after.span ≤ length (entries_in (container_at new.containers slot))
-    placed_entries slot fits places = let span = placed_span slot places in let count = places.entry.shape.count in omega (arith, span, count, fits)
-
-    apart_prop : (slot : ℕ) → IsProp (AreApart new after slot)
-    apart_prop slot = hlevel props
-
-    pub placed_apart : (told : Type 0) (slot : ℕ) → (told → IsTrue disk.tells) → (told → ∥ AreCleanOn disk.reads pool.containers ∥₁) → (told → AreApart pool map slot) → HoldsMore disk pool map slot kind block new after placed
-        → told → AreApart new after slot
-    placed_apart told slot tells clean apart holds is = ∥∥₁_elim (clean is) (apart_prop slot) (λ was. holds.apart (tells is, was) (apart is))
+      pub placed_damage : (home : Home) (noted : Noted) → ∥ WasDamage disk pool home noted ∥₁ → ∥ WasDamage later new home noted ∥₁
+      placed_damage home noted damage = still_damage disk later pool new reads home noted placed_shapes places.found damage
 
 -- ---- as lent
 

@@ -1,5 +1,5 @@
 -- What placing a block of a volume leaves, and why it fails.
-use Rattle.std.proofs.Common.{◌≡◌, ◌≢◌, ◌<◌, ◌≤◌, ◌+◌, ◌⊎◌, ◌==◌, ◌||◌, ℕ, zero, suc, Bool, true, false, cond, List, length, Option, Some, None, refl, sym, ap, subst, ◌∙◌, inl, inr, arith, get_or-set_other}
+use Rattle.std.proofs.Common.{◌≡◌, ◌≢◌, ◌<◌, ◌≤◌, ◌+◌, ◌⊎◌, ◌==◌, ◌||◌, ℕ, zero, suc, Bool, true, false, cond, List, length, Option, Some, None, refl, sym, ap, subst, ◌∙◌, inl, inr, ⊎_elim, arith, get_or-set_other}
 use Rattle.std.specs.Prelude.{is_some, slice_set}
 use Rattle.std.specs.Option.{ForSome}
 use Rattle.std.specs.Ordering.{nat_cmp, eq_by_cmp}
@@ -12,6 +12,7 @@ use Rattle.fv_disk.specs.DiskCalls.{OnlyReads}
 use Rattle.fv_disk.specs.declared.fault.BlockFault.{BlockFault}
 use Rattle.fv_disk.specs.declared.fault.BlockFault.TheVariants.{DiskFault, Damaged, Memory}
 use Rattle.fv_bits.specs.Members.{is_member}
+use Rattle.fv_image.specs.Layout.{root_place}
 use Rattle.fv_aggmap.specs.Space.{IsFull, Space, free_blocks}
 use Rattle.fv_aggmap.proofs.Room.{one_is_found}
 use Rattle.fv_container.specs.declared.entry.Entry.{Entry}
@@ -25,6 +26,7 @@ use Rattle.fv_pool.specs.declared.pool.Pool.{Pool}
 use Rattle.fv_pool.specs.BlocksOver.{AreApart, HasShapeOf, HoldsMore, IsKeptBack, IsLooseFault, LacksLeaf, LacksPlace, LacksRoom, LeavesRoom, LoadsPool, OtherPlace, PlacesBlock, TellsEntries, block_of, entries_in, free_numbers, given_back, held_entry, tree_in}
 use Rattle.fv_pool.specs.Lending.{GoesOver, IsNewEntry, IsOutOfRoom, IsOwn, KeepsSlots, Lent, MayTake, Notes, Spends, WasHole, WasLack, WasLeaf, lent_by}
 use Rattle.fv_pool.specs.LendingLaws.{goes_itself}
+use Rattle.fv_pool.specs.Putting.{PutsOver}
 use Rattle.fv_pool.proofs.Holding.{has_taken, held_kept, same_entry}
 use Rattle.fv_pool.proofs.Shows.{apart_gone, member_cleared, member_set, none_free, numbers_gone}
 
@@ -88,6 +90,7 @@ module _ (pool : Pool) (map after : Volume) (disk : Disk) (steps : ℕ) (home : 
       record {
         home = refl;
         found = refl;
+        version = refl;
         room = omega arith;
         spends = λ some. spends;
         steps = omega arith;
@@ -155,6 +158,7 @@ module _ (pool new : Pool) (map : Volume) (disk later : Disk) (steps : ℕ) (hom
       record {
         home = refl;
         found = loads.found;
+        version = loads.version;
         room = omega arith;
         spends = λ some. record { numbers = omega arith; blocks = omega (arith, free) };
         steps = omega arith;
@@ -182,6 +186,20 @@ module _ (pool new : Pool) (map : Volume) (disk later : Disk) (steps : ℕ) (hom
           blocks = λ k v other here i. ap (block_of new.kept i) (still_held v) ∙ ap (λ kept. block_of kept i (held_entry map pool.containers home.slot v)) loads.kept;
         };
       }
+
+  -- what a placement that failed leaves, and why it did
+  pub puts_failed : (fault : BlockFault) (left : Volume) → left ≡ map → LacksPlace disk pool.containers pool.map map (root_place pool.found.slot) home.label fault → Notes noted fault after → room ≤ free_numbers map → room ≤ free_blocks pool.map
+      → PutsOver unplaced_before (lent_by new left later steps home room strays after)
+  puts_failed fault left same lacks notes numbers blocks =
+      let cause : (after ≡ noted) ⊎ (IsOutOfRoom unplaced_before unplaced_after ⊎ WasLeaf disk pool.containers after) = ⊎_elim
+      (λ still. inl still)
+      (λ why. inr (⊎_elim
+      (λ lack. inl (record { none = ⊎_elim (λ none. omega (arith, none, numbers)) (λ none. omega (arith, none, blocks)) lack.1; lacks = lack.0 }))
+      (λ leaf. inr leaf)
+      why))
+      (place_notes disk pool.containers pool.map map (root_place pool.found.slot) home.label fault noted after lacks notes) in
+      subst (λ (m : Volume). PutsOver unplaced_before (lent_by new m later steps home room strays after)) (sym same)
+      (record { goes = goes_failed (⊎_elim (λ still. inl still) (λ why. inr (inr why)) cause); noted = cause })
 
 -- ---- a block was placed
 
@@ -299,6 +317,7 @@ module _ (disk : Disk) (pool new : Pool) (map after : Volume) (slot kind : ℕ) 
   goes_with later steps home room less strays noted reads at fewer one leaves keeps = record {
     home = refl;
     found = places.found;
+    version = places.version;
     room = fewer;
     spends = λ some. let fell = one some in record { numbers = omega (arith, fell, leaves.numbers); blocks = omega (arith, fell, leaves.blocks) };
     steps = omega arith;

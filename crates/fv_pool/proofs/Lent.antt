@@ -7,12 +7,11 @@ use Rattle.std.proofs.lemmas.List.{set-set, set-get_or}
 use Rattle.fv_aggmap.specs.Space.{Space, IsFree}
 use Rattle.fv_bits.specs.Members.{is_member}
 use Rattle.fv_disk.specs.Shown.{Image, Shown as Disk}
-use Rattle.fv_disk.specs.declared.fault.BlockFault.{BlockFault}
-use Rattle.fv_disk.specs.declared.fault.BlockFault.TheVariants.{DiskFault, Damaged, Memory}
+use Rattle.fv_disk.specs.declared.fault.BlockFault.TheVariants.{Damaged}
 use Rattle.fv_container.specs.declared.entry.Entry.{Entry}
 use Rattle.fv_container.specs.Chains.{Slots, chain_entry}
 use Rattle.fv_pool.specs.Keeping.{Blocks, seen}
-use Rattle.fv_pool.specs.BlocksOver.{block_of, held_entry, place_of, place_or, place_read, place_told, steps_by, IsEntryFault, IsLooseFault, IsRightPlace, TellsEntries}
+use Rattle.fv_pool.specs.BlocksOver.{block_of, held_entry, place_of, place_or, place_read, place_told, steps_by, IsLooseFault, IsRightPlace, TellsEntries}
 use Rattle.fv_volmap.specs.Slots.{Volume, IsVolume, Slot, Allocates, stored_count, has, slot_at, active_of, map_or_empty, taken_in, with_slot}
 
 either_again : (a b c : Bool) → ((a || b) || c) ≡ (a || (b || c))
@@ -129,12 +128,6 @@ nowhere entry hint none = by (place_told hint) refl entry none
 
 pub is_loose : (disk : Disk) (slots : Slots) (entry : Option Entry) (hint label at : ℕ) → at ≡ label → (TellsEntries disk slots → None ≡ place_read entry hint) → IsLooseFault disk slots entry label (Damaged at 1 0)
 is_loose disk slots entry hint label at same none = inl (record { none = λ tells. nowhere entry hint (none tells); at_is = same; want_is = refl; found_is = refl })
-
--- why an entry wasn't read is why its block wasn't
-pub entry_loose : (disk : Disk) (slots : Slots) (entry : Option Entry) (label : ℕ) (fault : BlockFault) → IsEntryFault disk slots fault → IsLooseFault disk slots entry label fault
-entry_loose disk slots entry label DiskFault bad = tt
-entry_loose disk slots entry label (Damaged at want found) bad = inr bad
-entry_loose disk slots entry label Memory bad = absurd bad
 
 -- ---- numbers that are given back
 

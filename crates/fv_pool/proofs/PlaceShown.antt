@@ -23,7 +23,7 @@ use Rattle.fv_pool.specs.declared.blocks.Home.{Home}
 use Rattle.fv_pool.specs.declared.noted.Noted.{Noted}
 use Rattle.fv_pool.specs.declared.pool.Pool.{Pool}
 use Rattle.fv_pool.specs.BlocksOver.{AreApart, HoldsMore, IsLooseFault, LacksPlace, LeavesPool, LoadsPool, PlacesBlock, TellsEntries, block_of, free_numbers, held_block, held_entry, place_read, steps_by, IsRightPlace}
-use Rattle.fv_pool.specs.Lending.{Notes, blocks_held, lent_by, place_or_none, shown_over, use_of}
+use Rattle.fv_pool.specs.Lending.{Lent, Notes, blocks_held, lent_by, place_or_none, shown_over, use_of}
 use Rattle.fv_pool.specs.Putting.{trusting}
 use Rattle.fv_pool.proofs.Failing.{still_shown}
 use Rattle.fv_pool.proofs.Going.{room_lacks}
@@ -37,27 +37,27 @@ number_prop : {a b : ℕ} → IsProp (a ≡ b)
 number_prop = Coded-set coded_ℕ _ _
 
 -- entries are told where the containers are clean on the disk
-pub entries_told : (disk : Disk) (slots : Slots) → IsTrue disk.tells → ∥ AreCleanOn disk.reads slots ∥₁ → ∥ TellsEntries disk slots ∥₁
-entries_told disk slots tells clean = ∥∥₁_map clean (λ was. (tells, was))
+entries_told : {told : Type 0} (lent : Lent) → (told → IsTrue lent.disk.tells) → (told → ∥ AreCleanOn lent.disk.reads lent.pool.containers ∥₁) → told → ∥ TellsEntries lent.disk lent.pool.containers ∥₁
+entries_told lent tells clean is = ∥∥₁_map (clean is) (λ was. (tells is, was))
 
-module _ (map : Volume) (pool after : Pool) (disk later : Disk) (steps made : ℕ) (home : Home) (room strays : ℕ) (noted last : Noted) (told : Type 0) (pointer : Pointer) (block : List ℕ) (leaves : LeavesPool pool after) (reads : OnlyReads disk later) where
-  abbrev unloaded : Shown
-  unloaded = shown_over (lent_by pool map disk steps home room strays noted)
-
-  abbrev loaded : Shown
-  loaded = shown_over (lent_by after map later made home room strays last)
+module _ (lent : Lent) (pool : Pool) (disk : Disk) (steps : ℕ) (told : Type 0) (tells : told → IsTrue lent.disk.tells) (clean : told → ∥ AreCleanOn lent.disk.reads lent.pool.containers ∥₁) (leaves : LeavesPool lent.pool pool) (reads : OnlyReads lent.disk disk)
+    (pointer : Pointer) (block : List ℕ) where
+  abbrev left : Noted → Shown
+  left noted = shown_over (lent_by pool lent.map disk steps lent.home lent.room lent.strays noted)
 
   abbrev entry : Option Entry
-  entry = held_entry map pool.containers home.slot pointer.vvbn
+  entry = held_entry lent.map lent.pool.containers lent.home.slot pointer.vvbn
 
-  pub loaded_shown : (told → ∥ TellsEntries disk pool.containers ∥₁) → (pvbn : ℕ) → (TellsEntries disk pool.containers → IsRightPlace entry pointer.pvbn → held_block map pool home.slot disk.reads pointer.vvbn ≡ Some block)
-      → (TellsEntries disk pool.containers → place_read entry pointer.pvbn ≡ Some pvbn) → pvbn ≤ last_place → made ≡ steps + steps_by pointer.pvbn
-      → Counts {T = ℕ} {E = BlockFault} unloaded loaded (Ok pvbn) → Loads told unloaded pointer loaded block (Ok pvbn)
-  loaded_shown tells pvbn gives place range spent counts = record {
-    untouched = still_shown map pool after disk later steps made home room strays noted last leaves reads;
-    gives = λ is right. ∥∥₁_elim (tells is) block_prop (λ entries. get_held map pool home.slot disk.reads pointer.vvbn ∙ gives entries right);
-    answers = λ is. ∥∥₁_elim (tells is) number_prop (λ entries.
-        sym (ap place_or_none (place entries)) ∙ ap (λ (s : Slots). place_or_none (place_read (held_entry map s home.slot pointer.vvbn) pointer.pvbn)) (sym leaves.containers));
+  abbrev Told : Type 0
+  Told = TellsEntries lent.disk lent.pool.containers
+
+  pub loaded_shown : (pvbn : ℕ) → (Told → IsRightPlace entry pointer.pvbn → held_block lent.map lent.pool lent.home.slot lent.disk.reads pointer.vvbn ≡ Some block) → (Told → place_read entry pointer.pvbn ≡ Some pvbn) → pvbn ≤ last_place
+      → steps ≡ lent.steps + steps_by pointer.pvbn → Counts {T = ℕ} {E = BlockFault} (shown_over lent) (left lent.noted) (Ok pvbn) → Loads told (shown_over lent) pointer (left lent.noted) block (Ok pvbn)
+  loaded_shown pvbn gives place range spent counts = record {
+    untouched = still_shown lent.map lent.pool pool lent.disk disk lent.steps steps lent.home lent.room lent.strays lent.noted lent.noted leaves reads;
+    gives = λ is right. ∥∥₁_elim (entries_told lent tells clean is) block_prop (λ entries. get_held lent.map lent.pool lent.home.slot lent.disk.reads pointer.vvbn ∙ gives entries right);
+    answers = λ is. ∥∥₁_elim (entries_told lent tells clean is) number_prop (λ entries.
+        sym (ap place_or_none (place entries)) ∙ ap (λ (s : Slots). place_or_none (place_read (held_entry lent.map s lent.home.slot pointer.vvbn) pointer.pvbn)) (sym leaves.containers));
     range = range;
     spent = spent;
     counts = counts;
@@ -65,19 +65,19 @@ module _ (map : Volume) (pool after : Pool) (disk later : Disk) (steps made : �
     loose = λ _. tt;
   }
 
-  pub failed_shown : (told → ∥ TellsEntries disk pool.containers ∥₁) → (e fault : BlockFault) → e ≡ fault → IsLooseFault disk pool.containers entry home.label fault → Counts {T = ℕ} unloaded loaded (Err e) → HasCause unloaded loaded e
-      → Loads told unloaded pointer loaded block (Err e)
-  failed_shown tells e fault same loose counts cause = record {
-    untouched = still_shown map pool after disk later steps made home room strays noted last leaves reads;
+  pub failed_shown : (now : Noted) (e fault : BlockFault) → e ≡ fault → IsLooseFault lent.disk lent.pool.containers entry lent.home.label fault → Counts {T = ℕ} (shown_over lent) (left now) (Err e) → HasCause (shown_over lent) (left now) e
+      → Loads told (shown_over lent) pointer (left now) block (Err e)
+  failed_shown now e fault same loose counts cause = record {
+    untouched = still_shown lent.map lent.pool pool lent.disk disk lent.steps steps lent.home lent.room lent.strays lent.noted now leaves reads;
     gives = λ _ _. tt;
     answers = λ _. tt;
     range = tt;
     spent = tt;
     counts = counts;
     cause = cause;
-    loose = λ is damaged. ∥∥₁_elim (tells is) block_prop (λ entries.
-        get_held map pool home.slot disk.reads pointer.vvbn
-        ∙ ap (block_of pool.kept disk.reads) (loose_none disk pool.containers entry home.label fault entries loose (subst IsDamaged same damaged)));
+    loose = λ is damaged. ∥∥₁_elim (entries_told lent tells clean is) block_prop (λ entries.
+        get_held lent.map lent.pool lent.home.slot lent.disk.reads pointer.vvbn
+        ∙ ap (block_of lent.pool.kept lent.disk.reads) (loose_none lent.disk lent.pool.containers entry lent.home.label fault entries loose (subst IsDamaged same damaged)));
   }
 
 module _ (pool new : Pool) (map after : Volume) (disk later : Disk) (steps : ℕ) (home : Home) (room less strays : ℕ) (noted : Noted) (told : Type 0) (apart : told → AreApart pool map home.slot)
@@ -106,46 +106,52 @@ unplaced : (told : Type 0) (old new : Shown) (kind : ℕ) (block : List ℕ) (e 
     → HasCause old new e → Places told old kind block new (Err e)
 unplaced told old new kind block e untouched spent enough counts cause = record { fresh = tt; unused = tt; held = λ _. tt; used = tt; vvbn = tt; pvbn = tt; strays = untouched.strays; room = tt; enough = enough; spent = spent; failed = untouched; counts = counts; cause = cause }
 
-module _ (pool new : Pool) (map : Volume) (disk later : Disk) (steps : ℕ) (home : Home) (room strays : ℕ) (noted after : Noted) (told : Type 0) (kind : ℕ) (block : List ℕ) (loads : LoadsPool disk pool new) (reads : OnlyReads disk later) where
-  abbrev before : Shown
-  before = shown_over (lent_by pool map disk steps home room strays noted)
+module _ (lent : Lent) (pool : Pool) (disk : Disk) (after : Noted) (told : Type 0) (tells : told → IsTrue lent.disk.tells) (clean : told → ∥ AreCleanOn lent.disk.reads lent.pool.containers ∥₁) (loads : LoadsPool lent.disk lent.pool pool)
+    (reads : OnlyReads lent.disk disk) (kind : ℕ) (block : List ℕ) where
+  abbrev behind : Volume → Noted → Shown
+  behind map noted = shown_over (lent_by pool map disk lent.steps lent.home lent.room lent.strays noted)
 
-  abbrev behind : Noted → Shown
-  behind n = shown_over (lent_by new map later steps home room strays n)
+  abbrev Fails : BlockFault → Volume → Noted → Type 0
+  Fails e map noted = Places told (shown_over lent) kind block (behind map noted) (Err e)
 
-  same_entries : (w : ℕ) → held_entry map new.containers home.slot w ≡ held_entry map pool.containers home.slot w
-  same_entries w = held_kept disk map pool.containers new.containers home.slot w loads.containers
+  same_entries : (w : ℕ) → held_entry lent.map pool.containers lent.home.slot w ≡ held_entry lent.map lent.pool.containers lent.home.slot w
+  same_entries w = held_kept lent.disk lent.map lent.pool.containers pool.containers lent.home.slot w loads.containers
 
-  still : (n : Noted) → IsUntouched before (behind n)
+  still : (n : Noted) → IsUntouched (shown_over lent) (behind lent.map n)
   still n = record {
-    held = ap (blocks_held map new home.slot) reads.stays.reads ∙ held_same_map map map pool new home.slot disk.reads
-        (λ w. ap (block_of new.kept disk.reads) (same_entries w) ∙ ap (λ k. block_of k disk.reads (held_entry map pool.containers home.slot w)) loads.kept);
-    used = λ j. λ v. cond (is_member (active_of map) v) (Some (use_of (same_entries v j))) None;
+    held = ap (blocks_held lent.map pool lent.home.slot) reads.stays.reads ∙ held_same_map lent.map lent.map lent.pool pool lent.home.slot lent.disk.reads
+        (λ w. ap (block_of pool.kept lent.disk.reads) (same_entries w) ∙ ap (λ k. block_of k lent.disk.reads (held_entry lent.map lent.pool.containers lent.home.slot w)) loads.kept);
+    used = λ j. λ v. cond (is_member (active_of lent.map) v) (Some (use_of (same_entries v j))) None;
     strays = refl;
     room = refl;
     cost = refl;
     right = λ v pvbn is. subst (λ o. IsRightPlace o pvbn) (sym (same_entries v)) is;
   }
 
-  pub unplaced_shown : (told → ∥ TellsEntries disk pool.containers ∥₁) → (fault : BlockFault) → LacksPlace disk pool.containers pool.map map (root_place pool.found.slot) home.label fault → Notes noted fault after → room ≤ free_numbers map → room ≤ free_blocks pool.map
-      → HasBlockCause {T = Placed} disk.faults later.faults (Err fault) → Places told before kind block (behind after) (Err fault)
-  unplaced_shown tells DiskFault lacks notes numbers blocks cause = subst (λ (n : Noted). Places told before kind block (behind n) (Err DiskFault)) (sym notes)
-      (unplaced told before (behind noted) kind block DiskFault (still noted) refl (λ _ _ damaged. absurd damaged)
+  fails : (fault : BlockFault) → LacksPlace lent.disk lent.pool.containers lent.pool.map lent.map (root_place lent.pool.found.slot) lent.home.label fault → Notes lent.noted fault after → lent.room ≤ free_numbers lent.map → lent.room ≤ free_blocks lent.pool.map
+      → HasBlockCause {T = Placed} lent.disk.faults disk.faults (Err fault) → Fails fault lent.map after
+  fails DiskFault lacks notes numbers blocks cause = subst (λ (n : Noted). Fails DiskFault lent.map n) (sym notes)
+      (unplaced told (shown_over lent) (behind lent.map lent.noted) kind block DiskFault (still lent.noted) refl (λ _ _ damaged. absurd damaged)
       (record { faults = reads.faults; damages = omega arith; spent = omega arith; calm = tt })
       (cause, refl))
-  unplaced_shown tells (Damaged at want found) lacks notes numbers blocks cause =
-      let why : HasCause before (behind after) (Damaged at want found) = search rules in
-      unplaced told before (behind after) kind block (Damaged at want found) (still after) refl
+  fails (Damaged at want found) lacks notes numbers blocks cause =
+      let why : HasCause (shown_over lent) (behind lent.map after) (Damaged at want found) = search rules in
+      unplaced told (shown_over lent) (behind lent.map after) kind block (Damaged at want found) (still after) refl
       (λ is some damaged. ⊎_elim
-      (λ room_is. some (⊎_elim (λ none. omega (arith, none, numbers)) (λ none. omega (arith, none, blocks)) (room_lacks pool.map map (root_place pool.found.slot) home.label at want found room_is)))
-      (λ leaf. ∥∥₁_elim (tells is) (λ x y. absurd x) (λ entries. none_damaged disk.reads pool.containers at want found entries.1 (leaf entries.0)))
+      (λ room_is. some (⊎_elim (λ none. omega (arith, none, numbers)) (λ none. omega (arith, none, blocks)) (room_lacks lent.pool.map lent.map (root_place lent.pool.found.slot) lent.home.label at want found room_is)))
+      (λ leaf. ∥∥₁_elim (entries_told lent tells clean is) (λ x y. absurd x) (λ entries. none_damaged lent.disk.reads lent.pool.containers at want found entries.1 (leaf entries.0)))
       lacks)
       (record { faults = reads.faults; damages = notes.1; spent = omega arith; calm = tt })
       why
-  unplaced_shown tells Memory lacks notes numbers blocks cause = subst (λ (n : Noted). Places told before kind block (behind n) (Err Memory)) (sym notes)
-      (unplaced told before (behind noted) kind block Memory (still noted) refl (λ _ _ damaged. absurd damaged)
+  fails Memory lacks notes numbers blocks cause = subst (λ (n : Noted). Fails Memory lent.map n) (sym notes)
+      (unplaced told (shown_over lent) (behind lent.map lent.noted) kind block Memory (still lent.noted) refl (λ _ _ damaged. absurd damaged)
       (record { faults = reads.faults; damages = omega arith; spent = omega arith; calm = tt })
       (record { faults = cause; damages = refl; spent = omega arith }))
+
+  pub unplaced_shown : (e fault : BlockFault) (map : Volume) → e ≡ fault → map ≡ lent.map → LacksPlace lent.disk lent.pool.containers lent.pool.map lent.map (root_place lent.pool.found.slot) lent.home.label fault → Notes lent.noted fault after
+      → lent.room ≤ free_numbers lent.map → lent.room ≤ free_blocks lent.pool.map → HasBlockCause {T = Placed} lent.disk.faults disk.faults (Err fault) → Fails e map after
+  unplaced_shown e fault map same stays lacks notes numbers blocks cause =
+      subst (λ x. Fails x map after) (sym same) (subst (λ (m : Volume). Fails fault m after) (sym stays) (fails fault lacks notes numbers blocks cause))
 
 module _ (pool : Pool) (map after : Volume) (disk : Disk) (steps : ℕ) (home : Home) (room strays more : ℕ) (noted : Noted) (v : ℕ) (valid : IsVolume map)
     (released : after ≡ with_slot map 0 (Some (slice_set (active_of map) v false))) (named : is_member (active_of map) v ≡ true → more ≡ strays) (stray : is_member (active_of map) v ≡ false → Rose strays more) where

@@ -90,6 +90,7 @@ pub record LeavesPool (old new : Pool) : Type 0 where
   pub containers : new.containers ≡ old.containers
   pub kept : new.kept ≡ old.kept
   pub found : new.found ≡ old.found
+  pub version : new.version ≡ old.version
 
 -- ---- a block is placed
 
@@ -140,6 +141,7 @@ PutsEntry old slot v entry new = IfSome (paged_at old slot) (λ was. PutsIn old 
 pub record IsPrepared (disk : Disk) (old : Pool) (slot : ℕ) (placed : Placed) (block : List ℕ) (new : Pool) : Type 0 where
   pub map : new.map ≡ old.map
   pub found : new.found ≡ old.found
+  pub version : new.version ≡ old.version
   pub kept : new.kept ≡ fin.insert old.kept placed.pvbn block
   pub containers : KeepsMaps disk old.containers new.containers
   pub here : IfSome (paged_at new.containers slot) (λ paged. is_here paged (placed.vvbn / 256) ≡ true)
@@ -161,12 +163,14 @@ pub record PlacesBlock (disk : Disk) (old : Pool) (map : Volume) (slot kind : �
   pub entry : SetsEntry disk old.containers slot placed.vvbn (record { pvbn = placed.pvbn; kind = kind }) new.containers
   pub kept : new.kept ≡ fin.insert old.kept placed.pvbn block
   pub found : new.found ≡ old.found
+  pub version : new.version ≡ old.version
 
 -- No block was placed: leaves may have come into memory, and nothing else of a pool changed but its cache.
 pub record LoadsPool (disk : Disk) (old new : Pool) : Type 0 where
   pub map : new.map ≡ old.map
   pub kept : new.kept ≡ old.kept
   pub found : new.found ≡ old.found
+  pub version : new.version ≡ old.version
   pub containers : KeepsMaps disk old.containers new.containers
 
 -- Why no number and no block were taken: a slot has each number, told at the place of the volume's label; or no block is free, told at the

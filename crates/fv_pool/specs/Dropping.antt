@@ -13,6 +13,7 @@ pub record DropsOver (old new : Lent) : Type 0 where
   pub containers : new.pool.containers ≡ old.pool.containers
   pub kept : new.pool.kept ≡ old.pool.kept
   pub found : new.pool.found ≡ old.pool.found
+  pub version : new.pool.version ≡ old.pool.version
   pub room : new.room ≡ old.room
   pub steps : old.steps ≤ new.steps
   pub only_reads : OnlyReads old.disk new.disk

@@ -133,6 +133,7 @@ pub record ReadsOver (old new : Lent) : Type 0 where
   pub containers : new.pool.containers ≡ old.pool.containers
   pub kept : new.pool.kept ≡ old.pool.kept
   pub found : new.pool.found ≡ old.pool.found
+  pub version : new.pool.version ≡ old.pool.version
   pub room : new.room ≡ old.room
   pub strays : new.strays ≡ old.strays
   pub steps : old.steps ≤ new.steps
@@ -183,6 +184,7 @@ pub record KeepsSlots (slot : ℕ) (old new : Lent) : Type 0 where
 pub record GoesOver (old new : Lent) : Type 0 where
   pub home : new.home ≡ old.home
   pub found : new.pool.found ≡ old.pool.found
+  pub version : new.pool.version ≡ old.pool.version
   pub room : new.room ≤ old.room
   pub spends : 0 < new.room → Spends old new
   pub steps : old.steps ≤ new.steps

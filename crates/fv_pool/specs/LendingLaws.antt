@@ -33,7 +33,7 @@ disk_itself disk =
 -- ---- reads
 
 pub reads_itself : (l : Lent) → ReadsOver l l
-reads_itself l = record { home = refl; map = refl; space = refl; containers = refl; kept = refl; found = refl; room = refl; strays = refl; steps = omega arith; only_reads = disk_itself l.disk; noted = inl refl }
+reads_itself l = record { home = refl; map = refl; space = refl; containers = refl; kept = refl; found = refl; version = refl; room = refl; strays = refl; steps = omega arith; only_reads = disk_itself l.disk; noted = inl refl }
 
 -- the last damage after two calls
 noted_then : (old mid new : Noted) (P : Noted → Type 0) → (mid ≡ old) ⊎ P mid → (new ≡ mid) ⊎ P new → (new ≡ old) ⊎ P new
@@ -82,6 +82,7 @@ reads_goes old new reads =
     record {
       home = reads.home;
       found = reads.found;
+      version = reads.version;
       room = omega (arith, reads.room);
       spends = λ some.
           let numbers : free_numbers new.map ≡ free_numbers old.map = ap free_numbers reads.map in
@@ -304,6 +305,7 @@ module _ (old mid new : Lent) (first : GoesOver old mid) (second : GoesOver mid 
   goes_then = record {
     home = second.home ∙ first.home;
     found = second.found ∙ first.found;
+    version = second.version ∙ first.version;
     room = omega (arith, first.room, second.room);
     spends = λ some.
         let one = first.spends (omega (arith, some, second.room)) in

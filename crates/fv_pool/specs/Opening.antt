@@ -12,6 +12,11 @@ use Rattle.fv_aggmap.specs.Loading.{IsFault as IsMapFault, IsLoaded as IsMapLoad
 use Rattle.fv_aggmap.specs.Space.{blocks_of}
 use Rattle.fv_pool.specs.declared.pool.Pool.{Pool}
 
+-- What is in memory of a pool says nothing else than the root that was found: no block is kept, and the next root will have its version.
+pub record IsAsFound (pool : Pool) : Type 0 where
+  pub kept : pool.kept ≡ fin.empty
+  pub version : pool.version ≡ pool.found.root.version
+
 -- The aggregate map of the root that was found is read, nothing is kept, and no slot has a container.
 pub record OpensPool (old : Shown) (root : Found) (new : Shown) (result : Result Pool BlockFault) : Type 0 where
   pub map : IsTrue old.tells → IfOk result (λ pool. IsMapLoaded old.reads root pool.map)
@@ -19,6 +24,7 @@ pub record OpensPool (old : Shown) (root : Found) (new : Shown) (result : Result
   pub empty : IfOk result (λ pool. pool.kept ≡ fin.empty)
   pub holeless : IfOk result (λ pool. pool.containers ≡ no_containers)
   pub found : IfOk result (λ pool. pool.found ≡ root)
+  pub version : IfOk result (λ pool. pool.version ≡ root.root.version)
   pub stands : IfOk result (λ pool. StandsOn new pool.store.pairs)
   -- a bit of the map is set past the last block
   pub fault : IsTrue old.tells → IfErr result (IsMapFault old.reads root)

@@ -423,7 +423,7 @@ fn find_entry<D: Disk, L: Ledger>(
 
 /// Whether a slot of the maps has a VVBN, the base's among them. Costs a step for each slot.
 #[tactic(auto, using(crate::proofs::Lent::taken_anywhere))]
-pub fn is_taken(map: &VolMap, vvbn: u32) -> bool
+fn is_taken(map: &VolMap, vvbn: u32) -> bool
     ensures { result ≡ taken_in map.now.slots vvbn }
 {
     known_maps(map);

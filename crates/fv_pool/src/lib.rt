@@ -19,7 +19,7 @@ mod volume_blocks;
 mod volume_drops;
 mod volume_places;
 
-pub use blocks::{Home, is_taken, place_block, read_pointed, read_pointed_as};
+pub use blocks::{Home, place_block, read_pointed, read_pointed_as};
 pub use fault::VolumeFault;
 pub use kept::Kept;
 pub use known::known_maps;

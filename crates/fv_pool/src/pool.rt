@@ -40,6 +40,8 @@ pub struct Pool {
     pub kept: Kept,
     /// The root on the disk that counts, with its slot.
     pub found: Found,
+    /// The version of the format that the next root will have.
+    pub version: u8,
 }
 
 impl Pool {
@@ -64,6 +66,7 @@ impl Pool {
             map,
             containers,
             kept: Kept::new(alloc),
+            version: found.root.version,
             found,
         })
     }
@@ -145,6 +148,7 @@ impl Pool {
         ensures map { self.new.map ≡ self.old.map }
         ensures containers { self.new.containers ≡ self.old.containers }
         ensures found { self.new.found ≡ self.old.found }
+        ensures version { self.new.version ≡ self.old.version }
         ensures stands { StandsOn (D.shown disk.new) self.new.store.pairs }
     {
         self.kept.write(&mut self.store, disk)?;

@@ -126,6 +126,7 @@ impl<'p, 'd, 'v, 's, K: Guard, D: Disk, L: Ledger> Blocks
 
     ghost keeps_on = { λ v a b c first second. tt };
 
+    #[tactic(auto, using(crate::proofs::Fields::leaves_apart, crate::proofs::Fields::leaves_clean, crate::proofs::Fields::leaves_damage))]
     fn load(&mut self, pointer: &Pointer, into: &mut [u8; 4096]) -> Result<u32, TreeFault> {
         match read_pointed(
             self.pool, self.disk, self.map, self.steps, &self.home, pointer, into,
@@ -135,6 +136,7 @@ impl<'p, 'd, 'v, 's, K: Guard, D: Disk, L: Ledger> Blocks
         }
     }
 
+    #[tactic(auto, using(crate::proofs::Fields::leaves_apart, crate::proofs::Fields::leaves_clean, crate::proofs::Fields::leaves_damage))]
     fn load_as(
         &mut self,
         pointer: &Pointer,
@@ -150,6 +152,7 @@ impl<'p, 'd, 'v, 's, K: Guard, D: Disk, L: Ledger> Blocks
         }
     }
 
+    #[tactic(auto, using(crate::proofs::Fields::loads_blocks, crate::proofs::Fields::loads_entries, crate::proofs::Fields::placed_damage, crate::proofs::Fields::placed_entries, crate::proofs::Fields::placed_few))]
     fn place(&mut self, kind: u8, block: &[u8; 4096]) -> Result<Placed, TreeFault> {
         match place_block(self.pool, self.disk, self.map, &self.home, kind, block) {
             Ok(placed) => {

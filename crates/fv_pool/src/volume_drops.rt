@@ -87,6 +87,7 @@ impl<'p, 'd, 'v, 's, K: Guard, D: Disk, L: Ledger> Blocks for VolumeDrops<'p, 'd
 
     ghost keeps_on = { λ v a b c first second. tt };
 
+    #[tactic(auto, using(crate::proofs::Fields::leaves_apart, crate::proofs::Fields::leaves_clean, crate::proofs::Fields::leaves_damage))]
     fn load(&mut self, pointer: &Pointer, into: &mut [u8; 4096]) -> Result<u32, TreeFault> {
         match read_pointed(
             self.pool, self.disk, self.map, self.steps, &self.home, pointer, into,
@@ -96,6 +97,7 @@ impl<'p, 'd, 'v, 's, K: Guard, D: Disk, L: Ledger> Blocks for VolumeDrops<'p, 'd
         }
     }
 
+    #[tactic(auto, using(crate::proofs::Fields::leaves_apart, crate::proofs::Fields::leaves_clean, crate::proofs::Fields::leaves_damage))]
     fn load_as(
         &mut self,
         pointer: &Pointer,

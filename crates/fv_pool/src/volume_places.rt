@@ -107,6 +107,7 @@ impl<'p, 'd, 'v, K: Guard, D: Disk> Blocks for VolumePlaces<'p, 'd, 'v, K, D> {
         Err(TreeFault::Memory)
     }
 
+    #[tactic(auto, using(crate::proofs::Fields::loads_blocks, crate::proofs::Fields::loads_entries, crate::proofs::Fields::placed_damage, crate::proofs::Fields::placed_entries, crate::proofs::Fields::placed_few))]
     fn place(&mut self, kind: u8, block: &[u8; 4096]) -> Result<Placed, TreeFault> {
         match place_block(self.pool, self.disk, self.map, &self.home, kind, block) {
             Ok(placed) => {

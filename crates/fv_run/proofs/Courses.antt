@@ -64,6 +64,7 @@ carried_over sure told session (VolDestroy name) next gives is = record {
     kept = λ so. is.gone.kept (gives so);
     fewer = is.gone.fewer;
     found = is.gone.found;
+    version = is.gone.version;
   };
 }
 carried_over sure told session command next gives is = is

@@ -38,6 +38,6 @@ module _ (d e : Shown) (stays : Stays d e) (pool : Pool) (states : States) where
   unfolding machine_held
   machine_rests = λ j. record {
     blocks = pool.found.blocks;
-    version = pool.found.root.version;
+    version = pool.version;
     volumes = fin.from_entries {R = name_cmp} (flat_map (λ s. named_rests d e stays pool (state_at states s) j) slots);
   }

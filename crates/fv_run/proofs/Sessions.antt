@@ -19,7 +19,6 @@ use Rattle.fv_root.specs.Commits.{IsFoundOn}
 use Rattle.fv_run.proofs.Resting.{all_ready_still, held_still, machine_rests}
 use Rattle.fv_root.specs.declared.find.Found.{Found}
 use Rattle.fv_root.specs.Finding.{IsDamaged, IsFound, IsNoAggregate, root_found}
-use Rattle.fv_container.specs.Chains.{IsLeafDamage, KeepsMaps, Slots}
 use Rattle.fv_aggregate.specs.declared.fault.OpenFault.TheVariants.{Damaged}
 use Rattle.fv_aggregate.specs.declared.session.Session.{Session}
 use Rattle.fv_aggregate.specs.declared.fault.Fault.TheVariants as session_fault
@@ -195,13 +194,9 @@ hurt_last lines count i first over session end all course opened hurt = record {
 
 -- a session of which nothing was read
 pub as_read_itself : (session : Session) → IsAsRead session session
-as_read_itself session = record { pool = record { map = refl; containers = refl; kept = refl; found = refl }; volumes = λ s. refl; same = refl }
+as_read_itself session = record { pool = record { map = refl; containers = refl; kept = refl; found = refl; version = refl }; volumes = λ s. refl; same = refl }
 
 -- ---- points that lack blocks
-
--- a leaf isn't there that a container has by its map, also where other leaves came into memory
-leaf_kept : (disk : Shown) (i : Image) (old new : Slots) (at want found : ℕ) → KeepsMaps disk old new → IsLeafDamage i new at want found → IsLeafDamage i old at want found
-leaf_kept disk i old new at want found keeps is = record { slot = is.slot; map = is.map; there = sym (keeps.maps is.slot) ∙ is.there; leaf = is.leaf }
 
 -- where nothing of files waits, a point that lacks blocks lacks them in the image; or a leaf isn't there
 pub lacks : (old new : Shown) (session new_session : Session) (at want found : ℕ) → calls.IsForWant old session new new_session (session_fault.Damaged at want found) → LacksSpace old session new
@@ -217,7 +212,7 @@ lacks old new session new_session at want found is tells none room asks = ⊎_el
       at = at;
       want = want;
       found = found;
-      leaf = leaf_kept new new.reads session.pool.containers new_session.pool.containers at want found (lost.same none.none).0.containers (lost.leaf (rw is.0.stays.tells tells));
+      leaf = lost.leaf (rw is.0.stays.tells tells);
     }))
     other)
     is.1

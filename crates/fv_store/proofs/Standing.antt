@@ -8,7 +8,7 @@ use Rattle.lru.proofs.Splits.{Contains-head, Contains-tail, Contains-cons, Conta
 use Rattle.fv_disk.specs.declared.Failed.{Failed}
 use Rattle.fv_disk.specs.Shown.{Shown}
 use Rattle.fv_disk.specs.DiskCalls.{Reads, Writes}
-use Rattle.fv_store.specs.Held.{Pairs, block_at, without, to_front, StandsOn, Keeps, KeepsFrom, Renews}
+use Rattle.fv_store.specs.Held.{Pairs, block_at, without, to_front, StandsOn, Holds, Keeps, KeepsFrom, Renews}
 use Rattle.fv_store.proofs.Lists.{without_first, without_other}
 
 same_number : (k j : ℕ) → nat_eq k j ≡ true → k ≡ j
@@ -103,6 +103,26 @@ stands_renewed old new es after k b (Ok unit) renewed write done stands = by_cas
         | inr rest ↦ (stands_forgotten old new es (without es k) k b (Ok unit) refl write stands).same told j c rest
       ];
     }
+
+-- a block that was written may be held
+pub stands_held : (old new : Shown) (es after : Pairs) (capacity k : ℕ) (b : List ℕ) (result : Result Unit Failed) → Holds es capacity k b after → Writes old k b new result → IsOk result → StandsOn old es → StandsOn new after
+stands_held old new es after capacity k b (Err failed) holds write done stands = cc
+stands_held old new es after capacity k b (Ok unit) holds write done stands = by_case (block_at es k) refl
+  where
+    more : block_at es k ≡ None → StandsOn new ((k, b) ∷ take (capacity - 1) es)
+    more absent = record {
+      same = λ told j c in_it. elim (Contains-cons (k, b) (take (capacity - 1) es) (j, c) in_it) [
+        | inl here ↦ subst (λ p. p.1 ≡ new.reads p.0) here (sym (write.written (subst IsTrue write.tells told)))
+        | inr rest ↦ (stands_absent old new es k b (Ok unit) write stands absent).same told j c (Contains-take (capacity - 1) es (j, c) rest)
+      ];
+    }
+
+    by_case : (o : Option (List ℕ)) → block_at es k ≡ o → StandsOn new after
+    by_case None absent = elim (rw absent at holds.kept) [
+      | inl first ↦ subst (StandsOn new) (sym first) (more absent)
+      | inr same ↦ subst (StandsOn new) (sym same) (stands_absent old new es k b (Ok unit) write stands absent)
+    ]
+    by_case (Some was) found = stands_renewed old new es after k b (Ok unit) (record { held = holds.held; absent = rw found tt }) write done stands
 
 -- one number more is forgotten
 pub forgotten_more : (first : ℕ) (old es after : Pairs) → KeepsFrom first old es → after ≡ without es first → KeepsFrom (first + 1) old after

@@ -62,6 +62,17 @@ pub record Puts (old : Held) (pvbn : ℕ) (block : List ℕ) (new : Held) (resul
   pub done : OnOk result (Renews old.pairs pvbn block new.pairs)
   pub failed : OnErr result (new.pairs ≡ without old.pairs pvbn)
 
+-- a held pair gets a new block and comes to the front, and another one is kept
+pub record Holds (old : Pairs) (capacity pvbn : ℕ) (block : List ℕ) (new : Pairs) : Type 0 where
+  pub held : IfSome (block_at old pvbn) (λ _. new ≡ to_front old pvbn block)
+  pub kept : IfNone (block_at old pvbn) (Keeps old capacity pvbn block new)
+
+-- The block is held afterwards, where memory is found for it. After a failure no block is held under this number, and the others stay.
+pub record PutsHeld (old : Held) (pvbn : ℕ) (block : List ℕ) (new : Held) (result : Result Unit Failed) : Type 0 where
+  pub capacity : new.capacity ≡ old.capacity
+  pub done : OnOk result (Holds old.pairs old.capacity pvbn block new.pairs)
+  pub failed : OnErr result (new.pairs ≡ without old.pairs pvbn)
+
 -- the pairs of each number below one are gone, and there is no new pair
 pub record KeepsFrom (first : ℕ) (old new : Pairs) : Type 0 where
   pub kept : (pvbn : ℕ) (block : List ℕ) → Contains new (pvbn, block) → (first ≤ pvbn) × Contains old (pvbn, block)

@@ -1,9 +1,9 @@
 //! The store itself.
 
-ghost use Rattle.std.specs.Prelude.{◌≡◌, ◌≤◌, [], cond, Some, None, IfOk, IfSome, OnOk, option_copied, option_map, nat_eq};
+ghost use Rattle.std.specs.Prelude.{◌≡◌, ◌≤◌, [], cond, Some, None, IfOk, IfSome, OnOk, is_some, option_copied, option_map, nat_eq};
 ghost use Rattle.fv_codec.specs.Forms.{has_form};
 ghost use Rattle.fv_disk.specs.DiskCalls.{Reads, Writes};
-ghost use Rattle.fv_store.specs.Held.{Held, held, IsStore, StandsOn, Gets, Puts, block_at, to_front, without, Keeps, KeepsFrom, Renews};
+ghost use Rattle.fv_store.specs.Held.{Held, held, Holds, IsStore, StandsOn, Gets, Puts, PutsHeld, block_at, to_front, without, Keeps, KeepsFrom, Renews};
 ghost use Rattle.fv_store.specs.Boxed.{held_in, unboxed};
 ghost use Rattle.std.specs.Map.{set_value};
 
@@ -98,6 +98,24 @@ impl Store {
         write_through(&mut self.cache, disk, pvbn, block)
     }
 
+    /// Writes block `pvbn`, and holds it from then on, where memory is found for it: so the next read of it makes no disk
+    /// call. A held block is renewed, and after a failure it isn't held any more. The one error is a failed write: want of
+    /// memory is none. Costs one block.
+    pub fn put_and_hold<D: Disk>(
+        &mut self,
+        disk: &mut D,
+        pvbn: u32,
+        block: &Block,
+    ) -> Result<(), Failed>
+        requires stands { StandsOn (D.shown disk.old) self.old.pairs }
+        ensures writes { Writes (D.shown disk.old) pvbn block.now (D.shown disk.new) result }
+        ensures list { PutsHeld self.old pvbn block.now self.new result }
+        ensures stands { StandsOn (D.shown disk.new) self.new.pairs }
+        ensures valid { IsStore self.new }
+    {
+        write_and_hold(&mut self.cache, disk, pvbn, block)
+    }
+
     /// Holds no block below this number any more, as one that is about to be written without the store; the
     /// others stay. It takes no memory and makes no disk call. Costs a step for each number below.
     pub fn forget_before(&mut self, first: u32)
@@ -179,6 +197,30 @@ fn write_through<D: Disk>(
     written
 }
 
+/// Writes a block to the disk, and holds it.
+#[tactic(auto, using(crate::proofs::Standing::stands_held, crate::proofs::Standing::stands_forgotten))]
+fn write_and_hold<D: Disk>(
+    cache: &mut Cache,
+    disk: &mut D,
+    pvbn: u32,
+    block: &Block,
+) -> Result<(), Failed>
+    requires valid { IsStore (held_in cache.old) }
+    requires stands { StandsOn (D.shown disk.old) (unboxed cache.old.entries) }
+    ensures writes { Writes (D.shown disk.old) pvbn block.now (D.shown disk.new) result }
+    ensures list { PutsHeld (held_in cache.old) pvbn block.now (held_in cache.new) result }
+    ensures stands { StandsOn (D.shown disk.new) (unboxed cache.new.entries) }
+    ensures valid { IsStore (held_in cache.new) }
+{
+    let written = disk.write(u64::from(pvbn), block);
+    if written.is_ok() {
+        hold(cache, pvbn, block);
+    } else {
+        forget(cache, pvbn);
+    }
+    written
+}
+
 /// Copies a block, if there is one, and tells whether there is.
 fn copy_block(from: Option<&Box<Judged>>, into: &mut Block) -> bool
     ensures { option_map (λ block. block.value) (option_copied from.entry) ≡ cond result (Some into.new) None }
@@ -218,6 +260,27 @@ fn keep(cache: &mut Cache, pvbn: u32, block: &Block)
 {
     if let Ok(boxed) = Box::new(*cache.allocator(), Judged::new(block)) {
         let _ = cache.put(pvbn, boxed);
+    }
+}
+
+/// Whether a block is held under this number.
+fn is_held(cache: &Cache, pvbn: u32) -> bool
+    ensures { result ≡ is_some (block_at (unboxed cache.now.entries) pvbn) }
+{
+    cache.contains(&pvbn)
+}
+
+/// Holds a block at the front: a held one is renewed, and another one is kept where memory is found for it.
+fn hold(cache: &mut Cache, pvbn: u32, block: &Block)
+    requires { IsStore (held_in cache.old) }
+    ensures list { Holds (unboxed cache.old.entries) cache.old.cap pvbn block.now (unboxed cache.new.entries) }
+    ensures capacity { cache.new.cap ≡ cache.old.cap }
+    ensures valid { IsStore (held_in cache.new) }
+{
+    if is_held(cache, pvbn) {
+        renew(cache, pvbn, block);
+    } else {
+        keep(cache, pvbn, block);
     }
 }
 

@@ -1,13 +1,16 @@
 -- Slots in a row.
-use Rattle.std.proofs.Common.{◌≡◌, ℕ, zero, suc, ◌+◌, ◌-◌, ◌<◌, ◌≤◌, Bool, true, false, ◌||◌, List, [], ◌∷◌, ◌++◌, length, take, drop, get_or, set, Some, None, All, refl, sym, ap, subst, ◌∙◌, ◌==◌, cond, arith, length-set}
+use Rattle.std.proofs.Common.{◌≡◌, ℕ, zero, suc, ◌+◌, ◌-◌, ◌<◌, ◌≤◌, Bool, true, false, ◌||◌, ◌&&◌, not, List, [], ◌∷◌, ◌++◌, length, take, drop, get_or, set, Some, None, All, ⊎_elim, refl, sym, ap, ap₂, subst, ◌∙◌, ◌==◌, cond, arith, length-set}
+use Rattle.std.specs.Prelude.{count_by}
 use Rattle.std.proofs.lemmas.Bool.Decides.{nat_tests}
 use Rattle.std.proofs.lemmas.List.Folds.{list_any_more, list_any_at, list_any-append}
-use Rattle.std.proofs.lemmas.List.{length-take-le, set_split}
+use Rattle.std.proofs.lemmas.List.{length-take, length-take-le, get_or_past, set_split, take-take, take_all, get_or-take, get_or-set_other}
+use Rattle.std.proofs.Math.Seq.{take-set-lt}
+use Rattle.std.proofs.lemmas.Bool.{cases_lt}
 use Rattle.std.proofs.lemmas.List.Elements.{All-set, All-take}
 use Rattle.fv_bits.specs.Members.{is_member}
 use Rattle.fv_bits.proofs.Laws.{is_member-set, is_member_past}
-use Rattle.fv_volmap.specs.Slots.{Slot, has, taken_in}
-use Rattle.fv_volmap.specs.Kept.{IsLong, IsKept, Unites}
+use Rattle.fv_volmap.specs.Slots.{Slot, has, taken_in, has_alone, IsVolume}
+use Rattle.fv_volmap.specs.Kept.{IsLong, AreUsedTo, IsKept, Unites}
 
 or_none : (t : Bool) → (t || false) ≡ t
 or_none true = refl
@@ -49,19 +52,32 @@ twice : (a b : Bool) → (a || (a || b)) ≡ (a || b)
 twice true b = refl
 twice false b = refl
 
+-- what is kept so is a volume's
+pub is_volume : (span : ℕ) (active : List Bool) (others : List Slot) (used : ℕ) (union : List Bool) (united : Bool) (next : ℕ) → IsKept span active others used union united next → IsVolume (record { span = span; slots = Some active ∷ others })
+is_volume span active others used union united next kept = record {
+  count = ap suc kept.count;
+  active = refl;
+  long = each;
+}
+  where
+    each : All (IsLong span) (Some active ∷ others)
+    each zero d inside = kept.active_long
+    each (suc i) d inside = kept.others_long i d (omega (arith, inside))
+
 -- the active map is copied to a free slot
-pub kept_copy : (span : ℕ) (active : List Bool) (others : List Slot) (union : List Bool) (united : Bool) (next slot : ℕ) (copy : List Bool) → IsKept span active others union united next → slot < 26 → get_or (Some active ∷ others) slot None ≡ None → copy ≡ active → IsKept span active (set others (slot - 1) (Some copy)) union united next
-kept_copy span active others union united zero_next zero copy kept below free same = cc
-kept_copy span active others union united next (suc at) copy kept below free same =
+pub kept_copy : (span : ℕ) (active : List Bool) (others : List Slot) (used : ℕ) (union : List Bool) (united : Bool) (next slot : ℕ) (copy : List Bool) (more : ℕ) → IsKept span active others used union united next → slot < 26 → get_or (Some active ∷ others) slot None ≡ None → copy ≡ active → AreUsedTo more (set others (slot - 1) (Some copy)) → IsKept span active (set others (slot - 1) (Some copy)) more union united next
+kept_copy span active others used union united next zero copy more kept below free same now = cc
+kept_copy span active others used union united next (suc at) copy more kept below free same now =
     let inside : at < length others = omega (arith, kept.count, below) in
     let low : suc at - 1 ≡ at = omega arith in
-    rw (same, low) record {
-      count = length-set others at (Some active) ∙ kept.count;
+    record {
+      count = length-set others (suc at - 1) (Some copy) ∙ kept.count;
       active_long = kept.active_long;
-      others_long = All-set (IsLong span) others at (Some active) kept.active_long kept.others_long;
+      others_long = rw (same, low) (All-set (IsLong span) others at (Some active) kept.active_long kept.others_long);
+      used_to = now;
       union_long = kept.union_long;
       next_within = kept.next_within;
-      exact = λ fresh v. kept.exact fresh v ∙ sym (ap (λ t. is_member active v || t) (taken_set others at v active inside free) ∙ twice (is_member active v) (taken_in others v));
+      exact = rw (same, low) (λ fresh v. kept.exact fresh v ∙ sym (ap (λ t. is_member active v || t) (taken_set others at v active inside free) ∙ twice (is_member active v) (taken_in others v)));
     }
 
 -- a number goes into the active map or out of it
@@ -72,13 +88,14 @@ added : (same a o : Bool) → cond same true (a || o) ≡ (cond same true a || o
 added true a o = refl
 added false a o = refl
 
-pub kept_more : (span : ℕ) (active : List Bool) (others : List Slot) (union : List Bool) (v : ℕ) → length others ≡ 25 → length active ≡ span → All (IsLong span) others → Unites active others union → v < length union → IsKept span (set active v true) others (set union v true) true (v + 1)
-kept_more span active others union v count active_long others_long unites within =
+pub kept_more : (span : ℕ) (active : List Bool) (others : List Slot) (used : ℕ) (union : List Bool) (v : ℕ) → length others ≡ 25 → length active ≡ span → All (IsLong span) others → AreUsedTo used others → Unites active others union → v < length union → IsKept span (set active v true) others used (set union v true) true (v + 1)
+kept_more span active others used union v count active_long others_long used_to unites within =
     let inside : v < length active = omega (arith, unites.len) in
     record {
       count = count;
       active_long = length-set active v true ∙ active_long;
       others_long = others_long;
+      used_to = used_to;
       union_long = length-set union v true ∙ unites.len ∙ active_long;
       next_within = omega (arith, inside, active_long);
       exact = λ fresh u. put_in union v u true within ∙ ap (cond (u == v) true) (unites.members u) ∙ added (u == v) (is_member active u) (taken_in others u) ∙ ap (λ t. t || taken_in others u) (sym (put_in active v u true inside));
@@ -96,33 +113,96 @@ stayed true false o some = refl
 same_taken : (others : List Slot) (u v : ℕ) (t : Bool) → taken_in others v ≡ t → (u == v) ≡ true → taken_in others u ≡ t
 same_taken others u v t is same = let at : u ≡ v = grind (arith, nat_tests, same) in ap (taken_in others) at ∙ is
 
-module _ (span : ℕ) (active : List Bool) (others : List Slot) (union : List Bool) (united : Bool) (next v : ℕ) where
-  pub kept_fewer : IsKept span active others union united next → v < span → taken_in others v ≡ false → IsKept span (set active v false) others (set union v false) united next
+module _ (span : ℕ) (active : List Bool) (others : List Slot) (used : ℕ) (union : List Bool) (united : Bool) (next v : ℕ) where
+  pub kept_fewer : IsKept span active others used union united next → v < span → taken_in others v ≡ false → IsKept span (set active v false) others used (set union v false) united next
   kept_fewer kept within none = record {
     count = kept.count;
     active_long = length-set active v false ∙ kept.active_long;
     others_long = kept.others_long;
+    used_to = kept.used_to;
     union_long = length-set union v false ∙ kept.union_long;
     next_within = kept.next_within;
     exact = λ fresh u. put_in union v u false (omega (arith, kept.union_long)) ∙ ap (cond (u == v) false) (kept.exact fresh u) ∙ removed (u == v) (is_member active u) (taken_in others u) (same_taken others u v false none) ∙ ap (λ t. t || taken_in others u) (sym (put_in active v u false (omega (arith, kept.active_long))));
   }
 
-  pub kept_still : IsKept span active others union united next → v < span → taken_in others v ≡ true → IsKept span (set active v false) others union united next
+  pub kept_still : IsKept span active others used union united next → v < span → taken_in others v ≡ true → IsKept span (set active v false) others used union united next
   kept_still kept within some = record {
     count = kept.count;
     active_long = length-set active v false ∙ kept.active_long;
     others_long = kept.others_long;
+    used_to = kept.used_to;
     union_long = kept.union_long;
     next_within = kept.next_within;
     exact = λ fresh u. kept.exact fresh u ∙ stayed (u == v) (is_member active u) (taken_in others u) (same_taken others u v true some) ∙ ap (λ t. t || taken_in others u) (sym (put_in active v u false (omega (arith, kept.active_long))));
   }
 
--- the 24 slots of snapshots
-pub stored_slots : (slots items : List Slot) → slots ≡ items → length items ≡ 25 → 24 ≡ length (take 24 slots)
-stored_slots slots items same count = sym (length-take-le 24 slots (omega (arith, ap length same)))
+-- a free slot before those that are free
+pub used_before : (others : List Slot) (count : ℕ) → 0 < count → AreUsedTo count others → get_or others (count - 1) None ≡ None → AreUsedTo (count - 1) others
+used_before others count above used here = record {
+  within = omega (arith, used.within);
+  free = λ at le lt. ⊎_elim
+      (λ less. used.free at (omega (arith, less, above)) lt)
+      (λ most. let same : at ≡ count - 1 = omega (arith, le, most) in ap (λ (i : ℕ). get_or others i None) same ∙ here)
+      (cases_lt (count - 1) at);
+}
 
-pub stored_long : (span : ℕ) (slots items : List Slot) (union : List Bool) → slots ≡ items → All (IsLong span) items → length union ≡ span → All (IsLong (length union)) (take 24 slots)
-stored_long span slots items union same long whole = subst (λ n. All (IsLong n) (take 24 slots)) (sym whole) (All-take (IsLong span) 24 slots (subst (All (IsLong span)) (sym same) long))
+-- no slot from this one on is used
+abbrev IsFreeFrom : ℕ → List Slot → Type 0
+IsFreeFrom from slots = (at : ℕ) → from ≤ at → get_or slots at None ≡ None
+
+free_from : (others : List Slot) (used : ℕ) → AreUsedTo used others → IsFreeFrom used (take 24 others)
+free_from others used is at le = ⊎_elim
+    (λ lt. get_or-take 24 others at None lt ∙ is.free at le lt)
+    (λ past. get_or_past (take 24 others) at None (omega (arith, length-take 24 others, past)))
+    (cases_lt at 24)
+
+-- what some slots have is what those before the free ones have
+taken_front : (from : ℕ) (slots : List Slot) (v : ℕ) → IsFreeFrom from slots → taken_in (take from slots) v ≡ taken_in slots v
+taken_front zero [] v free = refl
+taken_front (suc from) [] v free = refl
+taken_front zero (s ∷ ss) v free = taken_front zero ss v (λ at le. free (suc at) (omega arith)) ∙ sym (ap (λ t. has v t || taken_in ss v) (free 0 (omega arith)))
+taken_front (suc from) (s ∷ ss) v free = ap (λ t. has v s || t) (taken_front from ss v (λ at le. free (suc at) (omega (arith, le))))
+
+-- the slots of snapshots up to the last that is used
+pub used_slots : (used : ℕ) (slots items : List Slot) → slots ≡ items → length items ≡ 25 → AreUsedTo used items → used ≡ length (take used slots)
+used_slots used slots items same count is = sym (length-take-le used slots (omega (arith, ap length same, count, is.within)))
+
+-- what the slots of snapshots have, those of them up to the last that is used have
+pub taken_stored : (slots others : List Slot) (used v : ℕ) → slots ≡ others → AreUsedTo used others → taken_in (take used slots) v ≡ taken_in (take 24 others) v
+taken_stored slots others used v same is =
+    ap (λ (s : List Slot). taken_in (take used s) v) same
+    ∙ ap (λ (s : List Slot). taken_in s v) (sym (take-take used 24 others is.within))
+    ∙ taken_front used (take 24 others) v (free_from others used is)
+
+-- and the slot of the base is the last of all
+pub taken_with_base : (others : List Slot) (used v : ℕ) (base : Slot) → length others ≡ 25 → AreUsedTo used others → (taken_in (take used others) v || has v (get_or others 24 base)) ≡ taken_in others v
+taken_with_base others used v base count is =
+    ap (λ t. t || has v (get_or others 24 base)) (taken_stored others others used v refl is)
+    ∙ sym (list_any_more (has v) others 24 base (omega (arith, count)))
+    ∙ ap (λ (s : List Slot). taken_in s v) (take_all 25 others (omega (arith, count)))
+
+-- what a slot has alone, it has alone among those up to the last that is used
+alone_front : (active : Slot) (rows : List Slot) (used at v : ℕ) → at < used → IsFreeFrom used rows → has_alone (active ∷ take used rows) (suc at) v ≡ has_alone (active ∷ rows) (suc at) v
+alone_front active rows used at v inside free =
+    ap₂ (λ s t. has v s && not (has v active || t)) (get_or-take used rows at None inside)
+    (ap (λ (s : List Slot). taken_in s v) (sym (take-set-lt used rows at None inside)) ∙ taken_front used (set rows at None) v (λ i le. get_or-set_other rows at i None None (λ same. omega (arith, same, le, inside)) ∙ free i le))
+
+pub alone_stored : (active : Slot) (others : List Slot) (used at : ℕ) (numbers : List ℕ) → at < used → AreUsedTo used others → count_by (has_alone (active ∷ take used others) (suc at)) numbers ≡ count_by (has_alone (active ∷ take 24 others) (suc at)) numbers
+alone_stored active others used at numbers inside is =
+    ap (λ (rows : List Slot). count_by (has_alone (active ∷ rows) (suc at)) numbers) (sym (take-take used 24 others is.within))
+    ∙ ap (λ (p : ℕ → Bool). count_by p numbers) (λ j v. alone_front active (take 24 others) used at v inside (free_from others used is) j)
+
+count_none : (numbers : List ℕ) → count_by (λ v. false) numbers ≡ 0
+count_none [] = refl
+count_none (v ∷ vs) = count_none vs
+
+-- a slot after the last that is used has none
+pub alone_past : (active : Slot) (others : List Slot) (used at : ℕ) (numbers : List ℕ) → used ≤ at → AreUsedTo used others → count_by (has_alone (active ∷ take 24 others) (suc at)) numbers ≡ 0
+alone_past active others used at numbers past is =
+    ap (λ (p : ℕ → Bool). count_by p numbers) (λ j v. has v (free_from others used is at past j) && not (taken_in (active ∷ set (take 24 others) at None) v)) ∙ count_none numbers
+
+pub stored_long : (span used : ℕ) (slots items : List Slot) (union : List Bool) → slots ≡ items → All (IsLong span) items → length union ≡ span → All (IsLong (length union)) (take used slots)
+stored_long span used slots items union same long whole = subst (λ n. All (IsLong n) (take used slots)) (sym whole) (All-take (IsLong span) used slots (subst (All (IsLong span)) (sym same) long))
 
 -- no slot has a number from the span on
 pub past_none : (span v n : ℕ) (slots : List Slot) → All (IsLong span) slots → span ≤ v → taken_in (take n slots) v ≡ false

@@ -1,6 +1,7 @@
 //! The slots of a volume.
 
-ghost use Rattle.std.specs.Prelude.{◌≡◌, ℕ, ◌*◌, ◌<◌, ◌≤◌, false, true, length, take, slice_set, Some, None, IsSome, IfSome, IfNone, IfOk, OnOk, OnErr, OnSome, option_copied};
+ghost use Rattle.std.specs.Prelude.{◌≡◌, ℕ, ◌*◌, ◌<◌, ◌≤◌, false, true, count_by, length, min, not, take, slice_set, Some, None, IsSome, IfSome, IfNone, IfOk, OnOk, OnErr, OnSome, option_copied};
+ghost use Rattle.std.specs.List.{range_with_len};
 ghost use Rattle.fv_bits.specs.Bits.{block_bits};
 ghost use Rattle.fv_bits.specs.Members.{IsFirstPast};
 ghost use Rattle.fv_volmap.specs.Slots.{Volume, slot_count, stored_count, slot_at, active_of, taken_in, with_slot, empty_volume, IsVolume, Loads, AreUnited, Allocates, alone_in, is_in_snapshot};
@@ -22,6 +23,8 @@ pub struct VolMap {
     active: BitMap,
     /// Slots 1 to 25.
     others: Vec<Option<BitMap>>,
+    /// How many of `others` there are up to the last that a snapshot uses. Walks for one number go so far, and then to the base's slot.
+    used: usize,
     /// The union of all slots, the base's among them, where `united`.
     union: BitMap,
     united: bool,
@@ -38,7 +41,7 @@ impl Model for VolMap {
 
     ghost view = { λ map. record { span = map.span; slots = Some map.active ∷ map.others.items } };
 
-    ghost invariant = { λ map. IsKept map.span map.active map.others.items map.union map.united map.next };
+    ghost invariant = { λ map. IsKept map.span map.active map.others.items map.used map.union map.united map.next };
 }
 
 impl VolMap {
@@ -55,6 +58,7 @@ impl VolMap {
             span,
             active: BitMap::new(alloc, span)?,
             others: slots::free_slots(alloc, 25)?,
+            used: 0,
             union: BitMap::new(alloc, span)?,
             united: true,
             next: 0,
@@ -65,7 +69,7 @@ impl VolMap {
     /// `None`: the slot is used from then on. Where a bit past the span is set, nothing changes, and the
     /// first such number is answered. Some number of the block is below the span. The one error is want of
     /// memory, for a slot that was free; nothing changes then. Costs a step for each word of 64 numbers of
-    /// the block, and of the span for a slot that was free.
+    /// the block, and of the span for a slot that was free, and one for each free slot after the last that a snapshot uses.
     pub fn load_slot(
         &mut self,
         slot: u8,
@@ -84,13 +88,15 @@ impl VolMap {
         if slot == 0 {
             return Ok(self.active.from_block(index, block));
         }
-        slots::load(
+        let taken = slots::load(
             &mut self.others[slot as usize - 1],
             self.alloc,
             self.span,
             index,
             block,
-        )
+        );
+        self.used = slots::used_count(&self.others);
+        taken
     }
 
     /// The active set. Costs one step.
@@ -113,7 +119,7 @@ impl VolMap {
     }
 
     /// Copies the active set to a free slot. The one error is want of memory; nothing changes then. Costs
-    /// a step for each word of 64 numbers.
+    /// a step for each word of 64 numbers, and one for each free slot after the last that a snapshot uses.
     pub fn keep(&mut self, slot: u8) -> Result<(), AllocError>
         requires slot { slot < slot_count }
         requires free { slot_at self.old slot ≡ None }
@@ -123,10 +129,12 @@ impl VolMap {
     {
         let copy = slots::copy(self.alloc, &self.active)?;
         self.others[slot as usize - 1] = Some(copy);
+        self.used = slots::used_count(&self.others);
         Ok(())
     }
 
-    /// Makes a slot free. Costs one step; the next `allocate` unites the used slots anew.
+    /// Makes a slot free. Costs a step for each free slot after the last that a snapshot uses then; the next `allocate` unites the used
+    /// slots anew.
     pub fn forget(&mut self, slot: u8)
         requires above { 0 < slot }
         requires slot { slot < slot_count }
@@ -135,6 +143,7 @@ impl VolMap {
     {
         self.united = false;
         self.others[slot as usize - 1] = None;
+        self.used = slots::used_count(&self.others);
     }
 
     /// Makes the active set that of a used slot, which stays. It takes no memory. Costs a step for each
@@ -151,36 +160,56 @@ impl VolMap {
         }
     }
 
-    /// The union of the used slots from 0 to 24; what the base reaches is left out. It takes no memory. Costs
-    /// a step for each word of each used slot; the next `allocate` unites the used slots anew.
-    #[tactic(auto, using(crate::proofs::Rows::stored_slots))]
+    /// The union of the used slots from 0 to 24; what the base reaches is left out. It takes no memory. Costs a step for each word of each
+    /// used slot, and one for each slot up to the last that a snapshot uses; the next `allocate` unites the used slots anew.
+    #[tactic(auto, using(crate::proofs::Rows::used_slots))]
     pub fn united(&mut self) -> &BitMap
         ensures* same { sem 𝓛 (StaysLent self.entry) }
         ensures union { AreUnited self.old result.now }
         ensures valid { IsVolume self.old }
     {
-        slots::unite(&mut self.union, &self.active, &self.others[..24]);
+        slots::unite(&mut self.union, &self.active, &self.others[..self.used]);
         self.united = false;
         &self.union
     }
 
     /// How many numbers a snapshot's slot has that no other slot from 0 to 24 has; what the base reaches is
-    /// left out. None for a free slot. Costs a step for each number below the span, and for each that the
-    /// slot has one for each slot.
-    #[tactic(auto, using(crate::proofs::Rows::stored_slots))]
+    /// left out. None for a free slot. Costs a step for each number below the span, and for each that the slot has one for each slot up to
+    /// the last that a snapshot uses. For a slot after that it costs one step.
+    #[tactic(auto, using(crate::proofs::Rows::used_slots))]
     pub fn count_alone(&self, slot: u8) -> u32
         requires above { 0 < slot }
         requires slot { slot < stored_count }
         ensures { result ≡ alone_in self.now slot }
     {
         let at = slot as usize - 1;
-        slots::count_alone(&self.active, &self.others[..24], at, self.span)
+        if at >= self.used {
+            return 0;
+        }
+        slots::count_alone(&self.active, &self.others[..self.used], at, self.span)
+    }
+
+    /// How many numbers below the span no slot has, the base's slot among them, or `most` where that is less. It looks first where `allocate`
+    /// does. Costs a step for each slot up to the last that a snapshot uses, for each number that it passes until it has counted so many.
+    pub fn count_free(&self, most: u32) -> u32
+        ensures { result ≡ min most (count_by (λ v. not (taken_in self.now.slots v)) (range_with_len 0 self.now.span)) }
+    {
+        let behind = slots::count_free(
+            &self.active,
+            &self.others,
+            self.used,
+            self.next,
+            self.span,
+            most,
+        );
+        let rest = most - behind;
+        behind + slots::count_free(&self.active, &self.others, self.used, 0, self.next, rest)
     }
 
     /// Adds to the active set a number below the span that no slot has, the base's slot among them, and
     /// answers it; `None` exactly where there is none. It takes no memory. Costs a step for each word of 64
     /// numbers from where the last one was found, around once. The first call after slots were loaded,
-    /// forgotten or restored also unites the used slots, a step for each of their words.
+    /// forgotten or restored also unites the used slots, a step for each of their words and one for each slot.
     #[tactic(auto, using(crate::proofs::Rows::kept_more))]
     pub fn allocate(&mut self) -> Option<u32>
         ensures none { IfNone result ((v : ℕ) → v < self.old.span → taken_in self.old.slots v ≡ true) }
@@ -197,8 +226,8 @@ impl VolMap {
         Some(v)
     }
 
-    /// Takes a number out of the active set; one that isn't in it changes nothing. Costs a step for each
-    /// slot.
+    /// Takes a number out of the active set; one that isn't in it changes nothing. Costs a step for each slot up to the last that a
+    /// snapshot uses, and one for the base's.
     #[tactic(auto, using(crate::proofs::Rows::kept_fewer, crate::proofs::Rows::kept_still))]
     pub fn release(&mut self, vvbn: u32)
         ensures released { self.new ≡ with_slot self.old 0 (Some (slice_set (active_of self.old) vvbn false)) }
@@ -208,29 +237,29 @@ impl VolMap {
             return;
         }
         self.active.clear(vvbn);
-        if !slots::any_has(&self.others, vvbn) {
+        if !slots::any_used_has(&self.others, self.used, vvbn) {
             self.union.clear(vvbn);
         }
     }
 
-    /// Whether the slot of a snapshot, 1 to 24, has this number, whatever number it is; none has one from the
-    /// span on. Costs a step for each slot. `docs/DECISIONS.md` has how what stays charged is counted.
-    #[tactic(auto, using(crate::proofs::Rows::stored_slots, crate::proofs::Rows::past_none))]
+    /// Whether the slot of a snapshot, 1 to 24, has this number, whatever number it is; none has one from the span on. Costs a step for
+    /// each slot up to the last that a snapshot uses. `docs/DECISIONS.md` has how what stays charged is counted.
+    #[tactic(auto, using(crate::proofs::Rows::used_slots, crate::proofs::Rows::past_none))]
     pub fn in_snapshot(&self, vvbn: u64) -> bool
         ensures { result ≡ is_in_snapshot self.now vvbn }
     {
         if vvbn >= u64::from(self.span) {
             return false;
         }
-        slots::any_has(&self.others[..24], vvbn as u32)
+        slots::any_has(&self.others[..self.used], vvbn as u32)
     }
 
-    /// Whether a slot from 0 to 24 has this number; none has one from the span on. Costs a step for each
-    /// slot.
-    #[tactic(auto, using(crate::proofs::Rows::stored_slots))]
+    /// Whether a slot from 0 to 24 has this number; none has one from the span on. Costs a step for each slot up to the last that a
+    /// snapshot uses.
+    #[tactic(auto, using(crate::proofs::Rows::used_slots))]
     pub fn held(&self, vvbn: u32) -> bool
         ensures { result ≡ taken_in (take stored_count self.now.slots) vvbn }
     {
-        slots::has_member(&self.active, vvbn) || slots::any_has(&self.others[..24], vvbn)
+        slots::has_member(&self.active, vvbn) || slots::any_has(&self.others[..self.used], vvbn)
     }
 }

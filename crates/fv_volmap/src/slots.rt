@@ -1,11 +1,11 @@
 //! Slots in a row, each free or with a map.
 
-ghost use Rattle.std.specs.Prelude.{◌≡◌, ℕ, ◌*◌, ◌<◌, ◌≤◌, ◌||◌, ◌∷◌, suc, false, true, cond, count_by, length, replicate, slice_set, All, Some, None, IsSome, IfSome, IfNone, IfOk, OnErr, OnSome};
+ghost use Rattle.std.specs.Prelude.{◌≡◌, ℕ, ◌*◌, ◌-◌, ◌<◌, ◌≤◌, ◌||◌, ◌∷◌, suc, false, true, cond, count_by, length, min, not, replicate, slice_set, All, Some, None, IsSome, IfSome, IfNone, IfOk, OnErr, OnSome};
 ghost use Rattle.std.specs.List.{range_with_len};
 ghost use Rattle.fv_bits.specs.Bits.{block_bits};
 ghost use Rattle.fv_bits.specs.Members.{is_member, IsFullFrom, IsFirstPast};
 ghost use Rattle.fv_volmap.specs.Slots.{has, taken_in, has_alone};
-ghost use Rattle.fv_volmap.specs.Kept.{IsLong, Unites, TakesInto};
+ghost use Rattle.fv_volmap.specs.Kept.{IsLong, AreUsedTo, Unites, TakesInto};
 
 use fv_bits::BitMap;
 use fv_disk::Block;
@@ -40,6 +40,61 @@ pub(crate) fn any_has(slots: &[Option<BitMap>], v: u32) -> bool
         }
     }
     false
+}
+
+/// How many of the slots after the active one there are up to the last that a snapshot uses, 0 where none does.
+#[tactic(auto, using(crate::proofs::Rows::used_before))]
+pub(crate) fn used_count(others: &[Option<BitMap>]) -> usize
+    requires { length others.now ≡ 25 }
+    ensures { AreUsedTo result others.now }
+{
+    let mut count = 24;
+    while count > 0 && others[count - 1].is_none() {
+        count -= 1;
+    }
+    count
+}
+
+/// Whether some of the slots after the active one has this number; snapshots use them up to `used`, and the last is the base's.
+pub(crate) fn any_used_has(others: &[Option<BitMap>], used: usize, v: u32) -> bool
+    requires count { length others.now ≡ 25 }
+    requires used { AreUsedTo used others.now }
+    ensures { result ≡ taken_in others.now v }
+{
+    any_has(&others[..used], v) || has(&others[24], v)
+}
+
+/// Whether no slot has this number; snapshots use those after the active one up to `used`, and the last is the base's.
+fn is_free(active: &BitMap, others: &[Option<BitMap>], used: usize, v: u32) -> bool
+    requires count { length others.now ≡ 25 }
+    requires used { AreUsedTo used others.now }
+    ensures { result ≡ not (taken_in (Some active.now ∷ others.now) v) }
+{
+    !has_member(active, v) && !any_used_has(others, used, v)
+}
+
+/// How many numbers from one on up to an end no slot has, or `most` where that is less. It goes no further than to the last that it counts.
+pub(crate) fn count_free(
+    active: &BitMap,
+    others: &[Option<BitMap>],
+    used: usize,
+    from: u32,
+    to: u32,
+    most: u32,
+) -> u32
+    requires count { length others.now ≡ 25 }
+    requires used { AreUsedTo used others.now }
+    requires ordered { from ≤ to }
+    ensures { result ≡ min most (count_by (λ v. not (taken_in (Some active.now ∷ others.now) v)) (range_with_len from (to - from))) }
+{
+    let mut count = 0;
+    for v in from..to {
+        if count == most {
+            return most;
+        }
+        count += u32::from(is_free(active, others, used, v));
+    }
+    count
 }
 
 /// Whether some slot but this one has this number.

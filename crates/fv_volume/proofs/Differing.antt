@@ -3,7 +3,7 @@ use Rattle.std.proofs.Common.{◌≡◌, ◌≢◌, ℕ, Ok, Err, inl, inr, refl
 use Rattle.std.specs.Prelude.{Result, IfErr, IsTrue}
 use Rattle.fv_disk.specs.declared.fault.BlockFault.TheVariants as block
 use Rattle.fv_codec.specs.declared.shape.Shape.{Shape}
-use Rattle.fv_codec.specs.Blocks.{inodes_at, leaf_at, node_at}
+use Rattle.fv_codec.specs.Blocks.{greatest_kind, inodes_at, leaf_at, node_at}
 use Rattle.fv_codec.specs.Fields.{verdict_of}
 use Rattle.fv_codec.proofs.Decoded.{inodes_differs, leaf_differs, node_differs}
 use Rattle.fv_tables.specs.Spelled.{Rooted}
@@ -30,7 +30,7 @@ module _ (told : Type 0) (tells : told) (old : Lent) (entries : IsTrue old.disk.
   read_differs t (calm, inl hole) = hole_differs old.home.label at want found hole.0
   read_differs t (calm, inr (inr leaf)) =
       let shape : Shape = record { want = want; found = found } in
-      shape_differs shape (leaf_at (old.disk.reads at)) (verdict_is shape (leaf_at (old.disk.reads at)) (leaf entries).leaf.fault) (leaf_differs (old.disk.reads at) _ refl)
+      shape_differs shape (leaf_at (old.disk.reads at)) (verdict_is shape (leaf_at (old.disk.reads at)) (leaf entries).leaf.fault) (leaf_differs greatest_kind (old.disk.reads at) _ refl)
   read_differs t (calm, inr (inl node)) = let damage = (node tells).damage in shape_differs (record { want = want; found = found }) (node_at damage.block) damage.fault (node_differs damage.block _ refl)
 
   pub damage_differs : (x : Standing) → TableFails told x old faults (block.Damaged at want found) → want ≢ found

@@ -6,6 +6,7 @@ pub mod Loaded
 pub mod Charging
 pub mod Counted
 pub mod StayingMaps
+pub mod Growing
 pub mod MapCounts
 pub mod Lookups
 pub mod Answered

@@ -1,19 +1,20 @@
 -- How many blocks of maps are written, counted by slots.
-use Rattle.std.proofs.Common.{◌≡◌, ℕ, zero, suc, ◌+◌, ◌-◌, ◌*◌, ◌/◌, ◌<◌, ◌≤◌, Bool, true, false, [], cond, replicate, ◌&&◌, ◌||◌, ◌==◌, get_or, refl, sym, ap, ◌∙◌, arith}
+use Rattle.std.proofs.Common.{◌≡◌, ℕ, zero, suc, ◌+◌, ◌-◌, ◌*◌, ◌<◌, ◌≤◌, Bool, true, false, [], cond, replicate, ◌&&◌, ◌||◌, ◌==◌, get_or, refl, sym, ap, ◌∙◌, arith}
 use Rattle.std.specs.Prelude.{nat_le, nat_lt}
 use Rattle.std.proofs.Math.Nat.{mul-le-mul_right}
 use Rattle.std.proofs.lemmas.Bool.Decides.{nat_tests}
 use Rattle.fv_bits.proofs.Counts.{none_pass, passing, passing-add, passing-suc, passing_same}
 use Rattle.fv_model.specs.Numbers.{most_snapshot_blocks}
 use Rattle.fv_model.specs.Space.{map_blocks}
-use Rattle.fv_image.specs.Views.{entry_count, map_vvbn}
+use Rattle.fv_image.specs.Views.{entry_count, map_slot, map_vvbn}
+use Rattle.fv_image.proofs.Behind.{map_vvbn_within, slot_there}
 use Rattle.fv_volmap.specs.Slots.{stored_count}
 use Rattle.fv_volume.specs.declared.state.VolumeState.{VolumeState}
 use Rattle.fv_volume.specs.Files.{IsLabelled}
 use Rattle.fv_volume.specs.States.{head_in}
 use Rattle.fv_volume.specs.Stored.{is_map_written, is_rewritten}
 use Rattle.fv_volume.specs.Writing.{map_count, map_wait, map_writes}
-use Rattle.fv_volume.proofs.StayingMaps.{map_vvbn_within, none_fresh, none_marked, slot_there, writes_none}
+use Rattle.fv_volume.proofs.StayingMaps.{none_fresh, none_marked, writes_none}
 
 -- a block of a map is written where its slot's map is
 written_is : (x : VolumeState) (j k : ℕ) → j < stored_count → k < map_blocks x.span → is_map_written x (map_vvbn x.span j k) ≡ is_rewritten x j
@@ -25,7 +26,7 @@ written_is x j k few within =
     ∙ ap (λ (t : Bool). t && is_rewritten x (slot_of j k)) below ∙ ap (is_rewritten x) (slot_there x.span j k within)
   where
     slot_of : ℕ → ℕ → ℕ
-    slot_of j k = (map_vvbn x.span j k - x.span) / map_blocks x.span
+    slot_of j k = map_slot x.span (map_vvbn x.span j k)
 
 all_or_none : (t : Bool) (a n : ℕ) → passing (λ v. t) a n ≡ cond t 1 0 * n
 all_or_none true a zero = refl

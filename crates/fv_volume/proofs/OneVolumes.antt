@@ -54,6 +54,7 @@ reads_then d e f p q r first second = record {
     containers = second.leaves.containers ∙ first.leaves.containers;
     kept = second.leaves.kept ∙ first.leaves.kept;
     found = second.leaves.found ∙ first.leaves.found;
+    version = second.leaves.version ∙ first.leaves.version;
   };
   only_reads = disk_then d e f first.only_reads second.only_reads;
   stands = second.stands;

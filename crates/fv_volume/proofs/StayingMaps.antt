@@ -2,8 +2,7 @@
 use Rattle.std.proofs.Common.{◌≡◌, ◌≢◌, ℕ, ◌+◌, ◌-◌, ◌*◌, ◌/◌, ◌%◌, ◌<◌, ◌≤◌, Bool, true, false, not, ◌&&◌, ◌||◌, List, [], ◌==◌, cond, take, replicate, get_or, if◌then◌else◌, refl, sym, ap, ◌∙◌, ⊎_elim, arith}
 use Rattle.std.specs.Prelude.{is_some, nat_le, nat_lt}
 use Rattle.std.specs.List.{list_any}
-use Rattle.std.proofs.Math.Nat.{div-lt_iff_lt-mul, div-zero}
-use Rattle.std.proofs.lemmas.Nat.{div-mul-add, mod-mul-add}
+use Rattle.std.proofs.Math.Nat.{div-zero}
 use Rattle.std.proofs.lemmas.Bool.{and_from, and_parts, cases_eq, true≢false}
 use Rattle.std.proofs.lemmas.Bool.Decides.{nat_tests}
 use Rattle.fv_bits.specs.Members.{is_member}
@@ -11,13 +10,14 @@ use Rattle.fv_bits.proofs.Laws.{is_member-replicate}
 use Rattle.fv_bits.proofs.Counts.{none_pass, passing, passing-add, passing-suc, passing_same}
 use Rattle.fv_model.specs.Space.{map_blocks}
 use Rattle.fv_image.specs.Views.{Snap, entry_count, map_vvbn}
+use Rattle.fv_image.proofs.Behind.{inside_there, map_vvbn_within, slot_there}
 use Rattle.fv_volmap.specs.Slots.{Slot, slot_at, stored_count, taken_in}
 use Rattle.fv_delay.specs.Delay.{is_held, is_used}
 use Rattle.fv_delay.proofs.Held.{held_behind, held_below}
 use Rattle.fv_volume.specs.declared.state.VolumeState.{VolumeState}
 use Rattle.fv_volume.specs.Files.{IsLabelled, IsOneMap}
 use Rattle.fv_volume.specs.States.{head_in}
-use Rattle.fv_volume.specs.Stored.{has_stored_map, is_map_written, is_rewritten, map_index, map_slot, stays}
+use Rattle.fv_volume.specs.Stored.{has_stored_map, is_map_written, is_rewritten, map_slot, stays}
 use Rattle.fv_volume.specs.Writing.{map_writes}
 
 -- ---- maps that wait
@@ -52,8 +52,7 @@ stays_within x v is = by (nat_lt v x.span) refl is
         (λ (some : map_blocks x.span ≢ 0).
         let test = (and_parts (nat_lt (map_slot x.span v) stored_count) _ has).0 in
         let low : map_slot x.span v < 25 = grind (arith, nat_tests, test) in
-        let near = (div-lt_iff_lt-mul {k = map_blocks x.span} {x = v - x.span} {y = 25} (omega (arith, some))).0 low in
-        omega (arith, near))
+        inside_there x.span v (omega (arith, some)) low)
         (cases_eq (map_blocks x.span) 0)
 
     by : (t : Bool) → nat_lt v x.span ≡ t → (if t then taken_in (take stored_count x.map.slots) v else has_stored_map x (map_slot x.span v)) ≡ true → v < entry_count x.span
@@ -147,27 +146,6 @@ writes_left x n count lt is =
     omega (arith, parts, one)
 
 -- ---- by slot and block
-
-pub slot_within : (span v : ℕ) → span ≤ v → v < entry_count span → map_slot span v < 25
-slot_within span v past inside =
-    let near : v - span < 25 * map_blocks span = omega (arith, past, inside) in
-    (div-lt_iff_lt-mul {k = map_blocks span} {x = v - span} {y = 25} (omega (arith, past, inside))).1 near
-
-back : (a b : ℕ) → (a + b) - a ≡ b
-back a b = omega arith
-
-pub slot_there : (span j k : ℕ) → k < map_blocks span → map_slot span (map_vvbn span j k) ≡ j
-slot_there span j k within = ap (λ (n : ℕ). n / map_blocks span) (back span (j * map_blocks span + k)) ∙ div-mul-add j (map_blocks span) k within
-
-pub index_there : (span j k : ℕ) → k < map_blocks span → map_index span (map_vvbn span j k) ≡ k
-index_there span j k within = ap (λ (n : ℕ). n % map_blocks span) (back span (j * map_blocks span + k)) ∙ mod-mul-add j (map_blocks span) k within
-
-pub map_vvbn_within : (span j k : ℕ) → j < stored_count → k < map_blocks span → map_vvbn span j k < entry_count span
-map_vvbn_within span j k few within =
-    let some : map_blocks span ≢ 0 = λ none. omega (arith, within, none) in
-    let low : map_slot span (map_vvbn span j k) < 25 = rw (slot_there span j k within) few in
-    let near = (div-lt_iff_lt-mul {k = map_blocks span} {x = map_vvbn span j k - span} {y = 25} (omega (arith, some))).0 low in
-    omega (arith, near)
 
 pub written_at : (x : VolumeState) (j k : ℕ) → is_rewritten x j ≡ true → j < stored_count → k < map_blocks x.span → is_map_written x (map_vvbn x.span j k) ≡ true
 written_at x j k is few within =

@@ -1,34 +1,32 @@
 //! How much room there is for the flush of a volume.
 
-ghost use Rattle.std.specs.Prelude.{◌≡◌, ◌≤◌, ◌+◌, ◌-◌, true, is_some, min, not, cond};
+ghost use Rattle.std.specs.Prelude.{◌≡◌, ◌+◌, true, is_some, min};
 ghost use Rattle.fv_aggmap.specs.Space.{free_blocks};
-ghost use Rattle.fv_volmap.specs.Slots.{taken_in};
 ghost use Rattle.fv_pool.specs.BlocksOver.{HasRoom, free_numbers};
 ghost use Rattle.fv_pool.specs.Tables.{pending_of};
 
 use crate::state::VolumeState;
-use fv_pool::{Pool, is_taken};
-use fv_volmap::VolMap;
+use fv_pool::Pool;
 
 impl VolumeState {
     /// How many numbers and blocks there are for a `flush` of the volume: as many as are free of both, and at most one more than is
     /// pending. So where some of it is left after the flush, nothing was lacking.
     ///
-    /// Costs a step for each slot of the volume's maps for each number of its span. It takes no memory and makes no call of a disk.
+    /// Costs what `VolMap::count_free` costs: some steps for each number that it passes until it has counted so many. It takes no memory and
+    /// makes no call of a disk.
+    #[tactic(auto, unfolding(fv_pool::specs::BlocksOver::free_numbers))]
     pub fn room(&self, pool: &Pool) -> u32
-        requires span { self.now.map.span ≡ self.now.span }
         ensures free { HasRoom pool.now.map self.entry.now.map result }
         ensures exact { result ≡ min (min (free_blocks pool.now.map) (pending_of self.entry.now.files + 1)) (free_numbers self.entry.now.map) }
     {
         let blocks = least(pool.map.free_count(), self.pending().saturating_add(1));
-        count_free(&self.map, self.span, blocks)
+        self.map.count_free(blocks)
     }
 
     /// The room for a `flush` of the volume, as `room` counts it, and none without files in memory, where there is nothing to place.
     ///
     /// Costs what `room` costs, and a step without files in memory.
     pub(crate) fn room_to_place(&self, pool: &Pool) -> u32
-        requires span { self.now.map.span ≡ self.now.span }
         ensures free { HasRoom pool.now.map self.entry.now.map result }
         ensures exact { is_some self.entry.now.files ≡ true → result ≡ min (min (free_blocks pool.now.map) (pending_of self.entry.now.files + 1)) (free_numbers self.entry.now.map) }
     {
@@ -48,30 +46,5 @@ fn least(blocks: u32, wanted: u64) -> u32
         blocks
     } else {
         wanted as u32
-    }
-}
-
-/// How many numbers below the span no slot has, or `most` where that is less.
-#[tactic(auto, unfolding(fv_pool::specs::BlocksOver::free_numbers))]
-fn count_free(map: &VolMap, span: u32, most: u32) -> u32
-    requires span { map.now.span ≡ span }
-    ensures { result ≡ min most (free_numbers map.now) }
-{
-    let mut count = 0;
-    for vvbn in 0..span {
-        count = counted(map, vvbn, most, count);
-    }
-    count
-}
-
-/// Counts a number that no slot has, up to `most`.
-fn counted(map: &VolMap, vvbn: u32, most: u32, count: u32) -> u32
-    requires { count ≤ most }
-    ensures { result ≡ min most (count + cond (not (taken_in map.now.slots vvbn)) 1 0) }
-{
-    if count < most && !is_taken(map, vvbn) {
-        count + 1
-    } else {
-        count
     }
 }

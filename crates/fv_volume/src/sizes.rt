@@ -21,7 +21,7 @@ pub fn entry_count(span: u32) -> u32
 
 /// The VVBN of block `index` of the map of a slot below 25: behind the span the blocks of the maps lie slot by slot, slot 0 that of the
 /// active table. Costs some steps. `docs/FORMAT.md` has the container.
-#[tactic(auto, using(crate::proofs::StayingMaps::map_vvbn_within))]
+#[tactic(auto, using(fv_image::proofs::Behind::map_vvbn_within))]
 pub fn map_vvbn(span: u32, slot: u8, index: u32) -> u32
     requires span { span ≤ greatest_span }
     requires slot { slot < stored_count }

@@ -84,6 +84,7 @@ module _ (d e : Disk) (p q : Pool) (xs : States) (slot : ℕ) (was : AreFit d p 
         fit = record {
           range = subst IsInRange (sym leaves.found) was.fit.range;
           size = ap (λ (c : List Bool). length c) leaves.committed ∙ was.fit.size ∙ ap (λ (f : Found). f.blocks) (sym leaves.found);
+          version = leaves.version ∙ was.fit.version ∙ ap (λ (f : Found). f.root.version) (sym leaves.found);
           housed = record {
             long = length-set xs slot (Some y) ∙ was.fit.housed.long;
             volumes = with_at (λ s o. IfSome o (IsLabelled s)) xs slot y inside (subst (λ n. IsLabelled n y) (same.slot ∙ mine.slot_is) labelled) (λ s other. was.fit.housed.volumes s);
@@ -108,6 +109,7 @@ fit_read d e p q xs slot x y was within there same labelled reads =
     fit_with d e p q xs slot was (record {
       stays = reads.only_reads.stays;
       found = reads.leaves.found;
+      version = reads.leaves.version;
       committed = ap (λ (s : Space). s.committed) reads.leaves.map;
       kept = λ b. inl (ap (λ (k : Blocks). fin.get k b) reads.leaves.kept);
       others = λ s other. ap (λ (c : Slots). container_at c s) reads.leaves.containers;
@@ -129,6 +131,7 @@ pub placed_root : (d e : Disk) (p q : Pool) (x y : VolumeState) (room left : ℕ
 placed_root d e p q x y room left goes = record {
   stays = over.only_reads.stays;
   found = over.found;
+  version = over.version;
   committed = over.committed;
   kept = λ b. ⊎_elim (λ still. inl still) (λ (may : MayTake (TellsEntries d p.containers) p.map p.containers x.slot b). inr (λ taken. taken (record { after = may.lies.0; within = may.lies.1; free = or_from (is_member p.map.committed b) (is_member p.map.committed b) may.spare may.spare }))) (over.kept b);
   others = over.others;
@@ -189,6 +192,7 @@ made_fit d p q xs ys name size kind (Ok slot) was made new holes each same = sub
   fit = record {
     range = was.fit.range;
     size = was.fit.size;
+    version = was.fit.version;
     housed = housed_with p xs ys slot name size kind made (subst (λ (w : Pool). IsNew (state_at ys slot) (paged_at w.containers slot) name size kind) holes new) each was.fit.housed;
     kept = was.fit.kept;
   };

@@ -22,6 +22,7 @@ root_itself : (d : Disk) (p : Pool) (slot : ℕ) → LeavesRoot d d p p slot
 root_itself d p slot = record {
   stays = (only_itself d).stays;
   found = refl;
+  version = refl;
   committed = refl;
   kept = λ b. inl refl;
   others = λ s other. refl;

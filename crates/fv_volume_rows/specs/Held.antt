@@ -42,6 +42,7 @@ pub record KeepsPlace (x y : VolumeState) : Type 0 where
 pub record LeavesRoot (d e : Disk) (p q : Pool) (slot : ℕ) : Type 0 where
   pub stays : Stays d e
   pub found : q.found ≡ p.found
+  pub version : q.version ≡ p.version
   pub committed : q.map.committed ≡ p.map.committed
   pub kept : (b : ℕ) → (fin.get q.kept b ≡ fin.get p.kept b) ⊎ (IsTaken (on_disk p.map) b → ⊥)
   pub others : (s : ℕ) → s ≢ slot → container_at q.containers s ≡ container_at p.containers s

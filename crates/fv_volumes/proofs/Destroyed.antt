@@ -10,8 +10,7 @@ use Rattle.std.proofs.Math.Seq.{take-length}
 use Rattle.std.proofs.lemmas.Bool.{cases_Bool, cases_eq, cases_lt}
 use Rattle.std.proofs.Math.Bool.{or_comm}
 use Rattle.std.proofs.lemmas.Bool.Decides.{nat_tests}
-use Rattle.fv_bits.specs.Members.{is_member}
-use Rattle.fv_bits.proofs.Laws.{is_member_past}
+use Rattle.fv_bits.specs.Members.{is_member, HasNoneFrom, IsFirstMember}
 use Rattle.fv_model.specs.declared.answers.Refusal.TheVariants.{NoVolume, VolumeInUse}
 use Rattle.fv_model.specs.declared.commands.Command.TheVariants.{VolDestroy}
 use Rattle.fv_model.specs.Machines.{Machine}
@@ -91,15 +90,6 @@ and_off false = refl
 pub below_none : (marks : List Bool) (b : ℕ) → marked_below marks 0 b ≡ false
 below_none marks b = let none : nat_lt b 0 ≡ false = grind (arith, nat_tests) in ap (λ (t : Bool). t && is_member marks b) none
 
-pub below_end : (marks : List Bool) (n b : ℕ) → length marks ≤ n → is_member marks b ≡ marked_below marks n b
-below_end marks n b end = ⊎_elim
-    (λ (low : b < length marks).
-    let under : b < n = omega (arith, low, end) in
-    let test : nat_lt b n ≡ true = grind (arith, nat_tests, under) in
-    sym (ap (λ (t : Bool). t && is_member marks b) test))
-    (λ (past : length marks ≤ b). is_member_past marks b past ∙ sym (ap (λ (t : Bool). nat_lt b n && t) (is_member_past marks b past) ∙ and_off (nat_lt b n)))
-    (cases_lt b (length marks))
-
 -- another block lies below the next one where it lies below this one
 same_below : (b n : ℕ) → b ≢ n → nat_lt b (n + 1) ≡ nat_lt b n
 same_below b n other = ⊎_elim
@@ -119,14 +109,34 @@ below_more marks n b on = ⊎_elim
     ap (λ (t : Bool). t && is_member marks b) (same_below b n other) ∙ sym (ap (λ (t : Bool). marked_below marks n b || t) test ∙ or_comm (marked_below marks n b) false))
     (cases_eq b n)
 
--- and one that isn't
-pub below_same : (marks : List Bool) (n b : ℕ) → is_member marks n ≡ false → marked_below marks (n + 1) b ≡ marked_below marks n b
-below_same marks n b off = ⊎_elim
-    (λ (same : b ≡ n).
-    let here : is_member marks b ≡ false = ap (is_member marks) same ∙ off in
-    ap (λ (t : Bool). nat_lt b (n + 1) && t) here ∙ and_off (nat_lt b (n + 1)) ∙ sym (ap (λ (t : Bool). nat_lt b n && t) here ∙ and_off (nat_lt b n)))
-    (λ (other : b ≢ n). ap (λ (t : Bool). t && is_member marks b) (same_below b n other))
-    (cases_eq b n)
+-- between a place and the next one that is marked none is
+pub below_next : (marks : List Bool) (n next b : ℕ) → IsFirstMember marks n next → marked_below marks next b ≡ marked_below marks n b
+below_next marks n next b first = ⊎_elim
+    (λ (low : b < n).
+    let far : b < next = omega (arith, low, first.after) in
+    let under : nat_lt b next ≡ true = grind (arith, nat_tests, far) in
+    let test : nat_lt b n ≡ true = grind (arith, nat_tests, low) in
+    ap (λ (t : Bool). t && is_member marks b) (under ∙ sym test))
+    (λ (high : n ≤ b).
+    let test : nat_lt b n ≡ false = grind (arith, nat_tests, high) in
+    ⊎_elim
+    (λ (near : b < next). ap (λ (t : Bool). nat_lt b next && t) (first.before b high near) ∙ and_off (nat_lt b next) ∙ sym (ap (λ (t : Bool). t && is_member marks b) test))
+    (λ (past : next ≤ b).
+    let over : nat_lt b next ≡ false = grind (arith, nat_tests, past) in
+    ap (λ (t : Bool). t && is_member marks b) (over ∙ sym test))
+    (cases_lt b next))
+    (cases_lt b n)
+
+-- and behind the last one there is none
+pub below_last : (marks : List Bool) (n b : ℕ) → HasNoneFrom marks n → is_member marks b ≡ marked_below marks n b
+below_last marks n b last = ⊎_elim
+    (λ (low : b < n).
+    let test : nat_lt b n ≡ true = grind (arith, nat_tests, low) in
+    sym (ap (λ (t : Bool). t && is_member marks b) test))
+    (λ (high : n ≤ b).
+    let off : is_member marks b ≡ false = last.none b high in
+    off ∙ sym (ap (λ (t : Bool). nat_lt b n && t) off ∙ and_off (nat_lt b n)))
+    (cases_lt b n)
 
 -- it is given back, as the first places that are marked were
 pub marked_given : (marks : List Bool) (n : ℕ) (old mid new : Space) → is_member marks 0 ≡ false → is_member marks n ≡ true → HasGiven old (marked_below marks n) mid → HasGiven mid (λ b. is_at b n) new → HasGiven old (marked_below marks (n + 1)) new
@@ -195,6 +205,7 @@ emptied marks old pool slot (Some x) (Some map) mid new containers gives row rem
   kept = gives.kept;
   fewer = gives.fewer;
   found = ap (λ (p : Pool). p.found) gives.same;
+  version = ap (λ (p : Pool). p.version) gives.same;
 }
 
 -- ---- what the machine says
@@ -275,7 +286,7 @@ module _ (disk : Disk) (old : States) (pool : Pool) (name : List ℕ) where
     missing = λ nowhere. refl;
     there = λ slot small has r is. absurd (true≢false (sym has.named ∙ none.none slot small));
     done = tt;
-    stays = (refl, record { map = refl; containers = refl; kept = refl; found = refl });
+    stays = (refl, record { map = refl; containers = refl; kept = refl; found = refl; version = refl });
     fails = refl;
   }
 
@@ -321,6 +332,7 @@ module _ (disk : Disk) (old : States) (pool : Pool) (name : List ℕ) where
             kept = λ told. subst (λ (k : Blocks). HasForgotten k (leads map (entry_count x.span)) left.kept) leaves.kept (empties.kept (marked told));
             fewer = subst (λ (k : Blocks). HasForgottenSome k left.kept) leaves.kept empties.fewer;
             found = empties.found ∙ leaves.found;
+            version = empties.version ∙ leaves.version;
           };
         };
         stays = tt;

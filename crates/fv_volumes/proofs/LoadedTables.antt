@@ -4,7 +4,6 @@ use Rattle.std.proofs.Common.{◌≡◌, ◌≢◌, ℕ, ◌<◌, ◌≤◌, Boo
 use Rattle.std.specs.Prelude.{◌⊎◌, ◌==◌, flat_map, map, nat_le, IfSome}
 use Rattle.std.specs.List.{list_all}
 use Rattle.std.specs.Option.{option_map, option_map_or}
-use Rattle.std.specs.FinMap as fin
 use Rattle.std.proofs.lemmas.Bool.{and_parts}
 use Rattle.std.proofs.lemmas.Bool.Decides.{nat_tests}
 use Rattle.std.proofs.lemmas.List.Folds.{list_all-append, list_all-map}
@@ -47,6 +46,7 @@ use Rattle.fv_container.specs.declared.entry.Entry.{Entry}
 use Rattle.fv_container.specs.Chains.{Slots, along, chain_entry, container_at, or_else, own_entry, parent_at, slot_count}
 use Rattle.fv_volmap.specs.Slots.{has, slot_at}
 use Rattle.fv_pool.specs.declared.pool.Pool.{Pool}
+use Rattle.fv_pool.specs.Opening.{IsAsFound}
 use Rattle.fv_volume.specs.declared.state.VolumeState.{VolumeState}
 use Rattle.fv_pool.specs.BlocksOver.{block_of, held_block, held_entry}
 use Rattle.fv_volume.specs.Files.{HasOwnSlots, IsLabelled}
@@ -315,7 +315,7 @@ module _ (disk : Disk) (pool : Pool) (states : States) (x : VolumeState) (is : S
 
 -- a volume that stands as its label says, over an image that stands for a machine
 pub in_view : (disk : Disk) (pool : Pool) (states : States) → length states ≡ 64 → length pool.containers.containers ≡ 64 → ((s : ℕ) → parent_at pool.containers s ≡ parent_in (state_at states s))
-    → LoadedTo disk.reads pool.found slot_count states pool.containers → pool.kept ≡ fin.empty → (m : Machine) → Tells (layout_at (root_found pool.found) disk.reads) m → ((b : ℕ) → length (disk.reads b) ≡ 4096)
+    → LoadedTo disk.reads pool.found slot_count states pool.containers → IsAsFound pool → (m : Machine) → Tells (layout_at (root_found pool.found) disk.reads) m → ((b : ℕ) → length (disk.reads b) ≡ 4096)
     → (x : VolumeState) → state_at states x.slot ≡ Some x → IsLabelled x.slot x → StandsInView disk pool states x
 unfolding layout_at
 in_view disk pool states long few parents loaded none m is whole x there labelled =
@@ -344,6 +344,6 @@ in_view disk pool states long few parents loaded none m is whole x there labelle
 -- ---- what was loaded
 
 -- Over an image that stands for a machine, so it is with each volume that was loaded.
-pub loaded_stands : (disk : Disk) (pool : Pool) (states : States) → KeptTo slot_count states pool.containers → LoadedTo disk.reads pool.found slot_count states pool.containers → pool.kept ≡ fin.empty → (m : Machine)
+pub loaded_stands : (disk : Disk) (pool : Pool) (states : States) → KeptTo slot_count states pool.containers → LoadedTo disk.reads pool.found slot_count states pool.containers → IsAsFound pool → (m : Machine)
     → Tells (layout_at (root_found pool.found) disk.reads) m → ((b : ℕ) → length (disk.reads b) ≡ 4096) → (x : VolumeState) → state_at states x.slot ≡ Some x → StandsInView disk pool states x
 loaded_stands disk pool states kept loaded none m is whole x there = in_view disk pool states kept.long kept.few kept.parents loaded none m is whole x there (subst (λ (o : Option VolumeState). IfSome o (IsLabelled x.slot)) there (kept.each x.slot))

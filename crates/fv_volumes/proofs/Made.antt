@@ -285,19 +285,21 @@ pub record IsAdded (pool : Pool) (states : States) (slot : ℕ) (name : List ℕ
   pub labelled : IsLabelled slot y
   pub ledger : y.ledger ≡ ledger_of_empty size kind (span_of size 0 0)
   pub found : new_pool.found ≡ pool.found
+  pub version : new_pool.version ≡ pool.version
   pub kept : new_pool.kept ≡ pool.kept
   pub others : (s : ℕ) → s ≢ slot → container_at new_pool.containers s ≡ container_at pool.containers s
 
 pub added_by : (pool : Pool) (states : States) (slot : ℕ) (name : List ℕ) (size : ℕ) (kind : Kind) (span : ℕ) (y : VolumeState) (new_pool : Pool) (container : Paged) → length states ≡ 64 → Admits states pool.found.blocks name size kind slot span
     → y.slot ≡ slot → head_in y ≡ empty_head name size kind span → y.ledger ≡ ledger_of_empty size kind span → is_name name ≡ true → y.map ≡ no_numbers span → y.fresh ≡ replicate stored_count false
-    → new_pool.found ≡ pool.found → new_pool.kept ≡ pool.kept → new_pool.containers ≡ with_parent (with_container pool.containers slot (Some container)) slot None → IsAdded pool states slot name size kind y new_pool
-added_by pool states slot name size kind span y new_pool container long is at head ledger named map settled found kept put = record {
+    → new_pool.found ≡ pool.found → new_pool.version ≡ pool.version → new_pool.kept ≡ pool.kept → new_pool.containers ≡ with_parent (with_container pool.containers slot (Some container)) slot None → IsAdded pool states slot name size kind y new_pool
+added_by pool states slot name size kind span y new_pool container long is at head ledger named map settled found version kept put = record {
   long = long;
   admits = (span, is);
   head = head ∙ ap (empty_head name size kind) is.span_is;
   labelled = new_labelled y slot name size kind span is.most is.span_is at head ledger is.size_is named map settled;
   ledger = ledger ∙ ap (ledger_of_empty size kind) is.span_is;
   found = found;
+  version = version;
   kept = kept;
   others = λ s other. ap (λ (x : Slots). container_at x s) put ∙ ap map_in (get_or-set_other pool.containers.containers slot s (Some container) None other);
 }
@@ -461,7 +463,7 @@ module _ (pool : Pool) (states : States) (slot : ℕ) (name : List ℕ) (size : 
       ∙ (λ j. cond (eq_by_cmp name_cmp q (called j)) (Some (volume j)) (find name_cmp q (old_same j)))
       ∙ ap (λ (o : Option Volume). cond (eq_by_cmp name_cmp q name) (Some (empty_volume size kind)) o) (sym (at_name pool states trees i is.long q))
       ∙ sym (fin.get-insert name_total (machine_in pool states trees i).volumes name (empty_volume size kind) q)) in
-      (λ j. record { blocks = (is.found j).blocks; version = (is.found j).root.version; volumes = map j })
+      (λ j. record { blocks = (is.found j).blocks; version = is.version j; volumes = map j })
       ∙ sym (ap (λ (r : Option Refusal). cond (is_some r) (machine_in pool states trees i) (effect (machine_in pool states trees i) (VolCreate name size kind))) (accepted pool states trees i is.long are name size kind slot is.admits.0 is.admits.1))
 
 -- the new volume as it lies in its slot

@@ -1,7 +1,6 @@
 -- What each volume is that was just loaded: calls can be made on it, and it stands for the one of the machine.
 use Rattle.std.proofs.Common.{◌≡◌, ℕ, length, Option, Some, None, refl, sym, ap, subst, ◌∙◌, arith}
 use Rattle.std.specs.Prelude.{IfSome, IsTrue}
-use Rattle.std.specs.FinMap as fin
 use Rattle.fv_disk.specs.Shown.{Shown as Disk}
 use Rattle.fv_model.specs.Machines.{Machine}
 use Rattle.fv_image.specs.Held.{layout_at}
@@ -17,6 +16,7 @@ use Rattle.fv_store.specs.Held.{StandsOn}
 use Rattle.fv_files.specs.declared.numbers.FileNumbers.{FileNumbers}
 use Rattle.fv_files.specs.Numbering.{AreNumbersIf}
 use Rattle.fv_pool.specs.declared.pool.Pool.{Pool}
+use Rattle.fv_pool.specs.Opening.{IsAsFound}
 use Rattle.fv_volume.specs.declared.state.VolumeState.{VolumeState}
 use Rattle.fv_pool.specs.BlocksOver.{entries_in}
 use Rattle.fv_pool.specs.Calls.{Reads}
@@ -79,7 +79,7 @@ module _ (pool : Pool) (states : States) (kept : KeptTo slot_count states pool.c
       }
 
   -- Over an image that stands for a machine it stands for a volume of that.
-  pub loaded_standing : (disk : Disk) → IsTrue disk.tells → ((b : ℕ) → length (disk.reads b) ≡ 4096) → LoadedTo disk.reads pool.found slot_count states pool.containers → pool.kept ≡ fin.empty
+  pub loaded_standing : (disk : Disk) → IsTrue disk.tells → ((b : ℕ) → length (disk.reads b) ≡ 4096) → LoadedTo disk.reads pool.found slot_count states pool.containers → IsAsFound pool
       → IsMapLoaded disk.reads pool.found pool.map → (m : Machine) → Tells (layout_at (root_found pool.found) disk.reads) m → IsStanding disk pool x
   loaded_standing disk tells whole loaded none map m is =
       seen_standing disk pool states x
@@ -91,12 +91,12 @@ module _ (pool : Pool) (states : States) (kept : KeptTo slot_count states pool.c
       (subst (λ (o : Option FileNumbers). AreNumbersIf o (table_for disk pool x)) (sym counted.numbers) tt)
 
   -- What is in use of it is led to.
-  pub loaded_led : (disk : Disk) → IsTrue disk.tells → ((b : ℕ) → length (disk.reads b) ≡ 4096) → LoadedTo disk.reads pool.found slot_count states pool.containers → pool.kept ≡ fin.empty
+  pub loaded_led : (disk : Disk) → IsTrue disk.tells → ((b : ℕ) → length (disk.reads b) ≡ 4096) → LoadedTo disk.reads pool.found slot_count states pool.containers → IsAsFound pool
       → (m : Machine) → Tells (layout_at (root_found pool.found) disk.reads) m → IsLedTo disk pool x
   loaded_led disk tells whole loaded none m is = seen_led disk pool states x (loaded_stands disk pool states kept loaded none m is whole x here) counted.none
 
   -- And what it leads to is stored well.
-  pub loaded_well : (disk : Disk) → ((b : ℕ) → length (disk.reads b) ≡ 4096) → LoadedTo disk.reads pool.found slot_count states pool.containers → pool.kept ≡ fin.empty
+  pub loaded_well : (disk : Disk) → ((b : ℕ) → length (disk.reads b) ≡ 4096) → LoadedTo disk.reads pool.found slot_count states pool.containers → IsAsFound pool
       → (m : Machine) → Tells (layout_at (root_found pool.found) disk.reads) m → IsStoredWell disk pool x
   loaded_well disk whole loaded none m is = seen_well disk pool states x (loaded_stands disk pool states kept loaded none m is whole x here) counted.none
 
@@ -110,7 +110,7 @@ all_ready disk pool states kept stands size s = so (state_at states s) refl
     so (Some x) there = loaded_ready pool states kept s x there disk stands size
 
 pub all_standing : (old new : Disk) (pool : Pool) (states : States) → Reads old pool new pool → KeptTo slot_count states pool.containers → IsTrue old.tells → ((b : ℕ) → length (old.reads b) ≡ 4096)
-    → LoadedTo old.reads pool.found slot_count states pool.containers → pool.kept ≡ fin.empty → IsMapLoaded old.reads pool.found pool.map → (m : Machine) → Tells (layout_at (root_found pool.found) old.reads) m
+    → LoadedTo old.reads pool.found slot_count states pool.containers → IsAsFound pool → IsMapLoaded old.reads pool.found pool.map → (m : Machine) → Tells (layout_at (root_found pool.found) old.reads) m
     → (s : ℕ) → IfSome (state_at states s) (IsStanding new pool)
 all_standing old new pool states reads kept tells whole loaded none map m is s = so (state_at states s) refl
   where
@@ -119,7 +119,7 @@ all_standing old new pool states reads kept tells whole loaded none map m is s =
     so (Some x) there = still_standing old new pool pool reads x (loaded_standing pool states kept s x there old tells whole loaded none map m is)
 
 pub all_led : (old new : Disk) (pool : Pool) (states : States) → Reads old pool new pool → KeptTo slot_count states pool.containers → IsTrue old.tells → ((b : ℕ) → length (old.reads b) ≡ 4096)
-    → LoadedTo old.reads pool.found slot_count states pool.containers → pool.kept ≡ fin.empty → (m : Machine) → Tells (layout_at (root_found pool.found) old.reads) m
+    → LoadedTo old.reads pool.found slot_count states pool.containers → IsAsFound pool → (m : Machine) → Tells (layout_at (root_found pool.found) old.reads) m
     → (s : ℕ) → IfSome (state_at states s) (IsLedTo new pool)
 all_led old new pool states reads kept tells whole loaded none m is s = so (state_at states s) refl
   where
@@ -128,7 +128,7 @@ all_led old new pool states reads kept tells whole loaded none m is s = so (stat
     so (Some x) there = still_led old new pool pool reads x (loaded_led pool states kept s x there old tells whole loaded none m is)
 
 pub all_well : (old new : Disk) (pool : Pool) (states : States) → Reads old pool new pool → KeptTo slot_count states pool.containers → ((b : ℕ) → length (old.reads b) ≡ 4096)
-    → LoadedTo old.reads pool.found slot_count states pool.containers → pool.kept ≡ fin.empty → (m : Machine) → Tells (layout_at (root_found pool.found) old.reads) m
+    → LoadedTo old.reads pool.found slot_count states pool.containers → IsAsFound pool → (m : Machine) → Tells (layout_at (root_found pool.found) old.reads) m
     → (s : ℕ) → IfSome (state_at states s) (IsStoredWell new pool)
 all_well old new pool states reads kept whole loaded none m is s = so (state_at states s) refl
   where

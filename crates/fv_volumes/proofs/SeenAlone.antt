@@ -1,7 +1,6 @@
 -- A volume that was loaded, with no file of it in memory, over an image that stands for a machine: it stands for one of that machine.
 use Rattle.std.proofs.Common.{◌≡◌, ℕ, List, Bool, length, Option, Some, sym, ap, subst, ◌∙◌}
 use Rattle.std.specs.Prelude.{IfSome, IsTrue, None}
-use Rattle.std.specs.FinMap as fin
 use Rattle.fv_disk.specs.Shown.{Shown}
 use Rattle.fv_bits.specs.Members.{is_member}
 use Rattle.fv_model.specs.Machines.{Machine}
@@ -12,6 +11,7 @@ use Rattle.fv_aggmap.specs.Loading.{IsLoaded as IsMapLoaded}
 use Rattle.fv_container.specs.Chains.{slot_count}
 use Rattle.fv_files.specs.Numbering.{AreNumbersIf}
 use Rattle.fv_pool.specs.declared.pool.Pool.{Pool}
+use Rattle.fv_pool.specs.Opening.{IsAsFound}
 use Rattle.fv_volume.specs.declared.state.VolumeState.{VolumeState}
 use Rattle.fv_pool.specs.BlocksOver.{AreApart}
 use Rattle.fv_volume.specs.Files.{IsLabelled, IsState}
@@ -30,7 +30,7 @@ use Rattle.fv_image.specs.WholeMachine.{Tells}
 use Rattle.fv_volume.specs.Files.{AreStates}
 use Rattle.fv_volumes.specs.Housed.{AreHoused}
 
-module _ (disk : Shown) (pool : Pool) (states : States) (housed : AreHoused pool.containers states) (loaded : LoadedTo disk.reads pool.found slot_count states pool.containers) (unkept : pool.kept ≡ fin.empty)
+module _ (disk : Shown) (pool : Pool) (states : States) (housed : AreHoused pool.containers states) (loaded : LoadedTo disk.reads pool.found slot_count states pool.containers) (unkept : IsAsFound pool)
     (few : length pool.containers.containers ≡ 64) (whole : (b : ℕ) → length (disk.reads b) ≡ 4096) (m : Machine) (told : Tells (layout_at (root_found pool.found) disk.reads) m) (x : VolumeState) (there : state_at states x.slot ≡ Some x) (no_files : x.files ≡ None) where
   abbrev w : View
   w = view_over pool states disk.reads

@@ -1,6 +1,6 @@
 -- The maps of slots as they are read from their blocks, one after another; the other slots stay.
 use Rattle.std.proofs.Common.{◌≡◌, ◌≢◌, ◌<◌, ◌≤◌, ◌+◌, ◌*◌, ◌/◌, ◌%◌, ℕ, Bool, true, false, List, get_or, inl, inr, length, length-set, replicate, Option, Some, None, refl, sym, ap, subst, ◌∙◌, ⊎_elim, arith}
-use Rattle.std.specs.Prelude.{nat_lt, ◌&&◌, ◌||◌, ◌==◌, is_some, IfNone, IfSome}
+use Rattle.std.specs.Prelude.{nat_lt, ◌&&◌, ◌||◌, ◌==◌, is_some, IfErr, IfNone, IfSome, Result, Ok, Err}
 use Rattle.std.proofs.lemmas.Bool.{cases_eq, cases_lt, true≢false}
 use Rattle.std.proofs.lemmas.Bool.Decides.{nat_tests}
 use Rattle.std.proofs.lemmas.List.{get_or-set_other, get_or-set_same}
@@ -17,6 +17,7 @@ use Rattle.fv_image.specs.Held.{view_at}
 use Rattle.fv_container.specs.declared.entry.Entry.{Entry}
 use Rattle.fv_container.specs.Mapped.{IsMapped, Mapped, entry_under}
 use Rattle.fv_container.specs.Chains.{IsBadLeaf}
+use Rattle.fv_container.specs.Finding.{IsRowFault}
 use Rattle.fv_container.specs.Reading.{IsBadNode}
 use Rattle.fv_container.specs.Spelled.{IsOpened}
 use Rattle.fv_container.proofs.Damage.{bad_leaf}
@@ -262,6 +263,11 @@ pub slot_fault : (i : Image) (map : Mapped) (span slot v : ℕ) (e : BlockFault)
 slot_fault i map span slot v (Damaged at want found) inside bad = inl (bad_leaf i map (v / 256) at want found (omega (arith, inside)) bad)
 slot_fault i map span slot v DiskFault inside bad = tt
 slot_fault i map span slot v Memory inside bad = tt
+
+-- and so where the entries of a row were looked for
+pub row_fault : (i : Image) (map : Mapped) (span slot first count : ℕ) (result : Result (Unit {0}) BlockFault) → IfErr result (IsRowFault i map.tree first count) → first + count ≤ length map.entries → IfErr result (IsBadSlot i map span slot)
+row_fault i map span slot first count (Ok unit) bad inside = tt
+row_fault i map span slot first count (Err e) bad inside = slot_fault i map span slot (first + bad.number) e (omega (arith, bad.within, inside)) bad.leaf
 
 -- a slot of a volume that uses it
 pub map_fault : (i : Image) (map : Mapped) (span slot : ℕ) (snaps : List Snap) (e : BlockFault) → is_slot_with snaps slot ≡ true → IsBadSlot i map span slot e → IsBadMap i map span snaps e

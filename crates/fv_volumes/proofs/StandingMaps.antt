@@ -47,7 +47,8 @@ use Rattle.fv_volumes.specs.UnderRoot.{StandMaps, StandsMap}
 use Rattle.fv_volume.proofs.KeptSlots.{root_used, used_is}
 use Rattle.fv_volumes.proofs.LoadedBlocks.{span_of}
 use Rattle.fv_volumes.proofs.SlotReads.{has_or_empty}
-use Rattle.fv_volume.proofs.StayingMaps.{active_moves, map_vvbn_within}
+use Rattle.fv_image.proofs.Behind.{map_vvbn_within}
+use Rattle.fv_volume.proofs.StayingMaps.{active_moves}
 use Rattle.fv_volumes.proofs.Viewed.{entry_of}
 
 -- an entry with another kind

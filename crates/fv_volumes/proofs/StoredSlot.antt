@@ -50,7 +50,8 @@ use Rattle.fv_volume.proofs.KeptSlots.{found_snap}
 use Rattle.fv_volumes.proofs.SlotReads.{has_or_empty}
 use Rattle.fv_volumes.proofs.Spelling.{flushed_opened}
 use Rattle.fv_volumes.proofs.SlotRoots.{root_slot, slot_stored}
-use Rattle.fv_volume.proofs.StayingMaps.{index_there, slot_there, slot_within, stays_unwritten, stored_stays, written_at, written_parts}
+use Rattle.fv_image.proofs.Behind.{index_there, slot_there, slot_within}
+use Rattle.fv_volume.proofs.StayingMaps.{stays_unwritten, stored_stays, written_at, written_parts}
 use Rattle.fv_image.specs.Volumes.{snap_at}
 
 -- past the blocks of the map of a slot no bit of it is set

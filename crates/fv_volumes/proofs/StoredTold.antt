@@ -119,7 +119,7 @@ module _ (pool : Pool) (states : States) (before : Image) (housed : AreHoused po
 
   -- ---- where they stand
 
-  module _ (f : Found) (labels : List ℕ) (next : List Bool) (container : ℕ → Option Paged) (i : Image) (blocks : f.blocks ≡ pool.found.blocks) (version : f.root.version ≡ pool.found.root.version) (is : AllStandUnder pool states before f labels next container i) where
+  module _ (f : Found) (labels : List ℕ) (next : List Bool) (container : ℕ → Option Paged) (i : Image) (blocks : f.blocks ≡ pool.found.blocks) (version : f.root.version ≡ pool.version) (is : AllStandUnder pool states before f labels next container i) where
     abbrev u : Taken
     u = root_found f
 

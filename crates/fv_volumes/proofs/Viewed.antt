@@ -36,6 +36,7 @@ use Rattle.fv_container.specs.Spelled.{pair_of}
 use Rattle.fv_root.specs.declared.find.Found.{Found}
 use Rattle.fv_root.specs.Finding.{root_found}
 use Rattle.fv_pool.specs.declared.pool.Pool.{Pool}
+use Rattle.fv_pool.specs.Opening.{IsAsFound}
 use Rattle.fv_volume.specs.declared.state.VolumeState.{VolumeState}
 use Rattle.fv_volume.specs.Files.{AreNamed, AreStates, IsLabelled, IsState}
 use Rattle.fv_pool.specs.Keeping.{Blocks, kept_or}
@@ -97,19 +98,19 @@ module _ (found : Found) (i : Image) (states : States) (containers : Slots) (lon
       (cases_lt s 64)
 
 -- a session of what stands on its disk has the view of its image
-pub viewed : (pool : Pool) (i : Image) (states : States) → length states ≡ 64 → length pool.containers.containers ≡ 64 → LoadedTo i pool.found slot_count states pool.containers → pool.kept ≡ fin.empty
+pub viewed : (pool : Pool) (i : Image) (states : States) → length states ≡ 64 → length pool.containers.containers ≡ 64 → LoadedTo i pool.found slot_count states pool.containers → IsAsFound pool
     → view_over pool states i ≡ view_at (root_found pool.found) i
 unfolding view_over view_at
 viewed pool i states long few loaded none =
-    let empty : (b : ℕ) → fin.get pool.kept b ≡ None = λ b. ap (λ (m : Blocks). fin.get m b) none ∙ fin.get-empty nat_cmp b in
+    let empty : (b : ℕ) → fin.get pool.kept b ≡ None = λ b. ap (λ (m : Blocks). fin.get m b) none.kept ∙ fin.get-empty nat_cmp b in
     λ j. record {
       blocks = pool.found.blocks;
-      version = pool.found.root.version;
+      version = none.version j;
       head = λ s. head_is pool.found i states pool.containers long few loaded s j;
       entry = λ s v. entry_is pool.found i states pool.containers long few loaded pool.kept empty s v j;
     }
 
-module _ (pool : Pool) (i : Image) (states : States) (kept : KeptTo slot_count states pool.containers) (loaded : LoadedTo i pool.found slot_count states pool.containers) (none : pool.kept ≡ fin.empty)
+module _ (pool : Pool) (i : Image) (states : States) (kept : KeptTo slot_count states pool.containers) (loaded : LoadedTo i pool.found slot_count states pool.containers) (none : IsAsFound pool)
     (m : Machine) (is : Tells (layout_at (root_found pool.found) i) m) where
   abbrev w : View
   w = view_at (root_found pool.found) i

@@ -3,3 +3,4 @@ pub mod Creating
 pub mod Housed
 pub mod UnderRoot
 pub mod Destroying
+pub mod Finding

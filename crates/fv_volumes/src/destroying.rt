@@ -47,9 +47,9 @@ impl Volumes {
     ///
     /// `commits` is what all volumes commit together, in blocks, before the call and behind it.
     ///
-    /// Costs a comparison for each volume, a read for each leaf of the container that is there and not in memory, a step for each entry
-    /// and each node of the container and for each block that an aggregate can have, and memory for a bit for each of these. It walks no
-    /// file. `docs/SPACE.md` says when the blocks can be used again.
+    /// Costs a comparison for each volume, a read for each leaf of the container that is there and not in memory, a step for each entry, each
+    /// node of the container and each block that is given back, and one for each word of 64 blocks that an aggregate can have; and memory
+    /// for a bit for each of these, 128 KB. It walks no file. `docs/SPACE.md` says when the blocks can be used again.
     pub fn destroy<D: Disk>(
         &mut self,
         pool: &mut Pool,
@@ -134,7 +134,8 @@ fn give_back_slot(volumes: &Volumes, pool: &mut Pool, slot: u8, marks: &BitMap)
     give_back_volume(state, container, marks, &mut pool.map, &mut pool.kept);
 }
 
-/// Gives back all blocks of a volume, and keeps none of them to be written. Costs a step for each mark and each node of its container.
+/// Gives back all blocks of a volume, and keeps none of them to be written. Costs a step for each word of 64 marks, each mark that is set and
+/// each node of its container.
 #[tactic(auto, using(crate::proofs::Destroyed::volume_given, crate::proofs::Destroyed::volume_forgotten))]
 fn give_back_volume(
     state: &VolumeState,
@@ -155,17 +156,20 @@ fn give_back_volume(
     map.give_back(state.label_place());
 }
 
-/// Gives back the blocks that are marked, and keeps none of them. 0 is no block.
+/// Gives back the blocks that are marked, and keeps none of them. 0 is no block. Costs a step for each word of 64 marks, and for each mark
+/// that is set.
 fn give_back_marked(marks: &BitMap, map: &mut AggMap, kept: &mut Kept)
     ensures given { is_member marks.now 0 ≡ false → HasGiven map.old (is_member marks.now) map.new }
     ensures some { HasGivenSome map.old map.new }
     ensures kept { HasForgotten kept.old (is_member marks.now) kept.new }
 {
-    for place in 0..marks.len() {
-        if marks.get(place) {
-            map.give_back(place);
-            kept.forget(place);
-        }
+    // The length is a number of 32 bits, so there is one behind each member.
+    let _ = marks.len();
+    let mut from = 0;
+    while let Some(place) = marks.first_member(from) {
+        map.give_back(place);
+        kept.forget(place);
+        from = place + 1;
     }
 }
 

@@ -4,22 +4,23 @@ ghost use Rattle.std.specs.Prelude.{◌≡◌, ℕ, IfSome, ◌<◌, ◌≤◌, 
 ghost use Rattle.fv_bits.specs.Bits.{block_bits};
 ghost use Rattle.fv_codec.specs.Blocks.{IsLabel, label_at};
 ghost use Rattle.fv_container.specs.Chains.{no_containers, paged_at, parent_at, slot_count, with_container, with_parent};
-ghost use Rattle.fv_container.specs.Mapped.{IsMapped};
+ghost use Rattle.fv_container.specs.Mapped.{IsMapped, Mapped, entry_under};
 ghost use Rattle.fv_container.specs.Clean.{IsCleanOn, IsCleanTree};
 ghost use Rattle.fv_container.specs.Spelled.{IsFault, IsOpened};
 ghost use Rattle.fv_disk.specs.DiskCalls.{OnlyReads};
 ghost use Rattle.fv_disk.specs.Faults.{HasBlockCause};
-ghost use Rattle.fv_image.specs.Views.{entry_count, head_of};
+ghost use Rattle.fv_image.specs.Views.{entry_count, head_of, map_vvbn};
 ghost use Rattle.fv_model.specs.Numbers.{greatest_span};
 ghost use Rattle.fv_model.specs.Space.{map_blocks};
 ghost use Rattle.fv_store.specs.Held.{StandsOn};
+ghost use Rattle.fv_volumes.specs.Finding.{AreMapEntries};
 ghost use Rattle.fv_volmap.specs.Slots.{IsVolume, Loads, slot_count as map_slot_count, stored_count};
 ghost use Rattle.fv_volume.specs.Loading.{AreCountedTo, Counts, IsBadLabel, IsBadMap, IsBadSlot, IsCountable, IsFilled, IsLoadFault, IsLoaded, KeptTo, KeepsOthers, LoadedTo, ReadTo, form_in};
 ghost use Rattle.fv_volume.specs.SlotReads.{AreUsedTo, HasReadSlot, HaveRead, IsAway, IsOpenedOn, IsReadable, IsSnapSlot, TakesSlot};
 ghost use Rattle.fv_volume.specs.States.{head_in, state_at};
 
 use fv_codec::Label;
-use fv_container::{Container, Containers};
+use fv_container::{Container, Containers, Entry};
 use fv_disk::{Block, BlockFault, Disk, ZERO};
 use fv_model::map_blocks;
 use fv_root::Found;
@@ -27,6 +28,9 @@ use fv_store::Store;
 use fv_volmap::VolMap;
 use fv_volume::{Snapshots, VolumeState, entry_count, map_vvbn, read_label};
 use std::alloc::{AllocError, Global};
+
+/// The most blocks that the map of a slot has.
+const MOST_BLOCKS: usize = 32;
 
 /// Takes zeros as block `index` of the map of a slot. The one error is want of memory.
 fn take_zeros(map: &mut VolMap, slot: u8, index: u32) -> Result<(), AllocError>
@@ -39,32 +43,57 @@ fn take_zeros(map: &mut VolMap, slot: u8, index: u32) -> Result<(), AllocError>
     Ok(())
 }
 
-/// Takes block `index` of the map of a slot; a hole is taken as a block of zeros. The container was opened from the disk, and no leaf of
-/// it is in memory: the leaf that has the block's entry is read through the store, and isn't held.
-fn read_map_block<D: Disk>(
+/// Finds the entries of the blocks of the map of a slot, and puts them at the front of a row. The container was opened from the disk, and
+/// no leaf of it is in memory: each leaf that has one of these entries is read once through the store, and isn't held.
+fn find_map_blocks<D: Disk>(
     store: &mut Store,
     disk: &mut D,
     container: &Container,
+    span: u32,
+    slot: u8,
+    row: &mut [Option<Entry>; MOST_BLOCKS],
+) -> Result<(), BlockFault>
+    requires stands { StandsOn (D.shown disk.old) store.old.pairs }
+    requires spans { IsReadable container.now.map span }
+    requires away { IsAway container.now }
+    requires slot { slot < stored_count }
+    ensures found { IsTrue (D.shown disk.old).tells → IsOpenedOn (D.shown disk.old).reads container.now.map
+        → OnOk result (AreMapEntries container.now.map span slot row.new) }
+    ensures fault { IsTrue (D.shown disk.old).tells → IfErr result (IsBadSlot (D.shown disk.old).reads container.now.map span slot) }
+    ensures only_reads { OnlyReads (D.shown disk.old) (D.shown disk.new) }
+    ensures stands { StandsOn (D.shown disk.new) store.new.pairs }
+    ensures cause { HasBlockCause (D.shown disk.old).faults (D.shown disk.new).faults result }
+{
+    let first = map_vvbn(span, slot, 0);
+    container.find_row(store, disk, first, &mut row[..map_blocks(span) as usize])
+}
+
+/// Takes block `index` of the map of a slot, to which this entry leads; a hole is taken as a block of zeros.
+fn read_map_block<D: Disk>(
+    store: &mut Store,
+    disk: &mut D,
+    entry: Option<Entry>,
     map: &mut VolMap,
     span: u32,
     slot: u8,
     index: u32,
 ) -> Result<(), BlockFault>
     requires stands { StandsOn (D.shown disk.old) store.old.pairs }
-    requires spans { IsReadable container.now.map span }
-    requires away { IsAway container.now }
+    requires least { 1 ≤ span }
     requires map { map.old.span ≡ span }
     requires slot { slot < stored_count }
     requires within { index < map_blocks span }
     ensures takes { OnOk result (TakesSlot map.old slot 1 map.new) }
-    ensures read { IsTrue (D.shown disk.old).tells → IsOpenedOn (D.shown disk.old).reads container.now.map → HasReadSlot (D.shown disk.old).reads container.now.map span slot index map.old
-        → OnOk result (HasReadSlot (D.shown disk.old).reads container.now.map span slot (index + 1) map.new) }
-    ensures fault { IsTrue (D.shown disk.old).tells → IsOpenedOn (D.shown disk.old).reads container.now.map → IfErr result (IsBadSlot (D.shown disk.old).reads container.now.map span slot) }
+    ensures read { (c : Mapped) → IsTrue (D.shown disk.old).tells → entry_under c (map_vvbn span slot index) ≡ entry
+        → HasReadSlot (D.shown disk.old).reads c span slot index map.old
+        → OnOk result (HasReadSlot (D.shown disk.old).reads c span slot (index + 1) map.new) }
+    ensures fault { (c : Mapped) → IsTrue (D.shown disk.old).tells → entry_under c (map_vvbn span slot index) ≡ entry
+        → IfErr result (IsBadSlot (D.shown disk.old).reads c span slot) }
     ensures only_reads { OnlyReads (D.shown disk.old) (D.shown disk.new) }
     ensures stands { StandsOn (D.shown disk.new) store.new.pairs }
     ensures cause { HasBlockCause (D.shown disk.old).faults (D.shown disk.new).faults result }
 {
-    let Some(entry) = container.find(store, disk, map_vvbn(span, slot, index))? else {
+    let Some(entry) = entry else {
         take_zeros(map, slot, index)?;
         return Ok(());
     };
@@ -80,7 +109,7 @@ fn read_map_block<D: Disk>(
     }
 }
 
-/// Takes all blocks of the map of a slot.
+/// Takes all blocks of the map of a slot. The entries that lead to them are found first, all at once.
 fn read_slot<D: Disk>(
     store: &mut Store,
     disk: &mut D,
@@ -102,8 +131,10 @@ fn read_slot<D: Disk>(
     ensures stands { StandsOn (D.shown disk.new) store.new.pairs }
     ensures cause { HasBlockCause (D.shown disk.old).faults (D.shown disk.new).faults result }
 {
+    let mut row = [None; MOST_BLOCKS];
+    find_map_blocks(store, disk, container, span, slot, &mut row)?;
     for index in 0..map_blocks(span) {
-        read_map_block(store, disk, container, map, span, slot, index)?;
+        read_map_block(store, disk, row[index as usize], map, span, slot, index)?;
     }
     Ok(())
 }

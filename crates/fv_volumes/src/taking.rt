@@ -19,7 +19,7 @@ ghost use Rattle.fv_volume.specs.Writing.{HasDrawn, HasEntries, HasMapLeaves, Ha
 use fv_aggmap::AggMap;
 use fv_container::{Container, Entry};
 use fv_disk::{Block, Disk, Failed, ZERO};
-use fv_model::map_blocks;
+use fv_model::{map_index, map_slot};
 use fv_store::Store;
 use fv_volmap::VolMap;
 use fv_volume::{VolumeState, entry_count};
@@ -55,13 +55,12 @@ fn map_block(maps: &VolMap, slot: u8, index: u32, into: &mut Block)
 }
 
 /// Whether a consistency point writes the block of a map under a VVBN behind the span.
-#[tactic(auto, using(fv_volume::proofs::StayingMaps::slot_within))]
 pub(crate) fn is_map_written(state: &VolumeState, vvbn: u32) -> bool
     requires past { state.now.span ≤ vvbn }
     requires within { vvbn < entry_count state.now.span }
     ensures { result ≡ is_map_written state.entry.now vvbn }
 {
-    state.is_rewritten(((vvbn - state.span) / map_blocks(state.span)) as u8)
+    state.is_rewritten(map_slot(state.span, vvbn))
 }
 
 /// Marks in a plan the regions whose leaves `write_volume` needs in memory: those with the entries of blocks of maps that a consistency
@@ -99,13 +98,11 @@ fn write_bits<D: Disk>(
     ensures spares { Spares (IsOther place) (D.shown disk.old) (D.shown disk.new) result }
     ensures stands { StandsOn (D.shown disk.new) store.new.pairs }
 {
-    let blocks = map_blocks(state.span);
-    let behind = vvbn - state.span;
     let mut block = ZERO;
     map_block(
         &state.map,
-        (behind / blocks) as u8,
-        behind % blocks,
+        map_slot(state.span, vvbn),
+        map_index(state.span, vvbn),
         &mut block,
     );
     store.put(disk, place, &block)

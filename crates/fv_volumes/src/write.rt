@@ -116,7 +116,7 @@ fn write_anew<D: Disk>(
 /// PVBN it answers. Nodes of the container that aren't dirty stay where they stand (`Container::flush`). The old places of those maps, of
 /// the other nodes and of the label are given back; every other entry stays, a delayed one, too. As many blocks are free as it asks for:
 /// its overhead, and those of the snapshots' maps that wait. The leaves of the container are in memory that have the entries of these
-/// maps' blocks, and none is afterwards. It takes no memory and reads nothing.
+/// maps' blocks, and none is afterwards. It needs no memory, though the store may take some for leaves that it holds, and reads nothing.
 ///
 /// The one error is a failed write: the blocks that were taken are then lost to the map, and the container isn't as before. Costs a step
 /// for each block of 25 maps, one for each node of the container and each entry of a dirty leaf, and a write for each block.

@@ -16,6 +16,7 @@ use Rattle.fv_image.specs.WholeMachine.{Tells, machine_of}
 use Rattle.fv_root.specs.Finding.{IsFound, root_found}
 use Rattle.fv_aggmap.specs.Space.{Space}
 use Rattle.fv_aggmap.specs.Loading.{IsLoaded}
+use Rattle.fv_pool.specs.Opening.{IsAsFound}
 use Rattle.fv_volume.specs.Loading.{IsLoadFault, LoadedTo}
 use Rattle.fv_volume.specs.States.{view_over}
 use Rattle.fv_volume.specs.Trees.{machine_in, no_trees}
@@ -29,7 +30,7 @@ invariant_of-result g c = (
   λ fresh.
       let was = c.in_ok-pool.ensures in
       let e = c.in_ok-volumes.ensures in
-      fits_opened c.in_ok-found.found c.in_ok-pool.pool c.open-2.new.pool c.in_ok-volumes.volumes c.in_ok-found.ensures.range was.size was.found was.empty e.states e.map e.kept e.found,
+      fits_opened c.in_ok-found.found c.in_ok-pool.pool c.open-2.new.pool c.in_ok-volumes.volumes c.in_ok-found.ensures.range was.size was.found was.version was.empty e.states e.map e.kept e.found e.version,
   λ fresh. c.commits-commits.ensures.exact,
   λ fresh.
       let e = c.in_ok-volumes.ensures in
@@ -50,6 +51,7 @@ returns-clause-loaded g c = λ tells.
     let was : c.in_ok-pool.pool.found ≡ c.in_ok-found.found = c.in_ok-pool.ensures.found in
     let now : pool.found ≡ c.in_ok-pool.pool.found = c.open-2.ensures.found in
     let map : IsLoaded i c.in_ok-found.found c.in_ok-pool.pool.map = subst (λ (k : Image). IsLoaded k c.in_ok-found.found c.in_ok-pool.pool.map) first.reads (c.in_ok-pool.ensures.map told) in
+    let fresh : IsAsFound c.in_ok-pool.pool = record { kept = c.in_ok-pool.ensures.empty; version = c.in_ok-pool.ensures.version ∙ sym (ap (λ (f : Found). f.root.version) c.in_ok-pool.ensures.found) } in
     let volumes = c.in_ok-volumes.volumes in
     let e = c.in_ok-volumes.ensures in
     record {
@@ -57,9 +59,9 @@ returns-clause-loaded g c = λ tells.
       map = subst (λ (m : Space). IsLoaded i pool.found m) (sym e.map) (subst (λ (f : Found). IsLoaded i f c.in_ok-pool.pool.map) (sym (now ∙ was)) map);
       few = e.states.few;
       slots = subst (λ (f : Found). LoadedTo i f slot_count volumes pool.containers) (sym now) (subst (λ (k : Image). LoadedTo k c.in_ok-pool.pool.found slot_count volumes pool.containers) same (e.loaded still));
-      view = ap (λ (k : Image). view_over pool volumes k) (sym same) ∙ e.view still c.in_ok-pool.ensures.empty ∙ (λ t. view_at (root_found (sym now t)) (same t));
-      machine = λ m is. ap (λ (k : Image). machine_in pool volumes no_trees k) (sym same) ∙ e.machine still c.in_ok-pool.ensures.empty m (subst (λ (k : Image). Tells (layout_at (root_found c.in_ok-pool.pool.found) k) m) (sym same) (subst (λ (f : Found). Tells (layout_at (root_found f) i) m) now is));
-      states = λ m is. subst (λ (k : Image). AreStates (view_over pool volumes k) no_trees volumes) same (e.whole still c.in_ok-pool.ensures.empty m (subst (λ (k : Image). Tells (layout_at (root_found c.in_ok-pool.pool.found) k) m) (sym same) (subst (λ (f : Found). Tells (layout_at (root_found f) i) m) now is)));
+      view = ap (λ (k : Image). view_over pool volumes k) (sym same) ∙ e.view still fresh ∙ (λ t. view_at (root_found (sym now t)) (same t));
+      machine = λ m is. ap (λ (k : Image). machine_in pool volumes no_trees k) (sym same) ∙ e.machine still fresh m (subst (λ (k : Image). Tells (layout_at (root_found c.in_ok-pool.pool.found) k) m) (sym same) (subst (λ (f : Found). Tells (layout_at (root_found f) i) m) now is));
+      states = λ m is. subst (λ (k : Image). AreStates (view_over pool volumes k) no_trees volumes) same (e.whole still fresh m (subst (λ (k : Image). Tells (layout_at (root_found c.in_ok-pool.pool.found) k) m) (sym same) (subst (λ (f : Found). Tells (layout_at (root_found f) i) m) now is)));
     }
 
 pub returns-clause-each : goal.returns-clause-each
@@ -71,6 +73,7 @@ returns-clause-each g c =
     let third = c.in_ok-volumes.ensures.only_reads.stays in
     let same : j ≡ i = second.reads ∙ first.reads in
     let was = c.in_ok-pool.ensures in
+    let fresh : IsAsFound c.in_ok-pool.pool = record { kept = c.in_ok-pool.ensures.empty; version = c.in_ok-pool.ensures.version ∙ sym (ap (λ (f : Found). f.root.version) c.in_ok-pool.ensures.found) } in
     let e = c.in_ok-volumes.ensures in
     let pool = c.open-2.new.pool in
     let states = c.in_ok-volumes.volumes in
@@ -84,14 +87,14 @@ returns-clause-each g c =
     let map : IsTrue disk.tells → IsLoaded j c.in_ok-pool.pool.found c.in_ok-pool.pool.map = λ tells.
     subst (λ (f : Found). IsLoaded j f c.in_ok-pool.pool.map) (sym was.found) (subst (λ (k : Image). IsLoaded k c.in_ok-found.found c.in_ok-pool.pool.map) (sym second.reads) (was.map (still tells))) in
     record {
-      fit = fits_opened c.in_ok-found.found c.in_ok-pool.pool pool states c.in_ok-found.ensures.range was.size was.found was.empty e.states e.map e.kept e.found;
+      fit = fits_opened c.in_ok-found.found c.in_ok-pool.pool pool states c.in_ok-found.ensures.range was.size was.found was.version was.empty e.states e.map e.kept e.found e.version;
       ready = ready_each disk pool states e.states.each (e.ready (subst (λ (f : Found). IsSize f.blocks) (sym was.found) c.in_ok-found.ensures.range.size));
       none = counted_each (λ x. x.files ≡ None) (λ x is. is.none) states e.states.counted;
       waiting = counted_each (λ x. x.fresh ≡ replicate stored_count false) (λ x is. is.fresh) states e.states.counted;
       maps = counted_each (λ x. IsVolume x.map) (λ x is. is.valid) states e.states.counted;
-      standing = λ m tells machine. e.standing (told tells) was.empty (map tells) m (means m tells machine);
-      led = λ m tells machine. e.led (told tells) was.empty m (means m tells machine);
-      well = λ m tells machine. e.well (told tells) was.empty m (means m tells machine);
+      standing = λ m tells machine. e.standing (told tells) fresh (map tells) m (means m tells machine);
+      led = λ m tells machine. e.led (told tells) fresh m (means m tells machine);
+      well = λ m tells machine. e.well (told tells) fresh m (means m tells machine);
     }
 
 pub returns-clause-asked : goal.returns-clause-asked

@@ -22,7 +22,7 @@ loop-slot-init g c =
     let kept = c.in_ok-write_kept.ensures in
     let regions = taken c.args.plan.now (holdings pool.containers c.args.volumes.now) in record {
       come = come_first regions disk mid pool c.write_kept.new.self c.args.volumes.now c.args.labels.now c.requires.labels kept.stands c.requires.housed c.requires.room
-          kept.map kept.containers kept.found kept.empty (spares_fewer (IsUnkept pool.kept) (IsTaken (on_disk pool.map)) disk mid (Ok tt) c.requires.kept kept.writes) kept.written;
+          kept.map kept.containers kept.found kept.version kept.empty (spares_fewer (IsUnkept pool.kept) (IsTaken (on_disk pool.map)) disk mid (Ok tt) c.requires.kept kept.writes) kept.written;
       delays = λ tells before lent leaves. delays_begin c.args.plan.now (holdings pool.containers c.args.volumes.now) c.args.delays.now;
     }
 
@@ -46,7 +46,7 @@ loop-slot-preserved g c =
           (come_more (taken plan first) (g.D.Disk.shown c.args.disk.now) c.args.pool.now states s (omega (arith, c.loop-slot-test.true)) c.requires.map c.requires.range c.loop-slot.labels c.loop-slot.pool (g.D.Disk.shown c.loop-slot.disk) come
           c.write_slot.new.labels c.write_slot.new.pool (g.D.Disk.shown c.write_slot.new.disk)
           (past_alike (taken plan (holdings c.loop-slot.pool.containers states)) (taken plan first) (state_at states s) s c.loop-slot.labels c.loop-slot.pool (g.D.Disk.shown c.loop-slot.disk) c.write_slot.new.labels c.write_slot.new.pool (g.D.Disk.shown c.write_slot.new.disk) alike did.past)
-          did.count did.spares did.committed did.found did.kept did.stands);
+          did.count did.spares did.committed did.found did.version did.kept did.stands);
       delays = λ tells before lent leaves. delays_more plan first s (holdings c.loop-slot.pool.containers states s) c.args.delays.now c.loop-slot.delays c.write_slot.new.delays here (c.loop-slot.invariant.delays tells before lent leaves)
           (did.delays (subst IsTrue (sym come.spares.counted.tells) tells)
           (clean_come (taken plan first) (g.D.Disk.shown c.args.disk.now) c.args.pool.now states before lent tells s (omega (arith, c.loop-slot-test.true)) c.loop-slot.labels c.loop-slot.pool (g.D.Disk.shown c.loop-slot.disk) come)

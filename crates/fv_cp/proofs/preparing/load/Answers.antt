@@ -13,7 +13,7 @@ use Rattle.fv_cp.proofs.preparing.load.Goals as goal
 
 pub loop-slot-init : goal.loop-slot-init
 loop-slot-init g c = record {
-  loads = record { map = refl; kept = refl; found = refl; containers = maps_same (g.D.Disk.shown c.args.disk.now) c.args.pool.now.containers };
+  loads = record { map = refl; kept = refl; found = refl; version = refl; containers = maps_same (g.D.Disk.shown c.args.disk.now) c.args.pool.now.containers };
   leaves = λ s low. absurd (omega (arith, low));
   here = λ tells s low. absurd (omega (arith, low));
   stands = c.requires.stands;
@@ -35,7 +35,7 @@ loop-slot-preserved g c =
     let was = c.loop-slot.invariant in
     let did = c.in_ok-load_slot.ensures in
     record {
-      loads = loads_then disk mid c.args.pool.now c.loop-slot.pool _ was.only_reads was.loads (record { map = refl; kept = refl; found = refl; containers = did.maps });
+      loads = loads_then disk mid c.args.pool.now c.loop-slot.pool _ was.only_reads was.loads (record { map = refl; kept = refl; found = refl; version = refl; containers = did.maps });
       leaves = leaves_more c.args.plan.now c.loop-slot.pool.containers c.load_slot.new.containers c.args.volumes.now s did.others was.leaves did.leaves;
       here = λ tells. here_more c.args.plan.now c.loop-slot.pool.containers c.load_slot.new.containers c.args.volumes.now s did.others (was.here tells)
           (did.here (subst IsTrue (sym was.only_reads.stays.tells) tells.0, subst (λ (i : Image). AreCleanOn i c.loop-slot.pool.containers) (sym was.only_reads.stays.reads) (was.loads.containers.clean tells)));
@@ -47,7 +47,7 @@ loop-slot-preserved g c =
 pub returns-in_err-load_slot-clause-loads : goal.returns-in_err-load_slot-clause-loads
 returns-in_err-load_slot-clause-loads g c =
     let was = c.loop-slot.invariant in
-    loads_then (g.D.Disk.shown c.args.disk.now) (g.D.Disk.shown c.loop-slot.disk) c.args.pool.now c.loop-slot.pool _ was.only_reads was.loads (record { map = refl; kept = refl; found = refl; containers = c.load_slot.ensures.maps })
+    loads_then (g.D.Disk.shown c.args.disk.now) (g.D.Disk.shown c.loop-slot.disk) c.args.pool.now c.loop-slot.pool _ was.only_reads was.loads (record { map = refl; kept = refl; found = refl; version = refl; containers = c.load_slot.ensures.maps })
 
 pub returns-in_err-load_slot-clause-fault : goal.returns-in_err-load_slot-clause-fault
 returns-in_err-load_slot-clause-fault g c =

@@ -1,8 +1,7 @@
-use Rattle.std.proofs.Common.{◌≡◌, ◌+◌, ◌*◌, ◌/◌, ◌<◌, ◌≤◌, ℕ, Bool, true, cond, length, sym, subst, ap, ap₂, ◌∙◌, arith}
+use Rattle.std.proofs.Common.{◌≡◌, ◌+◌, ◌*◌, ◌/◌, ◌<◌, ◌≤◌, ℕ, Bool, true, length, sym, subst, ap, ap₂, ◌∙◌, arith}
 use Rattle.std.specs.Int.{from_bool}
-use Rattle.fv_image.proofs.Counts.{one_or_none}
 use Rattle.fv_image.specs.Containers.{fan}
-use Rattle.fv_container.specs.Paged.{Paged, is_known, is_sure}
+use Rattle.fv_container.specs.Paged.{is_known, is_sure}
 use Rattle.fv_delay.specs.Delay.{delayed_in, is_delayed}
 use Rattle.fv_delay.proofs.Parts.{byte_is, byte_most, count_more, inside_region, none_past, region_walked}
 use Rattle.fv_delay.proofs.delayed.delayed_by_region.Goals as goal

@@ -1,4 +1,4 @@
-use Rattle.std.proofs.Common.{◌≡◌, ◌+◌, ◌-◌, ◌*◌, ◌/◌, ◌<◌, ◌≤◌, ℕ, Bool, true, false, cond, not, ◌&&◌, List, length, get_or, min, refl, sym, ap, ap₂, subst, ◌∙◌, arith}
+use Rattle.std.proofs.Common.{◌≡◌, ◌+◌, ◌-◌, ◌*◌, ◌/◌, ◌<◌, ◌≤◌, ℕ, Bool, true, false, not, ◌&&◌, List, length, get_or, min, sym, ap, ap₂, subst, ◌∙◌, arith}
 use Rattle.std.specs.Int.{from_bool}
 use Rattle.std.specs.Option.{is_some}
 use Rattle.fv_bits.proofs.Counts.{passing}
@@ -10,7 +10,7 @@ use Rattle.fv_volmap.specs.Slots.{Volume}
 use Rattle.fv_delay.specs.Delay.{delayed_in, is_delayed, is_held}
 use Rattle.fv_delay.specs.Reclaims.{HasEmptied, HasGiven, lead_to}
 use Rattle.fv_delay.proofs.Parts.{byte_is, byte_most, count_more, end_within, inside_region, none_past, region_walked, the_end}
-use Rattle.fv_delay.proofs.Reclaimed.{HasWalked, between, region_reclaimed, some_none, some_one, some_then, stayed_one, stayed_same, stayed_then, still_there, walked_more, walked_none}
+use Rattle.fv_delay.proofs.Reclaimed.{between, region_reclaimed, some_none, some_one, some_then, stayed_one, stayed_same, stayed_then, still_there, walked_more, walked_none}
 use Rattle.fv_delay.proofs.reclaiming.reclaim.Goals as goal
 
 pub loop-vvbn-init : goal.loop-vvbn-init

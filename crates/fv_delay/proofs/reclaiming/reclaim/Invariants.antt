@@ -1,7 +1,7 @@
 use Rattle.std.proofs.Common.{◌≡◌, ◌-◌, ◌≤◌}
 use Rattle.fv_bits.proofs.Counts.{passing}
 use Rattle.fv_delay.specs.Delay.{IsSureIn, is_delayed}
-use Rattle.fv_delay.specs.Reclaims.{HasGivenSome, HasStayed, lead_to}
+use Rattle.fv_delay.specs.Reclaims.{HasGivenSome, HasStayed}
 use Rattle.fv_delay.proofs.Reclaimed.{HasWalked}
 use Rattle.fv_delay.proofs.reclaiming.reclaim.Given as goal
 

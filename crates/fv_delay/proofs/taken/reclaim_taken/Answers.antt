@@ -1,8 +1,9 @@
-use Rattle.std.proofs.Common.{◌≡◌, ◌+◌, ◌*◌, ◌<◌, ℕ, Bool, true, false, ◌&&◌, List, length, get_or, refl, sym, ap, subst, ◌∙◌, arith}
+use Rattle.std.proofs.Common.{◌≡◌, ◌+◌, ◌*◌, ◌<◌, ℕ, Bool, false, List, length, get_or, refl, sym, ap, subst, ◌∙◌, arith}
 use Rattle.std.proofs.lemmas.Bool.{true≢false}
-use Rattle.fv_image.specs.Containers.{fan}
+use Rattle.fv_image.specs.Containers.{fan, level_width}
 use Rattle.fv_aggmap.specs.Space.{Space}
-use Rattle.fv_container.specs.Paged.{Paged, is_here, is_known, is_sure}
+use Rattle.fv_container.specs.Loading.{IsNextRegion}
+use Rattle.fv_container.specs.Paged.{Paged, is_here}
 use Rattle.fv_volmap.specs.Slots.{Volume}
 use Rattle.fv_delay.specs.declared.threshold.Threshold.{Threshold}
 use Rattle.fv_delay.specs.ByThreshold.{behind, taken_in, takes}
@@ -10,13 +11,15 @@ use Rattle.fv_delay.specs.Delay.{IsSureIn, delayed_in}
 use Rattle.fv_delay.specs.Holding.{held_by}
 use Rattle.fv_delay.specs.Reclaims.{HasGivenSome, HasReclaimed, HasStayed}
 use Rattle.fv_delay.proofs.Reclaimed.{some_none, some_then, stayed_same, stayed_then}
-use Rattle.fv_delay.proofs.TakenRegions.{HasAsked, and_second, and_so, asked_all, asked_left, asked_none, asked_off, asked_on, asked_passed, asked_rest, asked_taken, at_width, up_to}
+use Rattle.fv_delay.proofs.Skipping.{asked_last, asked_next, next_within}
+use Rattle.fv_delay.proofs.TakenRegions.{and_second, and_so, asked_all, asked_left, asked_none, asked_off, asked_on, asked_passed, asked_rest, asked_taken, up_to}
 use Rattle.fv_delay.proofs.taken.reclaim_taken.Goals.{then-takes_here, else-takes_here+then-count-ne0, else-takes_here+else-count-ne0}
 use Rattle.fv_delay.proofs.taken.reclaim_taken.Goals as goal
 
 pub loop-region-init : goal.loop-region-init
 unfolding behind
 loop-region-init c = record {
+  within = omega arith;
   asked = λ sure here. record {
     passed = refl;
     reclaimed = asked_none c.args.map.now c.args.container.now c.args.start c.args.pool_map.now;
@@ -29,16 +32,20 @@ loop-region-init c = record {
 
 pub delayed_by_region-count-requires-clause-known : goal.delayed_by_region-count-requires-clause-known
 delayed_by_region-count-requires-clause-known c = λ some.
-    ap (λ (l : List Bool). get_or l c.loop-region.region false) c.loop-region.invariant.stayed.known
-    ∙ c.requires.known c.loop-region.region (subst (λ (n : ℕ). fan * c.loop-region.region < n) c.loop-region.invariant.stayed.long some)
+    ap (λ (l : List Bool). get_or l c.in-Some.region false) c.loop-region.invariant.stayed.known
+    ∙ c.requires.known c.in-Some.region (subst (λ (n : ℕ). fan * c.in-Some.region < n) c.loop-region.invariant.stayed.long some)
+
+pub overflow_add-from : goal.overflow_add-from
+overflow_add-from c = omega (arith, c.in-Some.ensures.next.within, c.loop-region.invariant.stayed.long, c.requires.entries, c.requires.span)
 
 pub reclaim-requires-clause-loaded : goal.reclaim-requires-clause-loaded
-reclaim-requires-clause-loaded c = λ some. and_second (takes c.loop-region.threshold c.delayed_by_region-count.result) (is_here c.loop-region.container c.loop-region.region) (sym c.takes_here.ensures.taken ∙ c.if-takes_here.true)
+reclaim-requires-clause-loaded c = λ some. and_second (takes c.loop-region.threshold c.delayed_by_region-count.result) (is_here c.loop-region.container c.in-Some.region) (sym c.takes_here.ensures.taken ∙ c.if-takes_here.true)
 
 pub loop-region-preserved : goal.loop-region-preserved
 loop-region-preserved c = record {
+  within = next_within mid c.loop-region.from r (length old.map.entries) stays.long next;
   asked = λ sure here.
-      let was = c.loop-region.invariant.asked sure here in
+      let was = asked_next map old start now c.loop-region.from r space between mid c.loop-region.is_left sure stays next (c.loop-region.invariant.asked sure here) in
       let sured : IsSureIn mid r = λ some. ap (λ (l : List Bool). get_or l r false) stays.sure ∙ sure r (subst (λ (n : ℕ). fan * r < n) stays.long some) in
       let counts : count ≡ delayed_in map mid.map r = c.delayed_by_region-count.ensures sured in
       let is : c.takes_here.result ≡ takes now count = c.takes_here.ensures.taken ∙ and_so (takes now count) (is_here mid r) (λ on.
@@ -100,10 +107,13 @@ loop-region-preserved c = record {
     between = c.loop-region.pool_map
 
     r : ℕ
-    r = c.loop-region.region
+    r = c.in-Some.region
+
+    next : IsNextRegion mid c.loop-region.from r
+    next = c.in-Some.ensures.next
 
     inside : fan * r < length old.map.entries
-    inside = omega (arith, c.loop-region-test.true, c.region_count-region-end.ensures, c.requires.entries)
+    inside = omega (arith, next.within, stays.long)
 
     count : ℕ
     count = c.delayed_by_region-count.result
@@ -116,15 +126,18 @@ loop-region-preserved c = record {
 
 pub returns-clause-reclaimed : goal.returns-clause-reclaimed
 returns-clause-reclaimed c = λ sure here.
-    let last = at_width _ _ c.region_count-region-end.result c.loop-region.region c.requires.entries c.region_count-region-end.ensures c.loop-region.auto.region-end c.loop-region-test.false in
-    asked_all c.args.map.now c.args.container.now c.args.start c.loop-region.container c.args.pool_map.now c.loop-region.pool_map c.loop-region.region (omega (arith, last)) (c.loop-region.invariant.asked sure here).reclaimed
+    let last = asked_last c.args.map.now c.args.container.now c.args.start c.loop-region.threshold c.loop-region.from (level_width (length c.args.container.now.map.entries) 0) c.args.pool_map.now c.loop-region.pool_map c.loop-region.container c.loop-region.is_left
+    sure c.loop-region.invariant.stayed c.in_default.ensures.none c.loop-region.invariant.within (c.loop-region.invariant.asked sure here) in
+    asked_all c.args.map.now c.args.container.now c.args.start c.loop-region.container c.args.pool_map.now c.loop-region.pool_map (level_width (length c.args.container.now.map.entries) 0) (omega arith) last.reclaimed
 
 pub returns-clause-rest : goal.returns-clause-rest
-returns-clause-rest c = λ sure here none region within some.
-    let last = at_width _ _ c.region_count-region-end.result c.loop-region.region c.requires.entries c.region_count-region-end.ensures c.loop-region.auto.region-end c.loop-region-test.false in
-    (c.loop-region.invariant.asked sure here).rest none region (omega (arith, last, within)) some
+returns-clause-rest c = λ sure here.
+    let last = asked_last c.args.map.now c.args.container.now c.args.start c.loop-region.threshold c.loop-region.from (level_width (length c.args.container.now.map.entries) 0) c.args.pool_map.now c.loop-region.pool_map c.loop-region.container c.loop-region.is_left
+    sure c.loop-region.invariant.stayed c.in_default.ensures.none c.loop-region.invariant.within (c.loop-region.invariant.asked sure here) in
+    last.rest
 
 pub returns-clause-left : goal.returns-clause-left
 returns-clause-left c = λ sure here.
-    let last = at_width _ _ c.region_count-region-end.result c.loop-region.region c.requires.entries c.region_count-region-end.ensures c.loop-region.auto.region-end c.loop-region-test.false in
-    λ some all. (c.loop-region.invariant.asked sure here).left some (λ k lt. all k (omega (arith, last, lt)))
+    let last = asked_last c.args.map.now c.args.container.now c.args.start c.loop-region.threshold c.loop-region.from (level_width (length c.args.container.now.map.entries) 0) c.args.pool_map.now c.loop-region.pool_map c.loop-region.container c.loop-region.is_left
+    sure c.loop-region.invariant.stayed c.in_default.ensures.none c.loop-region.invariant.within (c.loop-region.invariant.asked sure here) in
+    last.left

@@ -19,6 +19,7 @@ returns-in-Err-clause-failed g c =
           ∙ block_again c.args.pool.now.map c.take_numbers.new.space c.in_ok-placed.placed.pvbn takes.free takes.taken;
       kept = loads.kept;
       found = loads.found;
+      version = loads.version;
       containers = loads.containers;
     }
 
@@ -61,6 +62,7 @@ places g c =
       entry = sets_entry disk old mid new slot placed.vvbn (record { pvbn = placed.pvbn; kind = c.args.kind }) ready.containers within ready.here c.set_entry-before.ensures.set;
       kept = ready.kept;
       found = ready.found;
+      version = ready.version;
     }
 
 pub returns-clause-placed : goal.returns-clause-placed

@@ -7,7 +7,7 @@ pub load_leaf-requires-clause-within : goal.load_leaf-requires-clause-within
 load_leaf-requires-clause-within g c = omega (arith, c.requires.within)
 
 pub returns-in_err-load_leaf-clause-failed : goal.returns-in_err-load_leaf-clause-failed
-returns-in_err-load_leaf-clause-failed g c = on_err c.from_residual.result (record { map = refl; kept = refl; found = refl; containers = c.load_leaf.ensures.maps })
+returns-in_err-load_leaf-clause-failed g c = on_err c.from_residual.result (record { map = refl; kept = refl; found = refl; version = refl; containers = c.load_leaf.ensures.maps })
 
 pub returns-in_err-keep-clause-failed : goal.returns-in_err-keep-clause-failed
 returns-in_err-keep-clause-failed g c =
@@ -16,6 +16,7 @@ returns-in_err-keep-clause-failed g c =
       map = ap (λ (p : Pool). p.map) same;
       kept = ap (λ (p : Pool). p.kept) same;
       found = ap (λ (p : Pool). p.found) same;
+      version = ap (λ (p : Pool). p.version) same;
       containers = rw (ap (λ (p : Pool). p.containers) same) c.load_leaf.ensures.maps;
     })
 
@@ -25,6 +26,7 @@ returns-clause-ready g c =
     record {
       map = ap (λ (p : Pool). p.map) same;
       found = ap (λ (p : Pool). p.found) same;
+      version = ap (λ (p : Pool). p.version) same;
       kept = ap (λ (p : Pool). p.kept) same;
       containers = rw (ap (λ (p : Pool). p.containers) same) c.load_leaf.ensures.maps;
       here = rw (ap (λ (p : Pool). p.containers) same) c.in_ok-load_leaf.ensures.here;

@@ -29,6 +29,7 @@ returns-clause-fit g c =
       fit = record {
         range = subst IsInRange (sym same) c.in_ok-found.ensures.range;
         size = ap blocks_of is.map ∙ was.size ∙ ap (λ (f : Found). f.blocks) (sym same);
+        version = is.version ∙ was.version ∙ ap (λ (f : Found). f.root.version) (sym same);
         housed = record { long = is.states.long; volumes = is.states.each; each = is.states.housed; parents = is.states.parents };
         kept = λ b taken. ap (λ (k : Blocks). fin.get k b) (is.kept ∙ was.empty) ∙ fin.get-empty nat_cmp b;
       };

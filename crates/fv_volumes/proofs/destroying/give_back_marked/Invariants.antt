@@ -1,4 +1,4 @@
-use Rattle.std.proofs.Common.{◌≡◌, false}
+use Rattle.std.proofs.Common.{◌≡◌, ◌-◌, ◌≤◌, false, length}
 use Rattle.fv_bits.specs.Members.{is_member}
 use Rattle.fv_delay.specs.Reclaims.{HasGivenSome}
 use Rattle.fv_volume.specs.Writing.{HasGiven}
@@ -8,7 +8,11 @@ use Rattle.fv_volumes.proofs.destroying.give_back_marked.Given as goal
 
 abbrev pub invariant-loop-place : goal.invariant-loop-place
 invariant-loop-place l = record {
-  given : is_member l.marks 0 ≡ false → HasGiven l.fn.map (marked_below l.marks l.place) l.map;
+  within : l.from ≤ length l.marks;
+  given : is_member l.marks 0 ≡ false → HasGiven l.fn.map (marked_below l.marks l.from) l.map;
   some : HasGivenSome l.fn.map l.map;
-  kept : HasForgotten l.fn.kept (marked_below l.marks l.place) l.kept;
+  kept : HasForgotten l.fn.kept (marked_below l.marks l.from) l.kept;
 }
+
+abbrev pub decreases-loop-place : goal.decreases-loop-place
+decreases-loop-place l = length l.marks - l.from

@@ -1,4 +1,5 @@
-use Rattle.std.proofs.Common.{rules, ◌≡◌, ℕ, ap, ◌∙◌, get_or, refl, sym, subst}
+use Rattle.std.proofs.Common.{rules, ◌≡◌, ℕ, None, Some, ap, ◌∙◌, get_or, refl, sym, subst}
+use Rattle.std.proofs.lemmas.List.{get_or-set_other, length-set}
 use Rattle.std.specs.Prelude.{IsTrue}
 use Rattle.fv_disk.specs.Shown.{Image}
 use Rattle.fv_image.specs.Views.{entry_count}
@@ -8,7 +9,7 @@ use Rattle.fv_disk.proofs.Resting.{reads_then}
 use Rattle.fv_volmap.specs.Slots.{Volume, stored_count}
 use Rattle.fv_container.specs.Clean.{IsCleanOn, IsCleanTree}
 use Rattle.fv_container.specs.Spelled.{IsFault, IsOpened}
-use Rattle.fv_volume.specs.Loading.{HaveBits, IsBadMap, IsLoadFault}
+use Rattle.fv_volume.specs.Loading.{HaveBits, IsBadMap, IsLoadFault, KeepsOthers}
 use Rattle.fv_volume.specs.SlotReads.{HaveRead, IsOpenedOn}
 use Rattle.fv_volumes.proofs.Labelled.{bad_label, bad_map, bad_tree, handed, is_label, loaded_none, loaded_some}
 use Rattle.fv_volume.proofs.Loaded.{few_snaps, labelled_from, slots_loaded}
@@ -102,3 +103,17 @@ returns-clause-only_reads g c =
     let one = g.D.Disk.shown c.read_label.new.disk in
     let two = g.D.Disk.shown c.read_container.new.disk in
     reads_then old two (g.D.Disk.shown c.read_map.new.disk) (reads_then old one two c.read_label.ensures.only_reads c.read_container.ensures.only_reads) c.read_map.ensures.only_reads
+
+pub returns-in_err-map-clause-only_reads : goal.returns-in_err-map-clause-only_reads
+returns-in_err-map-clause-only_reads g c =
+    let old = g.D.Disk.shown c.args.disk.now in
+    let one = g.D.Disk.shown c.read_label.new.disk in
+    let two = g.D.Disk.shown c.read_container.new.disk in
+    reads_then old two (g.D.Disk.shown c.read_map.new.disk) (reads_then old one two c.read_label.ensures.only_reads c.read_container.ensures.only_reads) c.read_map.ensures.only_reads
+
+pub returns-clause-leaves : goal.returns-clause-leaves
+returns-clause-leaves g c = subst (KeepsOthers c.args.slot c.args.containers.now) (sym c.put.ensures.put) (record {
+  few = length-set c.args.containers.now.containers c.args.slot (Some c.in_ok-container.container) ∙ c.requires.few;
+  others = λ s other. get_or-set_other c.args.containers.now.containers c.args.slot s (Some c.in_ok-container.container) None other;
+  parents = λ s other. get_or-set_other c.args.containers.now.parents c.args.slot s None None other;
+})

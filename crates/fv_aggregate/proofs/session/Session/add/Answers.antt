@@ -25,6 +25,7 @@ invariant_of-self-2 c = (
       subst (λ (p : Pool). FitTogether p c.create.new.self) (sym e.holes) (record {
         range = was.range;
         size = was.size;
+        version = was.version;
         housed = housed_with c.self.inside.pool c.self.inside.volumes c.create.new.self slot c.args.name.now c.args.size c.args.kind e.made new e.each was.housed;
         kept = was.kept;
       }),

@@ -5,7 +5,7 @@ use Rattle.fv_codec.proofs.container.ContainerLeaf.read_entries.Given as goal
 
 abbrev pub invariant-loop-i : goal.invariant-loop-i
 invariant-loop-i l = record {
-  verdict : each (length l.fn.pvbns) 12 asks_entry l.bytes ≡ each (length l.fn.pvbns - l.i) 12 asks_entry (drop (12 * l.i) l.bytes);
+  verdict : each (length l.fn.pvbns) 12 (asks_entry l.fn.most_kind) l.bytes ≡ each (length l.fn.pvbns - l.i) 12 (asks_entry l.fn.most_kind) (drop (12 * l.i) l.bytes);
   pvbns : take l.i l.pvbns ≡ items l.i 12 place_of l.bytes;
   kinds : take l.i l.kinds ≡ items l.i 12 kind_of l.bytes;
 }

@@ -1,17 +1,19 @@
-use Rattle.std.proofs.Common.{rules, ◌≡◌, ◌≤◌, ◌<◌, ◌∙◌, ℕ, Bool, true, false, not, None, List, Option, length, get_or, replicate, refl, sym, ap, subst}
+use Rattle.std.proofs.Common.{rules, ◌≡◌, ◌≤◌, ◌<◌, ◌∙◌, ℕ, Bool, true, false, not, None, List, Option, length, get_or, replicate, refl, sym, ap, subst, arith}
 use Rattle.std.specs.Prelude.{IsTrue}
 use Rattle.std.specs.Option.{is_some}
-use Rattle.std.specs.Vec.{with_items}
+use Rattle.std.specs.Vec.{vec_capacity, with_items}
 use Rattle.std.proofs.lemmas.Bool.{and_parts, true≢false}
-use Rattle.std.proofs.lemmas.List.{with_items_is, places}
+use Rattle.std.proofs.lemmas.List.{length-replicate, with_items_is, places}
 use Rattle.fv_disk.specs.Shown.{Image}
-use Rattle.fv_codec.specs.Blocks.{last_place}
+use Rattle.fv_codec.specs.Blocks.{greatest_kind, last_place}
 use Rattle.fv_image.specs.Containers.{level_width}
 use Rattle.fv_container.specs.declared.entry.Entry.{Entry}
-use Rattle.fv_container.specs.Mapped.{marks_above, node_count}
+use Rattle.fv_container.specs.Kept.{CanGrow}
+use Rattle.fv_container.specs.Mapped.{grown, marks_above, node_count}
 use Rattle.fv_container.specs.Paged.{Leaves, entries_spelled, leaf_here}
 use Rattle.fv_container.specs.Reading.{TreeAt}
 use Rattle.fv_container.proofs.Loaded.{here_at}
+use Rattle.fv_container.proofs.Occupied.{none_occupied}
 use Rattle.fv_container.proofs.Opened.{absent_at, marks_clean, opened_clean, opened_kept, opened_over, opened_spelled, spelled_long}
 use Rattle.fv_container.proofs.Whole.{all_both, whole_bounded}
 use Rattle.fv_container.proofs.container.Container.at.Given as given
@@ -59,10 +61,33 @@ absent g c k lt is = subst (λ (l : List ℕ). get_or l k 0 ≡ 0) c.deref-2.ens
 room : (g : given.Over) (c : goal.After-of-told g) → (length c.in_ok-next.next.items ≡ node_count c.args.entries) × (length c.in_ok-fresh.fresh.items ≡ node_count c.args.entries)
 room g c = (search (rules, places), search (rules, places))
 
+used_is : (g : given.Over) (c : goal.After-of-told g) → c.in_ok-used.used ≡ replicate (grown c.args.entries) false
+used_is g c = search (rules, places)
+
+occupied_is : (g : given.Over) (c : goal.After-of-told g) → c.in_ok-occupied.occupied ≡ replicate (level_width (grown c.args.entries) 0) false
+occupied_is g c = search (rules, places)
+
+can_grow : (g : given.Over) (c : goal.After-of-told g)
+    → CanGrow c.args.entries (vec_capacity c.in_ok-leaves.leaves) (vec_capacity (with_items c.in_ok-tree.tree c.read_tree.new.places)) (vec_capacity c.in_ok-dirty.dirty) (vec_capacity c.in_ok-next.next) (vec_capacity c.in_ok-fresh.fresh)
+    (vec_capacity c.in_ok-known.known) (length c.in_ok-used.used) greatest_kind
+can_grow g c = record {
+  leaves = search (rules, places);
+  tree = search (rules, places);
+  dirty = search (rules, places);
+  next = search (rules, places);
+  fresh = search (rules, places);
+  known = search (rules, places);
+  used = (let long = length-replicate {A = Bool} (grown c.args.entries) false in omega (arith, ap (λ (l : List Bool). length l) (used_is g c), long));
+  kinds = refl;
+}
+
 pub invariant_of-result : goal.invariant_of-result
-invariant_of-result g c =
-    opened_kept (g.D.Disk.shown c.args.disk.now).reads c.args.entries (not c.both-stands.result) c.of-told.result.entries (with_items c.in_ok-tree.tree c.read_tree.new.places).items c.in_ok-dirty.dirty.items c.in_ok-leaves.leaves.items c.in_ok-known.known.items c.of-told.result.sure c.in_ok-used.used c.in_ok-next.next.items c.in_ok-fresh.fresh.items
-    c.requires.few (told_is g c) (long g c) (low g c) (high g c) (dirty_is g c) (leaves_is g c) (wide g c) (absent g c) (c.of-told.ensures.1 ∙ c.deref-4.ensures.value) c.in_ok-used.ensures.empty (room g c).0 (room g c).1
+invariant_of-result g c = (
+  opened_kept (g.D.Disk.shown c.args.disk.now).reads c.args.entries (not c.both-stands.result) c.of-told.result.entries (with_items c.in_ok-tree.tree c.read_tree.new.places).items c.in_ok-dirty.dirty.items c.in_ok-leaves.leaves.items c.in_ok-known.known.items c.of-told.result.sure c.in_ok-used.used c.in_ok-next.next.items c.in_ok-fresh.fresh.items
+      c.requires.few (told_is g c) (long g c) (low g c) (high g c) (dirty_is g c) (leaves_is g c) (wide g c) (absent g c) (c.of-told.ensures.1 ∙ c.deref-4.ensures.value) (used_is g c) (room g c).0 (room g c).1,
+  can_grow g c,
+  none_occupied c.args.entries (grown c.args.entries) (level_width (grown c.args.entries) 0) c.in_ok-used.used c.in_ok-occupied.occupied (omega arith) (used_is g c) (occupied_is g c),
+)
 
 pub returns-clause-opened : goal.returns-clause-opened
 returns-clause-opened g c = λ tells.
@@ -71,7 +96,7 @@ returns-clause-opened g c = λ tells.
 pub returns-clause-clean : goal.returns-clause-clean
 returns-clause-clean g c = λ tells clean.
     opened_clean (g.D.Disk.shown c.args.disk.now).reads c.args.entries (not c.both-stands.result) c.of-told.result.entries (with_items c.in_ok-tree.tree c.read_tree.new.places).items c.in_ok-dirty.dirty.items c.in_ok-leaves.leaves.items c.in_ok-known.known.items c.of-told.result.sure c.in_ok-used.used c.in_ok-next.next.items c.in_ok-fresh.fresh.items
-    c.requires.few (told_is g c) (long g c) (low g c) (high g c) (dirty_is g c) (leaves_is g c) (wide g c) (absent g c) (c.of-told.ensures.1 ∙ c.deref-4.ensures.value) c.in_ok-used.ensures.empty (room g c).0 (room g c).1
+    c.requires.few (told_is g c) (long g c) (low g c) (high g c) (dirty_is g c) (leaves_is g c) (wide g c) (absent g c) (c.of-told.ensures.1 ∙ c.deref-4.ensures.value) (used_is g c) (room g c).0 (room g c).1
     (opened_over (g.D.Disk.shown c.args.disk.now) c.args.root c.args.height c.args.entries (with_items c.in_ok-tree.tree c.read_tree.new.places).items (marks_above c.args.entries (not c.both-stands.result)) tells (g.met.D.Disk.laws c.args.disk.now) (tree_at g c tells) clean)
 
 pub returns-clause-kept : goal.returns-clause-kept
@@ -86,7 +111,7 @@ pub returns-clause-size : goal.returns-clause-size
 returns-clause-size g c = ap (λ (l : List (Option Entry)). length l) (told_is g c) ∙ spelled_long (g.D.Disk.shown c.args.disk.now).reads (with_items c.in_ok-tree.tree c.read_tree.new.places).items c.args.entries
 
 pub returns-clause-valid : goal.returns-clause-valid
-returns-clause-valid g c = (invariant_of-result g c).mapped
+returns-clause-valid g c = (invariant_of-result g c).0.mapped
 
 pub returns-clause-absent : goal.returns-clause-absent
 returns-clause-absent g c = λ k lt none. c.in_ok-known.ensures.there k (rw c.leaf_count-regions.ensures lt) (subst (λ (l : List ℕ). get_or l k 0 ≡ 0) (sym c.deref-2.ensures.value) none)

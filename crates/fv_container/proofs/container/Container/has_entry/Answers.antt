@@ -4,4 +4,4 @@ use Rattle.fv_container.proofs.container.Container.has_entry.Goals as goal
 pub returns : goal.returns
 returns c = λ sure.
     has_out c.args.self.now c.self.inside.told.entries c.self.inside.tree.items c.self.inside.dirty.items c.self.inside.leaves.items c.self.inside.known.items c.self.inside.told.sure c.self.inside.used c.self.inside.next.items c.self.inside.fresh.items c.self.inside.count
-    c.args.vvbn c.get.result c.self.view_is c.self.invariant sure c.get.ensures
+    c.args.vvbn c.get.result c.self.view_is c.self.invariant.0 sure c.get.ensures

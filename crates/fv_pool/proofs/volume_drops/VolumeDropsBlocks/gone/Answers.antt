@@ -30,6 +30,7 @@ returns-clause-calls g c =
         containers = refl;
         kept = refl;
         found = refl;
+        version = refl;
         room = refl;
         steps = omega arith;
         only_reads = (drops_itself old).only_reads;

@@ -1,15 +1,9 @@
-use Rattle.std.proofs.Common.{rules, Ok, Err, ◌<◌, ◌≤◌, ◌+◌, ◌≡◌, ◌⊎◌, refl, sym, ap, subst, inl, inr, ⊎_elim, arith}
-use Rattle.fv_codec.specs.Blocks.{last_place}
-use Rattle.fv_image.specs.Layout.{root_place}
+use Rattle.std.proofs.Common.{Ok, Err, ◌<◌, ◌≤◌, ◌+◌, refl, sym, ap, inl, arith}
 use Rattle.fv_container.specs.Chains.{own_entry}
-use Rattle.fv_pool.specs.Lending.{IsOutOfRoom, WasLeaf, lent_by, shown_over}
-use Rattle.fv_pool.specs.Putting.{PutsOver, trusting}
-use Rattle.fv_tree.specs.Sources.{Places}
-use Rattle.fv_volmap.specs.Slots.{Volume}
-use Rattle.fv_pool.specs.BlocksOver.{free_numbers}
-use Rattle.fv_pool.proofs.Fields.{loads_apart, loads_blocks, loads_clean, loads_entries, placed_apart, placed_clean, placed_damage, placed_entries, placed_few, unplaced_damage}
-use Rattle.fv_pool.proofs.Going.{goes_failed, goes_placed, place_notes}
-use Rattle.fv_pool.proofs.PlaceShown.{entries_told, placed_shown, trusting_places, unplaced_shown}
+use Rattle.fv_pool.specs.Lending.{lent_by}
+use Rattle.fv_pool.proofs.Fields.{loads_apart, loads_clean, placed_apart, placed_clean, unplaced_damage}
+use Rattle.fv_pool.proofs.Going.{goes_placed, puts_failed}
+use Rattle.fv_pool.proofs.PlaceShown.{placed_shown, trusting_places, unplaced_shown}
 use Rattle.fv_pool.proofs.volume_places.VolumePlacesBlocks.place.Goals as goal
 
 pub returns-in-Ok-clause-places : goal.returns-in-Ok-clause-places
@@ -23,14 +17,11 @@ returns-in-Ok-clause-places g c =
 pub returns-in-Err-clause-places : goal.returns-in-Err-clause-places
 returns-in-Err-clause-places g c =
     let self = c.args.self.now in
-    let disk = g.D.Disk.shown self.disk.now in
-    let later = g.D.Disk.shown c.place_block.new.disk in
-    let old = trusting (shown_over (lent_by self.pool.now self.map.now disk 0 self.home self.room self.strays self.noted)) in
-    let shown = trusting_places _ _ _ c.args.kind c.args.block.now (Err c.in-Err.fault)
-    (unplaced_shown self.pool.now c.place_block.new.pool self.map.now disk later 0 self.home self.room self.strays self.noted c.note.new.noted _ c.args.kind c.args.block.now c.in-Err.ensures.failed c.place_block.ensures.only_reads
-    (λ told. entries_told disk self.pool.now.containers (self.tells told) (self.clean told)) c.in-Err.fault c.in-Err.ensures.fault c.note.ensures.notes self.numbers self.blocks c.in-Err.ensures.cause) in
-    subst (λ e. Places _ old c.args.kind c.args.block.now (trusting (shown_over (lent_by c.place_block.new.pool c.place_block.new.map later 0 self.home self.room self.strays c.note.new.noted))) (Err e)) (sym c.note.ensures.same)
-    (subst (λ m. Places _ old c.args.kind c.args.block.now (trusting (shown_over (lent_by c.place_block.new.pool m later 0 self.home self.room self.strays c.note.new.noted))) (Err c.in-Err.fault)) (sym c.in-Err.ensures.failed_map) shown)
+    let call = c.place_block in
+    let fails = c.in-Err.ensures in
+    trusting_places _ _ _ c.args.kind c.args.block.now (Err c.note.result)
+    (unplaced_shown (lent_by self.pool.now self.map.now (g.D.Disk.shown self.disk.now) 0 self.home self.room self.strays self.noted) call.new.pool (g.D.Disk.shown call.new.disk) c.note.new.noted _ self.tells self.clean fails.failed call.ensures.only_reads c.args.kind c.args.block.now
+    c.note.result c.in-Err.fault call.new.map c.note.ensures.same fails.failed_map fails.fault c.note.ensures.notes self.numbers self.blocks fails.cause)
 
 pub returns-in-Ok-clause-calls : goal.returns-in-Ok-clause-calls
 returns-in-Ok-clause-calls g c =
@@ -44,26 +35,11 @@ returns-in-Ok-clause-calls g c =
 pub returns-in-Err-clause-calls : goal.returns-in-Err-clause-calls
 returns-in-Err-clause-calls g c =
     let self = c.args.self.now in
-    let disk = g.D.Disk.shown self.disk.now in
-    let later = g.D.Disk.shown c.place_block.new.disk in
-    let old = lent_by self.pool.now self.map.now disk 0 self.home self.room self.strays self.noted in
-    let new = lent_by c.place_block.new.pool self.map.now later 0 self.home self.room self.strays c.note.new.noted in
-    let cause : (c.note.new.noted ≡ self.noted) ⊎ (IsOutOfRoom old new ⊎ WasLeaf disk self.pool.now.containers c.note.new.noted) = ⊎_elim
-    (λ same. inl same)
-    (λ why. inr (⊎_elim
-    (λ lack. inl (record { none = ⊎_elim (λ none. omega (arith, none, self.numbers)) (λ none. omega (arith, none, self.blocks)) lack.1; lacks = lack.0 }))
-    (λ leaf. inr leaf)
-    why))
-    (place_notes disk self.pool.now.containers self.pool.now.map self.map.now (root_place self.pool.now.found.slot) self.home.label c.in-Err.fault self.noted c.note.new.noted c.in-Err.ensures.fault c.note.ensures.notes) in
-    let puts : PutsOver old new = record {
-      goes = goes_failed self.pool.now c.place_block.new.pool self.map.now disk later 0 self.home self.room self.strays self.noted c.note.new.noted c.in-Err.ensures.failed c.place_block.ensures.only_reads (⊎_elim (λ same. inl same) (λ why. inr (inr why)) cause);
-      noted = cause;
-    } in (
-      refl,
-      refl,
-      refl,
-      subst (λ m. PutsOver old (lent_by c.place_block.new.pool m later 0 self.home self.room self.strays c.note.new.noted)) (sym c.in-Err.ensures.failed_map) puts,
-    )
+    let call = c.place_block in
+    let fails = c.in-Err.ensures in
+    let puts = puts_failed self.pool.now call.new.pool self.map.now (g.D.Disk.shown self.disk.now) (g.D.Disk.shown call.new.disk) 0 self.home self.room self.strays self.noted c.note.new.noted fails.failed call.ensures.only_reads
+    c.in-Err.fault call.new.map fails.failed_map fails.fault c.note.ensures.notes self.numbers self.blocks in
+    (refl, refl, refl, puts)
 
 pub returns-in-Ok-clause-keeps : goal.returns-in-Ok-clause-keeps
 returns-in-Ok-clause-keeps g c = λ v other. c.in-Ok.ensures.placed.entry.rest v (λ same. other (sym same))
@@ -75,40 +51,26 @@ returns-in-Err-clause-keeps g c = λ v other.
 pub returns-in-Ok-clause-known : goal.returns-in-Ok-clause-known
 returns-in-Ok-clause-known g c = λ known. c.in-Ok.ensures.placed.takes.least
 
-pub invariant_of-self : goal.invariant_of-self
-invariant_of-self g c =
-    let self = c.args.self.now in
-    let less = c.saturating_sub-self.ensures in
-    let places = c.in-Ok.ensures.placed in
-    let numbers = c.in-Ok.ensures.leaves.numbers in
-    let blocks = c.in-Ok.ensures.leaves.blocks in
-    record {
-      within = self.within;
-      stands = c.place_block.ensures.stands;
-      few = placed_few (g.D.Disk.shown self.disk.now) (g.D.Disk.shown c.place_block.new.disk) self.pool.now c.place_block.new.pool self.map.now c.place_block.new.map c.args.kind c.args.block.now c.in-Ok.placed self.home.slot self.few places;
-      entries = placed_entries (g.D.Disk.shown self.disk.now) (g.D.Disk.shown c.place_block.new.disk) self.pool.now c.place_block.new.pool self.map.now c.place_block.new.map c.args.kind c.args.block.now c.in-Ok.placed self.home.slot self.entries places;
-      numbers = omega (arith, less, numbers, self.numbers);
-      blocks = omega (arith, less, blocks, self.blocks);
-      damage = placed_damage (g.D.Disk.shown self.disk.now) (g.D.Disk.shown c.place_block.new.disk) self.pool.now c.place_block.new.pool self.map.now c.place_block.new.map c.args.kind c.args.block.now c.in-Ok.placed self.home self.noted self.damage places c.place_block.ensures.only_reads;
-      tells = search rules;
-      apart = placed_apart (g.D.Disk.shown self.disk.now) (g.D.Disk.shown c.place_block.new.disk) self.pool.now c.place_block.new.pool self.map.now c.place_block.new.map c.args.kind c.args.block.now c.in-Ok.placed g.K.Guard.told self.home.slot self.tells self.clean self.apart c.in-Ok.ensures.holds;
-      clean = placed_clean (g.D.Disk.shown self.disk.now) (g.D.Disk.shown c.place_block.new.disk) self.pool.now c.place_block.new.pool self.map.now c.place_block.new.map c.args.kind c.args.block.now c.in-Ok.placed g.K.Guard.told self.home.slot self.tells self.clean places c.place_block.ensures.only_reads;
-    }
+pub invariant_of-self-clause-numbers : goal.invariant_of-self-clause-numbers
+invariant_of-self-clause-numbers g c = omega (arith, c.saturating_sub-self.ensures, c.in-Ok.ensures.leaves.numbers, c.args.self.now.numbers)
 
-pub invariant_of-self-in-Err : goal.invariant_of-self-in-Err
-invariant_of-self-in-Err g c =
+pub invariant_of-self-clause-blocks : goal.invariant_of-self-clause-blocks
+invariant_of-self-clause-blocks g c = omega (arith, c.saturating_sub-self.ensures, c.in-Ok.ensures.leaves.blocks, c.args.self.now.blocks)
+
+pub invariant_of-self-in-Err-clause-damage : goal.invariant_of-self-in-Err-clause-damage
+invariant_of-self-in-Err-clause-damage g c =
     let self = c.args.self.now in
-    let loads = c.in-Err.ensures.failed in
-    let same = c.in-Err.ensures.failed_map in
-    record {
-      within = self.within;
-      stands = c.place_block.ensures.stands;
-      few = subst (λ (m : Volume). m.span ≤ last_place + 1) (sym same) self.few;
-      entries = loads_entries (g.D.Disk.shown self.disk.now) (g.D.Disk.shown c.place_block.new.disk) self.pool.now c.place_block.new.pool self.map.now c.place_block.new.map self.home.slot self.entries same loads;
-      numbers = subst (λ (m : Volume). self.room ≤ free_numbers m) (sym same) self.numbers;
-      blocks = loads_blocks (g.D.Disk.shown self.disk.now) (g.D.Disk.shown c.place_block.new.disk) self.pool.now c.place_block.new.pool self.room self.blocks loads;
-      damage = unplaced_damage (g.D.Disk.shown self.disk.now) (g.D.Disk.shown c.place_block.new.disk) self.pool.now c.place_block.new.pool self.map.now self.home self.noted c.note.new.noted c.in-Err.fault self.damage c.in-Err.ensures.fault c.note.ensures.notes loads c.place_block.ensures.only_reads;
-      tells = search rules;
-      apart = loads_apart (g.D.Disk.shown self.disk.now) (g.D.Disk.shown c.place_block.new.disk) self.pool.now c.place_block.new.pool g.K.Guard.told self.map.now c.place_block.new.map self.home self.apart same loads c.place_block.ensures.only_reads;
-      clean = loads_clean (g.D.Disk.shown self.disk.now) (g.D.Disk.shown c.place_block.new.disk) self.pool.now c.place_block.new.pool g.K.Guard.told self.tells self.clean loads c.place_block.ensures.only_reads;
-    }
+    let fails = c.in-Err.ensures in
+    unplaced_damage fails.failed c.place_block.ensures.only_reads self.map.now self.home self.noted c.note.new.noted c.in-Err.fault self.damage fails.fault c.note.ensures.notes
+
+pub invariant_of-self-clause-apart : goal.invariant_of-self-clause-apart
+invariant_of-self-clause-apart g c = let self = c.args.self.now in λ told. placed_apart c.in-Ok.ensures.holds (self.tells told) (self.clean told) (self.apart told)
+
+pub invariant_of-self-clause-clean : goal.invariant_of-self-clause-clean
+invariant_of-self-clause-clean g c = let self = c.args.self.now in λ told. placed_clean c.in-Ok.ensures.placed c.place_block.ensures.only_reads (self.tells told) (self.clean told)
+
+pub invariant_of-self-in-Err-clause-apart : goal.invariant_of-self-in-Err-clause-apart
+invariant_of-self-in-Err-clause-apart g c = let self = c.args.self.now in let fails = c.in-Err.ensures in λ told. loads_apart fails.failed c.place_block.ensures.only_reads self.home fails.failed_map (self.apart told)
+
+pub invariant_of-self-in-Err-clause-clean : goal.invariant_of-self-in-Err-clause-clean
+invariant_of-self-in-Err-clause-clean g c = let self = c.args.self.now in λ told. loads_clean c.in-Err.ensures.failed c.place_block.ensures.only_reads (self.tells told) (self.clean told)

@@ -22,7 +22,7 @@ new_pool c = record c.args.pool.now { containers = c.put.new.self }
 is_added : (c : goal.After-put) → IsAdded c.args.pool.now c.self.inside.states.items c.args.admitted.slot c.args.name.now c.args.size c.args.kind c.in_ok-state.state (new_pool c)
 is_added c = added_by c.args.pool.now c.self.inside.states.items c.args.admitted.slot c.args.name.now c.args.size c.args.kind c.args.admitted.span c.in_ok-state.state (new_pool c) _ c.self.invariant
     (subst (λ (s : States). Admits s c.args.pool.now.found.blocks c.args.name.now c.args.size c.args.kind c.args.admitted.slot c.args.admitted.span) (sym c.self.view_is) c.requires.admitted)
-    c.in_ok-state.ensures.slot c.in_ok-state.ensures.head c.in_ok-state.ensures.ledger c.in_ok-state.ensures.named c.in_ok-state.ensures.map c.in_ok-state.ensures.rests.fresh refl refl c.put.ensures.put
+    c.in_ok-state.ensures.slot c.in_ok-state.ensures.head c.in_ok-state.ensures.ledger c.in_ok-state.ensures.named c.in_ok-state.ensures.map c.in_ok-state.ensures.rests.fresh refl refl refl c.put.ensures.put
 
 pub returns-clause-states : goal.returns-clause-states
 returns-clause-states c = λ trees i are. added_states c.args.pool.now c.self.inside.states.items c.args.admitted.slot c.args.name.now c.args.size c.args.kind c.in_ok-state.state (new_pool c) (is_added c) trees i

@@ -4,6 +4,7 @@ use Rattle.fv_volumes.proofs.Openings.{all_led, all_ready, all_standing, all_wel
 use Rattle.fv_volumes.proofs.Viewed.{loaded_machine, loaded_states, viewed}
 use Rattle.fv_pool.specs.Calls.{Reads}
 use Rattle.fv_pool.specs.declared.pool.Pool.{Pool}
+use Rattle.fv_pool.specs.Opening.{IsAsFound}
 use Rattle.fv_volumes.proofs.volumes.Volumes.open.Goals as goal
 
 pub returns : goal.returns
@@ -15,20 +16,22 @@ returns g c =
     let states = c.in_ok-states.states.items in
     let did = c.in_ok-states.ensures in
     let left : Pool = record c.args.pool.now { store = c.load_states.new.store; containers = c.load_states.new.containers } in
-    let reads : Reads disk left (g.D.Disk.shown c.load_states.new.disk) left = record { leaves = record { map = refl; containers = refl; kept = refl; found = refl }; only_reads = did.only_reads; stands = did.stands } in
+    let same : IsAsFound c.args.pool.now → IsAsFound left = λ as_found. record { kept = as_found.kept; version = as_found.version } in
+    let reads : Reads disk left (g.D.Disk.shown c.load_states.new.disk) left = record { leaves = record { map = refl; containers = refl; kept = refl; found = refl; version = refl }; only_reads = did.only_reads; stands = did.stands } in
     record {
       loaded = did.loaded;
       states = did.kept;
-      view = λ tells none. viewed left i states did.kept.long did.kept.few (did.loaded tells) none;
-      machine = λ tells none m is. loaded_machine left i states did.kept (did.loaded tells) none m is;
-      whole = λ tells none m is. loaded_states left i states did.kept (did.loaded tells) none m is (whole tells);
+      view = λ tells none. viewed left i states did.kept.long did.kept.few (did.loaded tells) (same none);
+      machine = λ tells none m is. loaded_machine left i states did.kept (did.loaded tells) (same none) m is;
+      whole = λ tells none m is. loaded_states left i states did.kept (did.loaded tells) (same none) m is (whole tells);
       ready = λ size s. all_ready (g.D.Disk.shown c.load_states.new.disk) left states did.kept did.stands size s;
-      led = λ tells none m is s. all_led disk (g.D.Disk.shown c.load_states.new.disk) left states reads did.kept tells (whole tells) (did.loaded tells) none m is s;
-      well = λ tells none m is s. all_well disk (g.D.Disk.shown c.load_states.new.disk) left states reads did.kept (whole tells) (did.loaded tells) none m is s;
-      standing = λ tells none map m is s. all_standing disk (g.D.Disk.shown c.load_states.new.disk) left states reads did.kept tells (whole tells) (did.loaded tells) none map m is s;
+      led = λ tells none m is s. all_led disk (g.D.Disk.shown c.load_states.new.disk) left states reads did.kept tells (whole tells) (did.loaded tells) (same none) m is s;
+      well = λ tells none m is s. all_well disk (g.D.Disk.shown c.load_states.new.disk) left states reads did.kept (whole tells) (did.loaded tells) (same none) m is s;
+      standing = λ tells none map m is s. all_standing disk (g.D.Disk.shown c.load_states.new.disk) left states reads did.kept tells (whole tells) (did.loaded tells) (same none) map m is s;
       map = refl;
       kept = refl;
       found = refl;
+      version = refl;
       failed = tt;
       fault = λ tells. tt;
       only_reads = did.only_reads;
