@@ -1,5 +1,5 @@
 -- Split start, split finish and clean are changes of a head: the machine told is the command's effect.
-use Rattle.std.proofs.Common.{◌≡◌, ◌≢◌, ℕ, zero, suc, ◌+◌, ◌<◌, ◌≤◌, Bool, true, false, cond, List, [], ◌∷◌, ◌++◌, map, flat_map, refl, sym, ap, ap₂, ◌∙◌, arith, ⊎_elim}
+use Rattle.std.proofs.Common.{◌≡◌, ◌≢◌, ℕ, zero, suc, ◌+◌, ◌<◌, ◌≤◌, Bool, true, false, cond, List, [], ◌∷◌, ◌++◌, flat_map, refl, sym, ap, ap₂, ◌∙◌, arith, ⊎_elim}
 use Rattle.std.specs.Prelude.{Option, Some, None, nat_lt, if◌then◌else◌}
 use Rattle.std.specs.List.{range_with_len}
 use Rattle.std.specs.Option.{option_map, option_map_or, option_and_then, option_or}
@@ -13,7 +13,7 @@ use Rattle.fv_model.specs.Volumes.{Volume}
 use Rattle.fv_model.specs.Effects.{Change, Stays, Becomes, changed, being_split, change_of, effect}
 use Rattle.fv_laws.proofs.Changes.{same_name}
 use Rattle.fv_laws.proofs.Orders.{name_total, name_ties}
-use Rattle.fv_tables.specs.Told.{standing_at, table_told}
+use Rattle.fv_tables.specs.Told.{standing_at}
 use Rattle.fv_tables.specs.Spelled.{Under}
 use Rattle.fv_image.specs.Views.{Placed, Rooted, Snap, Footing, Head, View, slots}
 use Rattle.fv_image.specs.Chains.{along, parent_in, place, under}
@@ -21,6 +21,7 @@ use Rattle.fv_image.specs.Volumes.{standing_of, table_at, active_at, snap_at, ba
 use Rattle.fv_image.proofs.Moved.{parent_elsewhere}
 use Rattle.fv_image.proofs.TurnedViews.{volume_there}
 use Rattle.fv_places.specs.Reheads.{headed, Reheads}
+use Rattle.fv_places.proofs.Alike.{base_alike, volume_alike}
 use Rattle.fv_places.proofs.Reheaded.{active_same, snaps_same}
 
 module _ (w u : View) (s : ℕ) (h : Head) (a : Rooted) (ps : List Snap) (b : Option Footing) (c : Bool)
@@ -62,37 +63,13 @@ module _ (w u : View) (s : ℕ) (h : Head) (a : Rooted) (ps : List Snap) (b : Op
   -- a base that is another volume's is told as before
   base_other : (o : Option Footing) → ((b : Footing) → o ≡ Some b → b.parent ≢ s) → base_from u o ≡ base_from w o
   base_other None each = refl
-  base_other (Some b) each = ap (base_told u b) (re.others b.parent (each b refl)) ∙ by_head (w.head b.parent)
-    where
-      told_on : (f : Head) (o : Option Snap) → option_map (base_on u b f) o ≡ option_map (base_on w b f) o
-      told_on f None = refl
-      told_on f (Some p) =
-          λ i. Some (record {
-            parent = f.name;
-            snapshot = p.name;
-            table = table_told
-                (standing_other b.parent p.table (each b refl) i);
-            splitting = b.splitting;
-          })
-
-      by_head : (o : Option Head) → base_told u b o ≡ base_told w b o
-      by_head None = refl
-      by_head (Some f) = told_on f (snap_at f b.slot)
+  base_other (Some b) each = ap (base_told u b) (re.others b.parent (each b refl))
+      ∙ base_alike w u b (λ r. standing_other b.parent r (each b refl)) (w.head b.parent)
 
   -- and is told as before
   volume_other : (k : ℕ) (f : Head) → w.head k ≡ Some f → k ≢ s → volume_told u k f ≡ volume_told w k f
-  unfolding volume_with
-  volume_other k f there other = λ i. record {
-    kind = f.kind;
-    size = f.size;
-    most = f.most;
-    span = f.span;
-    now = f.now;
-    active = table_told (standing_other k f.active other i);
-    snapshots = fin.from_entries {R = name_cmp} (map (λ (p : Snap). (p.name, table_told (standing_other k p.table other i))) f.snapshots);
-    base = base_other f.base (λ b based. re.alone k f b there based) i;
-    known = f.known;
-  }
+  volume_other k f there other =
+      volume_alike w u k f (λ r. standing_other k r other) (base_other f.base (λ b based. re.alone k f b there based))
 
   -- ---- this one: its tables stay
 

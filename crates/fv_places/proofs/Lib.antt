@@ -13,6 +13,7 @@ pub mod InBlocks
 pub mod Leaf
 pub mod Searched
 pub mod Mirror
+pub mod Alike
 pub mod NewSlot
 pub mod MirrorSound
 pub mod Reheaded

@@ -2,18 +2,17 @@
 use Rattle.std.proofs.Common.{◌≡◌, ◌≢◌, ℕ, zero, suc, ◌<◌, Bool, true, false, not, [], map, refl, sym, ap, ap₂, ◌∙◌, arith}
 use Rattle.std.specs.Prelude.{Option, Some, None, ◌&&◌, nat_lt, if◌then◌else◌}
 use Rattle.std.specs.Option.{is_some, option_map, option_map_or, option_and_then, option_or}
-use Rattle.std.specs.FinMap as fin
 use Rattle.std.proofs.lemmas.Bool.Decides.{nat_tests}
-use Rattle.fv_model.specs.Spelling.{name_cmp}
 use Rattle.fv_tables.specs.Spelled.{Under}
-use Rattle.fv_tables.specs.Told.{standing_at, records, table_told}
+use Rattle.fv_tables.specs.Told.{standing_at, records}
 use Rattle.fv_tables.specs.Reached.{Item, items}
 use Rattle.fv_image.specs.Views.{Placed, Rooted, Snap, Footing, Head, View}
 use Rattle.fv_image.specs.Chains.{along, parent_in, place, under}
-use Rattle.fv_image.specs.Volumes.{standing_of, snap_at, base_on, base_told, base_from, volume_with}
+use Rattle.fv_image.specs.Volumes.{standing_of, snap_at, base_told, base_from, volume_with}
 use Rattle.fv_image.specs.Seen.{VolumeSeen, root_seen, roots_of, base_root, based_on, base_seen, volume_seen, seen}
 use Rattle.fv_image.specs.Soundness.{AreTables}
 use Rattle.fv_image.proofs.SameSeen.{stands as stands_on}
+use Rattle.fv_places.proofs.Alike.{base_alike, volume_alike}
 
 module _ (w u : View) (t : ℕ) (is : AreTables (seen w)) (free : w.head t ≡ None) (others : (k : ℕ) → k ≢ t → u.head k ≡ w.head k)
     (entries : (k v : ℕ) → k ≢ t → u.entry k v ≡ w.entry k v) where
@@ -59,40 +58,15 @@ module _ (w u : View) (t : ℕ) (is : AreTables (seen w)) (free : w.head t ≡ N
 
   -- its base is told as before
   base_told_other : (b : Footing) → b.parent < 64 → b.parent ≢ t → base_told u b (u.head b.parent) ≡ base_told w b (w.head b.parent)
-  base_told_other b inside other = ap (base_told u b) (others b.parent other) ∙ by_head (w.head b.parent)
-    where
-      told_on : (f : Head) (o : Option Snap) → option_map (base_on u b f) o ≡ option_map (base_on w b f) o
-      told_on f None = refl
-      told_on f (Some p) =
-          λ i. Some (record {
-            parent = f.name;
-            snapshot = p.name;
-            table = table_told
-                (standing_other b.parent p.table inside other i);
-            splitting = b.splitting;
-          })
-
-      by_head : (o : Option Head) → base_told u b o ≡ base_told w b o
-      by_head None = refl
-      by_head (Some f) = told_on f (snap_at f b.slot)
+  base_told_other b inside other =
+      ap (base_told u b) (others b.parent other) ∙ base_alike w u b (λ r. standing_other b.parent r inside other) (w.head b.parent)
 
   -- and it is seen as before
   seen_other : (k : ℕ) (f : Head) → k < 64 → w.head k ≡ Some f → k ≢ t → volume_seen u k f ≡ volume_seen w k f
   unfolding volume_seen root_seen volume_with base_seen
   seen_other k f inside there other = λ i. record {
     head = f;
-    volume = record {
-      kind = f.kind;
-      size = f.size;
-      most = f.most;
-      span = f.span;
-      now = f.now;
-      active = table_told (standing_other k f.active inside other i);
-      snapshots =
-          fin.from_entries {R = name_cmp} (map (λ (p : Snap). (p.name, table_told (standing_other k p.table inside other i))) f.snapshots);
-      base = base_from_same f.base refl i;
-      known = f.known;
-    };
+    volume = volume_alike w u k f (λ r. standing_other k r inside other) (base_from_same f.base refl) i;
     roots = map (λ (q : ℕ × Rooted). record {
       map = q.0;
       rooted = q.1;

@@ -245,6 +245,15 @@ module _ (w u : View) (s v : ℕ) (was now : Placed) (moves : Moves w u s v was 
           (sym (λ i. list_all (λ (r : Root). e i || list_all (rests_in x) r.reached) x.roots)
           ∙ rule_was (λ k x. list_all (λ r. is_none x.head.base || list_all (rests_in x) r.reached) x.roots) is.rests) m r there)))
 
+  -- an unknown pointer that stays was unknown, in no label, and led to by an unknown one
+  stays_led : (m : ℕ) (r : Rooted) → In {X = ℕ × Rooted} (m, r) (roots_of h) → (e f : Item) → IsPair (StandsIn now) v e f → WasListed (standing_of w s r) e
+      → f.pointer ≡ e.pointer → is_unknown f.pointer ≡ true → is_in_label f ≡ false
+      → (is_unknown e.pointer ≡ true) × ((is_in_label e ≡ false) × ((e.holder.pvbn == 0) ≡ true))
+  stays_led m r there e f pair listed stays unknown outside =
+      let same : is_unknown e.pointer ≡ true = subst (λ (q : Pointer). is_unknown q ≡ true) stays unknown in
+      let out : is_in_label e ≡ false = ap (λ (z : Item). z.holder.stamp == 0) (sym pair.same) ∙ outside in
+      (same, (out, sym (λ i. not (same i) || (out i || (e.holder.pvbn == 0))) ∙ led_was m r there e listed))
+
   -- ---- a clean step: all places of the block are filled in, and what its pointers lead to holds no unknown one
 
   module _ (unclean : h.known ≡ false) (whole : is_splitting h.base ≡ false) (filled : IsFilled w u s h now) where
@@ -253,19 +262,18 @@ module _ (w u : View) (s v : ℕ) (was now : Placed) (moves : Moves w u s v was 
     clean_unknown = all_now (λ r e. is_led e.item) (λ m r there e f pair listed.
         unless (is_unknown f.pointer) (is_in_label f) (f.holder.pvbn == 0) (λ unknown outside. ⊎_elim
         (λ stays.
-        let same : is_unknown e.pointer ≡ true = subst (λ (q : Pointer). is_unknown q ≡ true) stays.0 unknown in
-        let holder : hintless f.holder ≡ hintless e.holder = ap (λ (z : Item). z.holder) pair.same in
-        let out : is_in_label e ≡ false = ap (λ (q : Pointer). q.stamp == 0) (sym holder) ∙ outside in
-        let zero : (e.holder.pvbn == 0) ≡ true = sym (λ i. not (same i) || (out i || (e.holder.pvbn == 0))) ∙ led_was m r there e listed in
+        let led = stays_led m r there e f pair listed stays.0 unknown outside in
+        let same : is_unknown e.pointer ≡ true = led.0 in
+        let out : is_in_label e ≡ false = led.1.0 in
         ⊎_elim
-        (λ one. ap (λ (q : Pointer). q.pvbn == 0) one ∙ zero)
+        (λ one. ap (λ (q : Pointer). q.pvbn == 0) one ∙ led.1.1)
         (λ of.
         let stands : f.holder.stamp ≢ 0 = let o = outside in grind (arith, nat_tests) in
         let test : is_clear_under f.holder.vvbn e ≡ true =
         listed (is_clear_under f.holder.vvbn) (filled.leaf m r there f.holder of stands) in
         let apart : not (e.holder.vvbn == f.holder.vvbn) ≡ true =
         sym (λ i. not (same i) || (out i || not (e.holder.vvbn == f.holder.vvbn))) ∙ test in
-        let vvbn : f.holder.vvbn ≡ e.holder.vvbn = ap (λ (q : Pointer). q.vvbn) holder in
+        let vvbn : f.holder.vvbn ≡ e.holder.vvbn = ap (λ (z : Item). z.holder.vvbn) pair.same in
         absurd (no_not (e.holder.vvbn == f.holder.vvbn) (grind (arith, nat_tests)) apart))
         pair.holder)
         (λ moved. absurd (known_is f.pointer pair.stands (filled.known f.pointer moved.1.1 pair.stands) unknown))
@@ -326,10 +334,7 @@ module _ (w u : View) (s v : ℕ) (was now : Placed) (moves : Moves w u s v was 
     split_unknown = all_now (λ r e. is_led e.item) (λ m r there e f pair listed.
         unless (is_unknown f.pointer) (is_in_label f) (f.holder.pvbn == 0) (λ unknown outside. ⊎_elim
         (λ stays.
-        let same : is_unknown e.pointer ≡ true = subst (λ (q : Pointer). is_unknown q ≡ true) stays.0 unknown in
-        let holder : hintless f.holder ≡ hintless e.holder = ap (λ (z : Item). z.holder) pair.same in
-        let out : is_in_label e ≡ false = ap (λ (q : Pointer). q.stamp == 0) (sym holder) ∙ outside in
-        let zero : (e.holder.pvbn == 0) ≡ true = sym (λ i. not (same i) || (out i || (e.holder.pvbn == 0))) ∙ led_was m r there e listed in
+        let zero : (e.holder.pvbn == 0) ≡ true = (stays_led m r there e f pair listed stays.0 unknown outside).1.1 in
         let none : f.holder.pvbn ≡ 0 = holder_zero e f pair (grind (arith, nat_tests)) in grind (arith, nat_tests))
         (λ moved. let none : f.holder.pvbn ≡ 0 = holder_zero e f pair (holder_moved m r there e listed moved.0) in
         grind (arith, nat_tests))
