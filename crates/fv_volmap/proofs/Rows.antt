@@ -9,7 +9,7 @@ use Rattle.std.proofs.lemmas.Bool.{cases_lt}
 use Rattle.std.proofs.lemmas.List.Elements.{All-set, All-take}
 use Rattle.fv_bits.specs.Members.{is_member}
 use Rattle.fv_bits.proofs.Laws.{is_member-set, is_member_past}
-use Rattle.fv_volmap.specs.Slots.{Slot, has, taken_in, has_alone, IsVolume}
+use Rattle.fv_volmap.specs.Slots.{Slot, Volume, stored_count, has, taken_in, has_alone, IsVolume, AreUnited}
 use Rattle.fv_volmap.specs.Kept.{IsLong, AreUsedTo, IsKept, Unites}
 
 or_none : (t : Bool) → (t || false) ≡ t
@@ -174,6 +174,15 @@ taken_stored slots others used v same is =
     ∙ ap (λ (s : List Slot). taken_in s v) (sym (take-take used 24 others is.within))
     ∙ taken_front used (take 24 others) v (free_from others used is)
 
+-- where no snapshot uses a slot, the stored slots have what the active one has
+pub active_alone : (active : List Bool) (others : List Slot) (used : ℕ) → AreUsedTo used others → used ≡ 0 → (v : ℕ) → taken_in (take 25 (Some active ∷ others)) v ≡ has v (Some active)
+active_alone active others used is none v =
+    ap (λ (t : Bool). has v (Some active) || t) (sym (taken_stored others others 0 v refl (subst (λ (n : ℕ). AreUsedTo n others) none is))) ∙ none_more (has v (Some active))
+  where
+    none_more : (t : Bool) → (t || false) ≡ t
+    none_more true = refl
+    none_more false = refl
+
 -- and the slot of the base is the last of all
 pub taken_with_base : (others : List Slot) (used v : ℕ) (base : Slot) → length others ≡ 25 → AreUsedTo used others → (taken_in (take used others) v || has v (get_or others 24 base)) ≡ taken_in others v
 taken_with_base others used v base count is =
@@ -204,6 +213,16 @@ alone_past active others used at numbers past is =
 pub stored_long : (span used : ℕ) (slots items : List Slot) (union : List Bool) → slots ≡ items → All (IsLong span) items → length union ≡ span → All (IsLong (length union)) (take used slots)
 stored_long span used slots items union same long whole = subst (λ n. All (IsLong n) (take used slots)) (sym whole) (All-take (IsLong span) used slots (subst (All (IsLong span)) (sym same) long))
 
+-- the active slot and the snapshots' slots up to the last that is used make the union of all that stand on the disk
+pub is_united : (volume : Volume) (span : ℕ) (active : List Bool) (others slots : List Slot) (used : ℕ) (map : List Bool) → record { span = span; slots = Some active ∷ others } ≡ volume → slots ≡ others → length active ≡ span → AreUsedTo used others → Unites active (take used slots) map → AreUnited volume map
+is_united volume span active others slots used map seen same long is unites = record {
+  len = unites.len ∙ long ∙ ap (λ (volume : Volume). volume.span) seen;
+  members = λ v.
+      unites.members v
+      ∙ ap (λ t. is_member active v || t) (taken_stored slots others used v same is)
+      ∙ ap (λ (volume : Volume). taken_in (take stored_count volume.slots) v) seen;
+}
+
 -- no slot has a number from the span on
 pub past_none : (span v n : ℕ) (slots : List Slot) → All (IsLong span) slots → span ≤ v → taken_in (take n slots) v ≡ false
 past_none span v zero slots long past = refl
@@ -213,3 +232,6 @@ past_none span v (suc n) (s ∷ ss) long past = (λ j. one s (long 0 None (omega
     one : (s : Slot) → IsLong span s → has v s ≡ false
     one None fits = refl
     one (Some map) fits = is_member_past map v (omega (arith, fits, past))
+
+pub past_all : (span v : ℕ) (slots : List Slot) → All (IsLong span) slots → span ≤ v → taken_in slots v ≡ false
+past_all span v slots long past = ap (λ (s : List Slot). taken_in s v) (sym (take_all (length slots) slots (omega arith))) ∙ past_none span v (length slots) slots long past

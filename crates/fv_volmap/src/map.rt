@@ -4,7 +4,7 @@ ghost use Rattle.std.specs.Prelude.{◌≡◌, ℕ, ◌*◌, ◌<◌, ◌≤◌,
 ghost use Rattle.std.specs.List.{range_with_len};
 ghost use Rattle.fv_bits.specs.Bits.{block_bits};
 ghost use Rattle.fv_bits.specs.Members.{IsFirstPast};
-ghost use Rattle.fv_volmap.specs.Slots.{Volume, slot_count, stored_count, slot_at, active_of, taken_in, with_slot, empty_volume, IsVolume, Loads, AreUnited, Allocates, alone_in, is_in_snapshot};
+ghost use Rattle.fv_volmap.specs.Slots.{HoldsActive, Volume, slot_count, stored_count, slot_of_base, slot_at, active_of, taken_in, with_slot, empty_volume, IsVolume, Loads, TakesBase, AreUnited, CountsCharged, Allocates, alone_in, is_in_snapshot, is_elsewhere};
 
 use crate::slots;
 use fv_bits::BitMap;
@@ -63,6 +63,13 @@ impl VolMap {
             united: true,
             next: 0,
         })
+    }
+
+    /// The span: every number of a slot is below it. Costs one step.
+    pub fn span(&self) -> u32
+        ensures { result ≡ self.now.span }
+    {
+        self.span
     }
 
     /// Takes the bits of block `index` of a slot's map in place of those that are there, and answers
@@ -133,6 +140,30 @@ impl VolMap {
         Ok(())
     }
 
+    /// Makes the base's slot that of a used slot of another volume, whose span isn't greater: a clone gets the numbers of its parent's
+    /// snapshot. What the base's slot had before is gone, and all other slots stay. A new clone makes them its active set by `restore`
+    /// then. The one error is want of memory; nothing changes then. Costs a step for each word of 64 numbers of the span, and of as many
+    /// blocks of a map as the other volume's span takes; the next `allocate` unites the used slots anew.
+    #[tactic(auto, using(crate::proofs::Copies::slot_long))]
+    pub fn stand_on(&mut self, parent: &VolMap, slot: u8) -> Result<(), AllocError>
+        requires slot { slot < slot_count }
+        requires used { IsSome (slot_at parent.now slot) }
+        requires span { parent.now.span ≤ self.old.span }
+        ensures stands { OnOk result (TakesBase self.old (slot_at parent.now slot) self.new) }
+        ensures failed { OnErr result (self.new ≡ self.old) }
+        ensures valid { IsVolume self.new }
+    {
+        // What the parent's maps are known to be is how long each of them is.
+        let _ = parent.active();
+        let Some(map) = parent.snapshot(slot) else {
+            return Ok(());
+        };
+        let copy = slots::copy_longer(self.alloc, map, self.span)?;
+        self.united = false;
+        self.others[24] = Some(copy);
+        Ok(())
+    }
+
     /// Makes a slot free. Costs a step for each free slot after the last that a snapshot uses then; the next `allocate` unites the used
     /// slots anew.
     pub fn forget(&mut self, slot: u8)
@@ -171,6 +202,21 @@ impl VolMap {
         slots::unite(&mut self.union, &self.active, &self.others[..self.used]);
         self.united = false;
         &self.union
+    }
+
+    /// How many numbers the slots from 0 to 24 have together that the base's slot lacks; all that they have, where that is free. A clone
+    /// that isn't being split is charged for so many blocks, and for the maps of its snapshots. It takes no memory. Costs what `united`
+    /// costs, and a step for each word of 64 numbers; the next `allocate` unites the used slots anew.
+    #[tactic(auto, using(crate::proofs::Rows::used_slots))]
+    pub fn count_charged(&mut self) -> u32
+        ensures same { self.new ≡ self.old }
+        ensures charged { CountsCharged self.old result }
+        ensures most { result ≤ self.old.span }
+        ensures valid { IsVolume self.old }
+    {
+        slots::unite(&mut self.union, &self.active, &self.others[..self.used]);
+        self.united = false;
+        slots::count_beside(&self.union, &self.others[24])
     }
 
     /// How many numbers a snapshot's slot has that no other slot from 0 to 24 has; what the base reaches is
@@ -252,6 +298,26 @@ impl VolMap {
             return false;
         }
         slots::any_has(&self.others[..self.used], vvbn as u32)
+    }
+
+    /// Whether another slot than the active one has this number, a snapshot's or the base's, whatever number it is; none has one from the
+    /// span on. Costs a step for each slot up to the last that a snapshot uses, and one for the base's.
+    #[tactic(auto, using(crate::proofs::Rows::past_none))]
+    pub fn is_elsewhere(&self, vvbn: u64) -> bool
+        ensures { result ≡ is_elsewhere self.now vvbn }
+    {
+        if vvbn >= u64::from(self.span) {
+            return false;
+        }
+        slots::any_used_has(&self.others, self.used, vvbn as u32)
+    }
+
+    /// Whether no snapshot uses a slot, so that the active set alone holds numbers; the base's slot is left out. `false` says nothing. Costs one
+    /// step.
+    pub fn is_alone(&self) -> bool
+        ensures { result ≡ true → HoldsActive self.now }
+    {
+        self.used == 0
     }
 
     /// Whether a slot from 0 to 24 has this number; none has one from the span on. Costs a step for each slot up to the last that a

@@ -1,7 +1,6 @@
-use Rattle.std.proofs.Common.{◌||◌, take, refl, subst, ap, ◌∙◌}
-use Rattle.fv_bits.specs.Members.{is_member}
-use Rattle.fv_volmap.specs.Slots.{Volume, stored_count, taken_in, IsVolume}
-use Rattle.fv_volmap.proofs.Rows.{stored_long, taken_stored, is_volume}
+use Rattle.std.proofs.Common.{refl, subst}
+use Rattle.fv_volmap.specs.Slots.{IsVolume}
+use Rattle.fv_volmap.proofs.Rows.{stored_long, is_united, is_volume}
 use Rattle.fv_volmap.proofs.map.VolMap.united.Goals as goal
 
 pub unite-requires-clause-others : goal.unite-requires-clause-others
@@ -14,13 +13,7 @@ returns c =
       (refl, (λ n. tt), c.self.view_is),
       record {
         same = tt;
-        union = record {
-          len = c.unite.ensures.len ∙ kept.active_long ∙ ap (λ (map : Volume). map.span) c.self.view_is;
-          members = λ v.
-              c.unite.ensures.members v
-              ∙ ap (λ t. is_member inside.active v || t) (taken_stored c.deref.result.now inside.others.items inside.used v c.deref.ensures.value kept.used_to)
-              ∙ ap (λ (map : Volume). taken_in (take stored_count map.slots) v) c.self.view_is;
-        };
+        union = is_united c.args.self.now inside.span inside.active inside.others.items c.deref.result.now inside.used c.unite.new.union c.self.view_is c.deref.ensures.value kept.active_long kept.used_to c.unite.ensures;
         valid = subst IsVolume c.self.view_is (is_volume inside.span inside.active inside.others.items inside.used inside.union inside.united inside.next kept);
       },
     )

@@ -2,7 +2,7 @@ use Rattle.std.proofs.Common.{◌≡◌, ◌<◌, ◌≤◌, ◌+◌, ◌%◌, �
 use Rattle.fv_container.specs.Finding.{AreHeld}
 use Rattle.fv_container.specs.Paged.{pair_at}
 use Rattle.fv_container.specs.Spelled.{pair_of}
-use Rattle.fv_container.proofs.row.entries_of.Given as goal
+use Rattle.fv_container.proofs.finding.entries_of.Given as goal
 
 abbrev pub invariant-loop-k : goal.invariant-loop-k
 invariant-loop-k l = record {

@@ -136,11 +136,12 @@ fn look_row<D: Disk>(
 
 impl Container {
     /// The entries of a row of VVBNs, from one on, each `None` exactly for a hole: what `find` answers for each of them. All are below the
-    /// number of entries. The row may go over from one region to the next. At an error some entries of the row may be found.
+    /// number of entries. The row may go over from one region to the next. At an error some entries of the row may be found. It reads and
+    /// decodes one leaf at most for each region that the row touches, and none where the leaf is in memory or absent, or the row is empty.
+    /// Costs a step for each entry.
     ///
     /// # Errors
-    /// As those of `find`, of one of the VVBNs. It reads and decodes one leaf at most for each region that the row touches, and none where
-    /// the leaf is in memory or absent, or the row is empty. Costs a step for each entry.
+    /// As those of `find`, of one of the VVBNs.
     pub fn find_row<D: Disk>(
         &self,
         store: &mut Store,

@@ -2,7 +2,7 @@ use Rattle.std.proofs.Common.{◌≡◌, ◌≤◌, ◌-◌, length}
 use Rattle.fv_disk.specs.DiskCalls.{OnlyReads}
 use Rattle.fv_store.specs.Held.{StandsOn}
 use Rattle.fv_container.specs.Finding.{AreHeld, LooksUpRow}
-use Rattle.fv_container.proofs.row.look_row.Given as goal
+use Rattle.fv_container.proofs.finding.look_row.Given as goal
 
 abbrev pub invariant-loop-from : goal.invariant-loop-from
 invariant-loop-from g l = record {
