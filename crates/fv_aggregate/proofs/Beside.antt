@@ -23,9 +23,9 @@ use Rattle.fv_model.specs.Refusals.{next}
 use Rattle.fv_laws.proofs.Changes.{itself}
 use Rattle.fv_laws.proofs.Orders.{name_total, name_ties}
 use Rattle.fv_tree.specs.Sources.{Use}
+use Rattle.fv_container.specs.declared.entry.Entry.{Entry}
 use Rattle.fv_tree.specs.Standing.{under}
 use Rattle.fv_image.specs.Views.{Head, entry_count}
-use Rattle.fv_image.proofs.LoneTables.{form_base}
 use Rattle.fv_charge.specs.declared.ledger.Ledger.{Ledger}
 use Rattle.fv_charge.specs.Ledgers.{committed}
 use Rattle.fv_container.proofs.Clean.{clean_none}
@@ -47,21 +47,21 @@ use Rattle.fv_volume.proofs.StayingMaps.{moves_alone}
 use Rattle.fv_volumes.specs.Housed.{AreHoused}
 use Rattle.fv_volume.specs.OneVolume.{shows, volume_for, IsReady}
 use Rattle.fv_pool.specs.Tables.{AreLedBy}
-use Rattle.fv_volume.specs.Placing.{IsLedTo}
+use Rattle.fv_volume.specs.Placing.{IsLedTo, StaysBeside}
 use Rattle.fv_volume.specs.Slots.{committed_by, is_named, sum_of, IsFirstFree}
-use Rattle.fv_volume.specs.States.{States, empty_head, head_in, parent_in, state_at, with_state}
+use Rattle.fv_volume.specs.States.{States, empty_head, head_in, state_at, with_state}
 use Rattle.fv_volume.specs.Stored.{AreSpacedIn, has_block, has_stored_map, is_of, leads, place_in}
 use Rattle.fv_volumes.proofs.Housing.{housed_with}
 use Rattle.fv_volumes.proofs.Made.{from_pairs, to_pair}
 use Rattle.fv_volumes.proofs.NewStanding.{made_standing, made_volume, made_well}
-use Rattle.fv_volumes.proofs.Others.{entries_led, entries_standing, entries_volume, entries_well}
+use Rattle.fv_volumes.proofs.Beside.{alone_off, beside_off}
 use Rattle.fv_container.proofs.Leading.{any_in_range}
 use Rattle.fv_container.proofs.Named.{at_none}
 use Rattle.fv_volumes.proofs.Told.{find_set, is_inside, named_from, none_named as none_found, same_named}
 use Rattle.fv_cp.specs.Held.{machine_held, IsHeld, IsHeldIn}
 use Rattle.fv_cp.specs.Lent.{FitTogether, IsLentAt, IsLentSlot}
 use Rattle.fv_cp.specs.Placing.{AreReady, HaveNoFiles, IsReadyIn}
-use Rattle.fv_volumes.proofs.Alone.{alone_by}
+use Rattle.fv_volumes.proofs.Alone.{housed_alone}
 use Rattle.fv_aggregate.proofs.Admitting.{accepted_held}
 use Rattle.fv_aggregate.proofs.HeldMachine.{at_name, one}
 
@@ -188,13 +188,6 @@ module _ (disk : Shown) (pool : Pool) (states : States) (slot : ℕ) (name : Lis
     mine : (s : ℕ) (y : VolumeState) → state_at states s ≡ Some y → IsHeldIn disk pool s y
     mine s y there = one disk pool states fit.housed.long last held s y there
 
-    alone_old : (s : ℕ) (y : VolumeState) → state_at states s ≡ Some y → parent_at pool.containers y.slot ≡ None
-    alone_old s y there = let is = mine s y there in
-        fit.housed.parents y.slot ∙ ap (λ (n : ℕ). parent_in (state_at states n)) is.slot ∙ ap parent_in there ∙ alone_by y.base (form_base (head_in y) is.ready.labelled.form)
-
-    alone_now : (s : ℕ) (y : VolumeState) → y.slot ≡ s → IsLabelled s y → state_at new s ≡ Some y → parent_at after.containers y.slot ≡ None
-    alone_now s y at labelled there = housed.parents y.slot ∙ ap (λ (n : ℕ). parent_in (state_at new n)) at ∙ ap parent_in there ∙ alone_by y.base (form_base (head_in y) labelled.form)
-
     -- each container is clean on the disk
     clean_now : AreCleanOn disk.reads after.containers
     clean_now s = ⊎_elim
@@ -206,22 +199,24 @@ module _ (disk : Shown) (pool : Pool) (states : States) (slot : ℕ) (name : Lis
       was : IsHeldIn disk pool s y
       was = mine s y there
 
-      still : parent_at after.containers y.slot ≡ None
-      still = alone_now s y was.slot (subst (λ (n : ℕ). IsLabelled n y) was.slot was.ready.labelled) (elsewhere s other ∙ there)
-
-      same_own : (v : ℕ) → own_entry (container_at after.containers y.slot) v ≡ own_entry (container_at pool.containers y.slot) v
-      same_own v = ap (λ (c : Option Mapped). own_entry c v) (container_elsewhere y.slot (λ e. other (sym was.slot ∙ e)))
+      -- no volume stands on the new one: none has a base
+      stays_old : StaysBeside disk pool disk after y
+      stays_old = beside_off disk disk pool after states slot (alone_off pool.containers slot states (housed_alone pool.containers states fit.housed)) container_elsewhere (λ k off. get_or-set_other pool.containers.parents slot k None None off) refl refl
+          y (ap (state_at states) was.slot ∙ there) (λ e. other (sym was.slot ∙ e)) (λ k v z e off here own. refl) next clean_now was.stands
+        where
+          next : (k v : ℕ) (z : VolumeState) (e : Entry) → k ≢ slot → state_at states k ≡ Some z → own_entry (container_at pool.containers k) v ≡ Some e → is_member pool.map.next e.pvbn ≡ true
+          next k v z e off here own = let one = mine k z here in one.stands.told.1.own v e (ap (λ (n : ℕ). own_entry (container_at pool.containers n) v) one.slot ∙ own)
 
       volume_old : volume_for disk after y ≡ volume_for disk pool y
-      volume_old = entries_volume disk disk pool after y (alone_old s y there) still same_own refl refl (λ v e at. refl) (λ v e at. was.stands.told.1.own v e at)
+      volume_old = stays_old.volume
 
       held_old : IsHeldIn disk after s y
       held_old = record {
         slot = was.slot;
         ready = ready_old s y other was.slot was.ready;
-        stands = entries_standing disk disk pool after y (alone_old s y there) still same_own refl refl (λ v e at. refl) (λ v e at. was.stands.told.1.own v e at) clean_now was.stands;
-        led = entries_led disk disk pool after y (alone_old s y there) still same_own refl refl (λ v e at. refl) (λ v e at. was.stands.told.1.own v e at) was.led;
-        well = entries_well disk disk pool after y (alone_old s y there) still same_own refl refl (λ v e at. refl) (λ v e at. was.stands.told.1.own v e at) was.well;
+        stands = stays_old.standing;
+        led = stays_old.led was.led;
+        well = stays_old.well was.well;
         wide = was.wide;
         within = was.within;
       }
@@ -244,7 +239,7 @@ module _ (disk : Shown) (pool : Pool) (states : States) (slot : ℕ) (name : Lis
     held_new = record {
       slot = here.slot_is;
       ready = ready_new stands;
-      stands = made_standing disk after x size kind head_own is.ledger is.files is.numbers (entry_count x.span) tells clean_now (ap (container_at after.containers) here.slot_is ∙ holes) (alone_now slot x here.slot_is here is.state_is);
+      stands = made_standing disk after x size kind head_own is.ledger is.files is.numbers (entry_count x.span) tells clean_now (ap (container_at after.containers) here.slot_is ∙ holes) (ap (parent_at after.containers) here.slot_is ∙ housed_alone after.containers new housed slot x is.state_is);
       led = led_new;
       well = made_well disk after x size kind head_own is.ledger is.files;
       wide = subst (λ (h : Head). h.most + 256 ≤ h.span) (sym is.head) (omega arith);

@@ -1,16 +1,18 @@
--- How many entries a volume has: those of the VVBNs that it holds, all of which have one where it stands on no other, and the delayed ones.
+-- How many entries a volume has: those of the VVBNs that it holds, as many as it is charged for, and the delayed ones.
 use Rattle.std.proofs.Common.{◌≡◌, ℕ, zero, suc, ◌+◌, ◌-◌, ◌*◌, ◌<◌, ◌≤◌, Bool, true, false, cond, not, ◌&&◌, inl, refl, sym, ap, subst, ◌∙◌, arith}
 use Rattle.std.specs.Prelude.{Option, Some, None, IfSome, ◌==◌, nat_lt, nat_le, count_by, sum_by, if◌then◌else◌}
 use Rattle.std.specs.List.{list_all, list_any, range_with_len}
 use Rattle.std.specs.Option.{is_some, option_map, option_map_or}
 use Rattle.std.proofs.lemmas.Bool.{and_from, and_parts, and_right, both_ways, or_left}
 use Rattle.std.proofs.lemmas.Bool.Decides.{nat_tests}
+use Rattle.std.proofs.lemmas.Option.{none-some, same_Some}
 use Rattle.std.proofs.lemmas.List.Sums.{sum_by-cons}
 use Rattle.fv_disk.specs.Shown.{Image}
 use Rattle.fv_bits.proofs.Counts.{passing, passing-add, passing-suc, passing_same, none_pass}
 use Rattle.fv_laws.proofs.Lists.{in_range}
 use Rattle.fv_laws.proofs.Tests.{from_all}
 use Rattle.fv_model.specs.Space.{charge, map_blocks}
+use Rattle.fv_image.specs.HintRules.{is_splitting}
 use Rattle.fv_image.specs.Mapped.{AreInSlots}
 use Rattle.fv_image.specs.ReachRules.{has_map_blocks}
 use Rattle.fv_image.specs.Seen.{own_blocks, roots_of, seen}
@@ -18,6 +20,7 @@ use Rattle.fv_image.specs.Soundness.{AreMaps, AreTables}
 use Rattle.fv_image.specs.Views.{Head, Rooted, View, delayed, entry_count, is_active_map, is_delayed, is_held_in, is_own, map_slot, map_vvbn, slots, used_slots, volume_bit, vvbns}
 use Rattle.fv_image.specs.Volumes.{volume_told, volume_with}
 use Rattle.fv_image.proofs.Behind.{first_there}
+use Rattle.fv_image.proofs.CountedCharge.{HasParentNumbers}
 use Rattle.fv_image.proofs.Counts.{none_between}
 use Rattle.fv_image.proofs.LabelNumbers.{label_numbers}
 use Rattle.fv_image.proofs.LoneTables.{form_base}
@@ -66,7 +69,7 @@ active_count h =
 
 -- ---- one volume
 
-module _ (w : View) (s : ℕ) (h : Head) (small : s < 64) (there : w.head s ≡ Some h) (tables : AreTables (seen w)) (maps : AreMaps w) (numbers : HasLabelNumbers h) (order : AreInSlots h) (alone : h.base ≡ None) where
+module _ (w : View) (s : ℕ) (h : Head) (small : s < 64) (there : w.head s ≡ Some h) (tables : AreTables (seen w)) (maps : AreMaps w) (numbers : HasLabelNumbers h) (order : AreInSlots h) (parents : HasParentNumbers w h.base) (whole : is_splitting h.base ≡ false) where
   some_blocks : 0 < map_blocks h.span
   some_blocks = let span = numbers.span in omega (arith, span)
 
@@ -104,7 +107,7 @@ module _ (w : View) (s : ℕ) (h : Head) (small : s < 64) (there : w.head s ≡ 
   unfolding vvbns
   entries_are =
       let three = of_three (λ v. is_some (w.entry s v)) (is_own w s h) (is_delayed w s h) (is_active_map h) 0 (entry_count h.span) (λ k. one (is_some (w.entry s k)) (is_held_in w s h k) (is_active_map h k) (λ on. active_held k on)) in
-      omega (arith, three, own_charged w s h small there tables maps numbers order alone, active_count h)
+      omega (arith, three, own_charged w s h small there tables maps numbers order parents whole, active_count h)
     where
       one : (e held active : Bool) → (active ≡ true → (held ≡ true) × (e ≡ true)) → cond {A = ℕ} e 1 0 ≡ cond (e && (held && not active)) 1 0 + cond (e && not held) 1 0 + cond active 1 0
       one true true true from = refl
@@ -140,6 +143,17 @@ module _ (pool : Pool) (states : States) (i : Image) (are : AreStates (view_over
   unfolding view_over
   entry_is s v = placed_some pool.kept i (own_entry (container_at pool.containers s) v)
 
+  -- each label has its numbers
+  label_has : (s : ℕ) (h : Head) → w.head s ≡ Some h → HasLabelNumbers h
+  label_has s h there = by (state_at states s) refl (are.each s)
+    where
+      by : (o : Option VolumeState) → state_at states s ≡ o → IfSome o (IsState w no_trees s) → HasLabelNumbers h
+      by None is none = absurd (none-some h (sym (head_at pool states i s ∙ ap (option_map head_in) is) ∙ there))
+      by (Some x) is state =
+          let label = state.labelled in
+          let head : head_in x ≡ h = same_Some (head_in x) h (sym (head_there pool states i s x is) ∙ there) in
+          subst HasLabelNumbers (label_head x label.form label.named label.snapshots 0 1 ∙ head) (label_numbers (label_said x 0 1) (label.label 0 1 (omega arith) (omega arith) (omega arith)))
+
   slot_entries : (s : ℕ) → s < 64 → entries_at pool states s ≡ held_by (state_at states s) + delayed_at s
   unfolding volume_with vvbns
   slot_entries s inside = by (state_at states s) refl (container_at pool.containers s) refl (housed s)
@@ -154,8 +168,8 @@ module _ (pool : Pool) (states : States) (i : Image) (are : AreStates (view_over
       of_state x e state =
           let label = state.labelled in
           let there = head_there pool states i s x e in
-          let numbers : HasLabelNumbers (head_in x) = subst HasLabelNumbers (label_head x label.form label.named label.snapshots 0 1) (label_numbers (label_said x 0 1) (label.label 0 1 (omega arith) (omega arith) (omega arith))) in
-          let same = entries_are w s (head_in x) inside there tables maps numbers label.snapshots.slots (form_base (head_in x) label.form) in
+          let whole : is_splitting (head_in x).base ≡ false = ap is_splitting (form_base (head_in x) label.form) in
+          let same = entries_are w s (head_in x) inside there tables maps (label_has s (head_in x) there) label.snapshots.slots (λ b g based parent. label_has b.parent g parent) whole in
           let charged : x.ledger.charge ≡ charge (volume_told w s (head_in x)) = state.ledger.charged ∙ ap charge (ap (volume_with w s (head_in x)) (active_is w s (head_in x) there)) in
           omega (arith, same, charged)
 

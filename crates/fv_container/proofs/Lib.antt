@@ -19,11 +19,12 @@ mod Flushed
 pub mod Clean
 mod Loaded
 mod Puts
-mod Finding
+mod Found
 mod Stored
 mod Opened
 mod Counting
 mod Occupied
 mod Marked
+mod Placing
 mod Moving
 pub mod Laws

@@ -1,5 +1,5 @@
 -- The regions that have entries.
-use Rattle.std.proofs.Common.{◌≡◌, ◌≢◌, ◌<◌, ◌≤◌, ◌+◌, ◌*◌, ◌/◌, ◌⊎◌, ℕ, Bool, true, false, List, length, get_or, set, replicate, Option, Some, None, IfSome, IfNone, sym, ap, subst, ◌∙◌, inl, inr, arith, ⊎_elim, get_or-set_same, get_or-set_other, length-set}
+use Rattle.std.proofs.Common.{◌≡◌, ◌≢◌, ◌<◌, ◌≤◌, ◌+◌, ◌*◌, ◌/◌, ◌⊎◌, ℕ, Bool, true, false, List, length, get_or, set, replicate, Option, Some, None, IfSome, IfNone, refl, sym, ap, subst, ◌∙◌, inl, inr, arith, ⊎_elim, get_or-set_same, get_or-set_other, length-set}
 use Rattle.std.specs.Prelude.{count_by, nat_lt}
 use Rattle.std.specs.Option.{is_some}
 use Rattle.std.specs.List.{range_with_len}
@@ -94,6 +94,9 @@ below now es tree dirty leaves known sure used next fresh count v view is within
 none_counted : (n : ℕ) → nat_lt 0 n ≡ false → n ≡ 0
 none_counted n is = grind (arith, nat_tests, is)
 
+some_counted : (n : ℕ) → nat_lt 0 n ≡ true → n ≢ 0
+some_counted n is none = (let h = rw none at is in grind (arith, nat_tests, h))
+
 past_region : (map : Mapped) (k : ℕ) → length map.entries ≤ 256 * k → entries_in_region map k ≡ 0
 unfolding entries_in_region
 past_region map k past = none_between (has_entry_at map) (256 * k) 256 (λ v low high. ap is_some (get_or_past map.entries v None (let le : length map.entries ≤ v = omega (arith, past, low) in le)))
@@ -111,6 +114,11 @@ module _ (now : Paged) (es : List (Option Entry)) (tree : List ℕ) (dirty : Lis
       (λ (past : count ≤ 256 * k). past_region now.map k (let le : length now.map.entries ≤ 256 * k = omega (arith, past, long) in le))
       (cases_lt (256 * k) count)
 
+  full_region : (k : ℕ) → get_or occupied k false ≡ true → is_sure now k ≡ true → entries_in_region now.map k ≢ 0
+  full_region k on sured none =
+      let counted = entries_out now es tree dirty leaves known sure used next fresh count k (count_by (λ v. get_or used v false) (range_with_len (256 * k) 256)) view is sured refl in
+      some_counted (count_by (λ v. get_or used v false) (range_with_len (256 * k) 256)) (sym (has.exact k (has.within k on)) ∙ on) (counted ∙ none)
+
   pub next_none : (from : ℕ) (r : Option ℕ) → IfNone r (HasNoneFrom occupied from) → IfNone r (HasNoRegionFrom now from)
   unfolding is_member
   next_none from None none = record { none = λ k low sured. bare_region k (none.none k low) sured }
@@ -123,4 +131,5 @@ module _ (now : Paged) (es : List (Option Entry)) (tree : List ℕ) (dirty : Lis
     after = first.after;
     within = subst (λ (n : ℕ). 256 * r < n) long (has.within r first.here);
     before = λ k low high sured. bare_region k (first.before k low high) sured;
+    some = λ sured. full_region r first.here sured;
   }

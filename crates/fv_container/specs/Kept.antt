@@ -30,17 +30,29 @@ pub record IsKept (paged : Paged) (count : ℕ) (leaves : Leaves) (used : List B
   pub held : (k : ℕ) → k < length leaves → get_or paged.map.dirty k true ≡ true → is_some (leaf_here leaves k) ≡ true
   pub told : (k : ℕ) → IsSureOf paged.map.entries k (get_or paged.sure k false) (leaf_here leaves k) used
 
--- There is memory for the rows of as many entries as a container may grow to, by how much each row has. The kinds that it reads are those
--- of a block.
-pub record CanGrow (count leaf_room tree_room dirty_room next_room fresh_room known_room used_room most_kind : ℕ) : Type 0 where
-  pub leaves : level_width (grown count) 0 ≤ leaf_room
-  pub tree : node_count (grown count) ≤ tree_room
-  pub dirty : node_count (grown count) ≤ dirty_room
-  pub next : node_count (grown count) ≤ next_room
-  pub fresh : node_count (grown count) ≤ fresh_room
-  pub known : level_width (grown count) 0 ≤ known_room
-  pub used : grown count ≤ used_room
-  pub kinds : most_kind ≡ greatest_kind
+-- for how many elements each row has memory; that of the bits has so many
+pub record RowRooms : Type 0 where
+  pub leaves : ℕ
+  pub tree : ℕ
+  pub dirty : ℕ
+  pub next : ℕ
+  pub fresh : ℕ
+  pub known : ℕ
+  pub used : ℕ
+
+-- there is memory for the rows of as many entries as a container may grow to
+pub record CanGrow (count : ℕ) (rooms : RowRooms) : Type 0 where
+  pub leaves : level_width (grown count) 0 ≤ rooms.leaves
+  pub tree : node_count (grown count) ≤ rooms.tree
+  pub dirty : node_count (grown count) ≤ rooms.dirty
+  pub next : node_count (grown count) ≤ rooms.next
+  pub fresh : node_count (grown count) ≤ rooms.fresh
+  pub known : level_width (grown count) 0 ≤ rooms.known
+  pub used : grown count ≤ rooms.used
+
+-- the kinds that a container reads are those of a block
+abbrev pub ReadsKinds : ℕ → Type 0
+ReadsKinds most_kind = most_kind ≡ greatest_kind
 
 -- whether one of the numbers of a region is a member
 abbrev pub has_number : List Bool → ℕ → Bool

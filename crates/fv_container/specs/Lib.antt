@@ -15,3 +15,4 @@ pub mod Leading
 pub mod Flushed
 pub mod Storing
 pub mod Finding
+pub mod Passing

@@ -97,8 +97,9 @@ entries_in_region map region = count_by (has_entry_at map) (range_with_len (256 
 pub record HasNoRegionFrom (paged : Paged) (from : ℕ) : Type 0 where
   pub none : (k : ℕ) → from ≤ k → is_sure paged k ≡ true → entries_in_region paged.map k ≡ 0
 
--- a region from one on, and none in front of it has an entry, as far as what is known of them is sure
+-- A region from one on that has an entry, and none in front of it has one, as far as what is known of them is sure.
 pub record IsNextRegion (paged : Paged) (from region : ℕ) : Type 0 where
   pub after : from ≤ region
   pub within : 256 * region < length paged.map.entries
   pub before : (k : ℕ) → from ≤ k → k < region → is_sure paged k ≡ true → entries_in_region paged.map k ≡ 0
+  pub some : is_sure paged region ≡ true → entries_in_region paged.map region ≢ 0

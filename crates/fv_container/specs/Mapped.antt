@@ -25,8 +25,10 @@ with_entry map v entry = record { entries = slice_set map.entries v entry; tree 
 abbrev pub node_count : ℕ → ℕ
 node_count entries = level_width entries 0 + (level_width entries 1 + 1)
 
--- How many entries a container of so many may grow to. A volume of whose maps each takes m blocks has 25 of them in a container of the
--- first format, and 256 in one with a number for each record behind them; its span is at most 32,768 * m.
+-- How many entries a container of so many may grow to. Behind the span of a volume, which is at most 32,768 * m, a container has 25
+-- entries for each of the m blocks of a map, so it has at most 32,793 (32,768 + 25) for each of these blocks.
+-- One that grew has 231 (256 - 25) more for each of them, and 256 more. The law `grown_entries` of `fv_volume` says that these are the
+-- entries of the next version of the format.
 abbrev pub grown : ℕ → ℕ
 grown entries = entries + 231 * ((entries + 32792) / 32793) + 256
 

@@ -83,13 +83,26 @@ impl Model for Container {
     ghost use Rattle.fv_container.specs.Paged.{Paged};
     ghost use Rattle.std.specs.Prelude.{length};
     ghost use Rattle.std.specs.Vec.{vec_capacity};
-    ghost use Rattle.fv_container.specs.Kept.{AreOccupied, CanGrow, IsKept, paged_of};
+    ghost use Rattle.fv_container.specs.Kept.{AreOccupied, CanGrow, IsKept, ReadsKinds, paged_of};
 
     ghost Value = { Paged };
 
     ghost view = { λ c. paged_of c.told.entries c.tree.items c.dirty.items c.leaves.items c.known.items c.told.sure };
 
-    ghost invariant = { λ c. IsKept (paged_of c.told.entries c.tree.items c.dirty.items c.leaves.items c.known.items c.told.sure) c.count c.leaves.items c.used c.next.items c.fresh.items × CanGrow c.count (vec_capacity c.leaves) (vec_capacity c.tree) (vec_capacity c.dirty) (vec_capacity c.next) (vec_capacity c.fresh) (vec_capacity c.known) (length c.used) c.most_kind × AreOccupied c.count c.used c.occupied };
+    ghost invariant = { λ c.
+        IsKept (paged_of c.told.entries c.tree.items c.dirty.items c.leaves.items c.known.items c.told.sure)
+        c.count c.leaves.items c.used c.next.items c.fresh.items
+        × CanGrow c.count (record {
+          leaves = vec_capacity c.leaves;
+          tree = vec_capacity c.tree;
+          dirty = vec_capacity c.dirty;
+          next = vec_capacity c.next;
+          fresh = vec_capacity c.fresh;
+          known = vec_capacity c.known;
+          used = length c.used;
+        })
+        × AreOccupied c.count c.used c.occupied
+        × ReadsKinds c.most_kind };
 }
 
 impl Container {
@@ -380,7 +393,7 @@ impl Container {
     /// It needs no memory and reads nothing, and no block is written that wasn't free in `map` at the call. The store may take memory for
     /// the leaves that are written, which it holds where memory is found for them; where none is found, that is no error. The one error is
     /// a failed write; the container then stands as before, with its old tree, and the blocks that were taken are lost to `map`. Costs a
-    /// step for each node and each entry of a dirty leaf, and a write for each node that moves.
+    /// step for each node, a few times over, and for each entry of a dirty leaf, and a write for each node that moves.
     pub fn flush<D: Disk, F: Free>(
         &mut self,
         store: &mut Store,

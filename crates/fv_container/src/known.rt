@@ -71,7 +71,7 @@ impl Container {
     ///
     /// # Errors
     /// `Damaged` comes only where one of the leaves on the disk hasn't the shape of one, and `DiskFault` only where a read failed in this
-    /// call. `Memory` doesn't come. It reads one block at most for each region that isn't known.
+    /// call. `Memory` doesn't come. It reads one block at most for each region that isn't known, and costs a step for each region.
     #[tactic(auto, using(crate::proofs::Loaded::keeps_itself, crate::proofs::Loaded::learned_keeps, crate::proofs::Loaded::learned_more, crate::proofs::Loaded::planned_fault, crate::proofs::Reading::reads_none, fv_disk::proofs::Resting::reads_then))]
     pub fn learn_all<D: Disk>(
         &mut self,
@@ -116,9 +116,9 @@ impl Container {
         self.used.get(vvbn)
     }
 
-    /// The least region from `from` on that has an entry, as far as what is known of the regions is sure: each one before it has none, and
-    /// `None` comes only where no other has one. Of a region of which it isn't known nothing is said. It takes no memory and makes no disk call.
-    /// Costs a step for each word of 64 regions that is passed.
+    /// The least region from `from` on that has an entry, as far as what is known of the regions is sure: it has one, each one before it
+    /// has none, and `None` comes only where no other has one. Of a region of which it isn't known nothing is said. It takes no memory and
+    /// makes no disk call. Costs a step for each word of 64 regions that is passed.
     pub fn next_region(&self, from: u32) -> Option<u32>
         ensures none { IfNone result (HasNoRegionFrom self.now from) }
         ensures next { IfSome result (IsNextRegion self.now from) }

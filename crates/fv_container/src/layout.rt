@@ -10,7 +10,8 @@ use std::alloc::{AllocError, Global};
 /// The entries of a leaf, and the children of an inner node.
 pub(crate) const FAN: usize = 256;
 
-/// How many entries a container of so many may grow to.
+/// How many entries a container of so many may grow to: 231 more for each block of a map, of which each has 32,793 entries at most, and
+/// 256 more.
 pub(crate) fn grown(entries: usize) -> usize
     requires { entries ≤ most_entries }
     ensures value { result ≡ grown entries }

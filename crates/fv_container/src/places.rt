@@ -11,7 +11,7 @@ ghost use Rattle.fv_container.specs.Written.{AreLeft, ArePlaced, HasReleased, Ha
 
 use crate::free::Free;
 use crate::layout::{FAN, clear, inner_count, leaf_count};
-use crate::rows::{next_mark, next_place};
+use crate::passing::{next_mark, next_place};
 use fv_codec::ContainerLeaf;
 
 /// Whether a leaf has an entry that isn't a hole.
@@ -85,7 +85,8 @@ fn take_place<F: Free>(map: &mut F, wanted: bool) -> u32
     if wanted { map.take_free().unwrap() } else { 0 }
 }
 
-/// Whether two rows of places are the same from a number on, up to another one. It asks all of them, so that several are asked at once.
+/// Whether two rows of places are the same from a number on, up to another one. It compares all of them, so that the compiler compares
+/// several at once.
 fn is_same_between(tree: &[u32], places: &[u32], from: usize, end: usize) -> bool
     requires tree { end ≤ length tree.now }
     requires places { end ≤ length places.now }
@@ -171,8 +172,9 @@ fn next_moving(dirty: &[bool], count: usize, from: usize) -> usize
     }
 }
 
-/// Puts the places of the next tree into `places`: a node that is there stays where it can, and else has a free block, which is in `fresh`,
-/// too; for each other node there is 0. A leaf that isn't dirty stays, and costs less than a step.
+/// Puts the places of the next tree into `places`: a node that is there stays where it can, and else has a free block, which is in
+/// `fresh`, too; for each other node there is 0. A leaf that isn't dirty stays. Costs a step for each node; of the leaves that aren't
+/// dirty many are passed over at once.
 pub(crate) fn take_places<F: Free>(
     map: &mut F,
     leaves: &[Option<Box<ContainerLeaf>>],

@@ -10,7 +10,7 @@ ghost use Rattle.fv_container.specs.Paged.{AreWell, leaf_here};
 ghost use Rattle.fv_container.specs.Written.{AreAnew, AreWritable, IsElsewhere, IsInnerOf, IsPutOf, child_from};
 
 use crate::layout::{FAN, inner_count, leaf_count};
-use crate::rows::next_place;
+use crate::passing::next_place;
 use fv_codec::{ContainerInner, ContainerLeaf};
 use fv_disk::{Block, Disk, Failed, ZERO};
 use fv_store::Store;

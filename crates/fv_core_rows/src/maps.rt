@@ -74,7 +74,7 @@ fn numbers_of_a_volume(rt: HostRuntime) -> Result<(), Fail> {
 
 /// How many numbers some slot has, how many slot 1 and slot 2 have alone, and which of 0 to 3 a snapshot has.
 fn shared(volume: &mut VolMap) -> (u32, u32, u32, [bool; 4]) {
-    let united = volume.united().count();
+    let united = volume.count_united();
     let kept = [0, 1, 2, 3].map(|v| volume.in_snapshot(v));
     (united, volume.count_alone(1), volume.count_alone(2), kept)
 }
@@ -101,6 +101,132 @@ fn numbers_of_two_snapshots(rt: HostRuntime) -> Result<(), Fail> {
     let both = (3, 1, 0, [true, true, true, false]);
     let later = (2, 0, 1, [true, false, true, false]);
     assert!(rt; kept_twice(&mut volume)? == [both, later]);
+    Ok(())
+}
+
+/// Stands a volume on a slot of another one, where that is used and its span isn't greater.
+fn stand_on(volume: &mut VolMap, parent: &VolMap, slot: u8) -> Result<(), AllocError> {
+    if slot < 26 && parent.snapshot(slot).is_some() && parent.span() <= volume.span() {
+        volume.stand_on(parent, slot)?;
+    }
+    Ok(())
+}
+
+/// A volume with 3 numbers whose slot 2 keeps 0 and 2; later 0 is let go, and 1 is given out.
+fn parent(alloc: Global) -> Result<VolMap, AllocError> {
+    let mut volume = VolMap::new(alloc, 3)?;
+    volume.allocate();
+    volume.allocate();
+    volume.allocate();
+    volume.release(1);
+    keep(&mut volume, 2)?;
+    volume.release(0);
+    volume.allocate();
+    Ok(volume)
+}
+
+/// A clone of slot 2 of that volume, with 6 numbers, as it is made: its base and its active set have 0 and 2.
+fn clone(alloc: Global) -> Result<VolMap, AllocError> {
+    let mut volume = VolMap::new(alloc, 6)?;
+    stand_on(&mut volume, &parent(alloc)?, 2)?;
+    restore(&mut volume, 25);
+    Ok(volume)
+}
+
+/// Numbers that a clone gives out: those of its base never, also where its active set lets one go.
+fn given_beside(volume: &mut VolMap) -> [Option<u32>; 7] {
+    let first = volume.allocate();
+    volume.release(0);
+    let second = volume.allocate();
+    volume.release(1);
+    let third = volume.allocate();
+    let fourth = volume.allocate();
+    let fifth = volume.allocate();
+    let none = volume.allocate();
+    volume.release(2);
+    [first, second, third, fourth, fifth, none, volume.allocate()]
+}
+
+/// 1, 3, 4 and 5 are in no slot; 1 is let go and found again after 5. Then 0 and 2 are in the base alone.
+#[test]
+fn numbers_of_a_clone(rt: HostRuntime) -> Result<(), Fail> {
+    let mut volume = clone(rt.alloc())?;
+    let want = [Some(1), Some(3), Some(4), Some(5), Some(1), None, None];
+    assert!(rt; given_beside(&mut volume) == want);
+    Ok(())
+}
+
+/// A volume that gave out 0 before it stands on slot 2: 0 and 2 are in the base, so 1 comes next, and then 3. Without its base it gives
+/// out 4 and 5, and then 2.
+#[test]
+fn a_base_that_comes_and_goes(rt: HostRuntime) -> Result<(), Fail> {
+    let mut volume = VolMap::new(rt.alloc(), 6)?;
+    let before = volume.allocate();
+    stand_on(&mut volume, &parent(rt.alloc())?, 2)?;
+    let beside = [volume.allocate(), volume.allocate()];
+    volume.forget(25);
+    let after = [volume.allocate(), volume.allocate(), volume.allocate()];
+    assert!(rt; before == Some(0));
+    assert!(rt; beside == [Some(1), Some(3)]);
+    assert!(rt; after == [Some(4), Some(5), Some(2)]);
+    Ok(())
+}
+
+/// How many numbers a clone is charged for, how many its slots from 0 to 24 have, and how many are free.
+fn counted(volume: &mut VolMap) -> (u32, u32, u32) {
+    let charged = volume.count_charged();
+    let united = volume.count_united();
+    (charged, united, volume.count_free(9))
+}
+
+/// A clone counted as it is made, with 1 and 3 given out and 0 let go, with these kept by slot 1 and 1 let go, and without its base.
+fn counted_on(volume: &mut VolMap) -> Result<[(u32, u32, u32); 4], AllocError> {
+    let made = counted(volume);
+    volume.allocate();
+    volume.allocate();
+    volume.release(0);
+    let later = counted(volume);
+    keep(volume, 1)?;
+    volume.release(1);
+    let kept = counted(volume);
+    volume.forget(25);
+    Ok([made, later, kept, counted(volume)])
+}
+
+/// At first 0 and 2 are the base's. Later slot 0 has 1, 2 and 3, of which 2 is the base's, and 4 and 5 are free; slot 1 keeps that so.
+/// Without the base 1, 2 and 3 count, and 0 is free, too.
+#[test]
+fn what_a_clone_is_charged_for(rt: HostRuntime) -> Result<(), Fail> {
+    let mut volume = clone(rt.alloc())?;
+    let want = [(0, 2, 4), (2, 3, 2), (2, 3, 2), (3, 3, 3)];
+    assert!(rt; counted_on(&mut volume)? == want);
+    Ok(())
+}
+
+/// Which of 0 to 6 are in another slot than the active one, and which in a snapshot's.
+fn beside(volume: &VolMap) -> ([bool; 7], [bool; 7]) {
+    let numbers = [0, 1, 2, 3, 4, 5, 6];
+    let elsewhere = numbers.map(|v| volume.is_elsewhere(v));
+    (elsewhere, numbers.map(|v| volume.in_snapshot(v)))
+}
+
+/// The base has 0 and 2. Slot 24 keeps 1 and 2, once 1 is given out and 0 let go; 3, given out after it, is active alone. 6 is past the
+/// span.
+#[test]
+fn numbers_in_other_slots(rt: HostRuntime) -> Result<(), Fail> {
+    let mut volume = clone(rt.alloc())?;
+    let made = beside(&volume);
+    volume.allocate();
+    volume.release(0);
+    keep(&mut volume, 24)?;
+    volume.allocate();
+    let later = beside(&volume);
+    let none = [false; 7];
+    let base = [true, false, true, false, false, false, false];
+    let both = [true, true, true, false, false, false, false];
+    let kept = [false, true, true, false, false, false, false];
+    assert!(rt; made == (base, none));
+    assert!(rt; later == (both, kept));
     Ok(())
 }
 

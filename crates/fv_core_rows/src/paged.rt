@@ -100,6 +100,28 @@ fn a_leaf_is_read_once_it_is_asked_for(rt: HostRuntime) -> Result<(), Fail> {
     Ok(())
 }
 
+/// Places data blocks under these VVBNs of a container, and flushes it: its root.
+fn flushed<D: Disk>(
+    container: &mut Container,
+    store: &mut Store,
+    disk: &mut D,
+    map: &mut AggMap,
+    entries: u32,
+    vvbns: &[u32],
+) -> Option<u32>
+    requires few { entries ≤ most_entries }
+    requires size { length container.old.map.entries ≡ entries }
+    requires stands { StandsOn (D.shown disk.old) store.old.pairs }
+    ensures size { length container.new.map.entries ≡ entries }
+    ensures stands { StandsOn (D.shown disk.new) store.new.pairs }
+{
+    set_data(container, store, disk, entries, vvbns).ok()?;
+    if map.free_count() < entries / 256 + entries / 65536 + 4 {
+        return None;
+    }
+    container.flush(store, disk, map).ok()
+}
+
 /// Opens a container, places data blocks under these VVBNs, and flushes it: its root.
 #[tactic(auto, using(fv_store::proofs::Laws::stands_at_first))]
 fn flushed_again<D: Disk>(
@@ -115,11 +137,40 @@ fn flushed_again<D: Disk>(
     let mut store = Store::new(alloc, 8).ok()?;
     let height = height_of(entries);
     let mut container = Container::at(alloc, &mut store, disk, entries, height, root).ok()?;
-    set_data(&mut container, &mut store, disk, entries, vvbns).ok()?;
-    if map.free_count() < entries / 256 + entries / 65536 + 4 {
-        return None;
-    }
-    container.flush(&mut store, disk, map).ok()
+    flushed(&mut container, &mut store, disk, map, entries, vvbns)
+}
+
+/// Opens a container, places a data block under a VVBN, flushes it, and looks the VVBN up.
+#[tactic(auto, using(fv_store::proofs::Laws::stands_at_first))]
+fn looked_after_flush<D: Disk>(
+    alloc: Global,
+    disk: &mut D,
+    map: &mut AggMap,
+    root: u32,
+    vvbn: u32,
+) -> Option<u32> {
+    let mut store = Store::new(alloc, 8).ok()?;
+    let height = height_of(ENTRIES);
+    let mut container = Container::at(alloc, &mut store, disk, ENTRIES, height, root).ok()?;
+    flushed(&mut container, &mut store, disk, map, ENTRIES, &[vvbn])?;
+    look(&container, &mut store, disk, vvbn).ok()
+}
+
+/// Opening reads the three nodes above the leaves, and the placing of a block its leaf. The flush writes that leaf, which is in the cache
+/// from then on: it is looked up where the next read fails.
+#[test]
+fn a_leaf_is_held_once_it_is_flushed(rt: HostRuntime) -> Result<(), Fail> {
+    let alloc = rt.alloc();
+    let mut host = MemHost::new(alloc, Vec::new(alloc));
+    let mut map = aggregate(alloc, &mut host).ok_or("there is an aggregate")?;
+    let root = written(alloc, &mut host, &mut map, ENTRIES, &[5, 300, 69_999]);
+    let root = root.ok_or("it is written")?;
+    let mut image = failing(&host, 4)?;
+    let found = looked_after_flush(alloc, &mut image, &mut map, root, 6);
+    assert_eq!(rt; found, Some(106));
+    assert_eq!(rt; image.faults(), 0);
+    assert!(rt; fails_next(&mut image));
+    Ok(())
 }
 
 /// The first flush writes three leaves, two inner nodes and the root. Where nothing is set none is written, and where one entry is set its leaf, the

@@ -1,5 +1,5 @@
 -- Leaves of containers came into memory: volumes are what they were, and stand for what they stood for.
-use Rattle.std.proofs.Common.{◌≡◌, ℕ, ◌+◌, ◌-◌, ◌<◌, ◌≤◌, ◌⊎◌, max, min, true, true≢false, Bool, List, [], ◌∷◌, length, Option, Some, None, inl, ⊎_elim, refl, sym, ap, subst, ◌∙◌, arith}
+use Rattle.std.proofs.Common.{◌≡◌, ℕ, ◌+◌, ◌-◌, ◌<◌, ◌≤◌, ◌⊎◌, max, min, true, true≢false, Bool, List, [], ◌∷◌, length, Option, Some, None, ⊎_elim, refl, sym, ap, subst, ◌∙◌, arith}
 use Rattle.std.specs.Prelude.{IfSome, slice_index_or}
 use Rattle.std.specs.FinMap as fin
 use Rattle.std.proofs.lemmas.Bool.{cases_lt}
@@ -22,7 +22,7 @@ use Rattle.fv_root.specs.Finding.{IsInRange, root_found}
 use Rattle.fv_root.specs.Formatted.{IsSize}
 use Rattle.fv_store.specs.Held.{StandsOn}
 use Rattle.fv_aggmap.specs.Space.{Space, blocks_of, free_blocks}
-use Rattle.fv_container.specs.Chains.{AreCleanOn, IsBadLeaf, IsLeafDamage, IsSlots, Slots, container_at, map_in, own_entry, paged_at, parent_at}
+use Rattle.fv_container.specs.Chains.{AreCleanOn, IsBadLeaf, IsLeafDamage, IsSlots, Slots, container_at, map_in, own_entry, paged_at}
 use Rattle.fv_container.specs.Clean.{IsCleanOn}
 use Rattle.fv_container.specs.Mapped.{Mapped}
 use Rattle.fv_container.specs.Paged.{Paged}
@@ -32,24 +32,18 @@ use Rattle.fv_container.proofs.Damage.{HasTree, damage_stays}
 use Rattle.fv_pool.specs.declared.pool.Pool.{Pool}
 use Rattle.fv_pool.specs.BlocksOver.{HasShapeOf, LoadsPool, entries_in}
 use Rattle.fv_pool.specs.Keeping.{Blocks, IsUnkept}
-use Rattle.fv_pool.specs.Lending.{lent_for, no_damage}
-use Rattle.fv_pool.specs.Placing.{Goes, KeepsUnused}
-use Rattle.fv_pool.proofs.Going.{goes_failed}
+use Rattle.fv_pool.specs.Placing.{KeepsUnused}
 use Rattle.fv_volume.specs.declared.state.VolumeState.{VolumeState}
 use Rattle.fv_volume.specs.Loading.{Houses, IsCleanOf, IsContainerOf, label_of}
-use Rattle.fv_volume.specs.OneVolume.{home_in, IsReady}
-use Rattle.fv_volume.specs.Placing.{LiesApart, StaysBeside}
+use Rattle.fv_volume.specs.OneVolume.{IsReady}
 use Rattle.fv_volume.specs.Slots.{sum_of}
-use Rattle.fv_volume.specs.States.{States, head_in, parent_in, state_at}
+use Rattle.fv_volume.specs.States.{States, state_at}
 use Rattle.fv_volume.specs.Stored.{AreApartIn, AreSpacedIn}
 use Rattle.fv_volume.specs.Writing.{IsTaken, on_disk}
 use Rattle.fv_volumes.specs.Housed.{AreHoused}
 use Rattle.fv_volumes.specs.UnderRoot.{IsLentAt, IsLentSlot, IsMapOf, StandMaps}
-use Rattle.fv_volumes.proofs.Others.{beside_flush}
-use Rattle.fv_image.proofs.LoneTables.{form_base}
-use Rattle.fv_volumes.proofs.Alone.{alone_by}
+use Rattle.fv_volumes.proofs.Others.{beside_loads}
 use Rattle.fv_volumes.proofs.PlacedIn.{found_read, keeps_read}
-use Rattle.fv_volumes.proofs.Told.{is_inside}
 use Rattle.fv_model.specs.Machines.{first_block}
 use Rattle.fv_delay.specs.declared.regions.Region.{Region}
 use Rattle.fv_delay.specs.ByThreshold.{threshold_for}
@@ -62,7 +56,7 @@ use Rattle.fv_cp.specs.Held.{IsHeld, IsHeldIn, machine_held, named_held}
 use Rattle.fv_cp.specs.Lent.{FitTogether}
 use Rattle.fv_cp.specs.Placing.{ArePlaced, AreReady, HaveSpent, IsReadyIn, IsSpareEntry, KeepShapes}
 
-module _ (disk after : Shown) (pool left : Pool) (states : States) (loads : LoadsPool disk pool left) (reads : OnlyReads disk after) (stands : StandsOn after left.store.pairs) (few : IsSlots pool.containers) (fit : FitTogether pool states) where
+module _ (disk after : Shown) (pool left : Pool) (states : States) (loads : LoadsPool disk pool left) (reads : OnlyReads disk after) (stands : StandsOn after left.store.pairs) (fit : FitTogether pool states) where
   map_at : (s : ℕ) → container_at left.containers s ≡ container_at pool.containers s
   map_at = loads.containers.maps
 
@@ -81,26 +75,6 @@ module _ (disk after : Shown) (pool left : Pool) (states : States) (loads : Load
   }
 
   -- ---- one volume
-
-  -- a volume of no slot
-  abbrev away : VolumeState → VolumeState
-  away w = record w { slot = 64; label = 0 }
-
-  goes_away : (w : VolumeState) → Goes (lent_for pool w.map disk 0 (home_in (away w)) 0) left w.map after 0
-  goes_away w = record { steps = 0; goes = record { strays = 0; noted = no_damage; goes = goes_failed pool left w.map disk after 0 (home_in (away w)) 0 0 no_damage no_damage loads reads (inl refl) } }
-
-  -- it has no container
-  none_away : container_at pool.containers 64 ≡ None
-  none_away = ap map_in (get_or_past pool.containers.containers 64 None (omega (arith, few.containers)))
-
-  beside : (s : ℕ) (w : VolumeState) → state_at states s ≡ Some w → IsHeldIn disk pool s w → StaysBeside disk pool after left w
-  beside s w at one = beside_flush disk after pool left (away w) w.map 0 0 (goes_away w) w (λ same. let low = is_inside states s w fit.housed.long at in omega (arith, low, one.slot, same)) alone lies one.stands
-    where
-      alone : parent_at pool.containers w.slot ≡ None
-      alone = fit.housed.parents w.slot ∙ ap (λ (n : ℕ). parent_in (state_at states n)) one.slot ∙ ap parent_in at ∙ alone_by w.base (form_base (head_in w) one.ready.labelled.form)
-
-      lies : LiesApart pool.containers w.slot 64
-      lies v e own owned = absurd (none-some owned.entry (sym (ap (λ (c : Option Mapped). own_entry c owned.vvbn) none_away) ∙ owned.stands))
 
   ready_loaded : (w : VolumeState) → IsReady disk pool w → IsReady after left w
   ready_loaded w ready = record {
@@ -124,10 +98,10 @@ module _ (disk after : Shown) (pool left : Pool) (states : States) (loads : Load
       by None is = tt
       by (Some w) is = record { slot = is.slot; ready = ready_loaded w is.ready }
 
-  held_in : (s : ℕ) (o : Option VolumeState) → state_at states s ≡ o → IfSome o (IsHeldIn disk pool s) → IfSome o (IsHeldIn after left s)
-  held_in s None at is = tt
-  held_in s (Some w) at is =
-      let b = beside s w at is in
+  held_in : (s : ℕ) (o : Option VolumeState) → IfSome o (IsHeldIn disk pool s) → IfSome o (IsHeldIn after left s)
+  held_in s None is = tt
+  held_in s (Some w) is =
+      let b = beside_loads disk after pool left loads reads w is.stands in
       record {
         slot = is.slot;
         ready = ready_loaded w is.ready;
@@ -194,7 +168,7 @@ module _ (disk after : Shown) (pool left : Pool) (states : States) (loads : Load
           (subst (λ (m : Space). AreSpacedIn pool.found.blocks m.next (state_at states) (container_at left.containers)) (sym loads.map)
           (subst (λ (c : ℕ → Option Mapped). AreSpacedIn pool.found.blocks pool.map.next (state_at states) c) (λ j s. sym (map_at s) j) held.spaced));
       names = held.names;
-      each = λ s. held_in s (state_at states s) refl (held.each s);
+      each = λ s. held_in s (state_at states s) (held.each s);
       commits = subst (λ (f : Found). sum_of states ≤ capacity f.blocks) (sym loads.found) held.commits;
     }
 
@@ -204,22 +178,22 @@ module _ (disk after : Shown) (pool left : Pool) (states : States) (loads : Load
     machine_loaded = λ j. record {
       blocks = (loads.found j).blocks;
       version = loads.version j;
-      volumes = fin.from_entries {R = name_cmp} (same_parts (λ k. named_held after left (state_at states k)) (λ k. named_held disk pool (state_at states k)) 0 64 (λ k low high. named_same k (state_at states k) refl (held.each k)) j);
+      volumes = fin.from_entries {R = name_cmp} (same_parts (λ k. named_held after left (state_at states k)) (λ k. named_held disk pool (state_at states k)) 0 64 (λ k low high. named_same k (state_at states k) (held.each k)) j);
     }
       where
-        named_same : (k : ℕ) (o : Option VolumeState) → state_at states k ≡ o → IfSome o (IsHeldIn disk pool k) → named_held after left o ≡ named_held disk pool o
-        named_same k None at one = refl
-        named_same k (Some w) at one = ap (λ (v : Volume). (w.name, v) ∷ []) (beside k w at one).volume
+        named_same : (k : ℕ) (o : Option VolumeState) → IfSome o (IsHeldIn disk pool k) → named_held after left o ≡ named_held disk pool o
+        named_same k None one = refl
+        named_same k (Some w) one = ap (λ (v : Volume). (w.name, v) ∷ []) (beside_loads disk after pool left loads reads w one.stands).volume
 
 -- ---- after the files were placed
 
 -- What was placed of files is placed still.
-pub placed_loaded : (disk mid after : Shown) (pool held left : Pool) (states between : States) → ArePlaced disk pool states mid held between → LoadsPool mid held left → OnlyReads mid after → StandsOn after left.store.pairs → IsSlots held.containers
+pub placed_loaded : (disk mid after : Shown) (pool held left : Pool) (states between : States) → ArePlaced disk pool states mid held between → LoadsPool mid held left → OnlyReads mid after → StandsOn after left.store.pairs
     → ArePlaced disk pool states after left between
-placed_loaded disk mid after pool held left states between placed loads reads stands few = record {
-  held = λ before was. held_loaded mid after held left between loads reads stands few placed.fit before (placed.held before was);
-  machine = λ before was. machine_loaded mid after held left between loads reads stands few placed.fit before (placed.held before was) ∙ placed.machine before was;
-  fit = fit_loaded mid after held left between loads reads stands few placed.fit;
+placed_loaded disk mid after pool held left states between placed loads reads stands = record {
+  held = λ before was. held_loaded mid after held left between loads reads stands placed.fit before (placed.held before was);
+  machine = λ before was. machine_loaded mid after held left between loads reads stands placed.fit before (placed.held before was) ∙ placed.machine before was;
+  fit = fit_loaded mid after held left between loads reads stands placed.fit;
   found = loads.found ∙ placed.found;
   version = loads.version ∙ placed.version;
   committed = ap (λ (m : Space). m.committed) loads.map ∙ placed.committed;

@@ -20,7 +20,7 @@ use Rattle.fv_aggmap.specs.Space.{Space}
 use Rattle.fv_root.specs.declared.find.Found.{Found}
 use Rattle.fv_root.specs.Finding.{IsInRange, root_found}
 use Rattle.fv_root.specs.Commits.{IsFoundOn}
-use Rattle.fv_container.specs.Chains.{IsSlots, Slots, TellsEntries, container_at, own_entry}
+use Rattle.fv_container.specs.Chains.{Slots, TellsEntries, container_at, own_entry}
 use Rattle.fv_container.proofs.Changing.{maps_same}
 use Rattle.fv_container.specs.Mapped.{Mapped}
 use Rattle.fv_volmap.specs.Slots.{active_of}
@@ -427,12 +427,12 @@ may_on now after pool (Some x) e tells reads may = by e (subst (λ (d : Shown). 
     by (Damaged at want found) may = may
     by Memory may = may
 
-pub lacks_place : (disk : Shown) (pool : Pool) (states : States) (now : Shown) (held : Pool) (between : States) → HasCome disk pool states now held between → IsSlots held.containers → (slot : ℕ) → ((s : ℕ) → slot ≤ s → container_at held.containers s ≡ container_at pool.containers s)
+pub lacks_place : (disk : Shown) (pool : Pool) (states : States) (now : Shown) (held : Pool) (between : States) → HasCome disk pool states now held between → (slot : ℕ) → ((s : ℕ) → slot ≤ s → container_at held.containers s ≡ container_at pool.containers s)
     → ((s : ℕ) → slot ≤ s → state_at between s ≡ state_at states s) → (HaveNoneBefore states slot → (held ≡ pool) × (between ≡ states)) → HaveNoneBefore between slot → (after : Shown) → OnlyReads now after → (e : VolumeFault) → MayFail now held (state_at between slot) e → FailsToPlace disk pool states after e
-lacks_place disk pool states now held between come few slot ahead waits first done after reads e fails = by (state_at between slot) refl fails
+lacks_place disk pool states now held between come slot ahead waits first done after reads e fails = by (state_at between slot) refl fails
   where
     placed : ArePlaced disk pool states after held between
-    placed = placed_loaded disk now after pool held held states between come.placed (loads_none now held) reads (stands_on now after held.store.pairs reads.stays.tells reads.stays.reads come.stands) few
+    placed = placed_loaded disk now after pool held held states between come.placed (loads_none now held) reads (stands_on now after held.store.pairs reads.stays.tells reads.stays.reads come.stands)
 
     by : (o : Option VolumeState) → state_at between slot ≡ o → MayFail now held o e → FailsToPlace disk pool states after e
     by None there fails = absurd fails

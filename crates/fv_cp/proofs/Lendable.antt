@@ -75,10 +75,10 @@ module _ (disk : Shown) (pool : Pool) (states : States) (before : Machine) (held
     base = form_base (head_in x) form
 
     abbrev led : ℕ → Rooted → Option ℕ → ℕ → ℕ → Pointer
-    led = alone.led disk pool states fit.housed held.slots held.spaced x e one no_files whole
+    led = alone.led disk pool states fit.housed held.spaced x e one no_files whole
 
     ruled : (k : ℕ) (r : Rooted) → In {X = ℕ × Rooted} (k, r) (roots_of (head_in x)) → AreRuled w x.slot (head_in x) r (led k r)
-    ruled = alone.ruled disk pool states fit.housed held.slots held.spaced x e one no_files whole
+    ruled = alone.ruled disk pool states fit.housed held.spaced x e one no_files whole
 
   -- ---- all of them
 
@@ -87,7 +87,7 @@ module _ (disk : Shown) (pool : Pool) (states : States) (before : Machine) (held
 
   each_state : AreStates w no_trees states
   each_state = record {
-    each = of_each states fit.housed.volumes (λ s o. IfSome o (IsState w no_trees s)) (λ s. tt) (λ x e. alone.state_is disk pool states fit.housed held.slots held.spaced x e (one x e) (no_files x e) (whole x e));
+    each = of_each states fit.housed.volumes (λ s o. IfSome o (IsState w no_trees s)) (λ s. tt) (λ x e. alone.state_is disk pool states fit.housed held.spaced x e (one x e) (no_files x e) (whole x e));
     names = held.names;
     empty = λ s e. refl;
   }
@@ -98,18 +98,18 @@ module _ (disk : Shown) (pool : Pool) (states : States) (before : Machine) (held
   tables = record {
     shapes = all_held _ (λ x e. rule.shapes w x.slot (head_in x) (led x e) (ruled x e));
     ranges = all_held _ (λ x e. rule.ranges w x.slot (head_in x) (led x e) (ruled x e));
-    spans = all_held _ (λ x e. alone.wide_rule disk pool states fit.housed held.slots held.spaced x e (one x e) (no_files x e) (whole x e));
-    bases = all_held _ (λ x e. and_from (comes_to_end (seen w) 64 x.slot) _ (alone.footing_rule disk pool states fit.housed held.slots held.spaced x e (one x e) (no_files x e) (whole x e)) (ap (λ (o : Option Footing). option_map_or (has_footing (seen w) (volume_seen w x.slot (head_in x))) o true) (base x e)));
-    snapshots = all_held _ (λ x e. alone.names_rule disk pool states fit.housed held.slots held.spaced x e (one x e) (no_files x e) (whole x e));
-    files = all_held _ (λ x e. alone.files_rule disk pool states fit.housed held.slots held.spaced x e (one x e) (no_files x e) (whole x e));
+    spans = all_held _ (λ x e. alone.wide_rule disk pool states fit.housed held.spaced x e (one x e) (no_files x e) (whole x e));
+    bases = all_held _ (λ x e. and_from (comes_to_end (seen w) 64 x.slot) _ (alone.footing_rule disk pool states fit.housed held.spaced x e (one x e) (no_files x e) (whole x e)) (ap (λ (o : Option Footing). option_map_or (has_footing (seen w) (volume_seen w x.slot (head_in x))) o true) (base x e)));
+    snapshots = all_held _ (λ x e. alone.names_rule disk pool states fit.housed held.spaced x e (one x e) (no_files x e) (whole x e));
+    files = all_held _ (λ x e. alone.files_rule disk pool states fit.housed held.spaced x e (one x e) (no_files x e) (whole x e));
     positions = all_held _ (λ x e. rule.positions w x.slot (head_in x) (led x e) (ruled x e));
     once = all_held _ (λ x e. rule.once w x.slot (head_in x) (led x e) (ruled x e));
     kinds = all_held _ (λ x e. rule.kinds w x.slot (head_in x) (led x e) (ruled x e));
-    ids = all_held _ (λ x e. rule.ids w x.slot (head_in x) (led x e) (ruled x e) (base x e) (alone.one_to_one disk pool states fit.housed held.slots held.spaced x e (one x e) (no_files x e) (whole x e)));
+    ids = all_held _ (λ x e. rule.ids w x.slot (head_in x) (led x e) (ruled x e) (base x e) (alone.one_to_one disk pool states fit.housed held.spaced x e (one x e) (no_files x e) (whole x e)));
     stamps = all_held _ (λ x e. rule.stamps w x.slot (head_in x) (led x e) (ruled x e) (base x e));
     marks = all_held _ (λ x e. rule.marks w x.slot (head_in x) (led x e) (ruled x e));
-    cells = all_held _ (λ x e. alone.cells_rule disk pool states fit.housed held.slots held.spaced x e (one x e) (no_files x e) (whole x e));
-    levels = all_held _ (λ x e. alone.levels_rule disk pool states fit.housed held.slots held.spaced x e (one x e) (no_files x e) (whole x e));
+    cells = all_held _ (λ x e. alone.cells_rule disk pool states fit.housed held.spaced x e (one x e) (no_files x e) (whole x e));
+    levels = all_held _ (λ x e. alone.levels_rule disk pool states fit.housed held.spaced x e (one x e) (no_files x e) (whole x e));
     hints = all_held _ (λ x e. rule.hints w x.slot (head_in x) (led x e) (ruled x e));
     unknown = all_held _ (λ x e. rule.unknown w x.slot (head_in x) (led x e) (ruled x e));
     known = all_held _ (λ x e. rule.known_places w x.slot (head_in x) (led x e) (ruled x e));
@@ -118,7 +118,7 @@ module _ (disk : Shown) (pool : Pool) (states : States) (before : Machine) (held
     leaves = all_held _ (λ x e. rule.leaves w x.slot (head_in x) (led x e) (ruled x e) (base x e));
     rests = all_held _ (λ x e. rule.rests w x.slot (head_in x) (led x e) (ruled x e) (base x e)
         (λ r. list_all (λ (e : Reached). e.own || is_based (volume_seen w x.slot (head_in x)) e.item.pointer.vvbn) r.reached));
-    sizes = all_held _ (λ x e. alone.size_rule disk pool states fit.housed held.slots held.spaced x e (one x e) (no_files x e) (whole x e));
+    sizes = all_held _ (λ x e. alone.size_rule disk pool states fit.housed held.spaced x e (one x e) (no_files x e) (whole x e));
     commits = (let same = commits_in_view pool states disk.reads fit.housed.long each_state in let fits = held.commits in le-leb (commits_seen (seen w)) (capacity pool.found.blocks) (omega (arith, same, fits)));
   }
 
@@ -126,14 +126,14 @@ module _ (disk : Shown) (pool : Pool) (states : States) (before : Machine) (held
   unfolding is_built has_no_reserves slots view_over
   built = and_from (list_all (λ s. option_map_or has_form (w.head s) true) slots) _
       (all_of_range (λ s. option_map_or has_form (w.head s) true) 0 64 (λ s low high. of_each states fit.housed.volumes (λ s o. option_map_or has_form (option_map head_in o) true ≡ true) (λ s. refl) form s))
-      (all_held (λ s y. list_all (λ (r : Root). list_all (λ (f : ℕ × InodeRecord). f.1.reserve == 0) r.files) y.roots) (λ x e. alone.reserve_rule disk pool states fit.housed held.slots held.spaced x e (one x e) (no_files x e) (whole x e)))
+      (all_held (λ s y. list_all (λ (r : Root). list_all (λ (f : ℕ × InodeRecord). f.1.reserve == 0) r.files) y.roots) (λ x e. alone.reserve_rule disk pool states fit.housed held.spaced x e (one x e) (no_files x e) (whole x e)))
 
   -- The numbers of their files in memory are those of the tables that the view tells.
   pub numbers_held : (s : ℕ) → AreNumbersSeen w s (state_at states s)
-  numbers_held = of_each states fit.housed.volumes (AreNumbersSeen w) (λ s. tt) (λ x e. alone.numbers_seen disk pool states fit.housed held.slots held.spaced x e (one x e) (no_files x e) (whole x e))
+  numbers_held = of_each states fit.housed.volumes (AreNumbersSeen w) (λ s. tt) (λ x e. alone.numbers_seen disk pool states fit.housed held.spaced x e (one x e) (no_files x e) (whole x e))
 
   reached : HaveReaches w states
-  reached s low = of_each states fit.housed.volumes (λ s o. IfSome o (ReachesAll w s)) (λ s. tt) (λ x e. alone.reach_is disk pool states fit.housed held.slots held.spaced x e (one x e) (no_files x e) (whole x e)) s
+  reached s low = of_each states fit.housed.volumes (λ s o. IfSome o (ReachesAll w s)) (λ s. tt) (λ x e. alone.reach_is disk pool states fit.housed held.spaced x e (one x e) (no_files x e) (whole x e)) s
 
   -- They can be lent to a point.
   pub held_lent : IsLent disk pool states before
@@ -146,7 +146,7 @@ module _ (disk : Shown) (pool : Pool) (states : States) (before : Machine) (held
     blocks = pool.found.blocks;
     version = pool.version;
     volumes = fin.from_entries {R = name_cmp} (same_parts (λ k. named_held disk pool (state_at states k)) (λ k. named_with w (active_at w) k (w.head k)) 0 64
-        (λ k low high. of_each states fit.housed.volumes (λ k o. named_held disk pool o ≡ named_with w (active_at w) k (option_map head_in o)) (λ k. refl) (λ x e. alone.named_is disk pool states fit.housed held.slots held.spaced x e (one x e) (no_files x e) (whole x e)) k) j);
+        (λ k low high. of_each states fit.housed.volumes (λ k o. named_held disk pool o ≡ named_with w (active_at w) k (option_map head_in o)) (λ k. refl) (λ x e. alone.named_is disk pool states fit.housed held.spaced x e (one x e) (no_files x e) (whole x e)) k) j);
   }
 
 -- ---- what could be lent is held

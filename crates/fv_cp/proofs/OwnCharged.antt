@@ -1,32 +1,33 @@
--- A volume without a base has just as many entries of its own as it is charged for: below the span each number that its roots reach has
--- one, and past it each block of a snapshot's map.
-use Rattle.std.proofs.Common.{◌≡◌, ◌≢◌, ℕ, zero, suc, ◌+◌, ◌-◌, ◌*◌, ◌/◌, ◌<◌, ◌≤◌, Bool, true, false, cond, not, List, [], ◌∷◌, length, inl, inr, refl, sym, ap, subst, ◌∙◌, arith, ⊎_elim}
+-- A volume that isn't being split has just as many entries of its own as it is charged for: below the span each number that its roots reach
+-- and its base doesn't has one, and past it each block of a snapshot's map.
+use Rattle.std.proofs.Common.{◌≡◌, ◌≢◌, ℕ, zero, suc, ◌+◌, ◌-◌, ◌*◌, ◌/◌, ◌<◌, ◌≤◌, Bool, true, false, cond, not, List, [], ◌∷◌, length, inl, inr, refl, sym, ap, subst, ◌∙◌, ◌⊎◌, arith, ⊎_elim}
 use Rattle.std.specs.Prelude.{Option, Some, None, ◌&&◌, ◌||◌, ◌==◌, map, nat_lt, nat_le, count_by, if◌then◌else◌}
 use Rattle.std.specs.List.{list_all, list_any, range_with_len}
-use Rattle.std.specs.Option.{is_some, option_map_or}
-use Rattle.std.proofs.lemmas.Bool.{and_parts, and_from, cases_eq, cases_lt}
+use Rattle.std.specs.Option.{is_none, is_some, option_map_or}
+use Rattle.std.proofs.lemmas.Bool.{and_parts, and_from, cases_eq, cases_lt, or_cases}
 use Rattle.std.proofs.lemmas.Bool.Decides.{nat_tests}
 use Rattle.std.proofs.lemmas.List.{length-map}
 use Rattle.std.proofs.lemmas.Nat.{div-mul-add, mod_below}
-use Rattle.std.proofs.lemmas.Option.{none-some}
 use Rattle.fv_bits.proofs.Counts.{passing, passing-add, passing-suc, passing_same}
 use Rattle.fv_model.specs.Space.{map_blocks, charge, need, use_of}
 use Rattle.fv_laws.proofs.Lists.{In, in_map, in_range, from_map}
 use Rattle.fv_laws.proofs.Tests.{from_all, from_any, to_none}
-use Rattle.fv_tables.specs.Reached.{Item, is_listed}
-use Rattle.fv_tables.proofs.Listed.{picked, picked_all, picked_is}
+use Rattle.fv_tables.specs.Ids.{is_charged}
+use Rattle.fv_tables.specs.Reached.{Item, is_listed, items}
+use Rattle.fv_tables.proofs.Listed.{picked, picked_all, picked_in, picked_is}
 use Rattle.fv_image.specs.Chains.{place}
 use Rattle.fv_image.specs.Charged.{out_items}
 use Rattle.fv_image.specs.Mapped.{AreInSlots, is_rising, stored_slots}
 use Rattle.fv_image.specs.ReachRules.{is_reach, is_same_position, has_map_blocks, has_maps_of_reach, reaches_once}
-use Rattle.fv_image.specs.Seen.{Reached, Root, VolumeSeen, own_blocks, roots_of, seen, volume_seen}
+use Rattle.fv_image.specs.HintRules.{is_based, is_splitting, leaves_base, rests_on_base}
+use Rattle.fv_image.specs.Seen.{Based, Reached, Root, VolumeSeen, base_root, base_seen, based_at, based_on, own_blocks, roots_of, seen, volume_seen}
 use Rattle.fv_image.specs.Soundness.{AreMaps, AreTables}
-use Rattle.fv_image.specs.Staying.{own_items}
+use Rattle.fv_image.specs.Staying.{base_items, own_items}
 use Rattle.fv_image.specs.Views.{Footing, Head, Rooted, Snap, View, is_active_map, is_held_in, is_own, map_index, map_slot, map_vvbn, own, slots, used_slots, volume_bit, vvbns}
 use Rattle.fv_image.specs.VolumeRules.{uses_seen}
-use Rattle.fv_image.specs.Volumes.{volume_told}
+use Rattle.fv_image.specs.Volumes.{standing_of, volume_told}
 use Rattle.fv_image.proofs.Behind.{first_there, in_first, vvbn_there}
-use Rattle.fv_image.proofs.CountedCharge.{charge_by_sets, held_is_listed}
+use Rattle.fv_image.proofs.CountedCharge.{HasParentNumbers, charge_by_three, held_is_listed}
 use Rattle.fv_image.proofs.Counting.{in_slot}
 use Rattle.fv_image.proofs.Counts.{none_between, others, same_sum}
 use Rattle.fv_image.proofs.LoneTables.{no_parent, place_own}
@@ -108,10 +109,6 @@ never true true = refl
 never true false = refl
 never false b = refl
 
-and_true : (b : Bool) → (b && true) ≡ b
-and_true true = refl
-and_true false = refl
-
 -- the first of two tests in each root
 firsts : (rest : Root → Reached → Bool) (rs : List Root) → list_all (λ r. list_all (λ a. is_some a.at && rest r a) r.reached) rs ≡ true → list_all (λ (r : Root). list_all (λ a. is_some a.at) r.reached) rs ≡ true
 firsts rest [] all = refl
@@ -125,9 +122,56 @@ firsts rest (r ∷ rs) all =
         let parts = and_parts (is_some e.at && rest r e) _ all in
         and_from (is_some e.at) _ (and_parts (is_some e.at) (rest r e) parts.0).0 (each r es parts.1)
 
+-- ---- what its base reaches
+
+module _ (w : View) (s : ℕ) where
+  mapped : (v : ℕ) (splitting : Bool) (xs : List Item) → list_any (λ (c : Based). c.item.pointer.vvbn == v) (map (based_at w s splitting) xs) ≡ is_listed xs v
+  mapped v splitting [] = refl
+  mapped v splitting (x ∷ xs) = ap (λ (t : Bool). (x.pointer.vvbn == v) || t) (mapped v splitting xs)
+
+  -- what is seen of it is what isn't charged
+  seen_out : (base : Option Footing) → is_splitting base ≡ false → (v : ℕ) → list_any (λ (b : Based). b.item.pointer.vvbn == v) (base_seen w s base) ≡ is_listed (out_items w base) v
+  unfolding base_seen
+  seen_out None whole v = refl
+  seen_out (Some b) whole v = so (base_root w b) ∙ sym (ap (λ (t : Bool). is_listed (if t then [] else base_items w (Some b)) v) whole)
+    where
+      so : (o : Option Rooted) → list_any (λ (b : Based). b.item.pointer.vvbn == v) (option_map_or (based_on w s b) o []) ≡ is_listed (option_map_or (λ r. items (standing_of w b.parent r)) o []) v
+      so None = refl
+      so (Some r) = mapped v b.splitting (items (standing_of w b.parent r))
+
+  -- under it there is no entry of its own
+  leaves_out : (base : Option Footing) → is_splitting base ≡ false → list_all (λ (b : Based). not b.own) (base_seen w s base) ≡ true → (v : ℕ) → is_listed (out_items w base) v ≡ true → is_some (w.entry s v) ≡ false
+  unfolding base_seen
+  leaves_out None whole all v out = absurd (wrong out)
+    where
+      wrong : false ≡ true → ⊥
+      wrong e = cc
+  leaves_out (Some b) whole all v out = so (base_root w b) all (ap (λ (t : Bool). is_listed (if t then [] else base_items w (Some b)) v) (sym whole) ∙ out)
+    where
+      opposite : (t : Bool) → not t ≡ true → t ≡ false
+      opposite true e = absurd cc
+      opposite false e = refl
+
+      so : (o : Option Rooted) → list_all (λ (b : Based). not b.own) (option_map_or (based_on w s b) o []) ≡ true → is_listed (option_map_or (λ r. items (standing_of w b.parent r)) o []) v ≡ true → is_some (w.entry s v) ≡ false
+      so None all out = absurd cc
+      so (Some r) all out =
+          let es : List Item = items (standing_of w b.parent r) in
+          let one = picked_in es v out in
+          let free = opposite _ (from_all (λ (b : Based). not b.own) (map (based_at w s b.splitting) es) all (based_at w s b.splitting (picked es v)) (in_map (based_at w s b.splitting) (picked es v) es one.0)) in
+          ap (λ (n : ℕ). is_some (w.entry s n)) (sym one.1) ∙ sym (ap (λ (t : Bool). not t && is_some (w.entry s (picked es v).pointer.vvbn)) whole) ∙ free
+
+charged_by : (entry listed out : Bool) → (listed ≡ true → (entry ≡ true) ⊎ (out ≡ true)) → (out ≡ true → entry ≡ false) → (entry && (listed && true)) ≡ (listed && not out)
+charged_by true true true there free = free refl
+charged_by true true false there free = refl
+charged_by true false true there free = refl
+charged_by true false false there free = refl
+charged_by false true true there free = refl
+charged_by false true false there free = ⊎_elim (λ e. e) (λ e. e) (there refl)
+charged_by false false out there free = refl
+
 -- ---- one volume
 
-module _ (w : View) (s : ℕ) (h : Head) (small : s < 64) (there : w.head s ≡ Some h) (tables : AreTables (seen w)) (maps : AreMaps w) (numbers : HasLabelNumbers h) (order : AreInSlots h) (alone : h.base ≡ None) where
+module _ (w : View) (s : ℕ) (h : Head) (small : s < 64) (there : w.head s ≡ Some h) (tables : AreTables (seen w)) (maps : AreMaps w) (numbers : HasLabelNumbers h) (order : AreInSlots h) (parents : HasParentNumbers w h.base) (whole : is_splitting h.base ≡ false) where
   -- ---- below the span
 
   -- the maps have what the roots reach
@@ -141,15 +185,45 @@ module _ (w : View) (s : ℕ) (h : Head) (small : s < 64) (there : w.head s ≡ 
   found = of_items w s (λ (e : Reached). is_some e.at) (roots_of h) (firsts (λ r a. list_all (λ b. not (a.item.pointer.vvbn == b.item.pointer.vvbn) || is_same_position a.item b.item) r.reached) (volume_seen w s h).roots
       (of_volume w (λ s x. list_all (λ r. list_all (λ a. is_some a.at && list_all (λ b. not (a.item.pointer.vvbn == b.item.pointer.vvbn) || is_same_position a.item b.item) r.reached) r.reached) x.roots) s h tables.once small there))
 
-  -- which is the volume alone: it has an entry of its own
-  listed_there : (v : ℕ) → is_listed (own_items w s h) v ≡ true → is_some (w.entry s v) ≡ true
-  listed_there v listed =
-      let es = own_items w s h in
-      subst (λ (n : ℕ). is_some (w.entry s n) ≡ true) (picked_is es v listed)
-      (ap is_some (sym (place_own w s (picked es v).pointer.vvbn (no_parent w s h there alone))) ∙ picked_all (λ (e : Item). is_some (place w s e.pointer.vvbn)) es v listed found)
+  -- at an entry of its own, or its base reaches it
+  rested : (b : Footing) → h.base ≡ Some b → (v : ℕ) → is_listed (own_items w s h) v ≡ true → (is_some (w.entry s v) ≡ true) ⊎ (is_listed (out_items w h.base) v ≡ true)
+  unfolding rests_on_base volume_seen
+  rested b based v listed = ⊎_elim
+      (λ own. inl (ap (λ (n : ℕ). is_some (w.entry s n)) (sym (picked_is (own_items w s h) v listed)) ∙ own))
+      (λ out. inr (sym (seen_out w s h.base whole v) ∙ ap (λ (n : ℕ). list_any (λ (b : Based). b.item.pointer.vvbn == n) (base_seen w s h.base)) (sym (picked_is (own_items w s h) v listed)) ∙ out))
+      (or_cases (is_some (w.entry s (picked (own_items w s h) v).pointer.vvbn)) (list_any (λ (b : Based). b.item.pointer.vvbn == (picked (own_items w s h) v).pointer.vvbn) (base_seen w s h.base))
+      (picked_all (λ (e : Item). is_some (w.entry s e.pointer.vvbn) || list_any (λ (b : Based). b.item.pointer.vvbn == e.pointer.vvbn) (base_seen w s h.base)) (own_items w s h) v listed
+      (of_items w s (λ (e : Reached). e.own || list_any (λ (b : Based). b.item.pointer.vvbn == e.item.pointer.vvbn) (base_seen w s h.base)) (roots_of h) each)))
+    where
+      some : is_none h.base ≡ false
+      some = ap (λ (o : Option Footing). is_none o) based
 
-  -- so below the span what they reach is the volume's own, and no other entry
-  own_listed : (v : ℕ) → v < h.span → is_own w s h v ≡ is_listed (own_items w s h) v
+      each : list_all (λ (r : Root). list_all (λ (e : Reached). e.own || list_any (λ (b : Based). b.item.pointer.vvbn == e.item.pointer.vvbn) (base_seen w s h.base)) r.reached) (volume_seen w s h).roots ≡ true
+      each = subst (λ (t : Bool). list_all (λ (r : Root). t || list_all (λ (e : Reached). e.own || list_any (λ (b : Based). b.item.pointer.vvbn == e.item.pointer.vvbn) (base_seen w s h.base)) r.reached) (volume_seen w s h).roots ≡ true) some
+          (of_volume w (λ s x. list_all (λ (r : Root). is_none x.head.base || list_all (λ (e : Reached). e.own || is_based x e.item.pointer.vvbn) r.reached) x.roots) s h tables.rests small there)
+
+  abbrev is_out : ℕ → Bool
+  is_out v = is_listed (out_items w h.base) v
+
+  -- under what its base reaches it has no entry of its own,
+  out_free : (v : ℕ) → is_out v ≡ true → is_some (w.entry s v) ≡ false
+  unfolding leaves_base volume_seen
+  out_free v out = leaves_out w s h.base whole (of_volume w (λ s x. list_all (λ (b : Based). not b.own) x.base) s h tables.leaves small there) v out
+
+  -- and under all else that its roots reach it has one
+  listed_there : (v : ℕ) → is_listed (own_items w s h) v ≡ true → (is_some (w.entry s v) ≡ true) ⊎ (is_out v ≡ true)
+  listed_there v listed = by h.base refl
+    where
+      es : List Item
+      es = own_items w s h
+
+      by : (o : Option Footing) → h.base ≡ o → (is_some (w.entry s v) ≡ true) ⊎ (is_out v ≡ true)
+      by None alone = inl (subst (λ (n : ℕ). is_some (w.entry s n) ≡ true) (picked_is es v listed)
+          (ap is_some (sym (place_own w s (picked es v).pointer.vvbn (no_parent w s h there alone))) ∙ picked_all (λ (e : Item). is_some (place w s e.pointer.vvbn)) es v listed found))
+      by (Some b) based = rested b based v listed
+
+  -- so below the span what they reach and the base doesn't is the volume's own, and no other entry
+  own_listed : (v : ℕ) → v < h.span → is_own w s h v ≡ is_charged (own_items w s h) (out_items w h.base) v
   unfolding is_held_in
   own_listed v below =
       let low : nat_lt v h.span ≡ true = grind (arith, nat_tests, below) in
@@ -157,7 +231,7 @@ module _ (w : View) (s : ℕ) (h : Head) (small : s < 64) (there : w.head s ≡ 
       let held : is_held_in w s h v ≡ is_listed (own_items w s h) v = ap (λ (b : Bool). if b then list_any (λ slot. volume_bit w s h.span slot v) (used_slots h) else list_any (λ slot. slot == map_slot h.span v) (used_slots h)) low
       ∙ held_is_listed w s h reach v (omega (arith, below)) in
       let active : is_active_map h v ≡ false = ap (λ (b : Bool). b && nat_lt v (h.span + map_blocks h.span)) past in
-      (λ i. is_some (w.entry s v) && (held i && not (active i))) ∙ absorbed (is_some (w.entry s v)) (is_listed (own_items w s h) v) (listed_there v)
+      (λ i. is_some (w.entry s v) && (held i && not (active i))) ∙ charged_by (is_some (w.entry s v)) (is_listed (own_items w s h) v) (is_out v) (listed_there v) (out_free v)
 
   -- ---- past it
 
@@ -242,9 +316,8 @@ module _ (w : View) (s : ℕ) (h : Head) (small : s < 64) (there : w.head s ≡ 
   -- ---- the count
 
   lone_charge : charge (volume_told w s h) ≡ passing (is_own w s h) 0 h.span + map_blocks h.span * length h.snapshots
-  lone_charge = charge_by_sets w s h small there numbers (λ b g is parent. absurd (none-some b (sym alone ∙ is))) tables.snapshots tables.ids tables.ranges (is_own w s h) (λ v. false) own_listed
-      (λ v below. sym (ap (λ (base : Option Footing). is_listed (out_items w base) v) alone))
-      ∙ ap (λ (n : ℕ). n + map_blocks h.span * length h.snapshots) (passing_same (λ v. is_own w s h v && not false) (is_own w s h) 0 0 h.span (λ j lt. and_true (is_own w s h (0 + j))))
+  lone_charge = charge_by_three w s h small there numbers parents tables.snapshots tables.ids tables.ranges
+      ∙ ap (λ (n : ℕ). n + map_blocks h.span * length h.snapshots) (sym (passing_same (is_own w s h) (is_charged (own_items w s h) (out_items w h.base)) 0 0 h.span (λ j lt. own_listed (0 + j) (omega (arith, lt)))))
 
   snaps_whole : passing (is_own w s h) h.span (25 * map_blocks h.span) ≡ map_blocks h.span * length h.snapshots
   snaps_whole =
@@ -271,11 +344,13 @@ module _ (w : View) (s : ℕ) (h : Head) (small : s < 64) (there : w.head s ≡ 
 
 -- ---- all volumes
 
--- A volume stands on no other, needs nothing for reserves, and its label has its numbers, with its snapshots in their slots.
+-- A volume isn't being split, needs nothing for reserves, and its label has its numbers, as that of its parent has, with its snapshots in
+-- their slots.
 pub record IsLone (w : View) (s : ℕ) (h : Head) : Type 0 where
   pub numbers : HasLabelNumbers h
   pub order : AreInSlots h
-  pub alone : h.base ≡ None
+  pub parents : HasParentNumbers w h.base
+  pub whole : is_splitting h.base ≡ false
   pub need : need (volume_told w s h) ≡ 0
 
 -- Of such volumes there are just as many entries of their own as they use.
@@ -289,6 +364,6 @@ owns_used w tables maps lone = same_sum (λ s. option_map_or (λ h. count_by (is
         let is = lone s h inside e in
         let needs_none = is.need in
         ap (λ (o : Option Head). option_map_or (λ h. count_by (is_own w s h) (vvbns h.span)) o 0) e
-        ∙ own_charged w s h inside e tables maps is.numbers is.order is.alone
+        ∙ own_charged w s h inside e tables maps is.numbers is.order is.parents is.whole
         ∙ (let same : charge (volume_told w s h) ≡ use_of (volume_told w s h) = omega (arith, needs_none) in same)
         ∙ sym (ap (λ (o : Option VolumeSeen). option_map_or (λ x. use_of x.volume) o 0) (seen_at w s h inside e))

@@ -9,6 +9,7 @@ use Rattle.fv_disk.specs.Shown.{Image}
 use Rattle.fv_model.specs.Machines.{capacity, first_block}
 use Rattle.fv_model.specs.Space.{need, overhead}
 use Rattle.fv_image.specs.Containers.{most_entries}
+use Rattle.fv_image.specs.HintRules.{is_splitting}
 use Rattle.fv_image.specs.Views.{Head, View, slots, overheads}
 use Rattle.fv_image.specs.Volumes.{volume_told}
 use Rattle.fv_image.specs.Seen.{Seen, VolumeSeen, seen, volume_seen}
@@ -85,25 +86,30 @@ module _ (pool : Pool) (states : States) (i : Image) (housed : AreHoused pool.co
       let over : w.head s ≡ Some (head_in x) = head_there pool states i s x is in
       ap (λ (z : VolumeSeen). z.volume) (same_Some (volume_seen v s (head_in x)) (volume_seen w s (head_in x)) (sym (seen_at v s (head_in x) inside (heads s ∙ over)) ∙ ap (λ (z : Seen). z.volume s) same ∙ seen_at w s (head_in x) inside over))
 
-  -- it stands on no other
-  lone : (s : ℕ) (h : Head) → s < 64 → v.head s ≡ Some h → IsLone v s h
-  lone s h inside there = by (state_at states s) refl
+  -- what holds of each volume's head holds of all heads of the view
+  of_head : (P : ℕ → Head → Type 0) → ((s : ℕ) (x : VolumeState) → state_at states s ≡ Some x → IsState w no_trees s x → P s (head_in x)) → (s : ℕ) (h : Head) → v.head s ≡ Some h → P s h
+  of_head P each s h there = by (state_at states s) refl
     where
-      of_state : (x : VolumeState) → state_at states s ≡ Some x → IsState w no_trees s x → IsLone v s (head_in x)
-      of_state x is state =
-          let label = state.labelled in
-          record {
-            numbers = subst HasLabelNumbers (label_head x label.form label.named label.snapshots 0 1) (label_numbers (label_said x 0 1) (label.label 0 1 (omega arith) (omega arith) (omega arith)));
-            order = label.snapshots.slots;
-            alone = form_base (head_in x) label.form;
-            need = ap need (told_same s x inside is) ∙ none_needed pool states i housed.long are s x is state;
-          }
-
-      by : (o : Option VolumeState) → state_at states s ≡ o → IsLone v s h
+      by : (o : Option VolumeState) → state_at states s ≡ o → P s h
       by None is = absurd (none-some h (sym (heads s ∙ head_at pool states i s ∙ ap (option_map head_in) is) ∙ there))
       by (Some x) is =
           let head : head_in x ≡ h = same_Some (head_in x) h (sym (heads s ∙ head_there pool states i s x is) ∙ there) in
-          subst (IsLone v s) head (of_state x is (subst (λ (o : Option VolumeState). IfSome o (IsState w no_trees s)) is (are.each s)))
+          subst (P s) head (each s x is (subst (λ (o : Option VolumeState). IfSome o (IsState w no_trees s)) is (are.each s)))
+
+  -- each label has its numbers
+  label_has : (s : ℕ) (h : Head) → v.head s ≡ Some h → HasLabelNumbers h
+  label_has = of_head (λ s h. HasLabelNumbers h) (λ s x is state. let label = state.labelled in
+      subst HasLabelNumbers (label_head x label.form label.named label.snapshots 0 1) (label_numbers (label_said x 0 1) (label.label 0 1 (omega arith) (omega arith) (omega arith))))
+
+  -- it needs nothing for reserves
+  lone : (s : ℕ) (h : Head) → s < 64 → v.head s ≡ Some h → IsLone v s h
+  lone s h inside there = of_head (λ s h. s < 64 → v.head s ≡ Some h → IsLone v s h) (λ s x is state inside there. record {
+    numbers = label_has s (head_in x) there;
+    order = state.labelled.snapshots.slots;
+    parents = λ b g based parent. label_has b.parent g parent;
+    whole = ap is_splitting (form_base (head_in x) state.labelled.form);
+    need = ap need (told_same s x inside is) ∙ none_needed pool states i housed.long are s x is state;
+  }) s h there inside there
 
   -- What is counted as missing is just what the space rule lacks by the entries that the volumes have, with what they had delayed.
   pub counts_missing : AreMaps v → (want : ℕ) → CountsMissing pool states v want

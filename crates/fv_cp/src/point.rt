@@ -52,9 +52,9 @@ use fv_volumes::{Volumes, write_volume};
 /// `DiskFault` comes only where a write or a barrier failed in this call; of what is in memory nothing is said then, of images as above. No
 /// other error comes.
 ///
-/// Costs what `reclaim_taken` of `fv_delay` costs for each volume of which a region is reclaimed; a write for each kept block, and for each
-/// volume that is written a step for 64 nodes of its container, one for each entry of a dirty leaf, and a write for each of at most as many
-/// blocks as it asks for; beside that a commit, a step for each fixed block, and one for each 64 blocks.
+/// Costs what `reclaim_taken` of `fv_delay` costs for each volume of which a region is reclaimed; a write for each kept block, and for
+/// each volume that is written a step for each node of its container, for each entry of a dirty leaf and for each block of its maps, and a
+/// write for each of at most as many blocks as it asks for; beside that a commit, a step for each fixed block, and one for each 64 blocks.
 pub fn consistency_point<D: Disk>(
     volumes: &mut Volumes,
     pool: &mut Pool,

@@ -20,7 +20,7 @@ use Rattle.fv_delay.specs.Choice.{chosen, regions_counted, total}
 use Rattle.fv_delay.specs.Delay.{delayed_in}
 use Rattle.fv_delay.specs.Holding.{Holding, IsLeft, counted, counts_in, counts_of, has_region, has_some, regions_of}
 use Rattle.fv_delay.specs.Reclaims.{HasReclaimed}
-use Rattle.fv_delay.specs.ByThreshold.{IsTable, TakesAll, behind, counts_before, counts_front, counts_to, most_blocks, passed, taken_by, taken_in, takes, takes_some, threshold_for}
+use Rattle.fv_delay.specs.ByThreshold.{IsTable, TakesAll, behind, counts_before, counts_front, counts_to, most_blocks, passed, taken_by, taken_in, takes, takes_delayed, takes_some, threshold_for}
 use Rattle.fv_delay.proofs.AllVolumes.{sum_some}
 use Rattle.fv_delay.proofs.Ascending.{all_counts, all_part, all_slots, counts_ascend, part}
 use Rattle.fv_delay.proofs.ByThreshold.{any_counted, any_taken, behind_append, taken_append, taken_none}
@@ -117,7 +117,7 @@ module _ (volumes : ℕ → Option Holding) (s : ℕ) (x : Holding) where
   unfolding taken_in counts_to
   taken_chosen r missing is inside within =
       let t : Threshold = threshold_for (counts_of volumes) missing in
-      ap (λ (k : Threshold). takes k (delayed_in x.map x.container r))
+      ap (λ (k : Threshold). takes_delayed k (delayed_in x.map x.container r))
       (behind_any_slot (behind t (counts_before volumes s)) s x r ∙ sym (behind_append t (counts_before volumes s) (counts_front s x r)))
       ∙ chosen_region volumes s x r missing is inside within
 

@@ -8,13 +8,13 @@ use Rattle.std.proofs.lemmas.Bool.{cases_lt, true≢false}
 use Rattle.std.proofs.lemmas.Bool.Decides.{nat_tests}
 use Rattle.std.proofs.lemmas.List.{get_or_past}
 use Rattle.std.proofs.lemmas.List.Sums.{sum_by-cons}
-use Rattle.fv_bits.proofs.Counts.{passing, passing-add, passing-suc}
+use Rattle.fv_bits.proofs.Counts.{passing, passing-add, passing-suc, passing_same}
 use Rattle.fv_image.specs.Containers.{fan, level_width}
 use Rattle.fv_image.proofs.Counts.{none_between, within_two}
 use Rattle.fv_container.specs.Mapped.{Mapped}
 use Rattle.fv_container.specs.Loading.{delayed_in_region, entries_in_region, has_entry_at}
-use Rattle.fv_volmap.specs.Slots.{Volume}
-use Rattle.fv_delay.specs.Delay.{delayed_in, delayed_of, is_delayed, is_held}
+use Rattle.fv_volmap.specs.Slots.{Volume, active_of}
+use Rattle.fv_delay.specs.Delay.{HoldsAlone, delayed_in, delayed_of, is_delayed, is_held}
 
 -- how many regions there are
 pub regions_are : (entries : ℕ) → div_ceil entries 256 ≡ level_width entries 0
@@ -82,6 +82,12 @@ none_unmapped map container bits region held none =
     let p : ℕ → Bool = is_delayed map container in
     let q : ℕ → Bool = λ v. has_entry_at container v && not (get_or bits v false) in
     none_of (passing p (fan * region) fan) (passing q (fan * region) fan) (within_two p q q (fan * region) fan (λ v. unmapped_there (has_entry_at container v) (is_held map v) (get_or bits v false) (held v))) none
+
+-- where a region's numbers are held just where the active map has them, the delayed entries are those whose numbers that map lacks
+pub as_unmapped : (map : Volume) (container : Mapped) (region : ℕ) → HoldsAlone map region → delayed_in_region container (active_of map) region ≡ delayed_in map container region
+unfolding delayed_in delayed_in_region
+as_unmapped map container region alone = passing_same (λ v. has_entry_at container v && not (get_or (active_of map) v false)) (is_delayed map container) (fan * region) (fan * region) fan
+    (λ j lt. ap (λ (h : Bool). has_entry_at container (fan * region + j) && not h) (sym (alone (fan * region + j) (omega arith) (omega (arith, lt)))))
 
 -- nor in a region behind the last entry
 pub none_behind : (map : Volume) (container : Mapped) (region : ℕ) → length container.entries ≤ fan * region → delayed_in map container region ≡ 0

@@ -1,7 +1,7 @@
 -- Regions without delayed entries, which a walk over a volume passes over.
-use Rattle.std.proofs.Common.{◌≡◌, ◌≢◌, ℕ, zero, suc, ◌+◌, ◌-◌, ◌*◌, ◌%◌, ◌<◌, ◌≤◌, Bool, true, false, cond, ◌&&◌, ◌==◌, List, [], ◌∷◌, get_or, length, refl, sym, ap, ◌∙◌, ⊎_elim, arith}
+use Rattle.std.proofs.Common.{◌≡◌, ℕ, zero, suc, ◌+◌, ◌-◌, ◌*◌, ◌%◌, ◌<◌, ◌≤◌, Bool, true, false, ◌&&◌, List, get_or, length, sym, ap, ◌∙◌, ⊎_elim, arith}
 use Rattle.std.specs.Prelude.{nat_lt}
-use Rattle.std.proofs.lemmas.Bool.{and_from, and_left, and_parts, cases_eq, cases_lt, or_cases, or_left, or_right, true≢false}
+use Rattle.std.proofs.lemmas.Bool.{and_left, cases_lt}
 use Rattle.std.proofs.lemmas.Bool.Decides.{nat_tests}
 use Rattle.fv_image.specs.Containers.{fan, level_width}
 use Rattle.fv_aggmap.specs.Space.{Space}
@@ -9,13 +9,11 @@ use Rattle.fv_container.specs.Loading.{HasNoRegionFrom, IsNextRegion, entries_in
 use Rattle.fv_container.specs.Mapped.{Mapped}
 use Rattle.fv_container.specs.Paged.{Paged, is_sure}
 use Rattle.fv_volmap.specs.Slots.{Volume}
-use Rattle.fv_delay.specs.declared.counts.Count.{Count}
 use Rattle.fv_delay.specs.declared.threshold.Threshold.{Threshold}
 use Rattle.fv_delay.specs.Delay.{AreSure, IsSureIn, delayed_in, is_delayed, region_of}
 use Rattle.fv_delay.specs.Holding.{Holding, held_by}
 use Rattle.fv_delay.specs.Reclaims.{HasStayed, goes_with}
 use Rattle.fv_delay.specs.ByThreshold.{behind, counts_front, passed, taken_in, takes}
-use Rattle.fv_delay.proofs.ByThreshold.{IsSparing, none_taken, sparing_behind}
 use Rattle.fv_delay.proofs.Left.{left_by, others_left}
 use Rattle.fv_delay.proofs.Parts.{none_behind, none_passes, none_there}
 use Rattle.fv_delay.proofs.Reclaimed.{reclaimed_going}
@@ -52,70 +50,14 @@ front_skips s x from r le none = ap (counts_front s x) (let at : r ≡ from + (r
         let at : from + suc n ≡ (from + n) + 1 = omega arith in
         ap (counts_front s x) at ∙ front_none s x (from + n) (none (from + n) (omega arith) (omega (arith, within))) ∙ so n (omega (arith, within))
 
--- ---- a threshold that is asked of a region without
+-- ---- a region without
 
--- one that doesn't take it has left nothing for it
-sparing_of : (t : Threshold) → takes t 0 ≡ false → IsSparing t
-unfolding IsSparing
-sparing_of t off none = so (nat_lt 0 t.left) refl
-  where
-    so : (b : Bool) → nat_lt 0 t.left ≡ b → t.left ≡ 0
-    so false e = grind (arith, nat_tests, e)
-    so true e =
-        let same : (0 == t.count) ≡ true = grind (arith, nat_tests, none) in
-        absurd (true≢false (sym (or_right (nat_lt t.count 0) ((0 == t.count) && nat_lt 0 t.left) (and_from (0 == t.count) (nat_lt 0 t.left) same e)) ∙ off))
-
--- and takes none.
-pub bare_taken : (t : Threshold) (x : Holding) (k : ℕ) → takes t 0 ≡ false → delayed_in x.map x.container k ≡ 0 → taken_in t x k ≡ false
+-- It isn't taken.
+pub bare_taken : (t : Threshold) (x : Holding) (k : ℕ) → delayed_in x.map x.container k ≡ 0 → taken_in t x k ≡ false
 unfolding taken_in
-bare_taken t x k off none =
-    ap (takes (behind t (counts_front 0 x k))) none
-    ∙ none_taken (behind t (counts_front 0 x k)) (sparing_behind t (counts_front 0 x k) (sparing_of t off))
-
--- One that takes it takes each.
-least : (t : Threshold) → takes t 0 ≡ true → (t.count ≡ 0) × (0 < t.left)
-least t on = ⊎_elim
-    (λ (e : nat_lt t.count 0 ≡ true). absurd (true≢false (sym e ∙ never)))
-    (λ (e : ((0 == t.count) && nat_lt 0 t.left) ≡ true).
-    let both = and_parts (0 == t.count) (nat_lt 0 t.left) e in
-    (number both.0, some both.1))
-    (or_cases (nat_lt t.count 0) ((0 == t.count) && nat_lt 0 t.left) on)
-  where
-    never : nat_lt t.count 0 ≡ false
-    never = grind (arith, nat_tests)
-
-    number : (0 == t.count) ≡ true → t.count ≡ 0
-    number e = grind (arith, nat_tests, e)
-
-    some : nat_lt 0 t.left ≡ true → 0 < t.left
-    some e = grind (arith, nat_tests, e)
-
-takes_each : (t : Threshold) (n : ℕ) → t.count ≡ 0 → 0 < t.left → takes t n ≡ true
-takes_each t n none some = ⊎_elim
-    (λ (e : n ≡ 0).
-    let same : (n == t.count) ≡ true = grind (arith, nat_tests, none, e) in
-    let more : nat_lt 0 t.left ≡ true = grind (arith, nat_tests, some) in
-    or_right (nat_lt t.count n) ((n == t.count) && nat_lt 0 t.left) (and_from (n == t.count) (nat_lt 0 t.left) same more))
-    (λ (ne : n ≢ 0).
-    let more : nat_lt t.count n ≡ true = grind (arith, nat_tests, none, ne) in
-    or_left (nat_lt t.count n) ((n == t.count) && nat_lt 0 t.left) more)
-    (cases_eq n 0)
-
-each_behind : (t : Threshold) (cs : List Count) (n : ℕ) → takes t 0 ≡ true → takes (behind t cs) n ≡ true
-unfolding behind
-each_behind t [] n on = (let is = least t on in takes_each t n is.0 is.1)
-each_behind t (c ∷ cs) n on = each_behind (passed t c.count) cs n (so (c.count == t.count) refl)
-  where
-    so : (b : Bool) → (c.count == t.count) ≡ b → takes (cond b (record t { left = t.left - c.count }) t) 0 ≡ true
-    so true e =
-        let is = least t on in
-        let same : c.count ≡ t.count = grind (arith, nat_tests, e) in
-        takes_each (record t { left = t.left - c.count }) 0 is.0 (let some : 0 < t.left - c.count = omega (arith, is.0, is.1, same) in some)
-    so false e = on
-
-pub each_taken : (t : Threshold) (x : Holding) (k : ℕ) → takes t 0 ≡ true → taken_in t x k ≡ true
-unfolding taken_in
-each_taken t x k on = each_behind t (counts_front 0 x k) (delayed_in x.map x.container k) on
+bare_taken t x k none =
+    let test : nat_lt 0 (delayed_in x.map x.container k) ≡ false = grind (arith, nat_tests, none) in
+    and_left (nat_lt 0 (delayed_in x.map x.container k)) (takes (behind t (counts_front 0 x k)) (delayed_in x.map x.container k)) test
 
 -- ---- a walk that reclaims
 

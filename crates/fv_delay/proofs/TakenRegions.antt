@@ -13,7 +13,7 @@ use Rattle.fv_delay.specs.declared.threshold.Threshold.{Threshold}
 use Rattle.fv_delay.specs.Delay.{delayed_in}
 use Rattle.fv_delay.specs.Holding.{Holding, held_by}
 use Rattle.fv_delay.specs.Reclaims.{HasReclaimed}
-use Rattle.fv_delay.specs.ByThreshold.{IsTable, behind, counts_front, passed, taken_in, takes}
+use Rattle.fv_delay.specs.ByThreshold.{IsTable, behind, counts_front, passed, taken_in, takes_delayed}
 use Rattle.fv_delay.proofs.Left.{left_by, others_left}
 use Rattle.fv_delay.proofs.Reclaimed.{reclaimed_none, reclaimed_same, reclaimed_then}
 use Rattle.fv_delay.proofs.Walking.{behind_front, front_none, front_some}
@@ -99,30 +99,30 @@ module _ (map : Volume) (old : Paged) (start : Threshold) where
         counts ∙ others_left (up_to taken r) (held_by map old.map) (held_by map mid.map) (left_by map (up_to taken r) space between old mid has) r (and_left (nat_lt r r) (taken r) same)
 
     -- so it is asked of rightly,
-    pub asked_taken : takes threshold count ≡ taken r
+    pub asked_taken : takes_delayed threshold count ≡ taken r
     unfolding taken_in
-    asked_taken = ap₂ takes at asked_count
+    asked_taken = ap₂ takes_delayed at asked_count
 
     pub asked_passed : passed threshold count ≡ behind start (counts_front 0 (held_by map old.map) (r + 1))
     asked_passed = ap₂ passed at asked_count ∙ sym (behind_front start 0 (held_by map old.map) r)
 
     -- reclaimed where it is taken,
-    pub asked_on : takes threshold count ≡ true → (new : Paged) (left : Space) → HasReclaimed map (λ k. k == r) mid between new left → HasReclaimed map (up_to taken (r + 1)) old space new left
+    pub asked_on : takes_delayed threshold count ≡ true → (new : Paged) (left : Space) → HasReclaimed map (λ k. k == r) mid between new left → HasReclaimed map (up_to taken (r + 1)) old space new left
     asked_on on new left then = reclaimed_then map (up_to taken r) (λ k. k == r) (up_to taken (r + 1)) (up_to_on taken r (sym asked_taken ∙ on)) old mid new space between left has then
 
     -- and left where it isn't.
-    pub asked_off : takes threshold count ≡ false → HasReclaimed map (up_to taken (r + 1)) old space mid between
+    pub asked_off : takes_delayed threshold count ≡ false → HasReclaimed map (up_to taken (r + 1)) old space mid between
     asked_off off = reclaimed_same map (up_to taken r) (up_to taken (r + 1)) old mid space between (λ k lt. up_to_off taken r (sym asked_taken ∙ off) k) has
 
     -- Whether all with delayed entries are taken as far as the next one.
-    pub asked_rest : ((k : ℕ) → k < r → 0 < delayed_in map old.map k → taken k ≡ true) → (0 < count → takes threshold count ≡ true) → (k : ℕ) → k < r + 1 → 0 < delayed_in map old.map k → taken k ≡ true
+    pub asked_rest : ((k : ℕ) → k < r → 0 < delayed_in map old.map k → taken k ≡ true) → (0 < count → takes_delayed threshold count ≡ true) → (k : ℕ) → k < r + 1 → 0 < delayed_in map old.map k → taken k ≡ true
     asked_rest before here k lt some = ⊎_elim
         (λ (e : k ≡ r). ap taken e ∙ sym asked_taken ∙ here (subst (λ (n : ℕ). 0 < n) (ap (delayed_in map old.map) e ∙ sym asked_count) some))
         (λ (ne : k ≢ r). before k (omega (arith, lt, ne)) some)
         (cases_eq k r)
 
     -- Where the next one has delayed entries and isn't taken, not all are.
-    pub asked_left : 0 < count → takes threshold count ≡ false → ((k : ℕ) → k < r + 1 → 0 < delayed_in map old.map k → taken k ≡ true) → ⊥
+    pub asked_left : 0 < count → takes_delayed threshold count ≡ false → ((k : ℕ) → k < r + 1 → 0 < delayed_in map old.map k → taken k ≡ true) → ⊥
     asked_left some off all =
         let here : taken r ≡ true = all r (omega arith) (subst (λ (n : ℕ). 0 < n) asked_count some) in
         true≢false (sym here ∙ sym asked_taken ∙ off)

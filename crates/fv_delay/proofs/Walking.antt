@@ -1,9 +1,9 @@
 -- The regions of all volumes, asked of one after another.
 use Rattle.std.proofs.Common.{◌≡◌, ℕ, zero, suc, ◌+◌, ◌-◌, ◌<◌, Bool, true, false, cond, not, ◌&&◌, ◌==◌, List, [], ◌∷◌, ◌++◌, filter, map, length, refl, sym, ap, ap₂, ◌∙◌, arith}
-use Rattle.std.specs.Prelude.{Option, Some, None, flat_map}
+use Rattle.std.specs.Prelude.{Option, Some, None, flat_map, nat_lt}
 use Rattle.std.specs.List.{list_all, range_with_len}
 use Rattle.std.specs.Option.{option_map_or}
-use Rattle.std.proofs.lemmas.Bool.{and_parts}
+use Rattle.std.proofs.lemmas.Bool.{and_left, and_parts}
 use Rattle.std.proofs.lemmas.Bool.Decides.{nat_tests}
 use Rattle.std.proofs.lemmas.Grind.{flat_map-append}
 use Rattle.std.proofs.lemmas.List.{append-nil, append_assoc, map-append}
@@ -15,9 +15,9 @@ use Rattle.fv_delay.specs.declared.threshold.Threshold.{Threshold}
 use Rattle.fv_delay.specs.Choice.{chosen, regions_counted}
 use Rattle.fv_delay.specs.Delay.{delayed_in}
 use Rattle.fv_delay.specs.Holding.{Holding, counted, counts_in, counts_of, has_region, has_some}
-use Rattle.fv_delay.specs.ByThreshold.{behind, counts_before, counts_front, counts_to, passed, takes, threshold_for}
+use Rattle.fv_delay.specs.ByThreshold.{behind, counts_before, counts_front, counts_to, passed, takes, takes_delayed, threshold_for}
 use Rattle.fv_delay.proofs.Ascending.{all_counts, counts_ascend}
-use Rattle.fv_delay.proofs.ByThreshold.{behind_append, chosen_at, chosen_none, spares}
+use Rattle.fv_delay.proofs.ByThreshold.{behind_append, chosen_at, chosen_none}
 
 -- ---- numbers in front of one, and behind it
 
@@ -107,18 +107,22 @@ module _ (volumes : ℕ → Option Holding) (s : ℕ) (x : Holding) (r : ℕ) wh
 
   -- The threshold for all regions, asked of those in front of a region and then of it, takes it just where it is chosen.
   pub chosen_region : (missing : ℕ) → volumes s ≡ Some x → s < 64 → r < level_width (length x.container.entries) 0
-      → takes (behind (threshold_for (counts_of volumes) missing) (counts_to volumes s x r)) (delayed_in x.map x.container r)
+      → takes_delayed (behind (threshold_for (counts_of volumes) missing) (counts_to volumes s x r)) (delayed_in x.map x.container r)
       ≡ has_region (regions_counted (chosen (counts_of volumes) missing)) s r
   chosen_region missing is inside within = so (has_some (counted s x r)) refl
     where
       t : Threshold
       t = behind (threshold_for (counts_of volumes) missing) (counts_to volumes s x r)
 
-      so : (b : Bool) → has_some (counted s x r) ≡ b → takes t (delayed_in x.map x.container r) ≡ has_region (regions_counted (chosen (counts_of volumes) missing)) s r
-      so true e = (let some : 0 < delayed_in x.map x.container r = grind (arith, nat_tests, e) in some_chosen missing is inside within some)
+      so : (b : Bool) → has_some (counted s x r) ≡ b → takes_delayed t (delayed_in x.map x.container r) ≡ has_region (regions_counted (chosen (counts_of volumes) missing)) s r
+      so true e =
+          let some : 0 < delayed_in x.map x.container r = grind (arith, nat_tests, e) in
+          let test : nat_lt 0 (delayed_in x.map x.container r) ≡ true = grind (arith, nat_tests, some) in
+          ap (λ (b : Bool). b && takes t (delayed_in x.map x.container r)) test ∙ some_chosen missing is inside within some
       so false e =
           let none : delayed_in x.map x.container r ≡ 0 = grind (arith, nat_tests, e) in
-          ap (takes t) none ∙ spares (counts_of volumes) missing (counts_to volumes s x r)
+          let test : nat_lt 0 (delayed_in x.map x.container r) ≡ false = grind (arith, nat_tests, none) in
+          and_left (nat_lt 0 (delayed_in x.map x.container r)) (takes t (delayed_in x.map x.container r)) test
           ∙ sym (chosen_none (counts_of volumes) missing s r (counts_ascend volumes) (nothing_there is none))
 
 -- ---- from one region to the next

@@ -19,6 +19,10 @@ use Rattle.fv_delay.specs.Holding.{Holding, counted, counts_in, has_some, held_b
 abbrev pub takes : Threshold → ℕ → Bool
 takes t n = nat_lt t.count n || ((n == t.count) && nat_lt 0 t.left)
 
+-- so it is where it has some: a region without isn't taken
+abbrev pub takes_delayed : Threshold → ℕ → Bool
+takes_delayed t n = nat_lt 0 n && takes t n
+
 -- the threshold for the regions behind one with so many
 abbrev pub passed : Threshold → ℕ → Threshold
 passed t n = if n == t.count then record t { left = t.left - n } else t
@@ -78,9 +82,9 @@ counts_to volumes slot x region = counts_before volumes slot ++ counts_front slo
 
 -- ---- the regions of one volume
 
--- whether a threshold in front of a volume's first region takes a region of it, asked of one after another
+-- whether a threshold in front of a volume's first region takes a region of it that has delayed entries, asked of one after another
 unfoldable pub taken_in : Threshold → Holding → ℕ → Bool
-taken_in t x region = takes (behind t (counts_front 0 x region)) (delayed_in x.map x.container region)
+taken_in t x region = takes_delayed (behind t (counts_front 0 x region)) (delayed_in x.map x.container region)
 
 -- It takes each region of a volume that has delayed entries.
 abbrev pub TakesAll : Threshold → Holding → Type 0

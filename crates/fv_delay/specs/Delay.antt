@@ -1,12 +1,12 @@
 -- Delayed entries: those whose block was freed in its volume and not yet in the aggregate. And the regions of a container.
-use Rattle.std.specs.Prelude.{◌≡◌, ◌<◌, true, ℕ, ◌*◌, ◌/◌, Bool, not, ◌&&◌, ◌||◌, ◌==◌, List, length, take, count_by, nat_lt, if◌then◌else◌}
+use Rattle.std.specs.Prelude.{◌≡◌, ◌<◌, ◌≤◌, ◌+◌, true, false, get_or, ℕ, ◌*◌, ◌/◌, Bool, not, ◌&&◌, ◌||◌, ◌==◌, List, length, take, count_by, nat_lt, if◌then◌else◌}
 use Rattle.std.specs.List.{range_with_len}
 use Rattle.std.specs.Option.{is_some}
 use Rattle.fv_image.specs.Containers.{fan}
 use Rattle.fv_image.specs.Views.{map_slot}
 use Rattle.fv_container.specs.Mapped.{Mapped, entry_under}
 use Rattle.fv_container.specs.Paged.{Paged, is_here, is_known, is_sure}
-use Rattle.fv_volmap.specs.Slots.{Volume, slot_at, stored_count, taken_in}
+use Rattle.fv_volmap.specs.Slots.{Volume, active_of, slot_at, stored_count, taken_in}
 
 -- whether a slot is in use; that of the active table always is
 abbrev pub is_used_slot : Volume → ℕ → Bool
@@ -34,6 +34,10 @@ region_of v = v / fan
 -- the VVBNs of a region; from the last entry on each is a hole
 abbrev pub vvbns_in : ℕ → List ℕ
 vvbns_in region = range_with_len (fan * region) fan
+
+-- the VVBNs of a region are held just where the active map has them
+abbrev pub HoldsAlone : Volume → ℕ → Type 0
+HoldsAlone map region = (v : ℕ) → fan * region ≤ v → v < fan * region + fan → is_held map v ≡ get_or (active_of map) v false
 
 -- the delayed entries of a region
 unfoldable pub delayed_in : Volume → Mapped → ℕ → ℕ

@@ -5,8 +5,9 @@ ghost use Rattle.fv_image.specs.Containers.{fan, level_width, most_entries};
 ghost use Rattle.fv_image.specs.Views.{entry_count};
 ghost use Rattle.fv_model.specs.Numbers.{greatest_span};
 ghost use Rattle.fv_container.specs.Paged.{is_known, is_sure};
-ghost use Rattle.fv_volmap.specs.Slots.{stored_count};
-ghost use Rattle.fv_delay.specs.Delay.{IsKnownIn, IsSureIn, delayed_in, is_delayed, is_held, is_used};
+ghost use Rattle.fv_container.specs.Loading.{delayed_in_region};
+ghost use Rattle.fv_volmap.specs.Slots.{active_of, stored_count};
+ghost use Rattle.fv_delay.specs.Delay.{HoldsAlone, IsKnownIn, IsSureIn, delayed_in, is_delayed, is_held, is_used};
 
 use fv_container::Container;
 use fv_model::{map_blocks, map_slot};
@@ -20,16 +21,18 @@ const STORED: u32 = 25;
 /// of the map's span and for each block of 25 maps, and it is known which entries of the region are holes. From its last region on none is
 /// delayed.
 ///
-/// Costs a step for each word of 64 VVBNs. Where an entry isn't a hole whose VVBN the active map hasn't, it costs one besides for each of
-/// the at most 256 entries, and up to 25 more for each that isn't a hole. It takes no memory and makes no disk call.
+/// Costs a step for each word of 64 VVBNs. Where a snapshot uses a slot, or the region isn't whole in the span, an entry that isn't a hole and
+/// whose VVBN the active map hasn't makes it cost one besides for each of the at most 256 entries, and up to 25 more for each that isn't a
+/// hole. It takes no memory and makes no disk call.
 pub fn delayed_by_region(container: &Container, map: &VolMap, region: u32) -> u32
     requires span { map.now.span ≤ greatest_span }
     requires entries { length container.now.map.entries ≡ entry_count map.now.span }
     requires known { IsKnownIn container.now region }
     ensures { IsSureIn container.now region → result ≡ delayed_in map.now container.now.map region }
 {
-    if !has_unmapped(container, map, region) {
-        return 0;
+    let unmapped = count_unmapped(container, map, region);
+    if unmapped == 0 || is_held_alone(map, region) {
+        return unmapped;
     }
     let entries = entry_count(map);
     let first = first_of(region, entries);
@@ -41,15 +44,30 @@ pub fn delayed_by_region(container: &Container, map: &VolMap, region: u32) -> u3
     count
 }
 
-/// Whether an entry of a region isn't a hole and has a VVBN that the active map hasn't: else none is delayed. VVBNs behind the span aren't
-/// in that map.
-fn has_unmapped(container: &Container, map: &VolMap, region: u32) -> bool
+/// How many entries of a region aren't holes and have VVBNs that the active map hasn't: where there is none, none is delayed. VVBNs behind
+/// the span aren't in that map, and from its last region on a container has no entry.
+fn count_unmapped(container: &Container, map: &VolMap, region: u32) -> u32
     requires span { map.now.span ≤ greatest_span }
     requires entries { length container.now.map.entries ≡ entry_count map.now.span }
     requires known { IsKnownIn container.now region }
-    ensures { IsSureIn container.now region → result ≡ false → delayed_in map.now container.now.map region ≡ 0 }
+    ensures none { IsSureIn container.now region → result ≡ 0 → delayed_in map.now container.now.map region ≡ 0 }
+    ensures count { IsSureIn container.now region → fan * region < length container.now.map.entries
+        → result ≡ delayed_in_region container.now.map (active_of map.now) region }
 {
-    region < region_count(map) && container.delayed(map.active(), region) != 0
+    if region < region_count(map) {
+        container.delayed(map.active(), region)
+    } else {
+        0
+    }
+}
+
+/// Whether the VVBNs of a region are held just where the active map has them: the region lies in the span, and no snapshot uses a slot.
+/// `false` says nothing.
+fn is_held_alone(map: &VolMap, region: u32) -> bool
+    ensures within { result ≡ true → fan * region + fan ≤ map.now.span }
+    ensures alone { result ≡ true → HoldsAlone map.now region }
+{
+    map.is_alone() && region < span_of(map) / 256
 }
 
 /// How many regions a volume's container has, which has an entry for each VVBN of the map's span and for each block of 25 maps. From that

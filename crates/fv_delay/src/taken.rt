@@ -5,13 +5,13 @@ ghost use Rattle.fv_image.specs.Containers.{level_width};
 ghost use Rattle.fv_container.specs.Paged.{is_here};
 ghost use Rattle.fv_image.specs.Views.{entry_count};
 ghost use Rattle.fv_model.specs.Numbers.{greatest_span};
-ghost use Rattle.fv_delay.specs.ByThreshold.{AreTakenHere, IsTable, TakesAll, passed, taken_in, takes};
+ghost use Rattle.fv_delay.specs.ByThreshold.{AreTakenHere, IsTable, TakesAll, passed, taken_in, takes_delayed};
 ghost use Rattle.fv_delay.specs.Delay.{AreKnown, AreSure};
 ghost use Rattle.fv_delay.specs.Holding.{counts_in, held_by};
 ghost use Rattle.fv_delay.specs.Reclaims.{HasGivenSome, HasReclaimed, HasStayed};
 
 use crate::counts::Count;
-use crate::delayed::{delayed_by_region, region_count};
+use crate::delayed::delayed_by_region;
 use crate::reclaiming::reclaim;
 use crate::threshold::{Table, Threshold};
 use fv_aggmap::AggMap;
@@ -45,12 +45,13 @@ pub fn table_of(container: &Container, map: &VolMap) -> Table
     table
 }
 
-/// Marks in a plan the regions of a volume's container that a threshold takes, asked of all in the order of their numbers: those whose leaves
-/// `reclaim_taken` needs in memory. A mark that is there stays. The container has an entry for each VVBN of the map's span and for each block
-/// of 25 maps, it is known of all regions which entries are holes, and the plan has a mark for each region. Marks behind them stay.
+/// Marks in a plan the regions with delayed entries of a volume's container that a threshold takes, asked of all in the order of their
+/// numbers: those whose leaves `reclaim_taken` needs in memory. A mark that is there stays. The container has an entry for each VVBN of
+/// the map's span and for each block of 25 maps, it is known of all regions which entries are holes, and the plan has a mark for each
+/// region. Marks behind them stay.
 ///
 /// It takes no memory and makes no disk call. Costs a step for each word of 64 regions, and what `delayed_by_region` costs for each region
-/// with an entry that is no hole. A threshold that takes regions without delayed entries, too, costs a step for each region.
+/// with an entry that is no hole.
 pub fn mark_taken(start: Threshold, container: &Container, map: &VolMap, plan: &mut [bool])
     requires span { map.now.span ≤ greatest_span }
     requires entries { length container.now.map.entries ≡ entry_count map.now.span }
@@ -62,28 +63,12 @@ pub fn mark_taken(start: Threshold, container: &Container, map: &VolMap, plan: &
     ensures others { (k : ℕ) → level_width (length container.now.map.entries) 0 ≤ k → get_or plan.new k false ≡ get_or plan.old k false }
 {
     let mut threshold = start;
-    if threshold.takes(0) {
-        mark_before(plan, region_count(map));
-        return;
-    }
     let mut from = 0;
     while let Some(region) = container.next_region(from) {
         let count = delayed_by_region(container, map, region);
-        let is_taken = threshold.takes(count);
+        let is_taken = takes_delayed(&mut threshold, count);
         mark(plan, region as usize, is_taken);
         from = region + 1;
-    }
-}
-
-/// Marks the regions before one.
-fn mark_before(plan: &mut [bool], end: u32)
-    requires { end ≤ length plan.old }
-    ensures long { length plan.new ≡ length plan.old }
-    ensures marked { (k : ℕ) → k < end → get_or plan.new k false ≡ true }
-    ensures others { (k : ℕ) → end ≤ k → get_or plan.new k false ≡ get_or plan.old k false }
-{
-    for region in 0..end {
-        plan[region as usize] = true;
     }
 }
 
@@ -139,10 +124,19 @@ pub fn reclaim_taken(
     is_left
 }
 
-/// Whether a threshold takes the next region, which has so many delayed entries, and its leaf is in memory.
-fn takes_here(threshold: &mut Threshold, container: &Container, region: u32, count: u32) -> bool
-    ensures taken { result ≡ (takes threshold.old count && is_here container.now region) }
+/// Whether a threshold takes the next region, which has so many delayed entries; one without any isn't taken.
+fn takes_delayed(threshold: &mut Threshold, count: u32) -> bool
+    ensures taken { result ≡ takes_delayed threshold.old count }
     ensures passed { threshold.new ≡ passed threshold.old count }
 {
-    threshold.takes(count) && container.is_here(region)
+    let is_taken = threshold.takes(count);
+    0 < count && is_taken
+}
+
+/// Whether a threshold takes the next region, which has so many delayed entries, and its leaf is in memory.
+fn takes_here(threshold: &mut Threshold, container: &Container, region: u32, count: u32) -> bool
+    ensures taken { result ≡ (takes_delayed threshold.old count && is_here container.now region) }
+    ensures passed { threshold.new ≡ passed threshold.old count }
+{
+    takes_delayed(threshold, count) && container.is_here(region)
 }

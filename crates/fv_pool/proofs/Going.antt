@@ -1,6 +1,6 @@
 -- What placing a block of a volume leaves, and why it fails.
-use Rattle.std.proofs.Common.{◌≡◌, ◌≢◌, ◌<◌, ◌≤◌, ◌+◌, ◌⊎◌, ◌==◌, ◌||◌, ℕ, zero, suc, Bool, true, false, cond, List, length, Option, Some, None, refl, sym, ap, subst, ◌∙◌, inl, inr, ⊎_elim, arith, get_or-set_other}
-use Rattle.std.specs.Prelude.{is_some, slice_set}
+use Rattle.std.proofs.Common.{◌≡◌, ◌≢◌, ◌<◌, ◌≤◌, ◌+◌, ◌⊎◌, ◌==◌, ◌||◌, ℕ, zero, suc, Bool, true, false, true≢false, cond, List, [], ◌∷◌, length, replicate, Option, Some, None, refl, sym, ap, subst, ◌∙◌, inl, inr, ⊎_elim, arith, get_or-set_other}
+use Rattle.std.specs.Prelude.{is_some, slice_index_or, slice_set}
 use Rattle.std.specs.Option.{ForSome}
 use Rattle.std.specs.Ordering.{nat_cmp, eq_by_cmp}
 use Rattle.std.specs.Cmp.{nat_cmp_total}
@@ -12,6 +12,7 @@ use Rattle.fv_disk.specs.DiskCalls.{OnlyReads}
 use Rattle.fv_disk.specs.declared.fault.BlockFault.{BlockFault}
 use Rattle.fv_disk.specs.declared.fault.BlockFault.TheVariants.{DiskFault, Damaged, Memory}
 use Rattle.fv_bits.specs.Members.{is_member}
+use Rattle.fv_bits.proofs.Laws.{is_member-replicate}
 use Rattle.fv_image.specs.Layout.{root_place}
 use Rattle.fv_aggmap.specs.Space.{IsFull, Space, free_blocks}
 use Rattle.fv_aggmap.proofs.Room.{one_is_found}
@@ -19,7 +20,7 @@ use Rattle.fv_container.specs.declared.entry.Entry.{Entry}
 use Rattle.fv_container.specs.Chains.{AreCleanOn, IsLeafDamage, Slots, container_at, own_entry}
 use Rattle.fv_container.specs.Mapped.{Mapped}
 use Rattle.fv_tree.specs.declared.blocks.Placed.{Placed}
-use Rattle.fv_volmap.specs.Slots.{IsVolume, Volume, active_of, has, slot_at, taken_in, with_slot}
+use Rattle.fv_volmap.specs.Slots.{IsVolume, Slot, Volume, active_of, has, map_or_empty, slot_at, taken_in, with_slot}
 use Rattle.fv_pool.specs.declared.blocks.Home.{Home}
 use Rattle.fv_pool.specs.declared.noted.Noted.{Noted}
 use Rattle.fv_pool.specs.declared.pool.Pool.{Pool}
@@ -74,6 +75,18 @@ load_notes disk slots entry label (Damaged at want found) old new (inl hole) not
     inr (inl (record { at_is = notes.2 ∙ hole.at_is; want_is = notes.3 ∙ hole.want_is; found_is = notes.4 ∙ hole.found_is }))
 load_notes disk slots entry label (Damaged at want found) old new (inr leaf) notes = inr (inr (leaf_noted disk slots at want found new leaf notes.2 notes.3 notes.4))
 
+-- ---- the active map
+
+-- what a new active map has is a member of it
+set_member : (slots : List Slot) (m : List Bool) (w : ℕ) → has w (slice_index_or (slice_set slots 0 (Some m)) 0 None) ≡ true → is_member m w ≡ true
+set_member [] m w is = absurd cc
+set_member (s ∷ ss) m w is = is
+
+-- what is a member of the active map, the active slot has
+active_had : (span : ℕ) (o : Slot) (w : ℕ) → is_member (map_or_empty span o) w ≡ true → has w o ≡ true
+active_had span None w is = absurd (true≢false (sym is ∙ is_member-replicate span w))
+active_had span (Some m) w is = is
+
 -- ---- of the pool nothing changed
 
 module _ (pool : Pool) (map after : Volume) (disk : Disk) (steps : ℕ) (home : Home) (room strays less : ℕ) (noted : Noted) where
@@ -84,8 +97,9 @@ module _ (pool : Pool) (map after : Volume) (disk : Disk) (steps : ℕ) (home : 
   lent_after = lent_by pool after disk steps home room less noted
 
   goes_left : Spends lent_before lent_after → after.span ≡ map.span → ((s : ℕ) → s ≢ 0 → slot_at after s ≡ slot_at map s)
-      → (AreApart pool map home.slot → KeepsSlots home.slot lent_before lent_after) → GoesOver lent_before lent_after
-  goes_left spends span slots keeps =
+      → (AreApart pool map home.slot → KeepsSlots home.slot lent_before lent_after) → ((w : ℕ) → has w (slot_at after 0) ≡ true → has w (slot_at map 0) ≡ true)
+      → GoesOver lent_before lent_after
+  goes_left spends span slots keeps had =
       let itself = goes_itself lent_before in
       record {
         home = refl;
@@ -109,6 +123,8 @@ module _ (pool : Pool) (map after : Volume) (disk : Disk) (steps : ℕ) (home : 
         snapshots = slots;
         clean = λ tells. tells.1;
         keeps = λ tells. keeps;
+        own_kept = λ k w other here. refl;
+        own_new = λ w is. inl (had w is);
       }
 
 -- a number was given up
@@ -122,7 +138,14 @@ goes_dropped pool map after disk steps home room strays less noted v is released
       entries = λ k w other here. same_entry map after pool.containers home.slot k w (slots k other) here;
       blocks = λ k w other here i. ap (block_of pool.kept i) (same_entry map after pool.containers home.slot k w (slots k other) here);
     })
+    (λ w is. had w (set_member map.slots (slice_set (active_of map) v false) w (sym (ap (λ (m : Volume). has w (slot_at m 0)) released) ∙ is)))
   where
+    had : (w : ℕ) → is_member (slice_set (active_of map) v false) w ≡ true → has w (slot_at map 0) ≡ true
+    had w is = elim (cases_eq w v) [
+      | inl same ↦ let wrong : true ≡ false = sym is ∙ ap (is_member (slice_set (active_of map) v false)) same ∙ member_cleared (active_of map) v in cc
+      | inr other ↦ active_had map.span (slot_at map 0) w (sym (member_set (active_of map) v w false other) ∙ is)
+    ]
+
     slots : (s : ℕ) → s ≢ 0 → slot_at after s ≡ slot_at map s
     slots s other = ap (λ (m : Volume). slot_at m s) released ∙ get_or-set_other map.slots 0 s (Some (slice_set (active_of map) v false)) None other
 
@@ -185,6 +208,8 @@ module _ (pool new : Pool) (map : Volume) (disk later : Disk) (steps : ℕ) (hom
           entries = λ k v other here. still_held v;
           blocks = λ k v other here i. ap (block_of new.kept i) (still_held v) ∙ ap (λ kept. block_of kept i (held_entry map pool.containers home.slot v)) loads.kept;
         };
+        own_kept = λ k v other here. still_own v;
+        own_new = λ v is. inl is;
       }
 
   -- what a placement that failed leaves, and why it did
@@ -304,6 +329,19 @@ module _ (disk : Disk) (pool new : Pool) (map after : Volume) (slot kind : ℕ) 
     | inr other ↦ inl (own_others w other)
   ]
 
+  -- a number that a slot had isn't the one that was placed
+  not_placed : (k w : ℕ) → has w (slot_at map k) ≡ true → w ≢ v
+  not_placed k w here same = let wrong : true ≡ false = sym (has_taken map.slots k w here) ∙ ap (taken_in map.slots) same ∙ places.takes.number.free in cc
+
+  had_or_own : (w : ℕ) → has w (slot_at after 0) ≡ true → (has w (slot_at map 0) ≡ true) ⊎ (is_some (own_entry (container_at new.containers slot) w) ≡ true)
+  had_or_own w is = elim (cases_eq w v) [
+    | inl same ↦ inr (ap (λ (n : ℕ). is_some (own_entry (container_at new.containers slot) n)) same ∙ ap is_some own_is)
+    | inr other ↦
+        let now : is_member (slice_set (active_of map) v true) w ≡ true =
+        set_member map.slots (slice_set (active_of map) v true) w (sym (ap (λ (m : Volume). has w (slot_at m 0)) places.takes.number.volume) ∙ is) in
+        inl (active_had map.span (slot_at map 0) w (sym (member_set (active_of map) v w true other) ∙ now))
+  ]
+
   committed_same : new.map.committed ≡ pool.map.committed
   committed_same = ap (λ (s : Space). s.committed) given_is ∙ same places.before
     where
@@ -337,6 +375,8 @@ module _ (disk : Disk) (pool new : Pool) (map after : Volume) (slot kind : ℕ) 
     snapshots = λ s other. ap (λ (m : Volume). slot_at m s) places.takes.number.volume ∙ get_or-set_other map.slots 0 s (Some (slice_set (active_of map) v true)) None other;
     clean = λ tells. subst (λ (i : Image). AreCleanOn i new.containers) (sym reads.stays.reads) (places.entry.clean tells);
     keeps = keeps;
+    own_kept = λ k w other here. subst (λ s. own_entry (container_at new.containers s) w ≡ own_entry (container_at pool.containers s) w) (sym at) (own_others w (not_placed k w here));
+    own_new = λ w is. subst (λ s. (has w (slot_at map 0) ≡ true) ⊎ (is_some (own_entry (container_at new.containers s) w) ≡ true)) (sym at) (had_or_own w is);
   }
 
 module _ (pool new : Pool) (map after : Volume) (kind : ℕ) (block : List ℕ) (placed : Placed) (disk later : Disk) (steps : ℕ) (home : Home) (room less strays : ℕ) (noted : Noted)

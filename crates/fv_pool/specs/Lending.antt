@@ -1,5 +1,5 @@
 -- One volume's blocks over what a session lends: what they show to a tree, and what the calls of a tree leave of all that was lent.
-use Rattle.std.specs.Prelude.{◌≡◌, ◌≢◌, ◌<◌, ◌≤◌, ◌+◌, ◌⊎◌, ◌==◌, ◌||◌, ℕ, zero, suc, true, false, cond, List, length, Option, Some, None, IsTrue}
+use Rattle.std.specs.Prelude.{◌≡◌, ◌≢◌, ◌<◌, ◌≤◌, ◌+◌, ◌⊎◌, ◌==◌, ◌||◌, ℕ, zero, suc, true, false, cond, List, length, Option, Some, None, is_some, IsTrue}
 use Rattle.std.specs.Ordering.{nat_cmp}
 use Rattle.std.specs.FinMap as fin
 use Rattle.fv_disk.specs.Shown.{Rose, Image, Shown as Disk}
@@ -179,8 +179,9 @@ pub record KeepsSlots (slot : ℕ) (old new : Lent) : Type 0 where
 
 -- Blocks were read, placed and given up for one volume. The disk is only read, and the root on it holds what it held. Where entries are
 -- told, a block that the next root held it goes on holding unless an entry of the volume led to it, and what it holds anew is an entry's. No
--- block is kept anew, and no entry leads to a block, that couldn't be taken. The entries behind the span stay, and all of other volumes. While
--- some of the room is left, it tells what was taken.
+-- block is kept anew, and no entry leads to a block, that couldn't be taken. The entries behind the span stay, those under numbers that another
+-- slot than the active one has, and all of other volumes. A number that the active map has anew has an entry. While some of the room is left, it
+-- tells what was taken.
 pub record GoesOver (old new : Lent) : Type 0 where
   pub home : new.home ≡ old.home
   pub found : new.pool.found ≡ old.pool.found
@@ -205,6 +206,8 @@ pub record GoesOver (old new : Lent) : Type 0 where
   pub snapshots : (s : ℕ) → s ≢ 0 → slot_at new.map s ≡ slot_at old.map s
   pub clean : TellsEntries old.disk old.pool.containers → AreCleanOn new.disk.reads new.pool.containers
   pub keeps : TellsEntries old.disk old.pool.containers → AreApart old.pool old.map old.home.slot → KeepsSlots old.home.slot old new
+  pub own_kept : (k v : ℕ) → k ≢ 0 → has v (slot_at old.map k) ≡ true → own_entry (container_at new.pool.containers old.home.slot) v ≡ own_entry (container_at old.pool.containers old.home.slot) v
+  pub own_new : (v : ℕ) → has v (slot_at new.map 0) ≡ true → (has v (slot_at old.map 0) ≡ true) ⊎ (is_some (own_entry (container_at new.pool.containers old.home.slot) v) ≡ true)
 
 -- ---- calls on a tree
 

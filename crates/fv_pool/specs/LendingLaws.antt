@@ -112,6 +112,8 @@ reads_goes old new reads =
         entries = λ k v other here. λ j. held_entry (reads.map j) (reads.containers j) old.home.slot v;
         blocks = λ k v other here i. λ j. block_of (reads.kept j) i (held_entry (reads.map j) (reads.containers j) old.home.slot v);
       };
+      own_kept = λ k v other here. ap (λ (s : Slots). own_entry (container_at s old.home.slot) v) reads.containers;
+      own_new = λ v is. inl (ap (λ m. has v (slot_at m 0)) (sym reads.map) ∙ is);
     }
 
 pub goes_itself : (l : Lent) → GoesOver l l
@@ -301,6 +303,24 @@ module _ (old mid new : Lent) (first : GoesOver old mid) (second : GoesOver mid 
         blocks = λ k v other here i. two.blocks k v other (ap (has v) (first.snapshots k other) ∙ here) i ∙ one.blocks k v other here i;
       }
 
+  own_kept_then : (k v : ℕ) → k ≢ 0 → has v (slot_at old.map k) ≡ true → own_entry (container_at after slot) v ≡ own_entry (container_at before slot) v
+  own_kept_then k v other here =
+      at_slot (λ s. own_entry (container_at after s) v ≡ own_entry (container_at between s) v) (second.own_kept k v other (ap (has v) (first.snapshots k other) ∙ here))
+      ∙ first.own_kept k v other here
+
+  -- an entry that stands after the first call stands after the second
+  own_new_then : (v : ℕ) → has v (slot_at new.map 0) ≡ true → (has v (slot_at old.map 0) ≡ true) ⊎ (is_some (own_entry (container_at after slot) v) ≡ true)
+  own_new_then v is = ⊎_elim
+      (λ was. ⊎_elim
+      (λ old. inl old)
+      (λ some. inr (⊎_elim
+      (λ again. ap is_some again ∙ some)
+      (λ (fresh : IsNewEntry (TellsEntries mid.disk between) mid.pool.map between after slot v). ap is_some fresh.stands)
+      (at_slot (λ s. (own_entry (container_at after s) v ≡ own_entry (container_at between s) v) ⊎ IsNewEntry (TellsEntries mid.disk between) mid.pool.map between after s v) (second.entries v))))
+      (first.own_new v was))
+      (λ some. inr (at_slot (λ s. is_some (own_entry (container_at after s) v) ≡ true) some))
+      (second.own_new v is)
+
   pub goes_then : GoesOver old new
   goes_then = record {
     home = second.home ∙ first.home;
@@ -327,4 +347,6 @@ module _ (old mid new : Lent) (first : GoesOver old mid) (second : GoesOver mid 
     snapshots = λ s other. second.snapshots s other ∙ first.snapshots s other;
     clean = λ tells. second.clean (still_tells tells);
     keeps = keeps_then;
+    own_kept = own_kept_then;
+    own_new = own_new_then;
   }

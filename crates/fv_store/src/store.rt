@@ -1,6 +1,6 @@
 //! The store itself.
 
-ghost use Rattle.std.specs.Prelude.{◌≡◌, ◌≤◌, [], cond, Some, None, IfOk, IfSome, OnOk, is_some, option_copied, option_map, nat_eq};
+ghost use Rattle.std.specs.Prelude.{◌≡◌, ◌≤◌, [], true, false, cond, Some, None, IfOk, IfSome, OnOk, is_some, option_copied, option_map, nat_eq};
 ghost use Rattle.fv_codec.specs.Forms.{has_form};
 ghost use Rattle.fv_disk.specs.DiskCalls.{Reads, Writes};
 ghost use Rattle.fv_store.specs.Held.{Held, held, Holds, IsStore, StandsOn, Gets, Puts, PutsHeld, block_at, to_front, without, Keeps, KeepsFrom, Renews};
@@ -95,12 +95,12 @@ impl Store {
         ensures stands { StandsOn (D.shown disk.new) self.new.pairs }
         ensures valid { IsStore self.new }
     {
-        write_through(&mut self.cache, disk, pvbn, block)
+        write_through(&mut self.cache, disk, pvbn, block, false)
     }
 
     /// Writes block `pvbn`, and holds it from then on, where memory is found for it: so the next read of it makes no disk
     /// call. A held block is renewed, and after a failure it isn't held any more. The one error is a failed write: want of
-    /// memory is none. Costs one block.
+    /// memory is none. Costs one disk call, and a box of a block where it wasn't held.
     pub fn put_and_hold<D: Disk>(
         &mut self,
         disk: &mut D,
@@ -113,7 +113,7 @@ impl Store {
         ensures stands { StandsOn (D.shown disk.new) self.new.pairs }
         ensures valid { IsStore self.new }
     {
-        write_and_hold(&mut self.cache, disk, pvbn, block)
+        write_through(&mut self.cache, disk, pvbn, block, true)
     }
 
     /// Holds no block below this number any more, as one that is about to be written without the store; the
@@ -173,50 +173,30 @@ fn judge_through<D: Disk>(
     Ok(())
 }
 
-/// Writes a block to the disk, and to the cache where it is held.
-#[tactic(auto, using(crate::proofs::Standing::stands_renewed, crate::proofs::Standing::stands_forgotten))]
+/// Writes a block to the disk, and to the cache where it is held. Another block is held from then on where that is asked for.
+#[tactic(auto, using(crate::proofs::Standing::stands_renewed, crate::proofs::Standing::stands_held, crate::proofs::Standing::stands_forgotten))]
 fn write_through<D: Disk>(
     cache: &mut Cache,
     disk: &mut D,
     pvbn: u32,
     block: &Block,
+    holds_new: bool,
 ) -> Result<(), Failed>
     requires valid { IsStore (held_in cache.old) }
     requires stands { StandsOn (D.shown disk.old) (unboxed cache.old.entries) }
     ensures writes { Writes (D.shown disk.old) pvbn block.now (D.shown disk.new) result }
-    ensures list { Puts (held_in cache.old) pvbn block.now (held_in cache.new) result }
+    ensures list { holds_new ≡ false → Puts (held_in cache.old) pvbn block.now (held_in cache.new) result }
+    ensures held { holds_new ≡ true → PutsHeld (held_in cache.old) pvbn block.now (held_in cache.new) result }
     ensures stands { StandsOn (D.shown disk.new) (unboxed cache.new.entries) }
     ensures valid { IsStore (held_in cache.new) }
 {
     let written = disk.write(u64::from(pvbn), block);
-    if written.is_ok() {
-        renew(cache, pvbn, block);
-    } else {
+    if written.is_err() {
         forget(cache, pvbn);
-    }
-    written
-}
-
-/// Writes a block to the disk, and holds it.
-#[tactic(auto, using(crate::proofs::Standing::stands_held, crate::proofs::Standing::stands_forgotten))]
-fn write_and_hold<D: Disk>(
-    cache: &mut Cache,
-    disk: &mut D,
-    pvbn: u32,
-    block: &Block,
-) -> Result<(), Failed>
-    requires valid { IsStore (held_in cache.old) }
-    requires stands { StandsOn (D.shown disk.old) (unboxed cache.old.entries) }
-    ensures writes { Writes (D.shown disk.old) pvbn block.now (D.shown disk.new) result }
-    ensures list { PutsHeld (held_in cache.old) pvbn block.now (held_in cache.new) result }
-    ensures stands { StandsOn (D.shown disk.new) (unboxed cache.new.entries) }
-    ensures valid { IsStore (held_in cache.new) }
-{
-    let written = disk.write(u64::from(pvbn), block);
-    if written.is_ok() {
+    } else if holds_new {
         hold(cache, pvbn, block);
     } else {
-        forget(cache, pvbn);
+        renew(cache, pvbn, block);
     }
     written
 }

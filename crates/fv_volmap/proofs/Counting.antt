@@ -1,7 +1,10 @@
 -- How many numbers pass a test, counted one after the other up to so many.
-use Rattle.std.proofs.Common.{◌≡◌, ◌≤◌, ℕ, ◌+◌, ◌-◌, Bool, true, false, ap, ◌∙◌, cond, arith}
+use Rattle.std.proofs.Common.{◌≡◌, ◌≤◌, ℕ, ◌+◌, ◌-◌, Bool, true, false, ◌&&◌, not, List, length, Some, None, ap, ◌∙◌, cond, arith}
 use Rattle.std.specs.Prelude.{min}
-use Rattle.fv_bits.proofs.Counts.{passing, passing-add, passing-suc}
+use Rattle.fv_bits.specs.Members.{is_member, apart_between}
+use Rattle.fv_bits.proofs.Counts.{passing, passing-add, passing-suc, passing_le}
+use Rattle.fv_bits.proofs.Laws.{count_of-le}
+use Rattle.fv_volmap.specs.Slots.{Slot, count_beside}
 
 -- a range in two parts
 in_parts : (p : ℕ → Bool) (a m n : ℕ) → m ≤ n → passing p a n ≡ passing p a m + passing p (a + m) (n - m)
@@ -32,3 +35,13 @@ counted_around p next span most behind rest within after before =
     let start : passing p (0 + next) (span - next) ≡ passing p next (span - next) = ap (λ (k : ℕ). passing p k (span - next)) (let same : 0 + next ≡ next = omega arith in same) in
     let first : passing p 0 (next - 0) ≡ passing p 0 next = ap (passing p 0) (let same : next - 0 ≡ next = omega arith in same) in
     omega (arith, parts, start, first, after, before)
+
+-- the numbers of a map that another one lacks, as they are counted by words
+pub beside_some : (map base : List Bool) → apart_between map base 0 (length map) ≡ count_beside map (Some base)
+unfolding apart_between
+beside_some map base = ap (passing (λ (v : ℕ). is_member map v && not (is_member base v)) 0) (let whole : length map - 0 ≡ length map = omega arith in whole)
+
+-- they are at most as many as the map is long
+pub beside_le : (map : List Bool) (base : Slot) → count_beside map base ≤ length map
+beside_le map None = count_of-le map
+beside_le map (Some base) = passing_le (λ (v : ℕ). is_member map v && not (is_member base v)) 0 (length map)

@@ -1,16 +1,16 @@
 -- Slots in a row.
-use Rattle.std.proofs.Common.{◌≡◌, ℕ, zero, suc, ◌+◌, ◌-◌, ◌<◌, ◌≤◌, Bool, true, false, ◌||◌, ◌&&◌, not, List, [], ◌∷◌, ◌++◌, length, take, drop, get_or, set, Some, None, All, ⊎_elim, refl, sym, ap, ap₂, subst, ◌∙◌, ◌==◌, cond, arith, length-set}
-use Rattle.std.specs.Prelude.{count_by}
+use Rattle.std.proofs.Common.{◌≡◌, ℕ, zero, suc, ◌+◌, ◌-◌, ◌<◌, ◌≤◌, Bool, true, false, ◌||◌, ◌&&◌, not, List, [], ◌∷◌, ◌++◌, length, take, drop, get_or, set, Some, None, All, ⊎_elim, refl, sym, ap, ap₂, subst, ◌∙◌, ◌==◌, cond, arith, length-set, true≢false}
+use Rattle.std.specs.Prelude.{count_by, is_some}
 use Rattle.std.proofs.lemmas.Bool.Decides.{nat_tests}
 use Rattle.std.proofs.lemmas.List.Folds.{list_any_more, list_any_at, list_any-append}
 use Rattle.std.proofs.lemmas.List.{length-take, length-take-le, get_or_past, set_split, take-take, take_all, get_or-take, get_or-set_other}
 use Rattle.std.proofs.Math.Seq.{take-set-lt}
-use Rattle.std.proofs.lemmas.Bool.{cases_lt}
+use Rattle.std.proofs.lemmas.Bool.{cases_lt, or_parts}
 use Rattle.std.proofs.lemmas.List.Elements.{All-set, All-take}
 use Rattle.fv_bits.specs.Members.{is_member}
 use Rattle.fv_bits.proofs.Laws.{is_member-set, is_member_past}
-use Rattle.fv_volmap.specs.Slots.{Slot, has, taken_in, has_alone, IsVolume}
-use Rattle.fv_volmap.specs.Kept.{IsLong, AreUsedTo, IsKept, Unites}
+use Rattle.fv_volmap.specs.Slots.{Slot, Volume, stored_count, has, taken_in, has_alone, IsVolume, AreUnited}
+use Rattle.fv_volmap.specs.Kept.{IsBare, IsLong, AreUsedTo, IsKept, Unites, union_or, with_number}
 
 or_none : (t : Bool) → (t || false) ≡ t
 or_none true = refl
@@ -48,12 +48,30 @@ taken_set (s ∷ ss) (suc at) v map inside free =
     swapped true false c = refl
     swapped false b c = refl
 
+-- the union, or the active map, is as long as the span
+pub union_long : (span : ℕ) (active : List Bool) (union : Slot) → length active ≡ span → IsLong span union → length (union_or active union) ≡ span
+union_long span active None long fits = long
+union_long span active (Some map) long fits = fits
+
+-- it is what it was where a number goes into both or out of both
+union_with : (active : List Bool) (union : Slot) (v : ℕ) (t : Bool) → union_or (set active v t) (with_number union v t) ≡ set (union_or active union) v t
+union_with active None v t = refl
+union_with active (Some map) v t = refl
+
+with_long : (span : ℕ) (union : Slot) (v : ℕ) (t : Bool) → IsLong span union → IsLong span (with_number union v t)
+with_long span None v t fits = fits
+with_long span (Some map) v t fits = length-set map v t ∙ fits
+
+with_bare : (others : List Slot) (union : Slot) (v : ℕ) (t : Bool) → IsBare union others → IsBare (with_number union v t) others
+with_bare others None v t bare = bare
+with_bare others (Some map) v t bare = tt
+
 twice : (a b : Bool) → (a || (a || b)) ≡ (a || b)
 twice true b = refl
 twice false b = refl
 
 -- what is kept so is a volume's
-pub is_volume : (span : ℕ) (active : List Bool) (others : List Slot) (used : ℕ) (union : List Bool) (united : Bool) (next : ℕ) → IsKept span active others used union united next → IsVolume (record { span = span; slots = Some active ∷ others })
+pub is_volume : (span : ℕ) (active : List Bool) (others : List Slot) (used : ℕ) (union : Slot) (united : Bool) (next : ℕ) → IsKept span active others used union united next → IsVolume (record { span = span; slots = Some active ∷ others })
 is_volume span active others used union united next kept = record {
   count = ap suc kept.count;
   active = refl;
@@ -64,8 +82,8 @@ is_volume span active others used union united next kept = record {
     each zero d inside = kept.active_long
     each (suc i) d inside = kept.others_long i d (omega (arith, inside))
 
--- the active map is copied to a free slot
-pub kept_copy : (span : ℕ) (active : List Bool) (others : List Slot) (used : ℕ) (union : List Bool) (united : Bool) (next slot : ℕ) (copy : List Bool) (more : ℕ) → IsKept span active others used union united next → slot < 26 → get_or (Some active ∷ others) slot None ≡ None → copy ≡ active → AreUsedTo more (set others (slot - 1) (Some copy)) → IsKept span active (set others (slot - 1) (Some copy)) more union united next
+-- the active map is copied to a free slot, and from then on there is a union
+pub kept_copy : (span : ℕ) (active : List Bool) (others : List Slot) (used : ℕ) (union : Slot) (united : Bool) (next slot : ℕ) (copy : List Bool) (more : ℕ) → IsKept span active others used union united next → slot < 26 → get_or (Some active ∷ others) slot None ≡ None → copy ≡ active → AreUsedTo more (set others (slot - 1) (Some copy)) → IsKept span active (set others (slot - 1) (Some copy)) more (Some (union_or active union)) united next
 kept_copy span active others used union united next zero copy more kept below free same now = cc
 kept_copy span active others used union united next (suc at) copy more kept below free same now =
     let inside : at < length others = omega (arith, kept.count, below) in
@@ -75,10 +93,15 @@ kept_copy span active others used union united next (suc at) copy more kept belo
       active_long = kept.active_long;
       others_long = rw (same, low) (All-set (IsLong span) others at (Some active) kept.active_long kept.others_long);
       used_to = now;
-      union_long = kept.union_long;
+      union_long = union_long span active union kept.active_long kept.union_long;
+      bare = tt;
       next_within = kept.next_within;
       exact = rw (same, low) (λ fresh v. kept.exact fresh v ∙ sym (ap (λ t. is_member active v || t) (taken_set others at v active inside free) ∙ twice (is_member active v) (taken_in others v)));
     }
+
+-- where no union was made, all is as it was
+pub kept_same : (span : ℕ) (active : List Bool) (others : List Slot) (used : ℕ) (union again : Slot) (united : Bool) (next : ℕ) → again ≡ union → IsKept span active others used union united next → IsKept span active others used again united next
+kept_same span active others used union again united next same kept = subst (λ u. IsKept span active others used u united next) (sym same) kept
 
 -- a number goes into the active map or out of it
 put_in : (map : List Bool) (v u : ℕ) (t : Bool) → v < length map → is_member (set map v t) u ≡ cond (u == v) t (is_member map u)
@@ -88,17 +111,18 @@ added : (same a o : Bool) → cond same true (a || o) ≡ (cond same true a || o
 added true a o = refl
 added false a o = refl
 
-pub kept_more : (span : ℕ) (active : List Bool) (others : List Slot) (used : ℕ) (union : List Bool) (v : ℕ) → length others ≡ 25 → length active ≡ span → All (IsLong span) others → AreUsedTo used others → Unites active others union → v < length union → IsKept span (set active v true) others used (set union v true) true (v + 1)
-kept_more span active others used union v count active_long others_long used_to unites within =
-    let inside : v < length active = omega (arith, unites.len) in
+pub kept_more : (span : ℕ) (active : List Bool) (others : List Slot) (used : ℕ) (union : Slot) (v : ℕ) → length others ≡ 25 → length active ≡ span → All (IsLong span) others → AreUsedTo used others → IsLong span union → IsBare union others → Unites active others (union_or active union) → v < length (union_or active union) → IsKept span (set active v true) others used (with_number union v true) true (v + 1)
+kept_more span active others used union v count active_long others_long used_to union_long bare unites within =
+    let inside : v < length active = omega (arith, unites.len, within) in
     record {
       count = count;
       active_long = length-set active v true ∙ active_long;
       others_long = others_long;
       used_to = used_to;
-      union_long = length-set union v true ∙ unites.len ∙ active_long;
+      union_long = with_long span union v true union_long;
+      bare = with_bare others union v true bare;
       next_within = omega (arith, inside, active_long);
-      exact = λ fresh u. put_in union v u true within ∙ ap (cond (u == v) true) (unites.members u) ∙ added (u == v) (is_member active u) (taken_in others u) ∙ ap (λ t. t || taken_in others u) (sym (put_in active v u true inside));
+      exact = λ fresh u. ap (λ (map : List Bool). is_member map u) (union_with active union v true) ∙ put_in (union_or active union) v u true within ∙ ap (cond (u == v) true) (unites.members u) ∙ added (u == v) (is_member active u) (taken_in others u) ∙ ap (λ t. t || taken_in others u) (sym (put_in active v u true inside));
     }
 
 removed : (same a o : Bool) → (same ≡ true → o ≡ false) → cond same false (a || o) ≡ (cond same false a || o)
@@ -113,16 +137,17 @@ stayed true false o some = refl
 same_taken : (others : List Slot) (u v : ℕ) (t : Bool) → taken_in others v ≡ t → (u == v) ≡ true → taken_in others u ≡ t
 same_taken others u v t is same = let at : u ≡ v = grind (arith, nat_tests, same) in ap (taken_in others) at ∙ is
 
-module _ (span : ℕ) (active : List Bool) (others : List Slot) (used : ℕ) (union : List Bool) (united : Bool) (next v : ℕ) where
-  pub kept_fewer : IsKept span active others used union united next → v < span → taken_in others v ≡ false → IsKept span (set active v false) others used (set union v false) united next
+module _ (span : ℕ) (active : List Bool) (others : List Slot) (used : ℕ) (union : Slot) (united : Bool) (next v : ℕ) where
+  pub kept_fewer : IsKept span active others used union united next → v < span → taken_in others v ≡ false → IsKept span (set active v false) others used (with_number union v false) united next
   kept_fewer kept within none = record {
     count = kept.count;
     active_long = length-set active v false ∙ kept.active_long;
     others_long = kept.others_long;
     used_to = kept.used_to;
-    union_long = length-set union v false ∙ kept.union_long;
+    union_long = with_long span union v false kept.union_long;
+    bare = with_bare others union v false kept.bare;
     next_within = kept.next_within;
-    exact = λ fresh u. put_in union v u false (omega (arith, kept.union_long)) ∙ ap (cond (u == v) false) (kept.exact fresh u) ∙ removed (u == v) (is_member active u) (taken_in others u) (same_taken others u v false none) ∙ ap (λ t. t || taken_in others u) (sym (put_in active v u false (omega (arith, kept.active_long))));
+    exact = λ fresh u. ap (λ (map : List Bool). is_member map u) (union_with active union v false) ∙ put_in (union_or active union) v u false (omega (arith, within, union_long span active union kept.active_long kept.union_long)) ∙ ap (cond (u == v) false) (kept.exact fresh u) ∙ removed (u == v) (is_member active u) (taken_in others u) (same_taken others u v false none) ∙ ap (λ t. t || taken_in others u) (sym (put_in active v u false (omega (arith, within, kept.active_long))));
   }
 
   pub kept_still : IsKept span active others used union united next → v < span → taken_in others v ≡ true → IsKept span (set active v false) others used union united next
@@ -132,9 +157,14 @@ module _ (span : ℕ) (active : List Bool) (others : List Slot) (used : ℕ) (un
     others_long = kept.others_long;
     used_to = kept.used_to;
     union_long = kept.union_long;
+    bare = kept.bare;
     next_within = kept.next_within;
-    exact = λ fresh u. kept.exact fresh u ∙ stayed (u == v) (is_member active u) (taken_in others u) (same_taken others u v true some) ∙ ap (λ t. t || taken_in others u) (sym (put_in active v u false (omega (arith, kept.active_long))));
+    exact = λ fresh u. still union kept.bare u (kept.exact fresh u);
   }
+    where
+      still : (union : Slot) → IsBare union others → (u : ℕ) → is_member (union_or active union) u ≡ (is_member active u || taken_in others u) → is_member (union_or (set active v false) union) u ≡ (is_member (set active v false) u || taken_in others u)
+      still None bare u was = absurd (true≢false (sym some ∙ bare v))
+      still (Some map) bare u was = was ∙ stayed (u == v) (is_member active u) (taken_in others u) (same_taken others u v true some) ∙ ap (λ t. t || taken_in others u) (sym (put_in active v u false (omega (arith, within, kept.active_long))))
 
 -- a free slot before those that are free
 pub used_before : (others : List Slot) (count : ℕ) → 0 < count → AreUsedTo count others → get_or others (count - 1) None ≡ None → AreUsedTo (count - 1) others
@@ -174,6 +204,11 @@ taken_stored slots others used v same is =
     ∙ ap (λ (s : List Slot). taken_in s v) (sym (take-take used 24 others is.within))
     ∙ taken_front used (take 24 others) v (free_from others used is)
 
+-- where no snapshot uses a slot, the stored slots have what the active one has
+pub active_alone : (active : List Bool) (others : List Slot) (used : ℕ) → AreUsedTo used others → used ≡ 0 → (v : ℕ) → taken_in (take 25 (Some active ∷ others)) v ≡ has v (Some active)
+active_alone active others used is none v =
+    ap (λ (t : Bool). has v (Some active) || t) (sym (taken_stored others others 0 v refl (subst (λ (n : ℕ). AreUsedTo n others) none is))) ∙ or_none (has v (Some active))
+
 -- and the slot of the base is the last of all
 pub taken_with_base : (others : List Slot) (used v : ℕ) (base : Slot) → length others ≡ 25 → AreUsedTo used others → (taken_in (take used others) v || has v (get_or others 24 base)) ≡ taken_in others v
 taken_with_base others used v base count is =
@@ -201,8 +236,60 @@ pub alone_past : (active : Slot) (others : List Slot) (used at : ℕ) (numbers :
 alone_past active others used at numbers past is =
     ap (λ (p : ℕ → Bool). count_by p numbers) (λ j v. has v (free_from others used is at past j) && not (taken_in (active ∷ set (take 24 others) at None) v)) ∙ count_none numbers
 
-pub stored_long : (span used : ℕ) (slots items : List Slot) (union : List Bool) → slots ≡ items → All (IsLong span) items → length union ≡ span → All (IsLong (length union)) (take used slots)
-stored_long span used slots items union same long whole = subst (λ n. All (IsLong n) (take used slots)) (sym whole) (All-take (IsLong span) used slots (subst (All (IsLong span)) (sym same) long))
+-- some of the slots have no number that all of them lack
+none_front : (n : ℕ) (slots : List Slot) (v : ℕ) → taken_in slots v ≡ false → taken_in (take n slots) v ≡ false
+none_front zero slots v none = refl
+none_front (suc n) [] v none = refl
+none_front (suc n) (s ∷ ss) v none = ap₂ (λ a b. a || b) (or_parts (has v s) (taken_in ss v) none).0 (none_front n ss v (or_parts (has v s) (taken_in ss v) none).1)
+
+none_less : (slots : List Slot) (at v : ℕ) → taken_in slots v ≡ false → taken_in (set slots at None) v ≡ false
+none_less [] at v none = refl
+none_less (s ∷ ss) zero v none = (or_parts (has v s) (taken_in ss v) none).1
+none_less (s ∷ ss) (suc at) v none = ap₂ (λ a b. a || b) (or_parts (has v s) (taken_in ss v) none).0 (none_less ss at v (or_parts (has v s) (taken_in ss v) none).1)
+
+pub front_bare : (slots others : List Slot) (used : ℕ) (union : Slot) → slots ≡ others → IsBare union others → IsBare union (take used slots)
+front_bare slots others used None same bare = λ v. none_front used slots v (ap (λ (s : List Slot). taken_in s v) same ∙ bare v)
+front_bare slots others used (Some map) same bare = tt
+
+pub same_bare : (others : List Slot) (old new : Slot) → is_some new ≡ is_some old → IsBare old others → IsBare new others
+same_bare others old (Some map) there bare = tt
+same_bare others None None there bare = bare
+same_bare others (Some map) None there bare = absurd (true≢false (sym there))
+
+pub less_bare : (others : List Slot) (at : ℕ) (union : Slot) → IsBare union others → IsBare union (set others at None)
+less_bare others at None bare = λ v. none_less others at v (bare v)
+less_bare others at (Some map) bare = tt
+
+-- where there is no union, the active map is the union of itself and of slots without a number
+pub unites_bare : (active : List Bool) (others : List Slot) (union : Slot) → union ≡ None → IsBare union others → Unites active others (union_or active union)
+unites_bare active others None is bare = record { len = refl; members = λ v. sym (ap (λ t. is_member active v || t) (bare v) ∙ or_none (is_member active v)) }
+unites_bare active others (Some map) is bare = cc
+
+pub stored_long : (span used : ℕ) (slots items : List Slot) (active : List Bool) → slots ≡ items → All (IsLong span) items → length active ≡ span → All (IsLong (length active)) (take used slots)
+stored_long span used slots items active same long whole = subst (λ n. All (IsLong n) (take used slots)) (sym whole) (All-take (IsLong span) used slots (subst (All (IsLong span)) (sym same) long))
+
+-- a slot is made free
+pub kept_less : (span : ℕ) (active : List Bool) (others : List Slot) (used : ℕ) (union : Slot) (united : Bool) (next at less : ℕ) → IsKept span active others used union united next → AreUsedTo less (set others at None) → IsKept span active (set others at None) less union false next
+kept_less span active others used union united next at less kept now = record {
+  count = length-set others at None ∙ kept.count;
+  active_long = kept.active_long;
+  others_long = All-set (IsLong span) others at None tt kept.others_long;
+  used_to = now;
+  union_long = kept.union_long;
+  bare = less_bare others at union kept.bare;
+  next_within = kept.next_within;
+  exact = λ fresh. absurd (true≢false (sym fresh));
+}
+
+-- the active slot and the snapshots' slots up to the last that is used make the union of all that stand on the disk
+pub is_united : (volume : Volume) (span : ℕ) (active : List Bool) (others slots : List Slot) (used : ℕ) (map : List Bool) → record { span = span; slots = Some active ∷ others } ≡ volume → slots ≡ others → length active ≡ span → AreUsedTo used others → Unites active (take used slots) map → AreUnited volume map
+is_united volume span active others slots used map seen same long is unites = record {
+  len = unites.len ∙ long ∙ ap (λ (volume : Volume). volume.span) seen;
+  members = λ v.
+      unites.members v
+      ∙ ap (λ t. is_member active v || t) (taken_stored slots others used v same is)
+      ∙ ap (λ (volume : Volume). taken_in (take stored_count volume.slots) v) seen;
+}
 
 -- no slot has a number from the span on
 pub past_none : (span v n : ℕ) (slots : List Slot) → All (IsLong span) slots → span ≤ v → taken_in (take n slots) v ≡ false
@@ -213,3 +300,6 @@ past_none span v (suc n) (s ∷ ss) long past = (λ j. one s (long 0 None (omega
     one : (s : Slot) → IsLong span s → has v s ≡ false
     one None fits = refl
     one (Some map) fits = is_member_past map v (omega (arith, fits, past))
+
+pub past_all : (span v : ℕ) (slots : List Slot) → All (IsLong span) slots → span ≤ v → taken_in slots v ≡ false
+past_all span v slots long past = ap (λ (s : List Slot). taken_in s v) (sym (take_all (length slots) slots (omega arith))) ∙ past_none span v (length slots) slots long past

@@ -1,7 +1,7 @@
 -- The slots of a volume, each free or with a set of numbers below the span, and what the calls make of them.
 use Rattle.std.specs.Prelude.{◌≡◌, ℕ, ◌<◌, Bool, false, true, not, ◌&&◌, count_by, List, ◌∷◌, length, replicate, take, drop, slice_set, slice_index_or, Option, Some, None, All, IfSome}
 use Rattle.std.specs.List.{list_any, range_with_len}
-use Rattle.fv_bits.specs.Members.{is_member, TakesBlock}
+use Rattle.fv_bits.specs.Members.{is_member, count_of, TakesBlock}
 
 -- a free slot, or the members of a used one
 abbrev pub Slot : Type 0
@@ -43,6 +43,10 @@ has v (Some map) = is_member map v
 abbrev pub taken_in : List Slot → ℕ → Bool
 taken_in slots v = list_any (has v) slots
 
+-- what is held is what the active slot has: no snapshot holds a number besides
+abbrev pub HoldsActive : Volume → Type 0
+HoldsActive volume = (v : ℕ) → taken_in (take stored_count volume.slots) v ≡ is_member (active_of volume) v
+
 -- how many slots are snapshots'
 abbrev pub snapshot_count : ℕ
 snapshot_count = 24
@@ -50,6 +54,10 @@ snapshot_count = 24
 -- whether the slot of some snapshot has a number
 abbrev pub is_in_snapshot : Volume → ℕ → Bool
 is_in_snapshot volume v = taken_in (take snapshot_count (drop 1 volume.slots)) v
+
+-- whether another slot than the active one has a number: that of some snapshot or that of the base
+abbrev pub is_elsewhere : Volume → ℕ → Bool
+is_elsewhere volume v = taken_in (drop 1 volume.slots) v
 
 -- whether a slot has a number that no other one of these slots has
 abbrev pub has_alone : List Slot → ℕ → ℕ → Bool
@@ -79,10 +87,29 @@ pub record Loads (old : Volume) (slot index : ℕ) (block : List ℕ) (new : Vol
   pub volume : new ≡ with_slot old slot (Some map)
   pub taken : TakesBlock (map_or_empty old.span (slot_at old slot)) map index block
 
+-- the slot of the base has what a slot of another volume has, and all other slots stay
+pub record TakesBase (old : Volume) (from : Slot) (new : Volume) : Type 0 where
+  pub map : List Bool
+  pub volume : new ≡ with_slot old slot_of_base (Some map)
+  pub base : slot_at new slot_of_base ≡ Some map
+  pub long : length map ≡ old.span
+  pub members : (v : ℕ) → is_member map v ≡ has v from
+
 -- a map has the members of the used slots that stand on the disk, 0 to 24; what the base reaches is left out
 pub record AreUnited (volume : Volume) (map : List Bool) : Type 0 where
   pub len : length map ≡ volume.span
   pub members : (v : ℕ) → is_member map v ≡ taken_in (take stored_count volume.slots) v
+
+-- how many numbers a map has that a slot lacks, all where that is free
+abbrev pub count_beside : List Bool → Slot → ℕ
+count_beside map None = count_of map
+count_beside map (Some base) = count_by (λ v. is_member map v && not (is_member base v)) (range_with_len 0 (length map))
+
+-- so many numbers have the slots that stand on the disk that another slot lacks: that of the base, or none
+pub record CountsBeside (volume : Volume) (base : Slot) (count : ℕ) : Type 0 where
+  pub union : List Bool
+  pub united : AreUnited volume union
+  pub count_is : count ≡ count_beside union base
 
 -- v is a number below the span that no slot had, and the active slot has it now
 pub record Allocates (old : Volume) (v : ℕ) (new : Volume) : Type 0 where

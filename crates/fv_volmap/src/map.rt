@@ -4,9 +4,9 @@ ghost use Rattle.std.specs.Prelude.{◌≡◌, ℕ, ◌*◌, ◌<◌, ◌≤◌,
 ghost use Rattle.std.specs.List.{range_with_len};
 ghost use Rattle.fv_bits.specs.Bits.{block_bits};
 ghost use Rattle.fv_bits.specs.Members.{IsFirstPast};
-ghost use Rattle.fv_volmap.specs.Slots.{Volume, slot_count, stored_count, slot_at, active_of, taken_in, with_slot, empty_volume, IsVolume, Loads, AreUnited, Allocates, alone_in, is_in_snapshot};
+ghost use Rattle.fv_volmap.specs.Slots.{HoldsActive, Volume, slot_count, stored_count, slot_of_base, slot_at, active_of, taken_in, with_slot, empty_volume, IsVolume, Loads, TakesBase, CountsBeside, Allocates, alone_in, is_in_snapshot, is_elsewhere};
 
-use crate::slots;
+use crate::{slots, union};
 use fv_bits::BitMap;
 use fv_disk::Block;
 use std::alloc::{AllocError, Global};
@@ -25,8 +25,8 @@ pub struct VolMap {
     others: Vec<Option<BitMap>>,
     /// How many of `others` there are up to the last that a snapshot uses. Walks for one number go so far, and then to the base's slot.
     used: usize,
-    /// The union of all slots, the base's among them, where `united`.
-    union: BitMap,
+    /// The union of all slots, the base's among them, where `united`. There is none before a slot beside the active one is used.
+    union: Option<BitMap>,
     united: bool,
     /// Where `allocate` looks first: after the number that it found last.
     next: u32,
@@ -45,9 +45,6 @@ impl Model for VolMap {
 }
 
 impl VolMap {
-    ghost use Rattle.std.specs.Borrow.{sem};
-    ghost use Rattle.fv_volmap.specs.Lending.{StaysLent};
-
     /// The maps of a volume with this span: all slots but the active one are free, and it is empty. The
     /// one error is want of memory. Costs a step for each word of 64 numbers.
     pub fn new(alloc: Global, span: u32) -> Result<VolMap, AllocError>
@@ -59,10 +56,17 @@ impl VolMap {
             active: BitMap::new(alloc, span)?,
             others: slots::free_slots(alloc, 25)?,
             used: 0,
-            union: BitMap::new(alloc, span)?,
+            union: None,
             united: true,
             next: 0,
         })
+    }
+
+    /// The span: every number of a slot is below it. Costs one step.
+    pub fn span(&self) -> u32
+        ensures { result ≡ self.now.span }
+    {
+        self.span
     }
 
     /// Takes the bits of block `index` of a slot's map in place of those that are there, and answers
@@ -88,6 +92,7 @@ impl VolMap {
         if slot == 0 {
             return Ok(self.active.from_block(index, block));
         }
+        union::make(&mut self.union, self.alloc, &self.active)?;
         let taken = slots::load(
             &mut self.others[slot as usize - 1],
             self.alloc,
@@ -128,8 +133,34 @@ impl VolMap {
         ensures valid { IsVolume self.new }
     {
         let copy = slots::copy(self.alloc, &self.active)?;
+        union::make(&mut self.union, self.alloc, &self.active)?;
         self.others[slot as usize - 1] = Some(copy);
         self.used = slots::used_count(&self.others);
+        Ok(())
+    }
+
+    /// Makes the base's slot that of a used slot of another volume, whose span isn't greater: a clone gets the numbers of its parent's
+    /// snapshot. What the base's slot had before is gone, and all other slots stay. A new clone makes them its active set by `restore`
+    /// then. The one error is want of memory; nothing changes then. Costs a step for each word of 64 numbers of the span, and of as many
+    /// blocks of a map as the other volume's span takes; the next `allocate` unites the used slots anew.
+    #[tactic(auto, using(crate::proofs::Copies::slot_long))]
+    pub fn stand_on(&mut self, parent: &VolMap, slot: u8) -> Result<(), AllocError>
+        requires slot { slot < slot_count }
+        requires used { IsSome (slot_at parent.now slot) }
+        requires span { parent.now.span ≤ self.old.span }
+        ensures stands { OnOk result (TakesBase self.old (slot_at parent.now slot) self.new) }
+        ensures failed { OnErr result (self.new ≡ self.old) }
+        ensures valid { IsVolume self.new }
+    {
+        // What the parent's maps are known to be is how long each of them is.
+        let _ = parent.active();
+        let Some(map) = parent.snapshot(slot) else {
+            return Ok(());
+        };
+        let copy = slots::copy_longer(self.alloc, map, self.span)?;
+        union::make(&mut self.union, self.alloc, &self.active)?;
+        self.united = false;
+        self.others[24] = Some(copy);
         Ok(())
     }
 
@@ -160,17 +191,34 @@ impl VolMap {
         }
     }
 
-    /// The union of the used slots from 0 to 24; what the base reaches is left out. It takes no memory. Costs a step for each word of each
-    /// used slot, and one for each slot up to the last that a snapshot uses; the next `allocate` unites the used slots anew.
+    /// How many numbers the slots from 0 to 24 have together; what the base reaches counts where one of them has it. It takes no memory.
+    /// Costs a step for each word of each used slot and of the union, and one for each slot up to the last that a snapshot uses; the next
+    /// `allocate` unites the used slots anew.
     #[tactic(auto, using(crate::proofs::Rows::used_slots))]
-    pub fn united(&mut self) -> &BitMap
-        ensures* same { sem 𝓛 (StaysLent self.entry) }
-        ensures union { AreUnited self.old result.now }
+    pub fn count_united(&mut self) -> u32
+        ensures same { self.new ≡ self.old }
+        ensures united { CountsBeside self.old None result }
+        ensures most { result ≤ self.old.span }
         ensures valid { IsVolume self.old }
     {
-        slots::unite(&mut self.union, &self.active, &self.others[..self.used]);
+        union::unite(&mut self.union, &self.active, &self.others[..self.used]);
         self.united = false;
-        &self.union
+        union::union_or(&self.union, &self.active).count()
+    }
+
+    /// How many numbers the slots from 0 to 24 have together that the base's slot lacks; all that they have, where that is free. A clone
+    /// that isn't being split is charged for so many blocks, where each of its blocks has its number, as after a flush, and for the maps of
+    /// its snapshots. It takes no memory. Costs what `count_united` costs.
+    #[tactic(auto, using(crate::proofs::Rows::used_slots))]
+    pub fn count_charged(&mut self) -> u32
+        ensures same { self.new ≡ self.old }
+        ensures charged { CountsBeside self.old (slot_at self.old slot_of_base) result }
+        ensures most { result ≤ self.old.span }
+        ensures valid { IsVolume self.old }
+    {
+        union::unite(&mut self.union, &self.active, &self.others[..self.used]);
+        self.united = false;
+        slots::count_beside(union::union_or(&self.union, &self.active), &self.others[24])
     }
 
     /// How many numbers a snapshot's slot has that no other slot from 0 to 24 has; what the base reaches is
@@ -217,11 +265,11 @@ impl VolMap {
         ensures found { IfSome result (λ v. Allocates self.old v self.new) }
         ensures valid { IsVolume self.new }
     {
-        slots::refresh(&mut self.union, self.united, &self.active, &self.others);
+        union::refresh(&mut self.union, self.united, &self.active, &self.others);
         self.united = true;
-        let v = slots::next_free(&self.union, self.next)?;
+        let v = slots::next_free(union::union_or(&self.union, &self.active), self.next)?;
         self.active.set(v);
-        self.union.set(v);
+        union::put(&mut self.union, v, true);
         self.next = v + 1;
         Some(v)
     }
@@ -238,7 +286,7 @@ impl VolMap {
         }
         self.active.clear(vvbn);
         if !slots::any_used_has(&self.others, self.used, vvbn) {
-            self.union.clear(vvbn);
+            union::put(&mut self.union, vvbn, false);
         }
     }
 
@@ -252,6 +300,26 @@ impl VolMap {
             return false;
         }
         slots::any_has(&self.others[..self.used], vvbn as u32)
+    }
+
+    /// Whether another slot than the active one has this number, a snapshot's or the base's, whatever number it is; none has one from the
+    /// span on. Costs a step for each slot up to the last that a snapshot uses, and one for the base's.
+    #[tactic(auto, using(crate::proofs::Rows::past_none))]
+    pub fn is_elsewhere(&self, vvbn: u64) -> bool
+        ensures { result ≡ is_elsewhere self.now vvbn }
+    {
+        if vvbn >= u64::from(self.span) {
+            return false;
+        }
+        slots::any_used_has(&self.others, self.used, vvbn as u32)
+    }
+
+    /// Whether it is sure that no slot from 1 to 24 has a number that the active one lacks, as where no snapshot uses one. `false` says
+    /// nothing. Costs one step.
+    pub fn is_alone(&self) -> bool
+        ensures { result ≡ true → HoldsActive self.now }
+    {
+        self.used == 0
     }
 
     /// Whether a slot from 0 to 24 has this number; none has one from the span on. Costs a step for each slot up to the last that a

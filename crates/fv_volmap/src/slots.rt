@@ -1,14 +1,14 @@
 //! Slots in a row, each free or with a map.
 
-ghost use Rattle.std.specs.Prelude.{◌≡◌, ℕ, ◌*◌, ◌-◌, ◌<◌, ◌≤◌, ◌||◌, ◌∷◌, suc, false, true, cond, count_by, length, min, not, replicate, slice_set, All, Some, None, IsSome, IfSome, IfNone, IfOk, OnErr, OnSome};
+ghost use Rattle.std.specs.Prelude.{◌≡◌, ℕ, ◌*◌, ◌-◌, ◌<◌, ◌≤◌, ◌||◌, ◌∷◌, ◌/◌, ◌≢◌, suc, false, true, cond, count_by, length, min, not, replicate, slice_set, All, Some, None, IsSome, IfSome, IfNone, IfOk, OnErr, OnSome};
 ghost use Rattle.std.specs.List.{range_with_len};
 ghost use Rattle.fv_bits.specs.Bits.{block_bits};
 ghost use Rattle.fv_bits.specs.Members.{is_member, IsFullFrom, IsFirstPast};
-ghost use Rattle.fv_volmap.specs.Slots.{has, taken_in, has_alone};
-ghost use Rattle.fv_volmap.specs.Kept.{IsLong, AreUsedTo, Unites, TakesInto};
+ghost use Rattle.fv_volmap.specs.Slots.{has, taken_in, has_alone, count_beside};
+ghost use Rattle.fv_volmap.specs.Kept.{IsLong, AreUsedTo, TakesInto};
 
 use fv_bits::BitMap;
-use fv_disk::Block;
+use fv_disk::{Block, ZERO};
 use std::alloc::{AllocError, Global};
 
 /// Whether the map has this number; it has none from its length on.
@@ -124,47 +124,14 @@ pub(crate) fn count_alone(active: &BitMap, others: &[Option<BitMap>], at: usize,
         .count() as u32
 }
 
-/// Adds the members of a slot.
-fn add(union: &mut BitMap, slot: &Option<BitMap>)
-    requires { IsLong (length union.old) slot.now }
-    ensures len { length union.new ≡ length union.old }
-    ensures members { (v : ℕ) → is_member union.new v ≡ (is_member union.old v || has v slot.now) }
+/// How many numbers a union of slots has that the base's slot lacks.
+#[tactic(auto, using(crate::proofs::Counting::beside_some))]
+pub(crate) fn count_beside(union: &BitMap, base: &Option<BitMap>) -> u32
+    ensures { result ≡ count_beside union.now base.now }
 {
-    if let Some(map) = slot {
-        union.or(map);
-    }
-}
-
-/// Adds the members of each slot.
-#[tactic(auto, using(crate::proofs::Rows::one_more))]
-pub(crate) fn add_all(union: &mut BitMap, slots: &[Option<BitMap>])
-    requires { All (IsLong (length union.old)) slots.now }
-    ensures { Unites union.old slots.now union.new }
-{
-    for at in 0..slots.len() {
-        add(union, &slots[at]);
-    }
-}
-
-/// Makes `union` the union of the active slot and these others.
-pub(crate) fn unite(union: &mut BitMap, active: &BitMap, others: &[Option<BitMap>])
-    requires active { length active.now ≡ length union.old }
-    requires others { All (IsLong (length union.old)) others.now }
-    ensures { Unites active.now others.now union.new }
-{
-    union.copy_from(active);
-    add_all(union, others);
-}
-
-/// Makes `union` the union of all slots, which it is already where `united`.
-pub(crate) fn refresh(union: &mut BitMap, united: bool, active: &BitMap, others: &[Option<BitMap>])
-    requires active { length active.now ≡ length union.old }
-    requires others { All (IsLong (length union.old)) others.now }
-    requires exact { united ≡ true → (v : ℕ) → is_member union.old v ≡ (is_member active.now v || taken_in others.now v) }
-    ensures { Unites active.now others.now union.new }
-{
-    if !united {
-        unite(union, active, others);
+    match base {
+        None => union.count(),
+        Some(map) => union.count_apart(map, 0, union.len()),
     }
 }
 
@@ -226,6 +193,44 @@ pub(crate) fn copy(alloc: Global, map: &BitMap) -> Result<BitMap, AllocError>
 {
     let mut copy = BitMap::new(alloc, map.len())?;
     copy.copy_from(map);
+    Ok(copy)
+}
+
+/// Takes the numbers of block `index` of a map that isn't longer, in place of those that are there: no bit of that block is past its end.
+#[tactic(auto, using(crate::proofs::Copies::is_taken))]
+fn take_block(map: &mut BitMap, from: &BitMap, index: u32)
+    requires long { length from.now ≤ length map.old }
+    requires within { block_bits * index < length from.now }
+    ensures len { length map.new ≡ length map.old }
+    ensures taken { (v : ℕ) → v / block_bits ≡ index → is_member map.new v ≡ is_member from.now v }
+    ensures others { (v : ℕ) → v / block_bits ≢ index → is_member map.new v ≡ is_member map.old v }
+{
+    let mut block = ZERO;
+    from.to_block(index, &mut block);
+    map.from_block(index, &block);
+}
+
+/// Takes the members of a map that isn't longer into an empty one.
+fn take_members(map: &mut BitMap, from: &BitMap)
+    requires long { length from.now ≤ length map.old }
+    requires empty { (v : ℕ) → is_member map.old v ≡ false }
+    ensures len { length map.new ≡ length map.old }
+    ensures members { (v : ℕ) → is_member map.new v ≡ is_member from.now v }
+{
+    for index in 0..from.len().div_ceil(32768) {
+        take_block(map, from, index);
+    }
+}
+
+/// A map of this length with the members of one that isn't longer.
+#[tactic(auto, using(fv_bits::proofs::Laws::length_new, crate::proofs::Copies::none_member))]
+pub(crate) fn copy_longer(alloc: Global, map: &BitMap, span: u32) -> Result<BitMap, AllocError>
+    requires long { length map.now ≤ span }
+    ensures len { IfOk result (λ copy. length copy ≡ span) }
+    ensures members { IfOk result (λ copy. (v : ℕ) → is_member copy v ≡ is_member map.now v) }
+{
+    let mut copy = BitMap::new(alloc, span)?;
+    take_members(&mut copy, map);
     Ok(copy)
 }
 

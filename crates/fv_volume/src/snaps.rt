@@ -103,7 +103,7 @@ impl VolumeState {
         ensures others { self.new ≡ record self.old { ledger = self.new.ledger } }
     {
         let count = self.snapshots.len() as u32;
-        self.ledger = count_ledger(&mut self.map, None, count, self.span, self.size, self.kind);
+        self.ledger = count_ledger(&mut self.map, count, self.span, self.size, self.kind);
     }
 }
 

@@ -19,7 +19,6 @@ ghost use Rattle.fv_volume.specs.Writing.{asked, map_count};
 
 use crate::known::known_name;
 use crate::label::{HOLE, kind_number, kind_of, name_field, name_of, records_of, snap_of};
-use fv_bits::BitMap;
 use fv_charge::{Ledger, overhead};
 use fv_codec::{Label, SnapRecord};
 use fv_files::{FileNumbers, Files};
@@ -445,25 +444,29 @@ impl VolumeState {
     }
 }
 
-/// The ledger of a volume without reserves, counted from what the slots of its maps on the disk have together, without the set of its base;
-/// they stay. No base is given of a volume that has none or is being split from it.
+/// The ledger of a volume without reserves that has no base or is being split from it, counted from what the slots of its maps on the disk
+/// have together; they stay.
 pub(crate) fn count_ledger(
     map: &mut VolMap,
-    base: Option<&BitMap>,
     snapshots: u32,
     span: u32,
     size: u32,
     kind: Kind,
 ) -> Ledger
     requires map { map.old.span ≡ span }
-    requires base { IfSome (option_copied base) (λ b. length b ≡ span) }
     requires span { span ≤ greatest_span }
     requires few { snapshots ≤ most_snapshots }
     ensures same { map.new ≡ map.old }
     ensures valid { IsVolume map.old }
-    ensures counted { HasCounted map.old (option_copied base.entry) snapshots span size kind result }
+    ensures counted { HasCounted map.old None snapshots span size kind result }
 {
-    Ledger::counted(map.united(), base, snapshots, 0, span, size, kind)
+    Ledger {
+        charge: map.count_united() + map_blocks(span) * snapshots,
+        need: 0,
+        size,
+        kind,
+        span,
+    }
 }
 
 /// The ledger of an empty volume of this size and kind, with so many VVBNs for data: nothing is charged, and nothing needed. Costs a step.

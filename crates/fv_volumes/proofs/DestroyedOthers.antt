@@ -6,10 +6,9 @@ use Rattle.std.proofs.lemmas.Bool.{and_parts, cases_eq}
 use Rattle.fv_disk.specs.DiskCalls.{OnlyReads}
 use Rattle.fv_disk.specs.Shown.{Image, Shown}
 use Rattle.fv_bits.specs.Members.{is_member}
-use Rattle.fv_image.proofs.LoneTables.{form_base}
 use Rattle.fv_image.specs.Views.{entry_count}
 use Rattle.fv_container.specs.declared.entry.Entry.{Entry}
-use Rattle.fv_container.specs.Chains.{AreCleanOn, TellsEntries, container_at, own_entry, paged_at, parent_at, slot_count}
+use Rattle.fv_container.specs.Chains.{AreCleanOn, TellsEntries, container_at, own_entry, paged_at, slot_count}
 use Rattle.fv_container.specs.Mapped.{Mapped}
 use Rattle.fv_container.specs.Spelled.{is_at, names}
 use Rattle.fv_pool.specs.declared.pool.Pool.{Pool}
@@ -19,12 +18,13 @@ use Rattle.fv_volumes.specs.Destroying.{IsDestroyed}
 use Rattle.fv_volume.specs.Held.{IsHeldIn}
 use Rattle.fv_volumes.specs.Housed.{AreHoused}
 use Rattle.fv_volume.specs.OneVolume.{volume_for}
-use Rattle.fv_volume.specs.States.{States, head_in, parent_in, state_at}
+use Rattle.fv_volume.specs.Placing.{StaysBeside}
+use Rattle.fv_volume.specs.States.{States, state_at}
 use Rattle.fv_volume.specs.Stored.{AreSpacedIn, has_block, is_of, leads}
 use Rattle.fv_volumes.specs.UnderRoot.{IsLentAt}
 use Rattle.fv_volumes.proofs.Drawing.{not_so, or_neither}
-use Rattle.fv_volumes.proofs.Others.{entries_led, entries_standing, entries_volume, entries_well}
-use Rattle.fv_volumes.proofs.Alone.{alone_by}
+use Rattle.fv_volumes.proofs.Beside.{StandOff, alone_off, beside_off}
+use Rattle.fv_volumes.proofs.Alone.{housed_alone}
 use Rattle.fv_volumes.proofs.PlacedIn.{own_has}
 use Rattle.fv_volumes.proofs.Removed as removed
 use Rattle.fv_volumes.proofs.Told.{is_inside}
@@ -62,48 +62,41 @@ module _ (disk : Shown) (pool : Pool) (states : States) (housed : AreHoused pool
       let led = or_neither (names map.tree b) (leads map (entry_count x.span) b) isnt.1 in
       gone.kept told b ∙ ap (λ (t : Bool). cond t None (fin.get pool.kept b)) led.1
 
+  -- the block of an entry of a volume is one of its blocks
+  its : (k v : ℕ) (z : VolumeState) (e : Entry) → state_at states k ≡ Some z → own_entry (container_at pool.containers k) v ≡ Some e → has_block (state_at states k) (container_at pool.containers k) e.pvbn ≡ true
+  its k v z e here own = own_has disk pool states housed slots k z here e.pvbn (record { vvbn = v; entry = e; stands = own; leads = refl })
+
+  -- no volume stands on it: none has a base
+  off : StandOff pool.containers slot states
+  off = alone_off pool.containers slot states (housed_alone pool.containers states housed)
+
   -- ---- another volume
 
   module _ (y : VolumeState) (at : state_at states y.slot ≡ Some y) (differ : y.slot ≢ slot) (one : IsHeldIn disk pool y.slot y) where
     told : TellsEntries disk pool.containers
     told = (one.stands.told.0, one.stands.told.2)
 
-    low : y.slot < 64
-    low = is_inside states y.slot y housed.long at
-
-    alone : parent_at pool.containers y.slot ≡ None
-    alone = housed.parents y.slot ∙ ap parent_in at ∙ alone_by y.base (form_base (head_in y) one.ready.labelled.form)
-
-    still : parent_at left.containers y.slot ≡ None
-    still = removed.other_parent pool states housed slot x map there new left gone y.slot differ ∙ alone
-
-    own : (v : ℕ) → own_entry (container_at left.containers y.slot) v ≡ own_entry (container_at pool.containers y.slot) v
-    own v = ap (λ (c : Option Mapped). own_entry c v) (other_container y.slot differ)
-
-    its : (v : ℕ) (e : Entry) → own_entry (container_at pool.containers y.slot) v ≡ Some e → has_block (state_at states y.slot) (container_at pool.containers y.slot) e.pvbn ≡ true
-    its v e here = own_has disk pool states housed slots y.slot y at e.pvbn (record { vvbn = v; entry = e; stands = here; leads = refl })
-
-    kept : (v : ℕ) (e : Entry) → own_entry (container_at pool.containers y.slot) v ≡ Some e → fin.get left.kept e.pvbn ≡ fin.get pool.kept e.pvbn
-    kept v e here = still_kept told y.slot e.pvbn low differ (its v e here)
-
-    next : (v : ℕ) (e : Entry) → own_entry (container_at pool.containers y.slot) v ≡ Some e → is_member left.map.next e.pvbn ≡ true
-    next v e here = still_next told y.slot e.pvbn low differ (its v e here)
-
     clean : AreCleanOn after.reads left.containers
     clean = subst (λ (i : Image). AreCleanOn i left.containers) (sym reads.stays.reads) (removed.clean_left pool states housed slot x map there new left gone disk.reads told.1)
 
     -- it stands for what it stood for
+    stays : StaysBeside disk pool after left y
+    stays = beside_off disk after pool left states slot off other_container (removed.other_parent pool states housed slot x map there new left gone) reads.stays.tells reads.stays.reads y at differ
+        (λ k v z e other here own. still_kept told k e.pvbn (is_inside states k z housed.long here) other (its k v z e here own))
+        (λ k v z e other here own. still_next told k e.pvbn (is_inside states k z housed.long here) other (its k v z e here own))
+        clean one.stands
+
     pub beside_volume : volume_for after left y ≡ volume_for disk pool y
-    beside_volume = entries_volume disk after pool left y alone still own reads.stays.tells reads.stays.reads kept next
+    beside_volume = stays.volume
 
     -- and is one of the session still
     pub beside_held : IsHeldIn after left y.slot y
     beside_held = record {
       slot = refl;
       ready = removed.beside_ready pool states housed slot x map there new left gone disk after stands y differ one.ready;
-      stands = entries_standing disk after pool left y alone still own reads.stays.tells reads.stays.reads kept next clean one.stands;
-      led = entries_led disk after pool left y alone still own reads.stays.tells reads.stays.reads kept next one.led;
-      well = entries_well disk after pool left y alone still own reads.stays.tells reads.stays.reads kept next one.well;
+      stands = stays.standing;
+      led = stays.led one.led;
+      well = stays.well one.well;
       wide = one.wide;
       within = one.within;
     }

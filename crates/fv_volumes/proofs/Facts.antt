@@ -36,12 +36,10 @@ use Rattle.fv_image.specs.ReachRules.{inodes_are, is_of_position, node_is, shape
 use Rattle.fv_image.specs.BlockRules.{is_fine}
 use Rattle.fv_image.specs.Views.{Head, Placed, View}
 use Rattle.fv_image.specs.Volumes.{standing_of}
-use Rattle.fv_image.proofs.LoneTables.{no_parent, place_own}
 use Rattle.fv_image.proofs.WellTrees.{in_node}
 use Rattle.fv_container.specs.declared.entry.Entry.{Entry}
-use Rattle.fv_container.specs.Chains.{container_at, own_entry, parent_at}
-use Rattle.fv_container.specs.Chains.{Slots}
-use Rattle.fv_volmap.specs.Slots.{Volume as Maps, has, slot_at}
+use Rattle.fv_container.specs.Chains.{Slots, parent_at}
+use Rattle.fv_volmap.specs.Slots.{IsVolume, Volume as Maps, has, slot_at}
 use Rattle.fv_pool.specs.declared.pool.Pool.{Pool}
 use Rattle.fv_pool.specs.declared.rooted.Rooted.{Rooted}
 use Rattle.fv_volume.specs.declared.state.VolumeState.{VolumeState}
@@ -49,9 +47,9 @@ use Rattle.fv_pool.specs.BlocksOver.{held_entry}
 use Rattle.fv_pool.specs.Keeping.{seen}
 use Rattle.fv_pool.specs.Lending.{use_of}
 use Rattle.fv_volume.specs.OneVolume.{blocks_in, uses_in, RootStands}
-use Rattle.fv_volume.specs.States.{States, head_in, placed_in, state_at, table_in, view_over}
-use Rattle.fv_volumes.proofs.Standings.{held_own, root_agrees}
-use Rattle.fv_volumes.proofs.Told.{head_there}
+use Rattle.fv_volume.specs.States.{States, head_in, parent_in, state_at, table_in, view_over}
+use Rattle.fv_pool.proofs.Shows.{slot_below}
+use Rattle.fv_volumes.proofs.Agreed.{place_held, root_agrees}
 use Rattle.fv_volume.proofs.KeptStamps.{stamp_some}
 use Rattle.fv_volume.proofs.Ruled.{AreRuled, IsRuled, owner_number}
 
@@ -150,9 +148,8 @@ pub led_place : (blocks : Under) (root : Rooted) (a : Option ℕ) (level index :
 led_place blocks root None level index = refl
 led_place blocks root (Some n) level index = refl
 
-module _ (disk : Disk) (pool : Pool) (states : States) (x : VolumeState) (k : ℕ) (root : Rooted) (is : RootStands disk pool x k root) (there : state_at states x.slot ≡ Some x) (alone : parent_at pool.containers x.slot ≡ None) (base : (head_in x).base ≡ None)
-    (below : (v : ℕ) → has v (slot_at x.map k) ≡ true → v < x.span)
-    (own : (v : ℕ) (e : Entry) → own_entry (container_at pool.containers x.slot) v ≡ Some e → (first_block pool.found.blocks ≤ e.pvbn) × (e.pvbn < pool.found.blocks)) where
+module _ (disk : Disk) (pool : Pool) (states : States) (x : VolumeState) (k : ℕ) (root : Rooted) (is : RootStands disk pool x k root) (there : state_at states x.slot ≡ Some x) (parents : (s : ℕ) → parent_at pool.containers s ≡ parent_in (state_at states s)) (whole : IsVolume x.map) (span : x.map.span ≡ x.span)
+    (within : (v : ℕ) (e : Entry) → held_entry x.map pool.containers x.slot v ≡ Some e → (first_block pool.found.blocks ≤ e.pvbn) × (e.pvbn < pool.found.blocks)) where
   -- the blocks of blocks slot, and what is in use there
   abbrev blocks : Under
   blocks = blocks_in disk pool x k
@@ -190,13 +187,6 @@ module _ (disk : Disk) (pool : Pool) (states : States) (x : VolumeState) (k : �
   well_stored : IsStoredUnder blocks root.levels root.root
   well_stored = is.well
 
-  here : w.head s ≡ Some h
-  here = head_there pool states disk.reads s x there
-
-  entry_is : (v : ℕ) → w.entry s v ≡ placed_in pool.kept disk.reads (own_entry (container_at pool.containers s) v)
-  unfolding view_over
-  entry_is v = refl
-
   blocks_is : w.blocks ≡ pool.found.blocks
   unfolding view_over
   blocks_is = refl
@@ -205,7 +195,7 @@ module _ (disk : Disk) (pool : Pool) (states : States) (x : VolumeState) (k : �
   record IsPlace (kind : ℕ) (p : Pointer) : Type 0 where
     low : p.vvbn < x.span
     entry : Entry
-    stands : own_entry (container_at pool.containers s) p.vvbn ≡ Some entry
+    stands : held_entry x.map pool.containers s p.vvbn ≡ Some entry
     lies : place w s p.vvbn ≡ Some (record { pvbn = entry.pvbn; kind = entry.kind; block = seen pool.kept disk.reads entry.pvbn })
     block : blocks p.vvbn ≡ Some (seen pool.kept disk.reads entry.pvbn)
     right : IsRight kind p (Some (use_of (Some entry)))
@@ -220,20 +210,18 @@ module _ (disk : Disk) (pool : Pool) (states : States) (x : VolumeState) (k : �
       by : (o : Option Entry) → held_entry x.map pool.containers s p.vvbn ≡ o → IsRight kind p (Some (use_of (held_entry x.map pool.containers s p.vvbn))) → IsPlace kind p
       by None e right = let zero_kind : 0 ≡ kind = sym (ap (λ (o : Option Entry). (use_of o).kind) e) ∙ right.1 in absurd (omega (arith, least, zero_kind))
       by (Some e) at right =
-          let mine : own_entry (container_at pool.containers s) p.vvbn ≡ Some e = held_own x.map pool.containers s alone p.vvbn e at in
-          let lies : place w s p.vvbn ≡ Some (record { pvbn = e.pvbn; kind = e.kind; block = seen pool.kept disk.reads e.pvbn }) =
-          place_own w s p.vvbn (no_parent w s h here base) ∙ entry_is p.vvbn ∙ ap (placed_in pool.kept disk.reads) mine in
+          let lies : place w s p.vvbn ≡ Some (record { pvbn = e.pvbn; kind = e.kind; block = seen pool.kept disk.reads e.pvbn }) = place_held disk pool states parents x there whole span p.vvbn e at in
           record {
-            low = below p.vvbn member;
+            low = (let below = slot_below x.map whole k p.vvbn member in omega (arith, below, span));
             entry = e;
-            stands = mine;
+            stands = at;
             lies = lies;
             block = sym same ∙ ap (option_map (λ (q : Placed). q.block)) lies;
             right = subst (λ (o : Option Entry). IsRight kind p (Some (use_of o))) at right;
           }
 
   agreed : AgreeOnTable blocks (under w s) root.levels root.root
-  agreed = root_agrees disk pool states x there alone base k root is.trees
+  agreed = root_agrees disk pool states parents x there whole span k root is.trees
 
   inode_tree : (cells : List ℕ) × IsTree x.now 0 cells (tree_told inodes)
   unfolding table_told
@@ -258,7 +246,7 @@ module _ (disk : Disk) (pool : Pool) (states : States) (x : VolumeState) (k : �
       let one = place_at (kind_for t.owner level) p (kind_least t.owner level) (once.used level index some) (subst (λ (u : Under). is_some (u p.vvbn) ≡ true) over (once.held level index some)) (seen_alike level index some) in
       let lies : t.under p.vvbn ≡ Some (seen pool.kept disk.reads one.entry.pvbn) = ap (λ (u : Under). u p.vvbn) over ∙ one.block in
       let hint = hinted p one.entry stored_at.known one.right.0 in
-      let within = own p.vvbn one.entry one.stands in
+      let allocatable = within p.vvbn one.entry one.stands in
       record {
         from = from;
         owner = owner;
@@ -270,8 +258,8 @@ module _ (disk : Disk) (pool : Pool) (states : States) (x : VolumeState) (k : �
         kind = one.right.1;
         known = stored_at.known;
         hint = hint;
-        least = subst (λ (n : ℕ). first_block n ≤ p.pvbn) (sym blocks_is) (subst (λ (b : ℕ). first_block pool.found.blocks ≤ b) hint within.0);
-        greatest = subst (λ (n : ℕ). p.pvbn < n) (sym blocks_is) (subst (λ (b : ℕ). b < pool.found.blocks) hint within.1);
+        least = subst (λ (n : ℕ). first_block n ≤ p.pvbn) (sym blocks_is) (subst (λ (b : ℕ). first_block pool.found.blocks ≤ b) hint allocatable.0);
+        greatest = subst (λ (n : ℕ). p.pvbn < n) (sym blocks_is) (subst (λ (b : ℕ). b < pool.found.blocks) hint allocatable.1);
         shape = shape_at top t (seen pool.kept disk.reads one.entry.pvbn) level index stored_at lies;
         position = position_at top t (seen pool.kept disk.reads one.entry.pvbn) level index stored_at lies;
         stamp = stamp_at x.now start cells t tree level index some;

@@ -42,9 +42,10 @@ use Rattle.fv_image.proofs.LoneTables.{form_base}
 use Rattle.fv_image.proofs.SameSeen.{seen_at}
 use Rattle.fv_root.specs.Finding.{root_found}
 use Rattle.fv_container.specs.declared.entry.Entry.{Entry}
-use Rattle.fv_container.specs.Chains.{container_at, own_entry, paged_at, parent_at}
-use Rattle.fv_volmap.specs.Slots.{IsVolume, has, slot_at}
+use Rattle.fv_container.specs.Chains.{container_at}
+use Rattle.fv_volmap.specs.Slots.{IsVolume}
 use Rattle.fv_pool.specs.declared.pool.Pool.{Pool}
+use Rattle.fv_pool.specs.BlocksOver.{held_entry}
 use Rattle.fv_volume.specs.declared.state.Snap.{Snap}
 use Rattle.fv_volume.specs.declared.state.VolumeState.{VolumeState}
 use Rattle.fv_volume.specs.Files.{AreStates, IsState, has_form}
@@ -54,7 +55,7 @@ use Rattle.fv_volume.specs.Placing.{IsLedTo, IsStoredWell}
 use Rattle.fv_pool.specs.Tables.{trees_by}
 use Rattle.fv_volume.specs.Sharing.{differs_in, pointer_in, trees_kept, AreShared, SharesWith}
 use Rattle.fv_volume.specs.Slots.{sum_of}
-use Rattle.fv_volume.specs.States.{States, head_in, parent_in, rooted_as, state_at, view_over}
+use Rattle.fv_volume.specs.States.{States, head_in, rooted_as, state_at, view_over}
 use Rattle.fv_volume.specs.Trees.{active_in, no_trees}
 use Rattle.fv_volumes.proofs.Distinct.{same_names}
 use Rattle.fv_volumes.proofs.Made.{commits_are}
@@ -64,14 +65,12 @@ use Rattle.fv_volume.proofs.ActiveStands.{agrees, roots_stand}
 use Rattle.fv_volumes.proofs.Reached.{standing_reach}
 use Rattle.fv_volume.proofs.Shared.{shares_back}
 use Rattle.fv_volume.proofs.SharedRoots.{alike_shares, stored_place, stored_same}
-use Rattle.fv_pool.proofs.Shows.{slot_below}
 use Rattle.fv_volume.proofs.SnapNames.{names_in}
-use Rattle.fv_volumes.proofs.Standings.{root_agrees, standing_state, standing_table, standing_volume}
+use Rattle.fv_volumes.proofs.Agreed.{root_agrees}
+use Rattle.fv_volumes.proofs.Standings.{standing_state, standing_table, standing_volume}
 use Rattle.fv_volumes.proofs.Told.{head_there, is_inside}
 use Rattle.fv_volumes.proofs.Trees.{unchanged_machine}
 use Rattle.fv_volumes.proofs.Facts.{are_ruled, led_by, led_place}
-use Rattle.fv_volumes.proofs.Alone.{alone_by}
-use Rattle.fv_volumes.proofs.PlacedIn.{own_has}
 use Rattle.fv_volumes.proofs.Records.{all_records, cell_below, file_levels, file_there, inode_levels, names_apart}
 use Rattle.fv_volume.proofs.Ruled.{AreOneToOne, AreRuled, IsRuled, of_roots, one_itself, owner_number}
 use Rattle.fv_disk.specs.Shown.{Image}
@@ -79,7 +78,6 @@ use Rattle.fv_volume.specs.Held.{named_held, IsHeldIn}
 use Rattle.fv_volumes.specs.Housed.{AreHoused, ReachesAll}
 use Rattle.fv_volume.specs.Files.{IsLabelled}
 use Rattle.fv_volume.specs.Stored.{AreSpacedIn}
-use Rattle.fv_volumes.specs.UnderRoot.{IsLentAt}
 use Rattle.fv_image.proofs.SameSeen.{of_volume}
 use Rattle.fv_model.specs.Space.{charge}
 use Rattle.fv_model.specs.Tables.{Table}
@@ -123,7 +121,7 @@ commits_in_view pool states i long are =
 
 -- ---- a volume with nothing of it in memory
 
-module _ (disk : Shown) (pool : Pool) (states : States) (housed : AreHoused pool.containers states) (at_slots : (s : ℕ) → s < 64 → IsLentAt disk.reads pool.found s (state_at states s) (paged_at pool.containers s)) (spaced : AreSpacedIn pool.found.blocks pool.map.next (state_at states) (container_at pool.containers))
+module _ (disk : Shown) (pool : Pool) (states : States) (housed : AreHoused pool.containers states) (spaced : AreSpacedIn pool.found.blocks pool.map.next (state_at states) (container_at pool.containers))
     (x : VolumeState) (there : state_at states x.slot ≡ Some x) (one : IsHeldIn disk pool x.slot x) (no_files : x.files ≡ None) (whole : IsVolume x.map) where
   abbrev w : View
   w = view_over pool states disk.reads
@@ -140,8 +138,8 @@ module _ (disk : Shown) (pool : Pool) (states : States) (housed : AreHoused pool
   base : h.base ≡ None
   base = form_base h form
 
-  alone : parent_at pool.containers s ≡ None
-  alone = housed.parents s ∙ ap parent_in there ∙ alone_by x.base base
+  span : x.map.span ≡ x.span
+  span = one.ready.labelled.map
 
   here : w.head s ≡ Some h
   here = head_there pool states disk.reads s x there
@@ -149,8 +147,9 @@ module _ (disk : Shown) (pool : Pool) (states : States) (housed : AreHoused pool
   inside : s < 64
   inside = is_inside states s x housed.long there
 
-  own : (v : ℕ) (e : Entry) → own_entry (container_at pool.containers s) v ≡ Some e → (first_block pool.found.blocks ≤ e.pvbn) × (e.pvbn < pool.found.blocks)
-  own v e at = (spaced.held s e.pvbn inside (own_has disk pool states housed at_slots s x there e.pvbn (record { vvbn = v; entry = e; stands = at; leads = refl }))).1
+  -- the next root holds the block of each entry that is held, so that can be allocated
+  within : (v : ℕ) (e : Entry) → held_entry x.map pool.containers s v ≡ Some e → (first_block pool.found.blocks ≤ e.pvbn) × (e.pvbn < pool.found.blocks)
+  within v e held = let its = spaced.set e.pvbn (one.stands.told.1.held v e held) in (spaced.held its.0 e.pvbn its.1 its.2).1
 
   -- ---- its roots
 
@@ -160,14 +159,11 @@ module _ (disk : Shown) (pool : Pool) (states : States) (housed : AreHoused pool
   stood : (k : ℕ) (r : Rooted) → IsRoot k r → RootStands disk pool x k (rooted_as r)
   stood = roots_stand disk pool x one.stands no_files one.led one.well
 
-  in_span : (k v : ℕ) → has v (slot_at x.map k) ≡ true → v < x.span
-  in_span k v member = let low = slot_below x.map whole k v member in let same = one.ready.labelled.map in omega (arith, low, same)
-
   abbrev pub led : ℕ → Rooted → Option ℕ → ℕ → ℕ → Pointer
   led k r = led_by (blocks_in disk pool x k) (rooted_as r)
 
   pub ruled : (k : ℕ) (r : Rooted) → IsRoot k r → AreRuled w s h r (led k r)
-  ruled k r is = are_ruled disk pool states x k (rooted_as r) (stood k r is) there alone base (in_span k) own
+  ruled k r is = are_ruled disk pool states x k (rooted_as r) (stood k r is) there housed.parents whole span within
 
   -- ---- what they share
 
@@ -231,7 +227,7 @@ module _ (disk : Shown) (pool : Pool) (states : States) (housed : AreHoused pool
     told_table = root.table
 
     same_records : records (standing_of w s r) ≡ records (standing_at blocks r.levels r.root)
-    same_records = kept_records blocks (under w s) r.levels r.root (root_agrees disk pool states x there alone base k (rooted_as r) root.trees)
+    same_records = kept_records blocks (under w s) r.levels r.root (root_agrees disk pool states housed.parents x there whole span k (rooted_as r) root.trees)
 
     -- what holds of each record holds of all that the view has
     of_records : (p : ℕ × InodeRecord → Bool) → ((n : ℕ) (f : InodeRecord) → file_at (stored blocks greatest_word r.levels r.root) n ≡ Some f → p (n, f) ≡ true) → list_all p (records (standing_of w s r)) ≡ true
@@ -302,7 +298,7 @@ module _ (disk : Shown) (pool : Pool) (states : States) (housed : AreHoused pool
   table_is = ap (λ (o : Option Head). option_map_or (λ h. table_at w s h.active) o empty_table) here
 
   volume_is : volume_told w s h ≡ volume_for disk pool x
-  volume_is = ap (volume_with w s h) (sym table_is) ∙ standing_volume disk pool states x there alone base one.stands no_files
+  volume_is = ap (volume_with w s h) (sym table_is) ∙ standing_volume disk pool states x there housed.parents whole span one.stands no_files base
 
   pub wide_rule : nat_le (h.most + (set.len (base_ids (volume_told w s h).base) + 256)) h.span ≡ true
   wide_rule =
@@ -326,7 +322,7 @@ module _ (disk : Shown) (pool : Pool) (states : States) (housed : AreHoused pool
 
   -- the view tells its table
   pub table_seen : active_in w no_trees s ≡ table_for disk pool x
-  table_seen = standing_table disk pool states x there alone base one.stands no_files
+  table_seen = standing_table disk pool states x there housed.parents whole span one.stands no_files
 
   -- which has the numbers of its files in memory,
   pub numbers_seen : AreNumbersSeen w s (Some x)
@@ -334,11 +330,11 @@ module _ (disk : Shown) (pool : Pool) (states : States) (housed : AreHoused pool
 
   -- and it as it is,
   pub state_is : IsState w no_trees s x
-  state_is = standing_state disk pool states x there alone base one.stands no_files one.ready.labelled
+  state_is = standing_state disk pool states x there housed.parents whole span one.stands no_files one.ready.labelled
 
   -- with what it reaches,
   pub reach_is : ReachesAll w s x
-  reach_is = standing_reach disk pool states x there alone base one.stands no_files one.led
+  reach_is = standing_reach disk pool states x there housed.parents whole span one.stands no_files one.led
 
   -- and with its name
   pub named_is : named_held disk pool (Some x) ≡ named_with w (active_at w) s (Some h)

@@ -7,6 +7,9 @@ pub mod Told
 pub mod Made
 pub mod Trees
 pub mod Apart
+pub mod Alone
+pub mod Chains
+pub mod Agreed
 pub mod LoadedTables
 pub mod LoadedStored
 mod Counting
@@ -37,13 +40,13 @@ pub mod Settling
 pub mod StoredTold
 pub mod Standings
 pub mod Others
+pub mod Beside
 pub mod Openings
 pub mod NewStanding
 pub mod Reached
 pub mod Facts
 pub mod Records
 pub mod Owned
-pub mod Alone
 pub mod PlacedIn
 pub mod HeldAlone
 pub mod SeenAlone

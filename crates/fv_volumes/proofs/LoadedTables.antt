@@ -35,7 +35,7 @@ use Rattle.fv_image.specs.TableRules.{all_items, has_stamps_past}
 use Rattle.fv_image.specs.Views.{Placed, Head, Rooted, View, volume_bit}
 use Rattle.fv_image.specs.Volumes.{standing_of, table_at}
 use Rattle.fv_image.specs.WholeMachine.{Tells, has_no_reserves}
-use Rattle.fv_image.proofs.LoneTables.{built_reserves, form_base, form_known, place_own, no_parent, kind_led, IsLedEntry}
+use Rattle.fv_image.proofs.LoneTables.{built_reserves, form_known, kind_led, IsLedEntry}
 use Rattle.fv_image.proofs.OwnUses.{HasLabelNumbers}
 use Rattle.fv_image.proofs.RootTables.{led_below, led_entry, root_bit, root_led, root_led_once, root_reach}
 use Rattle.fv_image.proofs.SameSeen.{of_volume}
@@ -43,7 +43,7 @@ use Rattle.fv_image.proofs.WellLabels.{entries_whole, numbers_at}
 use Rattle.fv_image.proofs.WellRoots.{HasWholeBlocks, all_one, of_records, well_root}
 use Rattle.fv_root.specs.Finding.{root_found}
 use Rattle.fv_container.specs.declared.entry.Entry.{Entry}
-use Rattle.fv_container.specs.Chains.{Slots, along, chain_entry, container_at, or_else, own_entry, parent_at, slot_count}
+use Rattle.fv_container.specs.Chains.{chain_entry, parent_at, slot_count}
 use Rattle.fv_volmap.specs.Slots.{has, slot_at}
 use Rattle.fv_pool.specs.declared.pool.Pool.{Pool}
 use Rattle.fv_pool.specs.Opening.{IsAsFound}
@@ -57,27 +57,19 @@ use Rattle.fv_volume.specs.States.{States, head_in, parent_in, placed_in, state_
 use Rattle.fv_pool.proofs.Holding.{has_taken, held_some}
 use Rattle.fv_volume.proofs.KeptSlots.{root_bits, root_few}
 use Rattle.fv_pool.proofs.OverBlocks.{same_place}
-use Rattle.fv_volumes.proofs.Alone.{alone_by}
+use Rattle.fv_volumes.proofs.Chains.{place_view}
 use Rattle.fv_volumes.proofs.Told.{head_there, is_inside}
 use Rattle.fv_volumes.proofs.Viewed.{viewed}
 
-pub chain_own : (slots : Slots) (slot v : ℕ) → parent_at slots slot ≡ None → chain_entry slots slot v ≡ own_entry (container_at slots slot) v
-unfolding along
-chain_own slots slot v alone = ap (λ (p : Option ℕ). or_else (own_entry (container_at slots slot) v) (along slots 63 p v)) alone ∙ last (own_entry (container_at slots slot) v)
-  where
-    last : (o : Option Entry) → or_else o None ≡ o
-    last None = refl
-    last (Some e) = refl
-
 -- ---- a volume of a session
 
--- What is known of a volume in its slot: nothing of it is in memory, the session's view is sound, and its maps have the bits of that view.
+-- What is known of a volume in its slot: nothing of it is in memory, the session's view is sound, its maps have the bits of that view, and
+-- the containers have in their chain the parents that the volumes stand on.
 pub record StandsInView (disk : Disk) (pool : Pool) (states : States) (x : VolumeState) : Type 0 where
   pub small : x.slot < 64
   pub there : state_at states x.slot ≡ Some x
-  pub base : (head_in x).base ≡ None
   pub known : x.known ≡ true
-  pub alone : parent_at pool.containers x.slot ≡ None
+  pub parents : (s : ℕ) → parent_at pool.containers s ≡ parent_in (state_at states s)
   pub span : x.span ≤ 1048576
   pub numbers : HasLabelNumbers (head_in x)
   pub slots : HasOwnSlots x
@@ -100,13 +92,9 @@ module _ (disk : Disk) (pool : Pool) (states : States) (x : VolumeState) (is : S
   pub here : w.head s ≡ Some h
   here = head_there pool states disk.reads s x is.there
 
-  entry_is : (v : ℕ) → w.entry s v ≡ placed_in pool.kept disk.reads (own_entry (container_at pool.containers s) v)
-  unfolding view_over
-  entry_is v = refl
-
-  -- each VVBN is found at the volume's own entry
-  pub own_place : (v : ℕ) → place w s v ≡ w.entry s v
-  own_place v = place_own w s v (no_parent w s h here is.base)
+  -- each VVBN of its span is found at the first entry along its chain
+  pub place_is : (v : ℕ) → v < x.span → place w s v ≡ placed_in pool.kept disk.reads (chain_entry pool.containers s v)
+  place_is v low = place_view pool states disk.reads is.parents s x is.there v low
 
   -- ---- one of its roots
 
@@ -128,25 +116,25 @@ module _ (disk : Disk) (pool : Pool) (states : States) (x : VolumeState) (is : S
     member_is : (v : ℕ) → has v (slot_at x.map k) ≡ volume_bit w s x.span k v
     member_is = root_bits w s h x.map is.slots.0 is.slots.1 is.bits k r one
 
-    -- a VVBN of its slot, below the span, leads to the volume's own entry
+    -- a VVBN of its slot, below the span, leads to the first entry along its chain
     module _ (v : ℕ) (low : v < x.span) (member : has v (slot_at x.map k) ≡ true) where
-      held_own : held_entry x.map pool.containers s v ≡ own_entry (container_at pool.containers s) v
-      held_own = held_some x.map pool.containers s v (let most = is.span in omega (arith, low, most)) (has_taken x.map.slots k v member) ∙ chain_own pool.containers s v is.alone
+      held_is : held_entry x.map pool.containers s v ≡ chain_entry pool.containers s v
+      held_is = held_some x.map pool.containers s v (let most = is.span in omega (arith, low, most)) (has_taken x.map.slots k v member)
 
       pub same_block : blocks v ≡ under w s v
       unfolding under
       same_block =
           ap (λ (t : Bool). cond t (held_block x.map pool s disk.reads v) None) member
-          ∙ ap (block_of pool.kept disk.reads) held_own
-          ∙ so (own_entry (container_at pool.containers s) v)
-          ∙ sym (ap (option_map (λ (p : Placed). p.block)) (own_place v ∙ entry_is v))
+          ∙ ap (block_of pool.kept disk.reads) held_is
+          ∙ so (chain_entry pool.containers s v)
+          ∙ sym (ap (option_map (λ (p : Placed). p.block)) (place_is v low))
         where
           so : (o : Option Entry) → block_of pool.kept disk.reads o ≡ option_map (λ (p : Placed). p.block) (placed_in pool.kept disk.reads o)
           so None = refl
           so (Some e) = refl
 
-      use_is : uses v ≡ Some (use_of (own_entry (container_at pool.containers s) v))
-      use_is = (λ j. cond (member j) (Some (use_of (held_own j))) None)
+      use_is : uses v ≡ Some (use_of (chain_entry pool.containers s v))
+      use_is = (λ j. cond (member j) (Some (use_of (held_is j))) None)
 
     pub member_at : (o : Owner) (level index : ℕ) → (at o level index).stamp ≢ 0 → has (at o level index).vvbn (slot_at x.map k) ≡ true
     member_at o level index some = member_is (at o level index).vvbn ∙ root_bit w s h is.small here is.tables k r one few is.maps o level index some
@@ -249,7 +237,7 @@ module _ (disk : Disk) (pool : Pool) (states : States) (x : VolumeState) (is : S
           vvbn = ap (λ (p : Pointer). p.vvbn) (led_is at_place.owner at_place.level at_place.index) ∙ at_place.vvbn;
         }
 
-    -- what is held and in use under a place, over blocks of the volume's own entry
+    -- what is held and in use under a place
     record IsUsed (kind : ℕ) (p : Pointer) : Type 0 where
       held : is_some (blocks p.vvbn) ≡ true
       used : IsRight kind p (uses p.vvbn)
@@ -259,9 +247,9 @@ module _ (disk : Disk) (pool : Pool) (states : States) (x : VolumeState) (is : S
         let entry = led_entry w s h is.small here is.tables k r one o level index some in
         let low = low_at o level index some in
         let member = member_at o level index some in
-        by (at o level index) entry.0 (own_entry (container_at pool.containers s) (at o level index).vvbn)
-        (sym (entry_is (at o level index).vvbn) ∙ sym (own_place (at o level index).vvbn) ∙ entry.1.0) entry.1.1
-        (ap (λ (t : Bool). cond t (held_block x.map pool s disk.reads (at o level index).vvbn) None) member ∙ ap (block_of pool.kept disk.reads) (held_own (at o level index).vvbn low member))
+        by (at o level index) entry.0 (chain_entry pool.containers s (at o level index).vvbn)
+        (sym (place_is (at o level index).vvbn low) ∙ entry.1.0) entry.1.1
+        (ap (λ (t : Bool). cond t (held_block x.map pool s disk.reads (at o level index).vvbn) None) member ∙ ap (block_of pool.kept disk.reads) (held_is (at o level index).vvbn low member))
         (use_is (at o level index).vvbn low member)
       where
         by : {kind : ℕ} (p : Pointer) (e : Placed) (o : Option Entry) → placed_in pool.kept disk.reads o ≡ Some e → IsLedEntry kind p e → blocks p.vvbn ≡ block_of pool.kept disk.reads o → uses p.vvbn ≡ Some (use_of o) → IsUsed kind p
@@ -321,13 +309,11 @@ unfolding layout_at
 in_view disk pool states long few parents loaded none m is whole x there labelled =
     let small : x.slot < 64 = is_inside states x.slot x long there in
     let alike : view_over pool states disk.reads ≡ view_at (root_found pool.found) disk.reads = viewed pool disk.reads states long few loaded none in
-    let base = form_base (head_in x) labelled.form in
     record {
       small = small;
       there = there;
-      base = base;
       known = form_known (head_in x) labelled.form;
-      alone = parents x.slot ∙ ap parent_in there ∙ alone_by x.base base;
+      parents = parents;
       span = labelled.span;
       numbers = numbers_at (root_found pool.found) disk.reads whole x.slot (head_in x) (ap (λ (v : View). v.head x.slot) (sym alike) ∙ head_there pool states disk.reads x.slot x there);
       slots = (labelled.slots, labelled.snapshots.slots);

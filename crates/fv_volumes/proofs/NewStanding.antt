@@ -43,7 +43,7 @@ use Rattle.fv_volume.specs.States.{empty_head, head_in, ledger_of_empty}
 use Rattle.fv_volume.proofs.KeptTables.{none_kept, none_told, snaps_none}
 use Rattle.fv_volume.proofs.Shared.{none_named, none_shared}
 use Rattle.fv_volumes.proofs.Made.{ledger_new}
-use Rattle.fv_volumes.proofs.Standings.{apart_alone}
+use Rattle.fv_volumes.proofs.Alone.{apart_alone}
 use Rattle.fv_volumes.proofs.Stepping.{none_in}
 
 -- a table whose root is a hole leads nowhere

@@ -13,7 +13,6 @@ use Rattle.fv_image.specs.Held.{AllKeep, Keeps}
 use Rattle.fv_image.specs.NewerRoot.{Taken}
 use Rattle.fv_image.specs.Reclaimed.{IsAllocatable}
 use Rattle.fv_image.specs.Views.{entry_count}
-use Rattle.fv_image.proofs.LoneTables.{form_base}
 use Rattle.fv_root.specs.declared.find.Found.{Found}
 use Rattle.fv_root.specs.Commits.{IsFoundOn}
 use Rattle.fv_root.specs.Finding.{IsFound}
@@ -34,9 +33,9 @@ use Rattle.fv_volume.specs.Files.{AreNamed, IsLabelled}
 use Rattle.fv_pool.specs.Lending.{GoesOver, IsOwn, MayTake, lent_by, lent_for}
 use Rattle.fv_volume.specs.Loading.{Houses, IsLoaded}
 use Rattle.fv_volume.specs.OneVolume.{home_in, IsReady, IsStanding}
-use Rattle.fv_volume.specs.Placing.{LiesApart, StaysBeside}
+use Rattle.fv_volume.specs.Placing.{LiesApart, StandTogether, StaysBeside}
 use Rattle.fv_volume.specs.Slots.{committed_by, sum_of}
-use Rattle.fv_volume.specs.States.{States, head_in, parent_in, state_at, with_state}
+use Rattle.fv_volume.specs.States.{States, parent_in, state_at, with_state}
 use Rattle.fv_volume.specs.Stored.{AreApartIn, AreSpacedIn, has_block, is_of}
 use Rattle.fv_volumes.specs.UnderRoot.{IsLentAt, IsLentSlot, IsMapOf}
 use Rattle.fv_volume.specs.Writing.{IsTaken, on_disk}
@@ -47,8 +46,8 @@ use Rattle.fv_volumes.proofs.Spacing.{spaced_next}
 use Rattle.fv_volumes.proofs.Told.{is_inside, none_some}
 use Rattle.fv_volume.specs.Held.{core_of, named_held, IsHeldIn, IsPlacedAs, IsReadyIn}
 use Rattle.fv_volumes.specs.Housed.{AreHoused}
-use Rattle.fv_volumes.proofs.Alone.{alone_by}
-use Rattle.fv_volumes.proofs.Others.{beside_flush}
+use Rattle.fv_volumes.proofs.Alone.{housed_alone}
+use Rattle.fv_volumes.proofs.Beside.{alone_together, beside_flush}
 use Rattle.fv_volumes.proofs.Owned.{apart_now, bits, from_free, leads_own, lies_well, tree_same}
 
 -- a container that is there
@@ -340,17 +339,18 @@ module _ (disk after : Shown) (pool left : Pool) (states stay : States) (x y : V
         (lent_again disk.reads pool.found k (state_at states k) (paged_at pool.containers k) (paged_at left.containers k) (over.others k differ) (clean_now k) (slots k low)))
         (cases_eq k s)))
 
+    -- the volumes stand together: none has a base
+    together : StandTogether pool x.map s states
+    together = alone_together disk pool states x.map s each (subst (λ (o : Option VolumeState). IfSome o (λ z. z.map ≡ x.map)) (sym there) refl) lies (housed_alone pool.containers states housed)
+      where
+        lies : (k : ℕ) (w : VolumeState) → k ≢ s → state_at states k ≡ Some w → LiesApart pool.containers k s
+        lies k w differ at v e own owned = spaced.apart k s e.pvbn (is_inside states k w housed.long at) inside differ
+            (own_has disk pool states housed slots k w at e.pvbn (record { vvbn = v; entry = e; stands = own; leads = refl }))
+            (own_has disk pool states housed slots s x there e.pvbn owned)
+
     -- another volume stays
     beside : (k : ℕ) (w : VolumeState) → k ≢ s → state_at states k ≡ Some w → IsHeldIn disk pool k w → StaysBeside disk pool after left w
-    beside k w differ at one = beside_flush disk after pool left x y.map placed.room placed.rest placed.goes w (λ same. differ (sym one.slot ∙ same)) alone lies one.stands
-      where
-        alone : parent_at pool.containers w.slot ≡ None
-        alone = housed.parents w.slot ∙ ap (λ (n : ℕ). parent_in (state_at states n)) one.slot ∙ ap parent_in at ∙ alone_by w.base (form_base (head_in w) one.ready.labelled.form)
-
-        lies : LiesApart pool.containers w.slot s
-        lies v e own owned = spaced.apart k s e.pvbn (is_inside states k w housed.long at) inside differ
-            (own_has disk pool states housed slots k w at e.pvbn (record { vvbn = v; entry = e; stands = ap (λ (n : ℕ). own_entry (container_at pool.containers n) v) (sym one.slot) ∙ own; leads = refl }))
-            (own_has disk pool states housed slots s x there e.pvbn owned)
+    beside k w differ at one = beside_flush disk after pool left x y.map placed.room placed.rest placed.goes states together w (ap (state_at states) one.slot ∙ at) (λ same. differ (sym one.slot ∙ same)) one.stands
 
     each_beside : (k : ℕ) → k ≢ s → (o : Option VolumeState) → state_at states k ≡ o → IfSome o (IsHeldIn disk pool k) → IfSome o (IsHeldIn after left k)
     each_beside k differ None at none = tt

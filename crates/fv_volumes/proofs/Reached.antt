@@ -9,9 +9,8 @@ use Rattle.fv_files.specs.Tables.{AreReached}
 use Rattle.fv_image.specs.Chains.{under}
 use Rattle.fv_image.specs.Views.{View}
 use Rattle.fv_image.specs.Volumes.{standing_of}
-use Rattle.fv_image.proofs.LoneTables.{form_base}
 use Rattle.fv_container.specs.Chains.{parent_at}
-use Rattle.fv_volmap.specs.Slots.{has, slot_at}
+use Rattle.fv_volmap.specs.Slots.{IsVolume, has, slot_at}
 use Rattle.fv_pool.specs.declared.pool.Pool.{Pool}
 use Rattle.fv_pool.specs.declared.rooted.Rooted.{Rooted}
 use Rattle.fv_volume.specs.declared.state.Snap.{Snap}
@@ -20,14 +19,15 @@ use Rattle.fv_volume.specs.Files.{IsLabelled}
 use Rattle.fv_volumes.specs.Housed.{ReachesAll, IsSeen}
 use Rattle.fv_volume.specs.OneVolume.{blocks_in, uses_in, IsKeptTable, IsStanding}
 use Rattle.fv_volume.specs.Placing.{IsLedTo}
-use Rattle.fv_volume.specs.States.{States, head_in, state_at, table_in, view_over}
+use Rattle.fv_volume.specs.States.{States, head_in, parent_in, state_at, table_in, view_over}
 use Rattle.fv_volume.proofs.EachRoot.{each_root, root_there}
 use Rattle.fv_volume.proofs.ActiveStands.{active_reach, active_reached}
-use Rattle.fv_volumes.proofs.Standings.{root_agrees, standing_state, standing_table}
+use Rattle.fv_volumes.proofs.Agreed.{root_agrees}
+use Rattle.fv_volumes.proofs.Standings.{standing_state, standing_table}
 
 -- ---- in a view
 
-module _ (disk : Disk) (pool : Pool) (states : States) (x : VolumeState) (there : state_at states x.slot ≡ Some x) (alone : parent_at pool.containers x.slot ≡ None) (base : (head_in x).base ≡ None) where
+module _ (disk : Disk) (pool : Pool) (states : States) (x : VolumeState) (there : state_at states x.slot ≡ Some x) (parents : (s : ℕ) → parent_at pool.containers s ≡ parent_in (state_at states s)) (whole : IsVolume x.map) (span : x.map.span ≡ x.span) where
   abbrev u : View
   u = view_over pool states disk.reads
 
@@ -38,7 +38,7 @@ module _ (disk : Disk) (pool : Pool) (states : States) (x : VolumeState) (there 
   root_reaches : (k : ℕ) (root : Rooted) → AreReached (blocks_in disk pool x k) (uses_in pool x k) root.levels root.root
       → ((v : ℕ) → has v (slot_at x.map k) ≡ is_listed (items (standing_at (blocks_in disk pool x k) root.levels root.root)) v) → Reaches k root
   root_reaches k root trees reach v =
-      reach v ∙ sym (ap (λ es. is_listed es v) (kept_items (blocks_in disk pool x k) (under u x.slot) root.levels root.root (root_agrees disk pool states x there alone base k root trees)))
+      reach v ∙ sym (ap (λ es. is_listed es v) (kept_items (blocks_in disk pool x k) (under u x.slot) root.levels root.root (root_agrees disk pool states parents x there whole span k root trees)))
 
   kept_reaches : (q : Snap) → IsKeptTable disk pool x q → Reaches q.slot q.table
   kept_reaches q kept = root_reaches q.slot q.table kept.1.trees kept.1.reach
@@ -51,11 +51,9 @@ module _ (disk : Disk) (pool : Pool) (states : States) (x : VolumeState) (there 
       k r (root_there (head_in x) k r at)
 
 -- So its view alone tells it.
-pub standing_seen : (disk : Disk) (pool : Pool) (x : VolumeState) → IsStanding disk pool x → x.files ≡ None → IsLabelled x.slot x → IsSeen disk pool x
-standing_seen disk pool x is none labelled = λ states there alone.
-    let base = form_base (head_in x) labelled.form in
-    record {
-      table = standing_table disk pool states x there alone base is none;
-      state = standing_state disk pool states x there alone base is none labelled;
-      reach = standing_reach disk pool states x there alone base is none;
-    }
+pub standing_seen : (disk : Disk) (pool : Pool) (x : VolumeState) → IsVolume x.map → IsStanding disk pool x → x.files ≡ None → IsLabelled x.slot x → IsSeen disk pool x
+standing_seen disk pool x whole is none labelled = λ states there parents. record {
+  table = standing_table disk pool states x there parents whole labelled.map is none;
+  state = standing_state disk pool states x there parents whole labelled.map is none labelled;
+  reach = standing_reach disk pool states x there parents whole labelled.map is none;
+}

@@ -1,7 +1,7 @@
 -- From a volume of a session's view to one volume with nothing of it in memory, and back.
-use Rattle.std.proofs.Common.{◌≡◌, ◌≢◌, ℕ, Bool, true, false, ◌&&◌, cond, List, [], ◌∷◌, Option, Some, None, is_some, inl, inr, refl, sym, ap, ap₂, subst, ◌∙◌, arith}
-use Rattle.std.specs.Prelude.{All, IsTrue, map, nat_le, nat_lt}
-use Rattle.std.specs.Option.{ForSome, option_map, option_map_or}
+use Rattle.std.proofs.Common.{◌≡◌, ◌≢◌, ℕ, Bool, true, false, ◌&&◌, List, [], ◌∷◌, Option, Some, None, is_some, inl, inr, refl, sym, ap, ap₂, subst, ◌∙◌, arith}
+use Rattle.std.specs.Prelude.{All, IsTrue, map, nat_le, nat_lt, slice_index_or}
+use Rattle.std.specs.Option.{option_map, option_map_or}
 use Rattle.std.specs.FinMap as fin
 use Rattle.std.proofs.lemmas.Bool.{and_parts}
 use Rattle.std.proofs.lemmas.Bool.Decides.{nat_tests}
@@ -34,68 +34,38 @@ use Rattle.fv_image.specs.Mapped.{stored_slots}
 use Rattle.fv_image.specs.ReachRules.{are_distinct}
 use Rattle.fv_image.specs.Seen.{roots_of, volume_seen}
 use Rattle.fv_image.specs.VolumeRules.{has_distinct_snapshots}
-use Rattle.fv_image.specs.Views.{Head, Placed, Rooted as Root, Snap, View}
+use Rattle.fv_image.specs.Views.{Head, Rooted as Root, Snap, View}
 use Rattle.fv_image.specs.Volumes.{base_from, snap_told, table_at, volume_with}
-use Rattle.fv_image.proofs.LoneTables.{no_parent, place_own}
+use Rattle.fv_image.proofs.LoneTables.{form_base}
 use Rattle.fv_image.proofs.SameSeen.{of_volume}
 use Rattle.fv_charge.specs.Ledgers.{IsLedgerOf}
-use Rattle.fv_container.specs.declared.entry.Entry.{Entry}
-use Rattle.fv_container.specs.Chains.{AreCleanOn, Slots, chain_entry, container_at, own_entry, parent_at}
-use Rattle.fv_volmap.specs.Slots.{Volume as Maps, active_of, has, slot_at, taken_in}
+use Rattle.fv_container.specs.Chains.{AreCleanOn, parent_at}
+use Rattle.fv_volmap.specs.Slots.{IsVolume, active_of, has, slot_at}
 use Rattle.fv_files.specs.Numbering.{AreNumbersIf}
 use Rattle.fv_pool.specs.declared.pool.Pool.{Pool}
-use Rattle.fv_pool.specs.declared.rooted.Rooted.{Rooted}
 use Rattle.fv_volume.specs.declared.state.Snap.{Snap as Kept}
 use Rattle.fv_volume.specs.declared.state.VolumeState.{VolumeState}
-use Rattle.fv_pool.specs.BlocksOver.{AreApart, IsKeptBack, OtherPlace, block_of, held_entry}
+use Rattle.fv_pool.specs.BlocksOver.{AreApart}
 use Rattle.fv_volume.specs.Files.{IsLabelled, IsState}
 use Rattle.fv_pool.specs.Tables.{standing_by, AreLaidBy, AreSoundBy, AreLedBy, AreStoredBy, trees_by}
-use Rattle.fv_volume.specs.OneVolume.{blocks_in, shows, snap_by, snaps_by, table_for, uses_in, volume_as, volume_for, IsKeptTable, IsStanding, RootStands}
+use Rattle.fv_volume.specs.OneVolume.{blocks_in, shows, snap_by, snaps_by, standing_kept, table_for, uses_in, volume_as, volume_for, IsKeptTable, IsStanding, RootStands}
 use Rattle.fv_volume.specs.Placing.{IsLedTo, IsStoredWell}
 use Rattle.fv_volume.specs.Sharing.{pointer_in, AreShared, SharesWith}
-use Rattle.fv_volume.specs.States.{States, head_in, placed_in, rooted_as, snap_in, state_at, table_in, view_over}
+use Rattle.fv_volume.specs.States.{States, head_in, parent_in, rooted_as, snap_in, state_at, table_in, view_over}
 use Rattle.fv_volume.specs.Trees.{active_in, no_trees}
 use Rattle.fv_volume.proofs.EachRoot.{all_among}
+use Rattle.fv_volumes.proofs.Agreed.{held_there, slot_there}
 use Rattle.fv_volumes.proofs.LoadedStored.{stands_indexes, stands_stored}
-use Rattle.fv_volumes.proofs.LoadedTables.{StandsInView, at as view_at, chain_own, here as view_here, led, led_is, stands_file, stands_inode, stands_led, stands_once, stands_reach, stands_reserves, stands_told, stands_well}
+use Rattle.fv_volumes.proofs.LoadedTables.{StandsInView, at as view_at, here as view_here, led, led_is, stands_file, stands_inode, stands_led, stands_once, stands_reach, stands_reserves, stands_told, stands_well}
 use Rattle.fv_pool.proofs.OverBlocks.{same_place, over_keeps, over_reached, over_stored}
 use Rattle.fv_volume.proofs.KeptSlots.{root_few}
 use Rattle.fv_volume.proofs.ActiveSlot.{active_has, active_uses}
 use Rattle.fv_volume.proofs.Ruled.{AreOneToOne}
 use Rattle.fv_volume.proofs.SharedRoots.{Places, roots_one, same_number, shares_alike, stored_place, stored_same}
-use Rattle.fv_pool.proofs.Shows.{get_held, use_none}
+use Rattle.fv_pool.proofs.Shows.{use_none}
 use Rattle.fv_volume.proofs.SnapNames.{names_in}
 use Rattle.fv_volume.proofs.SnapReads.{kept_by, slot_held}
 use Rattle.fv_volumes.proofs.Told.{head_there}
-
--- ---- the entries of a volume that stands on no other
-
-module _ (map : Maps) (slots : Slots) (slot : ℕ) (alone : parent_at slots slot ≡ None) where
-  -- a VVBN that is held has the volume's own entry
-  pub held_own : (v : ℕ) (e : Entry) → held_entry map slots slot v ≡ Some e → own_entry (container_at slots slot) v ≡ Some e
-  unfolding held_entry
-  held_own v e is = sym (chain_own slots slot v alone) ∙ by (nat_le v 1048575 && taken_in map.slots v) is
-    where
-      by : (b : Bool) → cond b (chain_entry slots slot v) None ≡ Some e → chain_entry slots slot v ≡ Some e
-      by true is = is
-      by false is = absurd cc
-
--- by its own entry alone, whatever other containers there are
-pub held_alone : (map : Maps) (slots others : Slots) (slot v : ℕ) → parent_at slots slot ≡ None → parent_at others slot ≡ None → own_entry (container_at slots slot) v ≡ own_entry (container_at others slot) v
-    → held_entry map slots slot v ≡ held_entry map others slot v
-unfolding held_entry
-held_alone map slots others slot v one other same =
-    ap (λ (o : Option Entry). cond (nat_le v 1048575 && taken_in map.slots v) o None) (chain_own slots slot v one ∙ same ∙ sym (chain_own others slot v other))
-
--- Where the next root holds the block of each entry, and no two lead to one, the entries of such a volume lie apart.
-pub apart_alone : (pool : Pool) (map : Maps) (slot : ℕ) → parent_at pool.containers slot ≡ None → ((v : ℕ) → ForSome (own_entry (container_at pool.containers slot) v) (IsKeptBack pool.map))
-    → ((v w : ℕ) → w ≢ v → ForSome (own_entry (container_at pool.containers slot) v) (λ e. ForSome (own_entry (container_at pool.containers slot) w) (OtherPlace e))) → AreApart pool map slot
-apart_alone pool map slot alone kept apart = record {
-  own = kept;
-  held = λ v e is. kept v e (held_own map pool.containers slot alone v e is);
-  own_apart = apart;
-  held_apart = λ v w other e is f held. apart v w other e is f (held_own map pool.containers slot alone w f held);
-}
 
 -- ---- the volume of a head
 
@@ -103,9 +73,35 @@ apart_alone pool map slot alone kept apart = record {
 pub active_is : (w : View) (s : ℕ) (h : Head) → w.head s ≡ Some h → active_in w no_trees s ≡ table_at w s h.active
 active_is w s h there = ap (λ (o : Option Head). option_map_or (λ h. table_at w s h.active) o empty_table) there
 
+-- ---- the volume of a view
+
+module _ (w : View) (s : ℕ) (blocks : ℕ → Under) where
+  -- where the view tells each snapshot's table as it lies over the blocks of its slot
+  abbrev TellsSnap : Kept → Type 0
+  TellsSnap q = table_at w s (table_in q.table) ≡ table_told (standing_kept blocks q)
+
+  snaps_told : (snaps : List Kept) → All TellsSnap snaps → map (snap_told w s) (map snap_in snaps) ≡ map (snap_by blocks) snaps
+  snaps_told [] all = refl
+  snaps_told (q ∷ qs) all = ap₂ (λ e es. e ∷ es) (ap (λ (t : Table). (q.name, t)) (All-head TellsSnap q qs all)) (snaps_told qs (All-tail TellsSnap q qs all))
+
+  -- it tells a volume without a base by any active table
+  volume_by_snaps : (x : VolumeState) → (head_in x).base ≡ None → All TellsSnap x.snapshots → (active : Table) → volume_with w s (head_in x) active ≡ volume_as x (record { active = active; snapshots = snaps_by blocks x.snapshots })
+  unfolding volume_with
+  volume_by_snaps x base all active = λ i. record {
+    kind = x.kind;
+    size = x.size;
+    most = x.most;
+    span = x.span;
+    now = x.now;
+    active = active;
+    snapshots = fin.from_entries {R = name_cmp} (snaps_told x.snapshots all i);
+    base = ap (base_from w) base i;
+    known = x.known;
+  }
+
 -- ---- to the view
 
-module _ (disk : Disk) (pool : Pool) (states : States) (x : VolumeState) (there : state_at states x.slot ≡ Some x) (alone : parent_at pool.containers x.slot ≡ None) (base : (head_in x).base ≡ None) where
+module _ (disk : Disk) (pool : Pool) (states : States) (x : VolumeState) (there : state_at states x.slot ≡ Some x) (parents : (s : ℕ) → parent_at pool.containers s ≡ parent_in (state_at states s)) (whole : IsVolume x.map) (span : x.map.span ≡ x.span) where
   abbrev u : View
   u = view_over pool states disk.reads
 
@@ -115,57 +111,14 @@ module _ (disk : Disk) (pool : Pool) (states : States) (x : VolumeState) (there 
   here : u.head x.slot ≡ Some (head_in x)
   here = head_there pool states disk.reads x.slot x there
 
-  entry_is : (v : ℕ) → u.entry x.slot v ≡ placed_in pool.kept disk.reads (own_entry (container_at pool.containers x.slot) v)
-  unfolding view_over
-  entry_is v = refl
-
   -- what is held has the same block in the view
-  held_there : (v : ℕ) → is_some (blocks_of shown v) ≡ true → under u x.slot v ≡ blocks_of shown v
-  unfolding under
-  held_there v some = by (held_entry x.map pool.containers x.slot v) refl
-    where
-      block : blocks_of shown v ≡ block_of pool.kept disk.reads (held_entry x.map pool.containers x.slot v)
-      block = get_held x.map pool x.slot disk.reads v
+  same_there : (v : ℕ) → is_some (blocks_of shown v) ≡ true → under u x.slot v ≡ blocks_of shown v
+  same_there = held_there disk pool states parents x there whole span
 
-      by : (o : Option Entry) → held_entry x.map pool.containers x.slot v ≡ o → under u x.slot v ≡ blocks_of shown v
-      by None e = let wrong : is_some (blocks_of shown v) ≡ false = ap is_some (block ∙ ap (block_of pool.kept disk.reads) e) in absurd cc
-      by (Some e) held =
-          let own : own_entry (container_at pool.containers x.slot) v ≡ Some e = held_own x.map pool.containers x.slot alone v e held in
-          ap (option_map (λ (p : Placed). p.block)) (place_own u x.slot v (no_parent u x.slot (head_in x) here base) ∙ entry_is v)
-          ∙ ap (λ (o : Option Entry). option_map (λ (p : Placed). p.block) (placed_in pool.kept disk.reads o)) own
-          ∙ sym (block ∙ ap (block_of pool.kept disk.reads) held)
-
-  -- and so has what a slot has
-  pub slot_there : (k v : ℕ) → is_some (blocks_in disk pool x k v) ≡ true → under u x.slot v ≡ blocks_in disk pool x k v
-  slot_there k v some = let same = slot_held disk pool x k v some in held_there v (ap is_some same ∙ some) ∙ same
-
-  -- So the view has what each root leads to.
-  pub root_agrees : (k : ℕ) (root : Rooted) → AreReached (blocks_in disk pool x k) (uses_in pool x k) root.levels root.root → AgreeOnTable (blocks_in disk pool x k) (under u x.slot) root.levels root.root
-  root_agrees k root reached = record {
-    inode = λ level place some. slot_there k (pointer_at (stored (blocks_in disk pool x k) greatest_word root.levels root.root) level place).vvbn (reached.inode.held level place some);
-    files = λ number r found level place some. slot_there k (pointer_at (stored (blocks_in disk pool x k) number r.levels r.root) level place).vvbn ((reached.files number r found).held level place some);
-  }
-
-  -- The tables of its snapshots are told as they lie in their slots,
-  snaps_seen : (snaps : List Kept) → All (IsKeptTable disk pool x) snaps → map (snap_told u x.slot) (map snap_in snaps) ≡ map (snap_by (blocks_in disk pool x)) snaps
-  snaps_seen [] all = refl
-  snaps_seen (q ∷ qs) all =
-      ap₂ (λ e es. e ∷ es) (ap (λ (t : Table). (q.name, t)) (kept_by disk pool x q (All-head (IsKeptTable disk pool x) q qs all) (under u x.slot) (slot_there q.slot))) (snaps_seen qs (All-tail (IsKeptTable disk pool x) q qs all))
-
-  -- and so is the volume by any active table.
-  pub seen_volume : All (IsKeptTable disk pool x) x.snapshots → (active : Table) → volume_with u x.slot (head_in x) active ≡ volume_as x (record { active = active; snapshots = snaps_by (blocks_in disk pool x) x.snapshots })
-  unfolding volume_with
-  seen_volume kept active = λ i. record {
-    kind = x.kind;
-    size = x.size;
-    most = x.most;
-    span = x.span;
-    now = x.now;
-    active = active;
-    snapshots = fin.from_entries {R = name_cmp} (snaps_seen x.snapshots kept i);
-    base = ap (base_from u) base i;
-    known = x.known;
-  }
+  -- The tables of its snapshots are told as they lie in their slots, and so is the volume by any active table.
+  pub seen_volume : (head_in x).base ≡ None → All (IsKeptTable disk pool x) x.snapshots → (active : Table) → volume_with u x.slot (head_in x) active ≡ volume_as x (record { active = active; snapshots = snaps_by (blocks_in disk pool x) x.snapshots })
+  seen_volume base kept = volume_by_snaps u x.slot (blocks_in disk pool x) x base
+      (λ n q lt. kept_by disk pool x (slice_index_or x.snapshots n q) (kept n q lt) (under u x.slot) (slot_there disk pool states parents x there whole span (slice_index_or x.snapshots n q).slot))
 
   -- ---- where nothing is in memory
 
@@ -175,8 +128,8 @@ module _ (disk : Disk) (pool : Pool) (states : States) (x : VolumeState) (there 
 
     pub agree : AgreeOnTable (blocks_of shown) (under u x.slot) x.active.levels x.active.root
     agree = record {
-      inode = λ level place some. held_there (pointer_at (stored (blocks_of shown) greatest_word x.active.levels x.active.root) level place).vvbn (standing_reached.inode.held level place some);
-      files = λ number r found level place some. held_there (pointer_at (stored (blocks_of shown) number r.levels r.root) level place).vvbn ((standing_reached.files number r found).held level place some);
+      inode = λ level place some. same_there (pointer_at (stored (blocks_of shown) greatest_word x.active.levels x.active.root) level place).vvbn (standing_reached.inode.held level place some);
+      files = λ number r found level place some. same_there (pointer_at (stored (blocks_of shown) number r.levels r.root) level place).vvbn ((standing_reached.files number r found).held level place some);
     }
 
     -- The view tells the table of the volume,
@@ -186,9 +139,9 @@ module _ (disk : Disk) (pool : Pool) (states : States) (x : VolumeState) (there 
         ∙ kept_table (blocks_of shown) (under u x.slot) x.active.levels x.active.root agree
         ∙ sym (ap (λ (o : Option Files). table_told (standing_by (blocks_of shown) x.active o)) none)
 
-    -- so the volume that it stands for.
-    pub standing_volume : volume_with u x.slot (head_in x) (active_in u no_trees x.slot) ≡ volume_for disk pool x
-    standing_volume = ap (volume_with u x.slot (head_in x)) standing_table ∙ seen_volume is.kept (table_for disk pool x)
+    -- so the volume that it stands for, where this has no base.
+    pub standing_volume : (head_in x).base ≡ None → volume_with u x.slot (head_in x) (active_in u no_trees x.slot) ≡ volume_for disk pool x
+    standing_volume base = ap (volume_with u x.slot (head_in x)) standing_table ∙ seen_volume base is.kept (table_for disk pool x)
 
     -- The volume is one of the machine that the view tells.
     pub standing_state : IsLabelled x.slot x → IsState u no_trees x.slot x
@@ -196,7 +149,7 @@ module _ (disk : Disk) (pool : Pool) (states : States) (x : VolumeState) (there 
       labelled = labelled;
       table = subst (IsWellTable x.now) (sym standing_table) is.table;
       reserves = subst HasNoReserve (sym standing_table) is.reserves;
-      ledger = subst (λ v. IsLedgerOf v x.ledger) (sym standing_volume) is.ledger;
+      ledger = subst (λ v. IsLedgerOf v x.ledger) (sym (standing_volume (form_base (head_in x) labelled.form))) is.ledger;
     }
 
 -- ---- from the view
@@ -319,9 +272,17 @@ module _ (disk : Disk) (pool : Pool) (states : States) (x : VolumeState) (is : S
       later : (n : ℕ) → nat_le 1 n ≡ true → n ≢ 0
       later n test = grind (arith, nat_tests, test)
 
+  -- the view tells its table,
+  snap_seen : (q : Kept) → In q x.snapshots → TellsSnap w x.slot (blocks_in disk pool x) q
+  snap_seen q there = sym (stands_told disk pool states x is q.slot (table_in q.table) (snap_root q there))
+
   -- The table of each snapshot lies whole in its slot.
   pub seen_kept : All (IsKeptTable disk pool x) x.snapshots
   seen_kept = all_among (IsKeptTable disk pool x) x.snapshots each_kept
+
+  -- So the view tells the volume by any active table, where it has no base.
+  seen_as : (head_in x).base ≡ None → (active : Table) → volume_with w x.slot (head_in x) active ≡ volume_as x (record { active = active; snapshots = snaps_by (blocks_in disk pool x) x.snapshots })
+  seen_as base = volume_by_snaps w x.slot (blocks_in disk pool x) x base (all_among (TellsSnap w x.slot (blocks_in disk pool x)) x.snapshots snap_seen)
 
   -- ---- its active table, over all blocks that it holds
 
@@ -380,7 +341,7 @@ module _ (disk : Disk) (pool : Pool) (states : States) (x : VolumeState) (is : S
           kept = seen_kept;
           names = seen_names;
           shared = subst (λ (o : Option Files). AreShared (trees_by (blocks_of source) x.active o) (blocks_in disk pool x) x.snapshots) (sym none) active_shared;
-          ledger = subst (λ v. IsLedgerOf v x.ledger) (ap (volume_with w x.slot (head_in x)) told ∙ seen_volume disk pool states x is.there is.alone is.base seen_kept (table_for disk pool x)) state.ledger;
+          ledger = subst (λ v. IsLedgerOf v x.ledger) (ap (volume_with w x.slot (head_in x)) told ∙ seen_as (form_base (head_in x) state.labelled.form) (table_for disk pool x)) state.ledger;
           trees = subst (AreSoundBy (blocks_of source) source.used x.active) (sym none) active_reached;
           laid = subst (AreLaidBy (blocks_of source)) (sym none) tt;
           numbers = numbered;

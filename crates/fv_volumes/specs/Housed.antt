@@ -1,5 +1,5 @@
 -- Volumes in memory that are in order, whatever the disk tells, and what they are once a consistency point wrote those that changed.
-use Rattle.std.specs.Prelude.{◌≡◌, ◌<◌, ◌≤◌, ℕ, false, List, Option, Some, None, IfSome, length, get_or, cond, replicate}
+use Rattle.std.specs.Prelude.{◌≡◌, ◌<◌, ◌≤◌, ℕ, false, List, Option, Some, IfSome, length, get_or, cond, replicate}
 use Rattle.std.specs.Option.{option_map}
 use Rattle.fv_disk.specs.Shown.{Shown as Disk}
 use Rattle.fv_tables.specs.Reached.{items, is_listed}
@@ -62,6 +62,6 @@ pub record IsSeenIn (disk : Disk) (pool : Pool) (states : States) (x : VolumeSta
   -- and each slot of its maps has what its root reaches, where what is in use is led to
   pub reach : IsLedTo disk pool x → ReachesAll (view_over pool states disk.reads) x.slot x
 
--- So does each view of a session in which it lies, where it has no base.
+-- So does each view of a session in which it lies, where the containers have in their chain the parents that the volumes stand on.
 abbrev pub IsSeen : Disk → Pool → VolumeState → Type 0
-IsSeen disk pool x = (states : States) → state_at states x.slot ≡ Some x → parent_at pool.containers x.slot ≡ None → IsSeenIn disk pool states x
+IsSeen disk pool x = (states : States) → state_at states x.slot ≡ Some x → ((s : ℕ) → parent_at pool.containers s ≡ parent_in (state_at states s)) → IsSeenIn disk pool states x

@@ -4,7 +4,7 @@ use Rattle.std.proofs.lemmas.List.{get_or-set_other}
 use Rattle.fv_container.specs.Mapped.{node_count}
 use Rattle.fv_container.specs.Written.{ArePlaced, HasTaken, is_there, may_move}
 use Rattle.fv_container.proofs.Taking.{some_left, taken_more, taken_none, taken_up}
-use Rattle.fv_container.proofs.Moving.{is_wanted, not_wanted, placed_anew, placed_more, placed_still, placed_up, wants_move}
+use Rattle.fv_container.proofs.Placing.{is_wanted, not_wanted, placed_anew, placed_more, placed_still, placed_up, wants_move}
 use Rattle.fv_container.proofs.places.take_places.Goals as goal
 use Rattle.fv_container.proofs.places.take_places.Goals.{then-stays, else-stays}
 

@@ -49,25 +49,25 @@ returns-in_err-flush-clause-fails g c =
 
 pub returns-in_err-prepare-clause-any_moment : goal.returns-in_err-prepare-clause-any_moment
 returns-in_err-prepare-clause-any_moment g c = λ tells before was known room.
-    let placed = placed_loaded (g.D.Disk.shown c.args.disk.now) (g.D.Disk.shown c.flush.new.disk) (g.D.Disk.shown c.prepare.new.disk) c.args.pool.now c.flush.new.pool c.prepare.new.pool c.args.volumes.now c.flush.new.volumes c.flush.ensures.placed c.prepare.ensures.loads c.prepare.ensures.only_reads c.prepare.ensures.stands c.known_slots.ensures in
+    let placed = placed_loaded (g.D.Disk.shown c.args.disk.now) (g.D.Disk.shown c.flush.new.disk) (g.D.Disk.shown c.prepare.new.disk) c.args.pool.now c.flush.new.pool c.prepare.new.pool c.args.volumes.now c.flush.new.volumes c.flush.ensures.placed c.prepare.ensures.loads c.prepare.ensures.only_reads c.prepare.ensures.stands in
     placing (g.D.Disk.shown c.args.disk.now) c.args.pool.now c.args.volumes.now (g.D.Disk.shown c.prepare.new.disk) c.prepare.new.pool c.flush.new.volumes placed (g.met.D.Disk.laws c.args.disk.now) before was
 
 pub returns-in_err-prepare-clause-still : goal.returns-in_err-prepare-clause-still
 returns-in_err-prepare-clause-still g c =
-    let placed = placed_loaded (g.D.Disk.shown c.args.disk.now) (g.D.Disk.shown c.flush.new.disk) (g.D.Disk.shown c.prepare.new.disk) c.args.pool.now c.flush.new.pool c.prepare.new.pool c.args.volumes.now c.flush.new.volumes c.flush.ensures.placed c.prepare.ensures.loads c.prepare.ensures.only_reads c.prepare.ensures.stands c.known_slots.ensures in
+    let placed = placed_loaded (g.D.Disk.shown c.args.disk.now) (g.D.Disk.shown c.flush.new.disk) (g.D.Disk.shown c.prepare.new.disk) c.args.pool.now c.flush.new.pool c.prepare.new.pool c.args.volumes.now c.flush.new.volumes c.flush.ensures.placed c.prepare.ensures.loads c.prepare.ensures.only_reads c.prepare.ensures.stands in
     let failed : c.from_residual-in_err-prepare.result ≡ Err (of_block c.in_err-prepare.field-0.0) = search rules in
     subst (λ (r : Result Unit VolumeFault). IfErr r (IsStill (g.D.Disk.shown c.args.disk.now) c.args.pool.now c.args.volumes.now (g.D.Disk.shown c.prepare.new.disk) c.prepare.new.pool c.flush.new.volumes)) (sym failed)
     (still_unprepared (g.D.Disk.shown c.args.disk.now) c.args.pool.now c.args.volumes.now (g.D.Disk.shown c.prepare.new.disk) c.prepare.new.pool c.flush.new.volumes placed
     (record {
       placed = placed;
       stands = c.prepare.ensures.stands;
-      ready = are_ready (g.D.Disk.shown c.flush.new.disk) (g.D.Disk.shown c.prepare.new.disk) c.flush.new.pool c.prepare.new.pool c.flush.new.volumes c.prepare.ensures.loads c.prepare.ensures.only_reads c.prepare.ensures.stands c.known_slots.ensures c.flush.ensures.placed.fit c.flush.ensures.ready;
+      ready = are_ready (g.D.Disk.shown c.flush.new.disk) (g.D.Disk.shown c.prepare.new.disk) c.flush.new.pool c.prepare.new.pool c.flush.new.volumes c.prepare.ensures.loads c.prepare.ensures.only_reads c.prepare.ensures.stands c.flush.ensures.placed.fit c.flush.ensures.ready;
     })
     c.in_err-prepare.field-0.0)
 
 pub returns-in_err-prepare-clause-counts : goal.returns-in_err-prepare-clause-counts
 returns-in_err-prepare-clause-counts g c =
-    let placed = placed_loaded (g.D.Disk.shown c.args.disk.now) (g.D.Disk.shown c.flush.new.disk) (g.D.Disk.shown c.prepare.new.disk) c.args.pool.now c.flush.new.pool c.prepare.new.pool c.args.volumes.now c.flush.new.volumes c.flush.ensures.placed c.prepare.ensures.loads c.prepare.ensures.only_reads c.prepare.ensures.stands c.known_slots.ensures in
+    let placed = placed_loaded (g.D.Disk.shown c.args.disk.now) (g.D.Disk.shown c.flush.new.disk) (g.D.Disk.shown c.prepare.new.disk) c.args.pool.now c.flush.new.pool c.prepare.new.pool c.args.volumes.now c.flush.new.volumes c.flush.ensures.placed c.prepare.ensures.loads c.prepare.ensures.only_reads c.prepare.ensures.stands in
     let failed : c.from_residual-in_err-prepare.result ≡ Err (of_block c.in_err-prepare.field-0.0) = search rules in
     subst (WholeCounts (g.D.Disk.shown c.args.disk.now) (g.D.Disk.shown c.prepare.new.disk)) (sym failed)
     (counts_unprepared (g.D.Disk.shown c.args.disk.now) c.args.pool.now c.args.volumes.now (g.D.Disk.shown c.prepare.new.disk) c.prepare.new.pool c.flush.new.volumes placed c.in_err-prepare.field-0.0
@@ -91,12 +91,12 @@ returns-in_err-prepare-clause-fails g c =
 
 pub consistency_point-requires-clause-found : goal.consistency_point-requires-clause-found
 consistency_point-requires-clause-found g c =
-    let placed = placed_loaded (g.D.Disk.shown c.args.disk.now) (g.D.Disk.shown c.flush.new.disk) (g.D.Disk.shown c.prepare.new.disk) c.args.pool.now c.flush.new.pool c.prepare.new.pool c.args.volumes.now c.flush.new.volumes c.flush.ensures.placed c.prepare.ensures.loads c.prepare.ensures.only_reads c.prepare.ensures.stands c.known_slots.ensures in
+    let placed = placed_loaded (g.D.Disk.shown c.args.disk.now) (g.D.Disk.shown c.flush.new.disk) (g.D.Disk.shown c.prepare.new.disk) c.args.pool.now c.flush.new.pool c.prepare.new.pool c.args.volumes.now c.flush.new.volumes c.flush.ensures.placed c.prepare.ensures.loads c.prepare.ensures.only_reads c.prepare.ensures.stands in
     found_mid (g.D.Disk.shown c.args.disk.now) c.args.pool.now c.args.volumes.now (g.D.Disk.shown c.prepare.new.disk) c.prepare.new.pool c.flush.new.volumes placed c.requires.found
 
 pub consistency_point-requires-clause-fit : goal.consistency_point-requires-clause-fit
 consistency_point-requires-clause-fit g c =
-    let placed = placed_loaded (g.D.Disk.shown c.args.disk.now) (g.D.Disk.shown c.flush.new.disk) (g.D.Disk.shown c.prepare.new.disk) c.args.pool.now c.flush.new.pool c.prepare.new.pool c.args.volumes.now c.flush.new.volumes c.flush.ensures.placed c.prepare.ensures.loads c.prepare.ensures.only_reads c.prepare.ensures.stands c.known_slots.ensures in
+    let placed = placed_loaded (g.D.Disk.shown c.args.disk.now) (g.D.Disk.shown c.flush.new.disk) (g.D.Disk.shown c.prepare.new.disk) c.args.pool.now c.flush.new.pool c.prepare.new.pool c.args.volumes.now c.flush.new.volumes c.flush.ensures.placed c.prepare.ensures.loads c.prepare.ensures.only_reads c.prepare.ensures.stands in
     placed.fit
 
 pub consistency_point-requires-clause-room : goal.consistency_point-requires-clause-room
@@ -104,7 +104,7 @@ consistency_point-requires-clause-room g c = subst (λ (m : Space). asked_marked
 
 pub returns-in_err-consistency_point-clause-any_moment : goal.returns-in_err-consistency_point-clause-any_moment
 returns-in_err-consistency_point-clause-any_moment g c = λ tells before was known room.
-    let placed = placed_loaded (g.D.Disk.shown c.args.disk.now) (g.D.Disk.shown c.flush.new.disk) (g.D.Disk.shown c.prepare.new.disk) c.args.pool.now c.flush.new.pool c.prepare.new.pool c.args.volumes.now c.flush.new.volumes c.flush.ensures.placed c.prepare.ensures.loads c.prepare.ensures.only_reads c.prepare.ensures.stands c.known_slots.ensures in
+    let placed = placed_loaded (g.D.Disk.shown c.args.disk.now) (g.D.Disk.shown c.flush.new.disk) (g.D.Disk.shown c.prepare.new.disk) c.args.pool.now c.flush.new.pool c.prepare.new.pool c.args.volumes.now c.flush.new.volumes c.flush.ensures.placed c.prepare.ensures.loads c.prepare.ensures.only_reads c.prepare.ensures.stands in
     let did = c.in_ok-flush.ensures in
     let sure : TellsEntries (g.D.Disk.shown c.flush.new.disk) c.flush.new.pool.containers = (
       subst IsTrue (sym did.placed.only_reads.stays.tells) tells,
@@ -118,14 +118,14 @@ returns-in_err-consistency_point-clause-any_moment g c = λ tells before was kno
 
 pub returns-in_err-consistency_point-clause-still : goal.returns-in_err-consistency_point-clause-still
 returns-in_err-consistency_point-clause-still g c =
-    let placed = placed_loaded (g.D.Disk.shown c.args.disk.now) (g.D.Disk.shown c.flush.new.disk) (g.D.Disk.shown c.prepare.new.disk) c.args.pool.now c.flush.new.pool c.prepare.new.pool c.args.volumes.now c.flush.new.volumes c.flush.ensures.placed c.prepare.ensures.loads c.prepare.ensures.only_reads c.prepare.ensures.stands c.known_slots.ensures in
+    let placed = placed_loaded (g.D.Disk.shown c.args.disk.now) (g.D.Disk.shown c.flush.new.disk) (g.D.Disk.shown c.prepare.new.disk) c.args.pool.now c.flush.new.pool c.prepare.new.pool c.args.volumes.now c.flush.new.volumes c.flush.ensures.placed c.prepare.ensures.loads c.prepare.ensures.only_reads c.prepare.ensures.stands in
     let failed : c.from_residual-in_err-consistency_point.result ≡ Err DiskFault = search rules in
     subst (λ (r : Result Unit VolumeFault). IfErr r (IsStill (g.D.Disk.shown c.args.disk.now) c.args.pool.now c.args.volumes.now (g.D.Disk.shown c.consistency_point.new.disk) c.consistency_point.new.pool c.consistency_point.new.volumes)) (sym failed)
     (inl (subst (λ (n : ℕ). Rose n (g.D.Disk.shown c.consistency_point.new.disk).write_faults) placed.only_reads.write_faults (failed_cause _ _ c.in_err-consistency_point.field-0.0 c.in_err-consistency_point.ensures.fault c.in_err-consistency_point.ensures.counts.write_cause)))
 
 pub returns-in_err-consistency_point-clause-counts : goal.returns-in_err-consistency_point-clause-counts
 returns-in_err-consistency_point-clause-counts g c =
-    let placed = placed_loaded (g.D.Disk.shown c.args.disk.now) (g.D.Disk.shown c.flush.new.disk) (g.D.Disk.shown c.prepare.new.disk) c.args.pool.now c.flush.new.pool c.prepare.new.pool c.args.volumes.now c.flush.new.volumes c.flush.ensures.placed c.prepare.ensures.loads c.prepare.ensures.only_reads c.prepare.ensures.stands c.known_slots.ensures in
+    let placed = placed_loaded (g.D.Disk.shown c.args.disk.now) (g.D.Disk.shown c.flush.new.disk) (g.D.Disk.shown c.prepare.new.disk) c.args.pool.now c.flush.new.pool c.prepare.new.pool c.args.volumes.now c.flush.new.volumes c.flush.ensures.placed c.prepare.ensures.loads c.prepare.ensures.only_reads c.prepare.ensures.stands in
     let failed : c.from_residual-in_err-consistency_point.result ≡ Err DiskFault = search rules in
     subst (WholeCounts (g.D.Disk.shown c.args.disk.now) (g.D.Disk.shown c.consistency_point.new.disk)) (sym failed)
     (counts_failed (g.D.Disk.shown c.args.disk.now) c.args.pool.now c.args.volumes.now (g.D.Disk.shown c.prepare.new.disk) c.prepare.new.pool c.flush.new.volumes placed (c.in_ok-prepare.ensures.cause ∙ c.in_ok-flush.ensures.cause) (g.D.Disk.shown c.consistency_point.new.disk)
@@ -143,7 +143,7 @@ returns-in_err-consistency_point-clause-fails g c =
 
 pub returns-clause-any_moment : goal.returns-clause-any_moment
 returns-clause-any_moment g c = λ tells before was known room.
-    let placed = placed_loaded (g.D.Disk.shown c.args.disk.now) (g.D.Disk.shown c.flush.new.disk) (g.D.Disk.shown c.prepare.new.disk) c.args.pool.now c.flush.new.pool c.prepare.new.pool c.args.volumes.now c.flush.new.volumes c.flush.ensures.placed c.prepare.ensures.loads c.prepare.ensures.only_reads c.prepare.ensures.stands c.known_slots.ensures in
+    let placed = placed_loaded (g.D.Disk.shown c.args.disk.now) (g.D.Disk.shown c.flush.new.disk) (g.D.Disk.shown c.prepare.new.disk) c.args.pool.now c.flush.new.pool c.prepare.new.pool c.args.volumes.now c.flush.new.volumes c.flush.ensures.placed c.prepare.ensures.loads c.prepare.ensures.only_reads c.prepare.ensures.stands in
     let did = c.in_ok-flush.ensures in
     let sure : TellsEntries (g.D.Disk.shown c.flush.new.disk) c.flush.new.pool.containers = (
       subst IsTrue (sym did.placed.only_reads.stays.tells) tells,
@@ -157,15 +157,15 @@ returns-clause-any_moment g c = λ tells before was known room.
 
 pub returns-clause-goes_on : goal.returns-clause-goes_on
 returns-clause-goes_on g c =
-    let placed = placed_loaded (g.D.Disk.shown c.args.disk.now) (g.D.Disk.shown c.flush.new.disk) (g.D.Disk.shown c.prepare.new.disk) c.args.pool.now c.flush.new.pool c.prepare.new.pool c.args.volumes.now c.flush.new.volumes c.flush.ensures.placed c.prepare.ensures.loads c.prepare.ensures.only_reads c.prepare.ensures.stands c.known_slots.ensures in
+    let placed = placed_loaded (g.D.Disk.shown c.args.disk.now) (g.D.Disk.shown c.flush.new.disk) (g.D.Disk.shown c.prepare.new.disk) c.args.pool.now c.flush.new.pool c.prepare.new.pool c.args.volumes.now c.flush.new.volumes c.flush.ensures.placed c.prepare.ensures.loads c.prepare.ensures.only_reads c.prepare.ensures.stands in
     let did = c.in_ok-flush.ensures in
     goes_whole (g.D.Disk.shown c.args.disk.now) c.args.pool.now c.args.volumes.now (g.D.Disk.shown c.prepare.new.disk) c.prepare.new.pool c.flush.new.volumes placed did.none did.whole c.requires.fit
-    (are_ready (g.D.Disk.shown c.flush.new.disk) (g.D.Disk.shown c.prepare.new.disk) c.flush.new.pool c.prepare.new.pool c.flush.new.volumes c.prepare.ensures.loads c.prepare.ensures.only_reads c.prepare.ensures.stands c.known_slots.ensures did.placed.fit did.ready)
+    (are_ready (g.D.Disk.shown c.flush.new.disk) (g.D.Disk.shown c.prepare.new.disk) c.flush.new.pool c.prepare.new.pool c.flush.new.volumes c.prepare.ensures.loads c.prepare.ensures.only_reads c.prepare.ensures.stands did.placed.fit did.ready)
     (g.D.Disk.shown c.consistency_point.new.disk) c.consistency_point.new.pool c.consistency_point.new.volumes c.in_ok-consistency_point.ensures.goes_on
 
 pub returns-clause-point : goal.returns-clause-point
 returns-clause-point g c = λ tells before was known room.
-    let placed = placed_loaded (g.D.Disk.shown c.args.disk.now) (g.D.Disk.shown c.flush.new.disk) (g.D.Disk.shown c.prepare.new.disk) c.args.pool.now c.flush.new.pool c.prepare.new.pool c.args.volumes.now c.flush.new.volumes c.flush.ensures.placed c.prepare.ensures.loads c.prepare.ensures.only_reads c.prepare.ensures.stands c.known_slots.ensures in
+    let placed = placed_loaded (g.D.Disk.shown c.args.disk.now) (g.D.Disk.shown c.flush.new.disk) (g.D.Disk.shown c.prepare.new.disk) c.args.pool.now c.flush.new.pool c.prepare.new.pool c.args.volumes.now c.flush.new.volumes c.flush.ensures.placed c.prepare.ensures.loads c.prepare.ensures.only_reads c.prepare.ensures.stands in
     let did = c.in_ok-flush.ensures in
     let sure : TellsEntries (g.D.Disk.shown c.flush.new.disk) c.flush.new.pool.containers = (
       subst IsTrue (sym did.placed.only_reads.stays.tells) tells,
@@ -178,11 +178,11 @@ returns-clause-point g c = λ tells before was known room.
     let told : IsTrue disk.tells = subst IsTrue (sym (c.consistency_point.ensures.counts.tells ∙ placed.only_reads.stays.tells)) tells in
     let whole : (b : ℕ) → length (disk.reads b) ≡ 4096 = λ b. (laws.blocks disk.moment disk.reads disk.given (laws.counts_now disk.moment disk.reads (omega arith) (laws.read_is_image told)) b).long in
     point_held (g.D.Disk.shown c.args.disk.now) c.args.pool.now c.args.volumes.now (g.D.Disk.shown c.prepare.new.disk) c.prepare.new.pool c.flush.new.volumes placed did.none did.whole c.requires.fit
-    (are_ready (g.D.Disk.shown c.flush.new.disk) (g.D.Disk.shown c.prepare.new.disk) c.flush.new.pool c.prepare.new.pool c.flush.new.volumes c.prepare.ensures.loads c.prepare.ensures.only_reads c.prepare.ensures.stands c.known_slots.ensures did.placed.fit did.ready)
+    (are_ready (g.D.Disk.shown c.flush.new.disk) (g.D.Disk.shown c.prepare.new.disk) c.flush.new.pool c.prepare.new.pool c.flush.new.volumes c.prepare.ensures.loads c.prepare.ensures.only_reads c.prepare.ensures.stands did.placed.fit did.ready)
     disk c.consistency_point.new.pool c.consistency_point.new.volumes c.in_ok-consistency_point.ensures.goes_on before was c.known_slots-2.ensures.containers tells c.consistency_point.ensures.counts.tells whole c.args.want c.args.delays.now c.consistency_point.new.delays known room
     (λ again lent can. c.in_ok-consistency_point.ensures.point (subst IsTrue (sym placed.only_reads.stays.tells) tells) again lent c.args.want c.args.delays.now can plans here)
 
 pub returns-clause-counts : goal.returns-clause-counts
 returns-clause-counts g c =
-    let placed = placed_loaded (g.D.Disk.shown c.args.disk.now) (g.D.Disk.shown c.flush.new.disk) (g.D.Disk.shown c.prepare.new.disk) c.args.pool.now c.flush.new.pool c.prepare.new.pool c.args.volumes.now c.flush.new.volumes c.flush.ensures.placed c.prepare.ensures.loads c.prepare.ensures.only_reads c.prepare.ensures.stands c.known_slots.ensures in
+    let placed = placed_loaded (g.D.Disk.shown c.args.disk.now) (g.D.Disk.shown c.flush.new.disk) (g.D.Disk.shown c.prepare.new.disk) c.args.pool.now c.flush.new.pool c.prepare.new.pool c.args.volumes.now c.flush.new.volumes c.flush.ensures.placed c.prepare.ensures.loads c.prepare.ensures.only_reads c.prepare.ensures.stands in
     counts_done (g.D.Disk.shown c.args.disk.now) c.args.pool.now c.args.volumes.now (g.D.Disk.shown c.prepare.new.disk) c.prepare.new.pool c.flush.new.volumes placed (c.in_ok-prepare.ensures.cause ∙ c.in_ok-flush.ensures.cause) (g.D.Disk.shown c.consistency_point.new.disk) c.in_ok-consistency_point.ensures.counts

@@ -75,7 +75,7 @@ returns-in_err-flush_slot-clause-lacks g c =
     let passed = c.loop-slot.invariant.passed in
     let failed : c.from_residual.result ≡ Err c.in_err-flush_slot.field-0.0 = search rules in
     subst (λ (r : Result Unit VolumeFault). IfErr r (FailsToPlace d c.args.pool.now c.args.volumes.now (g.D.Disk.shown c.flush_slot.new.disk))) (sym failed)
-    (lacks_place d c.args.pool.now c.args.volumes.now (g.D.Disk.shown c.loop-slot.disk) c.loop-slot.pool c.loop-slot.volumes passed.come c.known_slots.ensures c.loop-slot.slot passed.ahead passed.waits passed.first passed.done (g.D.Disk.shown c.flush_slot.new.disk)
+    (lacks_place d c.args.pool.now c.args.volumes.now (g.D.Disk.shown c.loop-slot.disk) c.loop-slot.pool c.loop-slot.volumes passed.come c.loop-slot.slot passed.ahead passed.waits passed.first passed.done (g.D.Disk.shown c.flush_slot.new.disk)
     (slot_reads (g.D.Disk.shown c.loop-slot.disk) c.loop-slot.pool c.loop-slot.volumes c.loop-slot.slot (g.D.Disk.shown c.flush_slot.new.disk) c.flush_slot.new.pool c.flush_slot.new.volumes c.flush_slot.ensures.placed (λ none. ap g.D.Disk.shown (c.flush_slot.ensures.idle none).1.1))
     c.in_err-flush_slot.field-0.0 c.in_err-flush_slot.ensures.fails)
 

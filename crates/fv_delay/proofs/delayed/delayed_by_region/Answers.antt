@@ -3,7 +3,8 @@ use Rattle.std.specs.Int.{from_bool}
 use Rattle.fv_image.specs.Containers.{fan}
 use Rattle.fv_container.specs.Paged.{is_known, is_sure}
 use Rattle.fv_delay.specs.Delay.{delayed_in, is_delayed}
-use Rattle.fv_delay.proofs.Parts.{byte_is, byte_most, count_more, inside_region, none_past, region_walked}
+use Rattle.fv_delay.proofs.Parts.{as_unmapped, byte_is, byte_most, count_more, inside_region, none_past, region_walked}
+use Rattle.fv_delay.proofs.delayed.delayed_by_region.Goals.{then-unmapped-eq0-via-then-unmapped-eq0, then-unmapped-eq0-via-else-unmapped-eq0+then-is_held_alone}
 use Rattle.fv_delay.proofs.delayed.delayed_by_region.Goals as goal
 
 pub is_delayed-requires-clause-known : goal.is_delayed-requires-clause-known
@@ -30,3 +31,12 @@ unfolding delayed_in
 returns c = λ sure.
     region_walked (is_delayed c.args.map.now c.args.container.now.map) c.args.region c.entry_count-entries.result (length c.args.container.now.map.entries) c.first_of-first.result c.end_of-end.result c.loop-vvbn.vvbn c.loop-vvbn.count
     (c.entry_count-entries.ensures.value ∙ sym c.requires.entries) (none_past c.args.map.now c.args.container.now.map) c.first_of-first.ensures c.end_of-end.ensures c.loop-vvbn.auto.vvbn-end c.loop-vvbn-test.false (c.loop-vvbn.invariant.0 sure)
+
+-- none is there, or the region's numbers are held just where the active map has them
+pub returns-then-unmapped-eq0 : goal.returns-then-unmapped-eq0
+returns-then-unmapped-eq0 c = elim c.then-unmapped-eq0.branch [
+  | then-unmapped-eq0-via-then-unmapped-eq0 w ↦ λ sure. let none : c.count_unmapped-unmapped.result ≡ 0 = w.if-unmapped-eq0.true in none ∙ sym (c.count_unmapped-unmapped.ensures.none sure none)
+  | then-unmapped-eq0-via-else-unmapped-eq0+then-is_held_alone w ↦ λ sure.
+      let entry : fan * c.args.region < length c.args.container.now.map.entries = omega (arith, c.requires.entries, w.is_held_alone.ensures.within w.if-is_held_alone.true) in
+      c.count_unmapped-unmapped.ensures.count sure entry ∙ as_unmapped c.args.map.now c.args.container.now.map c.args.region (w.is_held_alone.ensures.alone w.if-is_held_alone.true)
+]

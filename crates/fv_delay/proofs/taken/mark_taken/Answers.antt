@@ -1,28 +1,17 @@
 use Rattle.std.proofs.Common.{◌≡◌, ◌≢◌, ◌<◌, ◌≤◌, ◌||◌, ℕ, Bool, false, get_or, refl, sym, ap, ap₂, subst, ◌∙◌, ⊎_elim, arith}
 use Rattle.std.proofs.lemmas.Bool.{cases_eq, cases_lt}
-use Rattle.fv_delay.specs.ByThreshold.{behind, passed, taken_in, takes}
+use Rattle.fv_delay.specs.ByThreshold.{behind, passed, taken_in, takes_delayed}
 use Rattle.fv_delay.specs.Delay.{delayed_in}
 use Rattle.fv_delay.specs.Holding.{Holding, held_by}
-use Rattle.fv_delay.proofs.Skipping.{bare_taken, each_taken, front_skips, last_bare, next_bare, next_within}
-use Rattle.fv_delay.proofs.Walking.{behind_front, passed_none}
+use Rattle.fv_delay.proofs.Skipping.{bare_taken, front_skips, last_bare, next_bare, next_within}
+use Rattle.fv_delay.proofs.Walking.{behind_front}
 use Rattle.fv_delay.proofs.taken.mark_taken.Goals as goal
-
-pub mark_before-requires : goal.mark_before-requires
-mark_before-requires c = omega (arith, c.region_count.ensures, c.requires.entries, c.requires.long)
-
-pub returns-then-takes-clause-marked : goal.returns-then-takes-clause-marked
-returns-then-takes-clause-marked c = λ sure region within.
-    c.mark_before.ensures.marked region (omega (arith, within, c.region_count.ensures, c.requires.entries))
-    ∙ sym (ap (λ (t : Bool). t || get_or c.args.plan.now region false) (each_taken c.args.start (held_by c.args.map.now c.args.container.now.map) region (sym c.takes.ensures.taken ∙ c.if-takes.true)))
-
-pub returns-then-takes-clause-others : goal.returns-then-takes-clause-others
-returns-then-takes-clause-others c = λ k past. c.mark_before.ensures.others k (omega (arith, past, c.region_count.ensures, c.requires.entries))
 
 pub loop-region-init : goal.loop-region-init
 unfolding behind
 loop-region-init c = record {
   within = omega arith;
-  threshold = λ sure. c.takes.ensures.passed ∙ sym (passed_none c.args.start 0 refl);
+  threshold = λ sure. refl;
   long = refl;
   marked = λ sure k lt. absurd (omega (arith, lt));
   rest = λ k le. refl;
@@ -52,18 +41,18 @@ loop-region-preserved c =
       within = next_within c.args.container.now from r _ refl next;
       threshold = λ sure.
           let skips = front_skips 0 x from r next.after (next_bare c.args.map.now c.args.container.now from r sure next) in
-          c.takes-is_taken.ensures.passed ∙ ap₂ passed (was.threshold sure ∙ ap (behind c.args.start) (sym skips)) (c.delayed_by_region-count.ensures (sure r)) ∙ sym (behind_front c.args.start 0 x r);
+          c.takes_delayed-is_taken.ensures.passed ∙ ap₂ passed (was.threshold sure ∙ ap (behind c.args.start) (sym skips)) (c.delayed_by_region-count.ensures (sure r)) ∙ sym (behind_front c.args.start 0 x r);
       long = marks.long ∙ was.long;
       marked = λ sure k lt.
           let bare = next_bare c.args.map.now c.args.container.now from r sure next in
           let skips = front_skips 0 x from r next.after bare in
           ⊎_elim
           (λ (e : k ≡ r). subst (λ (n : ℕ). get_or c.mark.new.plan n false ≡ (taken_in c.args.start x n || get_or c.args.plan.now n false)) (sym e)
-          (marks.here ∙ ap₂ (λ (s t : Bool). s || t) (c.takes-is_taken.ensures.taken ∙ ap₂ takes (was.threshold sure ∙ ap (behind c.args.start) (sym skips)) (c.delayed_by_region-count.ensures (sure r))) (was.rest r next.after)))
+          (marks.here ∙ ap₂ (λ (s t : Bool). s || t) (c.takes_delayed-is_taken.ensures.taken ∙ ap₂ takes_delayed (was.threshold sure ∙ ap (behind c.args.start) (sym skips)) (c.delayed_by_region-count.ensures (sure r))) (was.rest r next.after)))
           (λ (ne : k ≢ r). marks.others k ne ∙ ⊎_elim
           (λ (low : k < from). was.marked sure k low)
           (λ (high : from ≤ k).
-          was.rest k high ∙ sym (ap (λ (t : Bool). t || get_or c.args.plan.now k false) (bare_taken c.args.start x k (sym c.takes.ensures.taken ∙ c.if-takes.false) (bare k high (omega (arith, lt, ne))))))
+          was.rest k high ∙ sym (ap (λ (t : Bool). t || get_or c.args.plan.now k false) (bare_taken c.args.start x k (bare k high (omega (arith, lt, ne))))))
           (cases_lt k from))
           (cases_eq k r);
       rest = λ k le. marks.others k (omega (arith, le)) ∙ was.rest k (omega (arith, le, next.after));
@@ -75,7 +64,7 @@ returns-clause-marked c = λ sure region within. ⊎_elim
     (λ (high : c.loop-region.from ≤ region).
     let x : Holding = held_by c.args.map.now c.args.container.now.map in
     let none : delayed_in x.map x.container region ≡ 0 = last_bare c.args.map.now c.args.container.now c.loop-region.from _ sure c.in_default.ensures.none region high within in
-    c.loop-region.invariant.rest region high ∙ sym (ap (λ (t : Bool). t || get_or c.args.plan.now region false) (bare_taken c.args.start x region (sym c.takes.ensures.taken ∙ c.if-takes.false) none)))
+    c.loop-region.invariant.rest region high ∙ sym (ap (λ (t : Bool). t || get_or c.args.plan.now region false) (bare_taken c.args.start x region none)))
     (cases_lt region c.loop-region.from)
 
 pub returns-clause-others : goal.returns-clause-others

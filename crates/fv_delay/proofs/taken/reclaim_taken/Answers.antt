@@ -6,7 +6,7 @@ use Rattle.fv_container.specs.Loading.{IsNextRegion}
 use Rattle.fv_container.specs.Paged.{Paged, is_here}
 use Rattle.fv_volmap.specs.Slots.{Volume}
 use Rattle.fv_delay.specs.declared.threshold.Threshold.{Threshold}
-use Rattle.fv_delay.specs.ByThreshold.{behind, taken_in, takes}
+use Rattle.fv_delay.specs.ByThreshold.{behind, taken_in, takes_delayed}
 use Rattle.fv_delay.specs.Delay.{IsSureIn, delayed_in}
 use Rattle.fv_delay.specs.Holding.{held_by}
 use Rattle.fv_delay.specs.Reclaims.{HasGivenSome, HasReclaimed, HasStayed}
@@ -39,7 +39,7 @@ pub overflow_add-from : goal.overflow_add-from
 overflow_add-from c = omega (arith, c.in-Some.ensures.next.within, c.loop-region.invariant.stayed.long, c.requires.entries, c.requires.span)
 
 pub reclaim-requires-clause-loaded : goal.reclaim-requires-clause-loaded
-reclaim-requires-clause-loaded c = λ some. and_second (takes c.loop-region.threshold c.delayed_by_region-count.result) (is_here c.loop-region.container c.in-Some.region) (sym c.takes_here.ensures.taken ∙ c.if-takes_here.true)
+reclaim-requires-clause-loaded c = λ some. and_second (takes_delayed c.loop-region.threshold c.delayed_by_region-count.result) (is_here c.loop-region.container c.in-Some.region) (sym c.takes_here.ensures.taken ∙ c.if-takes_here.true)
 
 pub loop-region-preserved : goal.loop-region-preserved
 loop-region-preserved c = record {
@@ -48,9 +48,9 @@ loop-region-preserved c = record {
       let was = asked_next map old start now c.loop-region.from r space between mid c.loop-region.is_left sure stays next (c.loop-region.invariant.asked sure here) in
       let sured : IsSureIn mid r = λ some. ap (λ (l : List Bool). get_or l r false) stays.sure ∙ sure r (subst (λ (n : ℕ). fan * r < n) stays.long some) in
       let counts : count ≡ delayed_in map mid.map r = c.delayed_by_region-count.ensures sured in
-      let is : c.takes_here.result ≡ takes now count = c.takes_here.ensures.taken ∙ and_so (takes now count) (is_here mid r) (λ on.
+      let is : c.takes_here.result ≡ takes_delayed now count = c.takes_here.ensures.taken ∙ and_so (takes_delayed now count) (is_here mid r) (λ on.
       ap (λ (l : List Bool). get_or l r false) stays.here ∙ here r (sym (asked_taken map old start now mid space between r count was.passed was.reclaimed counts) ∙ on) inside) in
-      let off : takes now count ≡ false → HasReclaimed map regions old space mid between = asked_off map old start now mid space between r count was.passed was.reclaimed counts in
+      let off : takes_delayed now count ≡ false → HasReclaimed map regions old space mid between = asked_off map old start now mid space between r count was.passed was.reclaimed counts in
       record {
         passed = c.takes_here.ensures.passed ∙ asked_passed map old start now mid space between r count was.passed was.reclaimed counts;
         reclaimed = elim c.if-takes_here.branch [

@@ -5,7 +5,7 @@ use Rattle.std.specs.Vec.{vec_capacity, with_items}
 use Rattle.std.proofs.lemmas.Bool.{and_parts, true≢false}
 use Rattle.std.proofs.lemmas.List.{length-replicate, with_items_is, places}
 use Rattle.fv_disk.specs.Shown.{Image}
-use Rattle.fv_codec.specs.Blocks.{greatest_kind, last_place}
+use Rattle.fv_codec.specs.Blocks.{last_place}
 use Rattle.fv_image.specs.Containers.{level_width}
 use Rattle.fv_container.specs.declared.entry.Entry.{Entry}
 use Rattle.fv_container.specs.Kept.{CanGrow}
@@ -68,8 +68,15 @@ occupied_is : (g : given.Over) (c : goal.After-of-told g) → c.in_ok-occupied.o
 occupied_is g c = search (rules, places)
 
 can_grow : (g : given.Over) (c : goal.After-of-told g)
-    → CanGrow c.args.entries (vec_capacity c.in_ok-leaves.leaves) (vec_capacity (with_items c.in_ok-tree.tree c.read_tree.new.places)) (vec_capacity c.in_ok-dirty.dirty) (vec_capacity c.in_ok-next.next) (vec_capacity c.in_ok-fresh.fresh)
-    (vec_capacity c.in_ok-known.known) (length c.in_ok-used.used) greatest_kind
+    → CanGrow c.args.entries (record {
+      leaves = vec_capacity c.in_ok-leaves.leaves;
+      tree = vec_capacity (with_items c.in_ok-tree.tree c.read_tree.new.places);
+      dirty = vec_capacity c.in_ok-dirty.dirty;
+      next = vec_capacity c.in_ok-next.next;
+      fresh = vec_capacity c.in_ok-fresh.fresh;
+      known = vec_capacity c.in_ok-known.known;
+      used = length c.in_ok-used.used;
+    })
 can_grow g c = record {
   leaves = search (rules, places);
   tree = search (rules, places);
@@ -78,7 +85,6 @@ can_grow g c = record {
   fresh = search (rules, places);
   known = search (rules, places);
   used = (let long = length-replicate {A = Bool} (grown c.args.entries) false in omega (arith, ap (λ (l : List Bool). length l) (used_is g c), long));
-  kinds = refl;
 }
 
 pub invariant_of-result : goal.invariant_of-result
@@ -87,6 +93,7 @@ invariant_of-result g c = (
       c.requires.few (told_is g c) (long g c) (low g c) (high g c) (dirty_is g c) (leaves_is g c) (wide g c) (absent g c) (c.of-told.ensures.1 ∙ c.deref-4.ensures.value) (used_is g c) (room g c).0 (room g c).1,
   can_grow g c,
   none_occupied c.args.entries (grown c.args.entries) (level_width (grown c.args.entries) 0) c.in_ok-used.used c.in_ok-occupied.occupied (omega arith) (used_is g c) (occupied_is g c),
+  refl,
 )
 
 pub returns-clause-opened : goal.returns-clause-opened

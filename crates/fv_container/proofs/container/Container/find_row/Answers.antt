@@ -2,7 +2,7 @@ use Rattle.std.proofs.Common.{◌≤◌, ◌+◌, length, sym, subst, ℕ}
 use Rattle.std.specs.Prelude.{OnOk, Result, Ok, Err}
 use Rattle.fv_disk.specs.declared.fault.BlockFault.{BlockFault}
 use Rattle.fv_container.specs.Finding.{AreAway}
-use Rattle.fv_container.proofs.Finding.{row_out, row_opened}
+use Rattle.fv_container.proofs.Found.{row_out, row_opened}
 use Rattle.fv_container.proofs.container.Container.find_row.Goals as goal
 
 -- what is said of a call that was done

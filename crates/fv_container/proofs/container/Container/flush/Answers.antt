@@ -68,6 +68,7 @@ invariant_of-self g c =
       },
       c.self.invariant.1,
       c.self.invariant.2,
+      c.self.invariant.3,
     )
 
 pub invariant_of-self-2 : goal.invariant_of-self-2
@@ -92,9 +93,9 @@ invariant_of-self-2 g c =
         fresh = c.self.invariant.1.fresh;
         known = c.self.invariant.1.known;
         used = c.self.invariant.1.used;
-        kinds = c.self.invariant.1.kinds;
       },
       c.self.invariant.2,
+      c.self.invariant.3,
     )
 
 pub returns-clause-valid : goal.returns-clause-valid

@@ -30,6 +30,7 @@ invariant_of-self g c =
     let comes = comes_held k c.in_ok-held.held c.in_ok-leaf.leaf olds low c.in_ok-held.ensures.value c.in_ok-leaf.ensures.well c.self.invariant.0.well in (
       kept_after c.self.inside.told.entries c.of-self-inside.result.entries c.self.inside.tree.items c.self.inside.dirty.items olds (slice_set olds k (Some c.in_ok-held.held)) c.self.inside.known.items (slice_set c.self.inside.known.items k true) c.self.inside.told.sure c.of-self-inside.result.sure c.self.inside.used c.learn_in.new.used c.self.inside.next.items c.self.inside.fresh.items c.self.inside.count k c.in_ok-leaf.leaf
           c.self.invariant.0 inside comes c.learn_in.ensures c.of-self-inside.ensures.0 refl (search (rules, places)),
-      record { leaves = c.self.invariant.1.leaves; tree = c.self.invariant.1.tree; dirty = c.self.invariant.1.dirty; next = c.self.invariant.1.next; fresh = c.self.invariant.1.fresh; known = c.self.invariant.1.known; used = omega (arith, c.learn_in.ensures.long, c.self.invariant.1.used); kinds = c.self.invariant.1.kinds },
+      record { leaves = c.self.invariant.1.leaves; tree = c.self.invariant.1.tree; dirty = c.self.invariant.1.dirty; next = c.self.invariant.1.next; fresh = c.self.invariant.1.fresh; known = c.self.invariant.1.known; used = omega (arith, c.learn_in.ensures.long, c.self.invariant.1.used) },
       occupied_after c.self.inside.count k c.self.inside.used c.learn_in.new.used c.self.inside.occupied c.occupy.new.occupied c.self.invariant.2 (reached c.args.self.now c.self.inside.told.entries c.self.inside.tree.items c.self.inside.dirty.items c.self.inside.leaves.items c.self.inside.known.items c.self.inside.told.sure c.self.inside.used c.self.inside.next.items c.self.inside.fresh.items c.self.inside.count k c.self.view_is c.self.invariant.0 c.requires.within) c.learn_in.ensures.others c.occupy.ensures,
+      c.self.invariant.3,
     )

@@ -26,9 +26,9 @@ invariant_of-result c =
         fresh = search (rules, places);
         known = search (rules, places);
         used = (let long = length-replicate {A = Bool} (grown n) false in omega (arith, ap (λ (l : List Bool). length l) used, long));
-        kinds = refl;
       },
       none_occupied n (grown n) (level_width (grown n) 0) c.in_ok-used.used c.in_ok-occupied.occupied (omega arith) used (search (rules, places)),
+      refl,
     )
 
 pub returns : goal.returns

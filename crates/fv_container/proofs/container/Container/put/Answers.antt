@@ -17,8 +17,9 @@ invariant_of-self c =
           c.self.inside.known.items c.self.inside.told.sure c.of-self-inside.result.sure c.self.inside.used c.put_bit.new.used c.self.inside.next.items c.self.inside.fresh.items c.self.inside.count c.args.vvbn c.args.entry c.put_in-changed.result c.is_some.result
           c.self.view_is c.self.invariant.0 c.requires.within c.requires.entry c.requires.loaded c.deref_mut.ensures.value back c.put_in-changed.ensures.puts c.put_in-changed.ensures.well c.put_in-changed.ensures.len
           c.of-self-inside.ensures.0 c.of-self-inside.ensures.1 (search (rules, places)) c.put_bit.ensures c.deref_mut-2.ensures.value marked c.mark_changed.ensures c.put_in-changed.ensures.other c.put_in-changed.ensures.same,
-      record { leaves = c.self.invariant.1.leaves; tree = c.self.invariant.1.tree; dirty = c.self.invariant.1.dirty; next = c.self.invariant.1.next; fresh = c.self.invariant.1.fresh; known = c.self.invariant.1.known; used = omega (arith, ap (λ (l : List Bool). length l) c.put_bit.ensures, length-set c.self.inside.used c.args.vvbn c.is_some.result, c.self.invariant.1.used); kinds = c.self.invariant.1.kinds },
+      record { leaves = c.self.invariant.1.leaves; tree = c.self.invariant.1.tree; dirty = c.self.invariant.1.dirty; next = c.self.invariant.1.next; fresh = c.self.invariant.1.fresh; known = c.self.invariant.1.known; used = omega (arith, ap (λ (l : List Bool). length l) c.put_bit.ensures, length-set c.self.inside.used c.args.vvbn c.is_some.result, c.self.invariant.1.used) },
       occupied_put c.self.inside.count c.args.vvbn c.is_some.result c.self.inside.used c.put_bit.new.used c.self.inside.occupied c.occupy.new.occupied c.self.invariant.2 (below c.args.self.now c.self.inside.told.entries c.self.inside.tree.items c.self.inside.dirty.items c.self.inside.leaves.items c.self.inside.known.items c.self.inside.told.sure c.self.inside.used c.self.inside.next.items c.self.inside.fresh.items c.self.inside.count c.args.vvbn c.self.view_is c.self.invariant.0 c.requires.within) c.put_bit.ensures c.occupy.ensures,
+      c.self.invariant.3,
     )
 
 pub returns : goal.returns
