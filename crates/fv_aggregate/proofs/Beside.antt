@@ -15,7 +15,7 @@ use Rattle.fv_model.specs.declared.answers.Refusal.{Refusal}
 use Rattle.fv_model.specs.declared.commands.Kind.{Kind}
 use Rattle.fv_model.specs.declared.commands.Command.TheVariants.{VolCreate}
 use Rattle.fv_model.specs.Machines.{Machine, capacity}
-use Rattle.fv_model.specs.Space.{span_of}
+use Rattle.fv_model.specs.Space.{span_of, base_ids}
 use Rattle.fv_model.specs.Spelling.{is_same_name, name_cmp}
 use Rattle.fv_model.specs.Volumes.{Volume}
 use Rattle.fv_model.specs.Effects.{change_of, effect, empty_volume}
@@ -44,6 +44,7 @@ use Rattle.fv_volumes.specs.Creating.{Admits, IsMade, IsNew, new_ledger_of, with
 use Rattle.fv_volume.specs.Files.{AreNamed, IsLabelled, IsOneMap}
 use Rattle.fv_volume.proofs.MapSlots.{one_empty}
 use Rattle.fv_volume.proofs.StayingMaps.{moves_alone}
+use Rattle.fv_volume.proofs.TablesOf.{no_footing}
 use Rattle.fv_volumes.specs.Housed.{AreHoused}
 use Rattle.fv_volume.specs.OneVolume.{shows, volume_for, IsReady}
 use Rattle.fv_pool.specs.Tables.{AreLedBy}
@@ -64,6 +65,8 @@ use Rattle.fv_cp.specs.Placing.{AreReady, HaveNoFiles, IsReadyIn}
 use Rattle.fv_volumes.proofs.Alone.{housed_alone}
 use Rattle.fv_aggregate.proofs.Admitting.{accepted_held}
 use Rattle.fv_aggregate.proofs.HeldMachine.{at_name, one}
+use Rattle.std.specs.FinSet as set
+use Rattle.fv_model.specs.Places.{Id, id_cmp}
 
 -- ---- a container of holes
 
@@ -201,7 +204,7 @@ module _ (disk : Shown) (pool : Pool) (states : States) (slot : ℕ) (name : Lis
 
       -- no volume stands on the new one: none has a base
       stays_old : StaysBeside disk pool disk after y
-      stays_old = beside_off disk disk pool after states slot (alone_off pool.containers slot states (housed_alone pool.containers states fit.housed)) container_elsewhere (λ k off. get_or-set_other pool.containers.parents slot k None None off) refl refl
+      stays_old = beside_off disk disk pool after states slot (alone_off pool.containers slot states (λ k z here. housed_alone pool.containers states fit.housed k z here (mine k z here).bare)) container_elsewhere (λ k off. get_or-set_other pool.containers.parents slot k None None off) refl refl
           y (ap (state_at states) was.slot ∙ there) (λ e. other (sym was.slot ∙ e)) (λ k v z e off here own. refl) next clean_now was.stands
         where
           next : (k v : ℕ) (z : VolumeState) (e : Entry) → k ≢ slot → state_at states k ≡ Some z → own_entry (container_at pool.containers k) v ≡ Some e → is_member pool.map.next e.pvbn ≡ true
@@ -217,7 +220,8 @@ module _ (disk : Shown) (pool : Pool) (states : States) (slot : ℕ) (name : Lis
         stands = stays_old.standing;
         led = stays_old.led was.led;
         well = stays_old.well was.well;
-        wide = was.wide;
+        bare = was.bare;
+        wide = subst (λ (v : Volume). v.most + (set.len (base_ids v.base) + 256) ≤ v.span) (sym stays_old.volume) was.wide;
         within = was.within;
       }
 
@@ -235,14 +239,18 @@ module _ (disk : Shown) (pool : Pool) (states : States) (slot : ℕ) (name : Lis
         unused u true e = absurd (true≢false e)
         unused u false e = refl
 
+    bare_new : x.base ≡ None
+    bare_new = no_footing x.base (ap (λ (h : Head). h.base) is.head)
+
     held_new : IsHeldIn disk after slot x
     held_new = record {
       slot = here.slot_is;
       ready = ready_new stands;
-      stands = made_standing disk after x size kind head_own is.ledger is.files is.numbers (entry_count x.span) tells clean_now (ap (container_at after.containers) here.slot_is ∙ holes) (ap (parent_at after.containers) here.slot_is ∙ housed_alone after.containers new housed slot x is.state_is);
+      stands = made_standing disk after x size kind head_own is.ledger is.files is.numbers (entry_count x.span) tells clean_now (ap (container_at after.containers) here.slot_is ∙ holes) (ap (parent_at after.containers) here.slot_is ∙ housed_alone after.containers new housed slot x is.state_is bare_new);
       led = led_new;
       well = made_well disk after x size kind head_own is.ledger is.files;
-      wide = subst (λ (h : Head). h.most + 256 ≤ h.span) (sym is.head) (omega arith);
+      bare = bare_new;
+      wide = subst (λ (v : Volume). v.most + (set.len (base_ids v.base) + 256) ≤ v.span) (sym (made_volume disk after x size kind head_own is.ledger is.files)) (let none : set.len (set.empty {K = Id} {R = id_cmp}) ≡ 0 = set.len-empty id_cmp in omega (arith, none));
       within = (let none : x.ledger.charge ≡ 0 = ap (λ (l : Ledger). l.charge) is.ledger in omega (arith, none));
     }
 

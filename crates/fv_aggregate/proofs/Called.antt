@@ -17,17 +17,21 @@ use Rattle.fv_volume.specs.declared.state.VolumeState.{VolumeState}
 use Rattle.fv_pool.specs.Calls.{GivesUp, Reads}
 use Rattle.fv_volume.specs.Files.{AreNamed}
 use Rattle.fv_volume.specs.Loading.{IsLoaded}
-use Rattle.fv_volume.specs.OneVolume.{IsReady, IsStanding}
+use Rattle.fv_volume.specs.OneVolume.{IsReady, IsStanding, base_by, blocks_in}
 use Rattle.fv_volume.specs.Placing.{IsLedTo, IsStoredWell}
 use Rattle.fv_volume.specs.Slots.{sum_of}
 use Rattle.fv_volume.specs.States.{States, state_at, with_state}
 use Rattle.fv_volume.specs.Stored.{AreSpacedIn, is_of}
 use Rattle.fv_volumes.specs.UnderRoot.{IsLentAt, IsMapOf}
-use Rattle.fv_volume.proofs.OneVolumes.{still_ready, still_standing}
+use Rattle.fv_volume.proofs.OneVolumes.{still_ready, still_standing, still_volume}
 use Rattle.fv_volumes.proofs.StandingMaps.{maps_still}
 use Rattle.fv_volume.proofs.OneVolumes.{still_led, still_well}
 use Rattle.fv_cp.specs.Held.{IsHeld, IsHeldIn}
 use Rattle.fv_aggregate.proofs.Replaced.{each_slot, lent_as, named_as, spaced_as}
+use Rattle.std.specs.FinSet as set
+use Rattle.fv_model.specs.Space.{base_ids}
+use Rattle.fv_model.specs.Volumes.{Volume}
+use Rattle.fv_volume.specs.declared.state.Base.{Base}
 
 -- What a call that changes a volume's files in memory leaves of it. Unmarked it is as it was, but for the numbers of its files.
 pub record IsCalled (disk : Shown) (pool : Pool) (x y : VolumeState) : Type 0 where
@@ -53,7 +57,8 @@ module _ (d e : Shown) (p q : Pool) (reads : Reads d p e q) where
     stands = still_standing d e p q reads w is.stands;
     led = still_led d e p q reads w is.led;
     well = still_well d e p q reads w is.well;
-    wide = is.wide;
+    bare = is.bare;
+    wide = subst (λ (v : Volume). v.most + (set.len (base_ids v.base) + 256) ≤ v.span) (sym (still_volume d e p q reads w)) is.wide;
     within = is.within;
   }
 
@@ -95,7 +100,10 @@ module _ (d e : Shown) (p q : Pool) (reads : Reads d p e q) where
       stands = called.stands;
       led = called.led;
       well = called.well;
-      wide = subst (λ (z : VolumeState). z.most + 256 ≤ z.span) (sym called.same) mine.wide;
+      bare = ap (λ (z : VolumeState). z.base) called.same ∙ mine.bare;
+      wide = subst (λ (z : VolumeState). z.most + (set.len (base_ids (base_by (blocks_in e q y) z.base)) + 256) ≤ z.span) (sym called.same)
+          (subst (λ (o : Option Base). x.most + (set.len (base_ids (base_by (blocks_in e q y) o)) + 256) ≤ x.span) (sym mine.bare)
+          (subst (λ (o : Option Base). x.most + (set.len (base_ids (base_by (blocks_in d p x) o)) + 256) ≤ x.span) mine.bare mine.wide));
       within = called.within;
     }
 

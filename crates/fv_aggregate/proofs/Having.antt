@@ -20,7 +20,7 @@ use Rattle.fv_aggregate.proofs.HeldMachine.{blocks_are, commits_are, is_there, n
 module _ (disk : Shown) (pool : Pool) (states : States) (long : length states ≡ 64) (last : Machine) (held : IsHeld disk pool states last) where
   -- a slot without a volume holds nothing
   abbrev no_content : Content
-  no_content = record { active = empty_table; snapshots = fin.empty }
+  no_content = record { active = empty_table; snapshots = fin.empty; base = empty_table }
 
   -- what the volume of each slot holds
   abbrev pub contents : ℕ → Content

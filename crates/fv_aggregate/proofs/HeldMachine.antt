@@ -17,9 +17,9 @@ use Rattle.fv_laws.proofs.Commits.{commit_at}
 use Rattle.fv_image.specs.Views.{slots}
 use Rattle.fv_pool.specs.declared.pool.Pool.{Pool}
 use Rattle.fv_volume.specs.declared.state.VolumeState.{VolumeState}
-use Rattle.fv_volume.specs.OneVolume.{volume_for}
+use Rattle.fv_volume.specs.OneVolume.{base_by, blocks_in, volume_for}
 use Rattle.fv_volume.specs.Slots.{is_named, sum_of, NoneHasName}
-use Rattle.fv_volume.specs.States.{States, state_at}
+use Rattle.fv_volume.specs.States.{AreBare, States, state_at}
 use Rattle.fv_volumes.proofs.Made.{to_pair}
 use Rattle.fv_volumes.proofs.Told.{distinct_from, named_at, named_from, none_named, some_named, summed, summed_states, AreDistinct, Named}
 use Rattle.fv_cp.specs.Held.{machine_held, named_held, IsHeld, IsHeldIn}
@@ -109,10 +109,6 @@ module _ (disk : Shown) (pool : Pool) (states : States) (long : length states �
   pub not_there : (name : List ℕ) → NoneHasName states name → fin.get m.volumes name ≡ None
   not_there name no_name = at_name name ∙ none_named meant states 0 name (λ s lt. no_name.none s (omega (arith, lt, long)))
 
-  -- no volume of it has a base
-  pub bare : (name : List ℕ) (v : Volume) → fin.get m.volumes name ≡ Some v → v.base ≡ None
-  bare name v at = let r = found_back meant states 0 name v (sym (at_name name) ∙ at) in ap (λ (w : Volume). w.base) (sym r.1.1.1)
-
   module _ (before : Machine) (held : IsHeld disk pool states before) where
     pub distinct : AreDistinct (named_from meant 0 states)
     distinct = distinct_from meant states 0 (λ e s x y lt here there. unless (is_same_name y.name x.name)
@@ -124,6 +120,19 @@ module _ (disk : Shown) (pool : Pool) (states : States) (long : length states �
 
     pub one : (s : ℕ) (x : VolumeState) → state_at states s ≡ Some x → IsHeldIn disk pool s x
     one s x there = subst (λ (o : Option VolumeState). IfSome o (IsHeldIn disk pool s)) there (held.each s)
+
+    -- no volume of it has a base
+    pub bare : (name : List ℕ) (v : Volume) → fin.get m.volumes name ≡ Some v → v.base ≡ None
+    bare name v at =
+        let r = found_back meant states 0 name v (sym (at_name name) ∙ at) in
+        ap (λ (w : Volume). w.base) (sym r.1.1.1) ∙ ap (base_by (blocks_in disk pool r.1.0)) (one r.0 r.1.0 r.1.1.0).bare
+
+    pub are_bare : AreBare states
+    are_bare s = by (state_at states s) (held.each s)
+      where
+        by : (o : Option VolumeState) → IfSome o (IsHeldIn disk pool s) → IfSome o (λ x. x.base ≡ None)
+        by None is = tt
+        by (Some x) is = is.bare
 
     -- a volume of a slot is the machine's with its name
     pub is_there : (s : ℕ) (x : VolumeState) → state_at states s ≡ Some x → fin.get m.volumes x.name ≡ Some (volume_for disk pool x)

@@ -59,6 +59,7 @@ use Rattle.fv_aggregate.proofs.Managed.{after_built, replies_built}
 use Rattle.fv_aggregate.proofs.Missing.{refused_allows, refused_next}
 use Rattle.fv_aggregate.proofs.Removing.{asked_without, files_without, stands_for_without, stands_without}
 use Rattle.fv_aggregate.proofs.Returned.{as_told}
+use Rattle.fv_aggregate.proofs.HeldMachine.{are_bare}
 
 -- What a removal does, by its answer.
 pub record IsDropped {D : Type 0} (d : Shown) (at : D) (s : Session) (name : List ℕ) (e : Shown) (left : D) (n : Session) (r : Result Reply Fault) : Type 0 where
@@ -93,7 +94,7 @@ module _ {D : Type 0} (d e : Shown) (laws : IsDisk d) (at left : D) (s : Session
   -- what the machine says of it
   said : (r : Result Unit VolumeFault) → Destroys d s.volumes s.pool name new pool r → (last m : Machine) → StandsFor d s last m → IsSaid (refusal m removal) r
   said r did last m is = subst (λ (k : Machine). IsSaid (refusal k removal) r) is.machine
-      (did.agrees (contents d s.pool s.volumes fit.housed.long last is.held) s.pool.found.blocks (machine_held d s.pool s.volumes) (has_volumes d s.pool s.volumes fit.housed.long last is.held))
+      (did.agrees (are_bare d s.pool s.volumes fit.housed.long last is.held) (contents d s.pool s.volumes fit.housed.long last is.held) s.pool.found.blocks (machine_held d s.pool s.volumes) (has_volumes d s.pool s.volumes fit.housed.long last is.held))
 
   -- ---- it is gone
 

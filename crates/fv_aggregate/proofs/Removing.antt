@@ -46,7 +46,7 @@ use Rattle.fv_aggregate.specs.Standing.{overhead_by, taken_since, IsWithoutFiles
 use Rattle.fv_aggregate.proofs.Clear.{clear_stays}
 use Rattle.fv_aggregate.specs.Parts.{silent, AreSet}
 use Rattle.fv_aggregate.proofs.Calls.{reads_itself}
-use Rattle.fv_aggregate.proofs.HeldMachine.{at_name, not_there, one}
+use Rattle.fv_aggregate.proofs.HeldMachine.{at_name, not_there, one, are_bare}
 use Rattle.fv_aggregate.proofs.Looked.{fit_read, ready_read}
 use Rattle.fv_aggregate.proofs.Ready.{stands_silent}
 use Rattle.fv_aggregate.proofs.Standing.{known_still}
@@ -147,7 +147,7 @@ module _ (disk : Shown) (pool : Pool) (states : States) (fit : FitTogether pool 
       beside : (k : ℕ) (y : VolumeState) → k ≢ is.slot → state_at states k ≡ Some y → volume_for after left y ≡ volume_for disk pool y
       beside k y differ at =
           let its = mine k y at in
-          beside_volume disk pool states fit.housed held.slots held.spaced is.slot is.state is.map is.there is.lies new left its_gone after reads stands y
+          beside_volume disk pool states fit.housed held.slots held.spaced is.slot is.state is.map is.there is.lies new left its_gone after reads stands (are_bare disk pool states fit.housed.long last held) y
           (ap (state_at states) its.slot ∙ at) (λ same. differ (sym its.slot ∙ same)) (subst (λ (s : ℕ). IsHeldIn disk pool s y) (sym its.slot) its)
 
   -- none of them has its name

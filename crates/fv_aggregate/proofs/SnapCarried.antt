@@ -275,7 +275,7 @@ module _ {D : Type 0} (shown : D → Shown) (disk left : D) (laws : IsDisk (show
   module _ (name : List ℕ) (q : Pool) (y : VolumeState) (ready : IsReady e q y) (nothing : room ≡ 0) where
     -- no clone stands on it
     unused : (last m : Machine) → StandsFor d s last m → HasUnused x.name (volume_for d s.pool x) name (machine_held d s.pool s.volumes)
-    unused last m is = record { there = is_there d s.pool s.volumes long last is.held slot x there; unused = unbased (machine_held d s.pool s.volumes) (bare d s.pool s.volumes long) _ }
+    unused last m is = record { there = is_there d s.pool s.volumes long last is.held slot x there; unused = unbased (machine_held d s.pool s.volumes) (bare d s.pool s.volumes long last is.held) _ }
 
     pub removed : (u : Unit {0}) → Deletes d s.pool x name e q y (Ok u) → IsCarried d disk s (SnapDelete x.name name) room e left (carried_session s slot q y room) (Ok Done)
     removed u did = carried_done d e disk left laws reads s fresh (SnapDelete x.name name) room (carried_session s slot q y room) fresh

@@ -55,6 +55,8 @@ use Rattle.fv_cp.specs.Planning.{AreCounted, IsPlan, Plans}
 use Rattle.fv_cp.specs.Held.{IsHeld, IsHeldIn, machine_held, named_held}
 use Rattle.fv_cp.specs.Lent.{FitTogether}
 use Rattle.fv_cp.specs.Placing.{ArePlaced, AreReady, HaveSpent, IsReadyIn, IsSpareEntry, KeepShapes}
+use Rattle.std.specs.FinSet as set
+use Rattle.fv_model.specs.Space.{base_ids}
 
 module _ (disk after : Shown) (pool left : Pool) (states : States) (loads : LoadsPool disk pool left) (reads : OnlyReads disk after) (stands : StandsOn after left.store.pairs) (fit : FitTogether pool states) where
   map_at : (s : ℕ) → container_at left.containers s ≡ container_at pool.containers s
@@ -108,7 +110,8 @@ module _ (disk after : Shown) (pool left : Pool) (states : States) (loads : Load
         stands = b.standing;
         led = b.led is.led;
         well = b.well is.well;
-        wide = is.wide;
+        bare = is.bare;
+        wide = subst (λ (v : Volume). v.most + (set.len (base_ids v.base) + 256) ≤ v.span) (sym b.volume) is.wide;
         within = is.within;
       }
 

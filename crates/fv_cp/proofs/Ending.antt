@@ -54,7 +54,7 @@ use Rattle.fv_volumes.proofs.StaysStates.{active_same, reach_stays, states_stay}
 use Rattle.fv_volumes.proofs.StillLoaded.{still_loaded, still_stands}
 use Rattle.fv_volumes.proofs.StoredTold.{entry_stays, stays_in, past_clear, stands_for, tables_now, uses_there}
 use Rattle.fv_volumes.proofs.StoredTold.{stays_now as stays_now_told}
-use Rattle.fv_volumes.proofs.Told.{head_at, is_inside}
+use Rattle.fv_volumes.proofs.Told.{head_at, is_inside, bare_built}
 use Rattle.fv_volumes.proofs.Viewed.{entry_of}
 use Rattle.fv_volumes.proofs.Waiting.{none_waits}
 use Rattle.fv_cp.specs.Course.{HasCome, IsOnCourse, as_lent, found_with, root_with, label_lent, renewed, IsCourse, StaysFrom}
@@ -190,7 +190,7 @@ module _ (disk : Shown) (pool : Pool) (states : States) (before : Machine) (lent
           subst (λ (o : Option VolumeState). StandsUnder mid.reads f s o (paged_at left.containers s)) (sym now) (subst (λ (c : Option Paged). StandsUnder mid.reads f s (Some (as_written x (get_or labels s 0))) c) (sym r.now)
           (stored_stands f mid.reads s x r.mid.map (get_or labels s 0) r.new r.stored r.memory (place_is f s inside) (labelled s x there) r.valid disk.reads pool.found
           (maps_left s x (labelled s x there) (regions s) r.old r.mid r.reclaimed disk.reads pool.found (lent_slot disk.reads pool.found s (state_at states s) (paged_at pool.containers s) x r.old there r.was (lent.slots s inside)).maps) agrees
-          (past_clear pool states disk.reads fit.housed lent.tables lent.reach s x inside there) lies))
+          (past_clear pool states disk.reads fit.housed lent.tables lent.reach (bare_built pool states disk.reads fit.housed.long lent.built) s x inside there) lies))
       by (as_lent waits at) =
           subst (λ (o : Option VolumeState). StandsUnder mid.reads f s o (paged_at left.containers s)) (sym at.state) (subst (λ (c : Option Paged). StandsUnder mid.reads f s (state_at states s) c) (sym at.lies)
           (as_it_was (state_at states s) (paged_at pool.containers s) at.named (lent.slots s inside) (none_waits (state_at states s) s inside waits)))
@@ -242,14 +242,14 @@ module _ (disk : Shown) (pool : Pool) (states : States) (before : Machine) (lent
   left_delayed = delayed_left regions pool states fit.housed (chosen_marked list given states marked) (seen pool.kept disk.reads) mid.reads labels left.map.next left.containers is
 
   stays_written : StaysHeld w (view_at u mid.reads)
-  stays_written = stays_now_told pool states disk.reads fit.housed lent.tables lent.reach f labels left.map.next (paged_at left.containers) mid.reads refl refl all_stand
+  stays_written = stays_now_told pool states disk.reads fit.housed lent.tables lent.reach (bare_built pool states disk.reads fit.housed.long lent.built) f labels left.map.next (paged_at left.containers) mid.reads refl refl all_stand
 
   -- it holds once the chosen regions were reclaimed
   room_left : LeavesRoom (view_at u mid.reads) want
   unfolding layout_at view_at
   room_left = leaves pool states disk.reads fit.housed fit.range.size lent.states (view_at u mid.reads) stays_written.heads (same_seen w (view_at u mid.reads) stays_written lent.tables.bases lent.tables.rests) refl
-      (tables_now pool states disk.reads fit.housed lent.tables lent.reach f labels left.map.next (paged_at left.containers) mid.reads refl refl all_stand)
-      (uses_there pool states disk.reads fit.housed lent.tables lent.reach f labels left.map.next (paged_at left.containers) mid.reads refl refl all_stand)
+      (tables_now pool states disk.reads fit.housed lent.tables lent.reach (bare_built pool states disk.reads fit.housed.long lent.built) f labels left.map.next (paged_at left.containers) mid.reads refl refl all_stand)
+      (uses_there pool states disk.reads fit.housed lent.tables lent.reach (bare_built pool states disk.reads fit.housed.long lent.built) f labels left.map.next (paged_at left.containers) mid.reads refl refl all_stand)
       list want (sym (chosen_still pool given states (has_slot list) marked housed fit.housed.long want)) now_held left_delayed shown_now
 
   -- and they were chosen for just what it lacked
@@ -258,13 +258,13 @@ module _ (disk : Shown) (pool : Pool) (states : States) (before : Machine) (lent
   missing_left maps fits =
       sym (missing_still pool given states (has_slot list) marked housed fit.housed.long want)
       ∙ counts_missing pool states disk.reads fit.housed fit.range.size lent.states (view_at u mid.reads) stays_written.heads (same_seen w (view_at u mid.reads) stays_written lent.tables.bases lent.tables.rests) refl
-      (tables_now pool states disk.reads fit.housed lent.tables lent.reach f labels left.map.next (paged_at left.containers) mid.reads refl refl all_stand) maps want fits
+      (tables_now pool states disk.reads fit.housed lent.tables lent.reach (bare_built pool states disk.reads fit.housed.long lent.built) f labels left.map.next (paged_at left.containers) mid.reads refl refl all_stand) maps want fits
       ∙ ap (λ (h : ℕ → Option Holding). lacking (view_at u mid.reads) (all_delayed h) want) (holdings_marked pool.containers given states (has_slot list) marked)
 
   -- What lies on the disk is ready for the commit.
   pub ready : machine_from (with_bits (is_member left.map.next) (layout_at u mid.reads)) ≡ Some (machine_lent disk pool states)
   unfolding layout_at
-  ready = stands_for pool states disk.reads fit.housed lent.tables lent.reach f labels left.map.next (paged_at left.containers) mid.reads refl refl all_stand lent.states.names room_left.rule lent.built
+  ready = stands_for pool states disk.reads fit.housed lent.tables lent.reach (bare_built pool states disk.reads fit.housed.long lent.built) f labels left.map.next (paged_at left.containers) mid.reads refl refl all_stand lent.states.names room_left.rule lent.built
 
   -- ---- the new root
 
@@ -317,9 +317,9 @@ module _ (disk : Shown) (pool : Pool) (states : States) (before : Machine) (lent
     view_stays = (ap (λ (x : Found). x.blocks) found, (switched.version ∙ come.version, heads_stay states stay labels settled))
 
     stays_now : StaysHeld w (view_over last stay new.reads)
-    stays_now = stays_in pool states disk.reads fit.housed lent.tables lent.reach (view_over last stay new.reads) view_stays.0 view_stays.1.0 view_stays.1.1 (λ s v x inside there on.
+    stays_now = stays_in pool states disk.reads fit.housed lent.tables lent.reach (bare_built pool states disk.reads fit.housed.long lent.built) (view_over last stay new.reads) view_stays.0 view_stays.1.0 view_stays.1.1 (λ s v x inside there on.
         entry_now s v inside ∙ ap (λ (z : View). z.entry s v) same_now
-        ∙ entry_stays pool states disk.reads fit.housed lent.tables lent.reach f labels left.map.next (paged_at left.containers) mid.reads refl refl all_stand s v x inside there on)
+        ∙ entry_stays pool states disk.reads fit.housed lent.tables lent.reach (bare_built pool states disk.reads fit.housed.long lent.built) f labels left.map.next (paged_at left.containers) mid.reads refl refl all_stand s v x inside there on)
 
     -- ---- the slots
 

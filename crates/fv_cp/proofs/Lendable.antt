@@ -2,9 +2,9 @@
 use Rattle.std.proofs.Common.{◌≡◌, ℕ, ◌<◌, Bool, true, not, ◌||◌, Option, Some, None, refl, ap, subst, arith, length, false}
 use Rattle.std.specs.Prelude.{IfSome, ◌==◌, IsTrue}
 use Rattle.std.specs.List.{list_all}
-use Rattle.std.specs.Option.{option_map, option_map_or}
+use Rattle.std.specs.Option.{is_none, option_map, option_map_or}
 use Rattle.std.specs.FinMap as fin
-use Rattle.std.proofs.lemmas.Bool.{le-leb, and_from}
+use Rattle.std.proofs.lemmas.Bool.{le-leb, and_from, and_parts}
 use Rattle.fv_disk.specs.Shown.{Shown}
 use Rattle.fv_codec.specs.declared.inode.InodeRecord.{InodeRecord}
 use Rattle.fv_codec.specs.declared.pointer.Pointer.{Pointer}
@@ -20,15 +20,14 @@ use Rattle.fv_image.specs.TableRules.{has_cells_within, has_levels, has_marks_ov
 use Rattle.fv_image.specs.VolumeRules.{comes_to_end, commits_seen, has_bases, has_commits_in_capacity, has_distinct_snapshots, has_footing, has_use_in_size, has_wide_spans}
 use Rattle.fv_image.specs.Views.{Footing, Rooted, View, slots}
 use Rattle.fv_image.specs.Volumes.{active_at, named_with, told_with, volumes_with}
-use Rattle.fv_image.specs.WholeMachine.{has_no_reserves, is_built}
-use Rattle.fv_image.proofs.LoneTables.{form_base}
+use Rattle.fv_image.specs.WholeMachine.{has_form, has_no_reserves, is_built}
 use Rattle.fv_volmap.specs.Slots.{IsVolume}
 use Rattle.fv_pool.specs.declared.pool.Pool.{Pool}
 use Rattle.fv_pool.specs.Opening.{IsAsFound}
 use Rattle.fv_volume.specs.declared.state.VolumeState.{VolumeState}
-use Rattle.fv_volume.specs.Files.{AreStates, IsState, has_form}
+use Rattle.fv_volume.specs.Files.{AreStates, IsState}
 use Rattle.fv_volumes.specs.Housed.{HaveReaches, ReachesAll}
-use Rattle.fv_volume.specs.States.{States, head_in, state_at, view_over}
+use Rattle.fv_volume.specs.States.{States, head_in, state_at, view_over, footing_in}
 use Rattle.fv_volume.specs.Trees.{no_trees}
 use Rattle.fv_cp.specs.Held.{machine_held, named_held, IsHeld, IsHeldIn}
 use Rattle.fv_cp.specs.Lent.{FitTogether, IsLent}
@@ -48,6 +47,7 @@ use Rattle.fv_volumes.proofs.LentSlots.{loaded_from_lent}
 use Rattle.fv_volumes.proofs.SeenAlone as loaded_alone
 use Rattle.fv_image.specs.Held.{label_place}
 use Rattle.fv_root.specs.Finding.{root_found}
+use Rattle.fv_volumes.proofs.Told.{bare_built}
 
 -- ---- what is held can be lent
 
@@ -68,11 +68,11 @@ module _ (disk : Shown) (pool : Pool) (states : States) (before : Machine) (held
     whole : IsVolume x.map
     whole = subst HasWholeMap e (maps x.slot)
 
-    form : has_form (head_in x) ≡ true
-    form = one.ready.labelled.form
-
     base : (head_in x).base ≡ None
-    base = form_base (head_in x) form
+    base = ap (option_map footing_in) one.bare
+
+    form : has_form (head_in x) ≡ true
+    form = and_from (is_none (head_in x).base) x.known (ap (λ (o : Option Footing). is_none o) base) (and_parts x.known _ one.ready.labelled.form).0
 
     abbrev led : ℕ → Rooted → Option ℕ → ℕ → ℕ → Pointer
     led = alone.led disk pool states fit.housed held.spaced x e one no_files whole
@@ -155,7 +155,7 @@ module _ (disk : Shown) (pool : Pool) (states : States) (before : Machine) (lent
   -- Where calls can be made on each, and each stands for one of the machine, they are what they are between points.
   pub lent_held : ((s : ℕ) → IfSome (state_at states s) (IsReady disk pool)) → ((s : ℕ) → IfSome (state_at states s) (IsStanding disk pool)) → ((s : ℕ) → IfSome (state_at states s) (IsLedTo disk pool)) → ((s : ℕ) → IfSome (state_at states s) (IsStoredWell disk pool)) → IsHeld disk pool states before
   lent_held ready stands led well =
-      let each = λ (s : ℕ). each_held pool states disk.reads long lent.tables lent.states disk s (ready s) (stands s) (led s) (well s) in
+      let each = λ (s : ℕ). each_held pool states disk.reads long lent.tables lent.states disk s (bare_built pool states disk.reads long lent.built s) (ready s) (stands s) (led s) (well s) in
       let commits = commits_fit pool states disk.reads long lent.tables lent.states in
       record { found = lent.found; tells = lent.tells; keeps = lent.keeps; map = lent.map; slots = lent.slots; spaced = lent.spaced; names = lent.states.names; each = each; commits = commits }
 

@@ -24,7 +24,7 @@ use Rattle.fv_volume.specs.declared.state.VolumeState.{VolumeState}
 use Rattle.fv_volume.specs.Asking.{snap_named}
 use Rattle.fv_volume.specs.Files.{IsLabelled}
 use Rattle.fv_volume.specs.Held.{IsHeldIn, IsPlaceFault, IsPlacedAs, MayFail}
-use Rattle.fv_volume.specs.Loading.{HasCounted}
+use Rattle.fv_volume.specs.Loading.{IsCountOf}
 use Rattle.fv_volume.specs.OneVolume.{volume_for, IsBooked, IsReady}
 use Rattle.fv_volume.specs.Snaps.{without_snapshot}
 use Rattle.fv_volume.specs.Snapshots.{FindsSnap}
@@ -134,9 +134,9 @@ module _ (d : Disk) (p : Pool) (x : VolumeState) (name : List ℕ) (ready : IsRe
       same : left_volume ≡ done
       same = ap (λ (n : ℕ). record mid { snapshots = take at mid.snapshots ++ drop n mid.snapshots; map = done.map; ledger = ledger; fresh = done.fresh; changed = true }) (let next : suc at ≡ at + 1 = omega arith in next)
 
-      module _ (valid : IsVolume done.map) (counted : HasCounted done.map None (length done.snapshots) done.span done.size done.kind ledger) where
-        counted_left : HasCounted left_volume.map None (length left_volume.snapshots) left_volume.span left_volume.size left_volume.kind ledger
-        counted_left = subst (λ (z : VolumeState). HasCounted done.map None (length z.snapshots) done.span done.size done.kind ledger) (sym same) counted
+      module _ (valid : IsVolume done.map) (counted : IsCountOf done ledger) where
+        counted_left : IsCountOf left_volume ledger
+        counted_left = subst (λ (z : VolumeState). IsCountOf z ledger) (sym same) counted
 
         few : length left_volume.snapshots ≤ 24
         few = few_snaps (head_in left_volume) left_volume.snapshots refl
@@ -213,12 +213,12 @@ module _ (d : Disk) (p : Pool) (x : VolumeState) (name : List ℕ) (ready : IsRe
 
     -- So the calls leave it.
     pub removed_deletes : e.faults ≡ d.faults → (none : mid.files ≡ None) (whole : IsVolume mid.map) (at : ℕ) (finds : FindsSnap x.snapshots name (Some at)) (some : Snap) (n : ℕ) → n ≡ (slice_index_or mid.snapshots at some).slot
-        → (a new : VolumeState) → a ≡ without_snapshot mid at n → IsVolume a.map → HasCounted a.map None (length a.snapshots) a.span a.size a.kind new.ledger → new ≡ record a { ledger = new.ledger }
+        → (a new : VolumeState) → a ≡ without_snapshot mid at n → IsVolume a.map → IsCountOf a new.ledger → new ≡ record a { ledger = new.ledger }
         → Deletes d p x name e left new (Ok tt) × IsReady e left new
     removed_deletes calm none whole at finds some n there a new gone valid counted now =
         let ledger : Ledger = new.ledger in
         let left_is : a ≡ without_snapshot mid at (slice_index_or mid.snapshots at some).slot = gone ∙ ap (without_snapshot mid at) there in
         let same : new ≡ done none whole at finds some ledger = now ∙ ap (λ (z : VolumeState). record z { ledger = ledger }) left_is in
-        let right = subst (λ (z : VolumeState). HasCounted z.map None (length z.snapshots) z.span z.size z.kind ledger) left_is counted in
+        let right = subst (λ (z : VolumeState). IsCountOf z ledger) left_is counted in
         let is = subst (λ (z : VolumeState). IsVolume z.map) left_is valid in
         subst (λ (z : VolumeState). Deletes d p x name e left z (Ok tt) × IsReady e left z) (sym same) (done_deletes none whole at finds some ledger is right calm, done_ready none whole at finds some ledger is right)

@@ -1,5 +1,4 @@
 pub mod Told
-pub mod AllRoots
 pub mod Changed
 pub mod OwnIds
 pub mod Snapped

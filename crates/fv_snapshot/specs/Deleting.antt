@@ -16,7 +16,7 @@ use Rattle.fv_volume.specs.declared.state.VolumeState.{VolumeState}
 use Rattle.fv_volume.specs.Asking.{snap_named}
 use Rattle.fv_volume.specs.Calls.{Changes, Has}
 use Rattle.fv_volume.specs.Held.{IsHeldIn, IsPlacedAs}
-use Rattle.fv_volume.specs.Loading.{HasCounted}
+use Rattle.fv_volume.specs.Loading.{IsCountOf}
 use Rattle.fv_volume.specs.OneVolume.{volume_for}
 use Rattle.fv_volume.specs.Snaps.{without_snapshot}
 use Rattle.fv_volume.specs.Snapshots.{FindsSnap}
@@ -43,7 +43,7 @@ pub record IsUnsnapped (disk : Disk) (pool : Pool) (x : VolumeState) (after : Di
   pub snap : Snap
   pub there : (some : Snap) → slice_index_or x.snapshots at some ≡ snap
   pub ledger : Ledger
-  pub counted : HasCounted y.map None (length y.snapshots) y.span y.size y.kind ledger
+  pub counted : IsCountOf y ledger
   pub now : y ≡ record (without_snapshot mid at snap.slot) { ledger = ledger }
 
 -- The snapshot of a name was removed from a volume, or not. It is answered as in each machine that has the volume and no clone on the snapshot, and

@@ -17,6 +17,7 @@ mod removing;
 mod room;
 mod sizes;
 mod snaps;
+mod standing;
 mod state;
 mod tables;
 

@@ -46,10 +46,11 @@ use Rattle.fv_volumes.specs.Destroying.{Destroys, EmptiesAt, GivesBackAt, HasFor
 use Rattle.fv_volumes.specs.Housed.{AreHoused}
 use Rattle.fv_pool.specs.Keeping.{Blocks}
 use Rattle.fv_volume.specs.Loading.{Houses}
-use Rattle.fv_volume.specs.OneVolume.{volume_as, Content}
+use Rattle.fv_volume.specs.OneVolume.{base_as, volume_as, Content}
 use Rattle.fv_volume.specs.Promising.{HasVolumes}
 use Rattle.fv_volume.specs.Slots.{is_named, HasName, NoneHasName}
-use Rattle.fv_volume.specs.States.{States, state_at, with_state}
+use Rattle.fv_volume.specs.declared.state.Base.{Base as StateBase}
+use Rattle.fv_volume.specs.States.{AreBare, States, state_at, with_state}
 use Rattle.fv_volume.specs.Stored.{is_of, leads}
 use Rattle.fv_volume.specs.Writing.{HasGiven}
 use Rattle.fv_volumes.proofs.Drawing.{given_then, leads_where, not_so}
@@ -210,8 +211,8 @@ emptied marks old pool slot (Some x) (Some map) mid new containers gives row rem
 
 -- ---- what the machine says
 
--- no volume is the parent of another, since none has a base
-module _ (old : States) (contents : ℕ → Content) (blocks : ℕ) (m : Machine) (has : HasVolumes old contents blocks m) where
+-- no volume is the parent of another, where none has a base
+module _ (old : States) (contents : ℕ → Content) (blocks : ℕ) (m : Machine) (has : HasVolumes old contents blocks m) (bare : AreBare old) where
   -- the first slots have no volume of a name, or one of them has
   by_slot : (name : List ℕ) (count : ℕ) → ((s : ℕ) → s < count → is_named (state_at old s) name ≡ false) ⊎ ((s : ℕ) × (is_named (state_at old s) name ≡ true))
   by_slot name zero = inl (λ s low. absurd (omega (arith, low)))
@@ -230,7 +231,7 @@ module _ (old : States) (contents : ℕ → Content) (blocks : ℕ) (m : Machine
   baseless : (name : List ℕ) (v : Volume) → fin.get m.volumes name ≡ Some v → v.base ≡ None
   baseless name v at = ⊎_elim
       (λ (none : (s : ℕ) → s < slot_count → is_named (state_at old s) name ≡ false). absurd (nothing (sym (has.none name (record { none = none })) ∙ at)))
-      (λ (there : (s : ℕ) × (is_named (state_at old s) name ≡ true)). by there.0 (state_at old there.0) there.1 (has.there there.0))
+      (λ (there : (s : ℕ) × (is_named (state_at old s) name ≡ true)). by there.0 (state_at old there.0) there.1 (has.there there.0) (bare there.0))
       (by_slot name slot_count)
     where
       nothing : ◌≡◌ {A = Option Volume} None (Some v) → ⊥
@@ -239,11 +240,11 @@ module _ (old : States) (contents : ℕ → Content) (blocks : ℕ) (m : Machine
       same : (a b : Volume) → ◌≡◌ {A = Option Volume} (Some a) (Some b) → a ≡ b
       same a b e = cc
 
-      by : (s : ℕ) (o : Option VolumeState) → is_named o name ≡ true → IfSome o (λ x. Has x.name (volume_as x (contents s)) m) → v.base ≡ None
-      by s None named its = absurd (true≢false (sym named))
-      by s (Some x) named its =
+      by : (s : ℕ) (o : Option VolumeState) → is_named o name ≡ true → IfSome o (λ x. Has x.name (volume_as x (contents s)) m) → IfSome o (λ x. x.base ≡ None) → v.base ≡ None
+      by s None named its none = absurd (true≢false (sym named))
+      by s (Some x) named its none =
           let found : fin.get m.volumes name ≡ Some (volume_as x (contents s)) = ap (fin.get m.volumes) (sym (same_name x.name name named)) ∙ its in
-          ap (λ (w : Volume). w.base) (same v (volume_as x (contents s)) (sym at ∙ found))
+          ap (λ (w : Volume). w.base) (same v (volume_as x (contents s)) (sym at ∙ found)) ∙ ap (λ (o : Option StateBase). base_as o (contents s).base) none
 
   no_parent : (name : List ℕ) → is_parent m name ≡ false
   no_parent name = none_of (fin.entries m.volumes) (λ e inside. inside)
@@ -262,13 +263,13 @@ module _ (old : States) (contents : ℕ → Content) (blocks : ℕ) (m : Machine
   destroy_by name o is = λ j. first_of ((NoVolume, is_none (is j)) ∷ (VolumeInUse, no_parent name j) ∷ [])
 
 -- a machine that has the volume of a slot doesn't refuse its removal
-said_none : (old : States) (contents : ℕ → Content) (blocks : ℕ) (m : Machine) → HasVolumes old contents blocks m → (name : List ℕ) (slot : ℕ) → HasName old slot name → refusal m (VolDestroy name) ≡ None
-said_none old contents blocks m its name slot has = by (state_at old slot) refl has.named (its.there slot)
+said_none : (old : States) (contents : ℕ → Content) (blocks : ℕ) (m : Machine) → HasVolumes old contents blocks m → AreBare old → (name : List ℕ) (slot : ℕ) → HasName old slot name → refusal m (VolDestroy name) ≡ None
+said_none old contents blocks m its bare name slot has = by (state_at old slot) refl has.named (its.there slot)
   where
     by : (o : Option VolumeState) → state_at old slot ≡ o → is_named o name ≡ true → IfSome o (λ x. Has x.name (volume_as x (contents slot)) m) → refusal m (VolDestroy name) ≡ None
     by None there named its_own = absurd (true≢false (sym named))
     by (Some x) there named its_own =
-        destroy_by old contents blocks m its name (Some (volume_as x (contents slot))) (ap (fin.get m.volumes) (sym (same_name x.name name named)) ∙ its_own)
+        destroy_by old contents blocks m its bare name (Some (volume_as x (contents slot))) (ap (fin.get m.volumes) (sym (same_name x.name name named)) ∙ its_own)
 
 -- a fault of a block is the volume's, and has its reason
 pub cause_of : (T : Type 0) (before now : ℕ) (e : BlockFault) (r : Result Unit VolumeFault) → r ≡ Err (of_block e) → HasBlockCause {T = T} before now (Err e) → HasVolumeCause before now r
@@ -282,7 +283,7 @@ cause_of T before now e r is cause = subst (HasVolumeCause before now) (sym is) 
 module _ (disk : Disk) (old : States) (pool : Pool) (name : List ℕ) where
   pub destroy_missing : NoneHasName old name → Destroys disk old pool name old pool (Err (Refused NoVolume))
   destroy_missing none = record {
-    agrees = λ contents blocks m has. destroy_by old contents blocks m has name None (has.none name none);
+    agrees = λ bare contents blocks m has. destroy_by old contents blocks m has bare name None (has.none name none);
     missing = λ nowhere. refl;
     there = λ slot small has r is. absurd (true≢false (sym has.named ∙ none.none slot small));
     done = tt;
@@ -298,9 +299,9 @@ module _ (disk : Disk) (old : States) (pool : Pool) (name : List ℕ) where
       nobody none = true≢false (sym has.named ∙ none.none slot small)
 
       by : (e : BlockFault) → IsHoldFault disk pool.containers e → Destroys disk old pool name old left (Err (of_block e))
-      by DiskFault fault = record { agrees = λ contents blocks m its. said_none old contents blocks m its name slot has; missing = λ none. absurd (nobody none); there = λ s low its r is. cc; done = tt; stays = (refl, leaves); fails = tt }
-      by (Damaged at want found) fault = record { agrees = λ contents blocks m its. said_none old contents blocks m its name slot has; missing = λ none. absurd (nobody none); there = λ s low its r is. cc; done = tt; stays = (refl, leaves); fails = fault }
-      by Memory fault = record { agrees = λ contents blocks m its. said_none old contents blocks m its name slot has; missing = λ none. absurd (nobody none); there = λ s low its r is. cc; done = tt; stays = (refl, leaves); fails = tt }
+      by DiskFault fault = record { agrees = λ bare contents blocks m its. said_none old contents blocks m its bare name slot has; missing = λ none. absurd (nobody none); there = λ s low its r is. cc; done = tt; stays = (refl, leaves); fails = tt }
+      by (Damaged at want found) fault = record { agrees = λ bare contents blocks m its. said_none old contents blocks m its bare name slot has; missing = λ none. absurd (nobody none); there = λ s low its r is. cc; done = tt; stays = (refl, leaves); fails = fault }
+      by Memory fault = record { agrees = λ bare contents blocks m its. said_none old contents blocks m its bare name slot has; missing = λ none. absurd (nobody none); there = λ s low its r is. cc; done = tt; stays = (refl, leaves); fails = tt }
 
   pub destroys : (slot : ℕ) (marks : List Bool) (mid : Pool) (new : States) (left : Pool) → slot < slot_count → AreHoused pool.containers old → HasName old slot name → LeavesPool pool mid
       → (TellsEntries disk pool.containers → MarksAt marks (container_at pool.containers slot)) → EmptiesAt marks old mid slot (state_at old slot) (container_at mid.containers slot) new left → Destroys disk old pool name new left (Ok tt)
@@ -313,7 +314,7 @@ module _ (disk : Disk) (old : States) (pool : Pool) (name : List ℕ) where
       by None c there lies named houses marked empties = absurd (true≢false (sym named))
       by (Some x) None there lies named houses marked empties = absurd houses
       by (Some x) (Some map) there lies named houses marked empties = record {
-        agrees = λ contents blocks m its. said_none old contents blocks m its name slot has;
+        agrees = λ bare contents blocks m its. said_none old contents blocks m its bare name slot has;
         missing = λ none. absurd (true≢false (sym has.named ∙ none.none slot small));
         there = λ s low its r is. cc;
         done = record {

@@ -1,8 +1,11 @@
 -- What is left of the other volumes of a session where one was removed: each stands for what it stood for, and all are spaced still.
-use Rattle.std.proofs.Common.{◌≡◌, ◌≢◌, ⊎_elim, ℕ, ◌<◌, Bool, true, false, not, ◌&&◌, ◌||◌, Option, Some, None, true≢false, refl, sym, ap, subst, ◌∙◌}
+use Rattle.std.proofs.Common.{◌≡◌, ◌≢◌, ⊎_elim, ℕ, ◌<◌, ◌≤◌, ◌+◌, Bool, true, false, not, ◌&&◌, ◌||◌, Option, Some, None, true≢false, refl, sym, ap, subst, ◌∙◌}
 use Rattle.std.specs.Prelude.{IfSome, cond}
 use Rattle.std.specs.FinMap as fin
+use Rattle.std.specs.FinSet as set
 use Rattle.std.proofs.lemmas.Bool.{and_parts, cases_eq}
+use Rattle.fv_model.specs.Space.{base_ids}
+use Rattle.fv_model.specs.Volumes.{Volume as Model}
 use Rattle.fv_disk.specs.DiskCalls.{OnlyReads}
 use Rattle.fv_disk.specs.Shown.{Image, Shown}
 use Rattle.fv_bits.specs.Members.{is_member}
@@ -19,7 +22,7 @@ use Rattle.fv_volume.specs.Held.{IsHeldIn}
 use Rattle.fv_volumes.specs.Housed.{AreHoused}
 use Rattle.fv_volume.specs.OneVolume.{volume_for}
 use Rattle.fv_volume.specs.Placing.{StaysBeside}
-use Rattle.fv_volume.specs.States.{States, state_at}
+use Rattle.fv_volume.specs.States.{AreBare, States, state_at}
 use Rattle.fv_volume.specs.Stored.{AreSpacedIn, has_block, is_of, leads}
 use Rattle.fv_volumes.specs.UnderRoot.{IsLentAt}
 use Rattle.fv_volumes.proofs.Drawing.{not_so, or_neither}
@@ -66,13 +69,13 @@ module _ (disk : Shown) (pool : Pool) (states : States) (housed : AreHoused pool
   its : (k v : ℕ) (z : VolumeState) (e : Entry) → state_at states k ≡ Some z → own_entry (container_at pool.containers k) v ≡ Some e → has_block (state_at states k) (container_at pool.containers k) e.pvbn ≡ true
   its k v z e here own = own_has disk pool states housed slots k z here e.pvbn (record { vvbn = v; entry = e; stands = own; leads = refl })
 
-  -- no volume stands on it: none has a base
-  off : StandOff pool.containers slot states
-  off = alone_off pool.containers slot states (housed_alone pool.containers states housed)
-
   -- ---- another volume
 
-  module _ (y : VolumeState) (at : state_at states y.slot ≡ Some y) (differ : y.slot ≢ slot) (one : IsHeldIn disk pool y.slot y) where
+  module _ (bare : AreBare states) (y : VolumeState) (at : state_at states y.slot ≡ Some y) (differ : y.slot ≢ slot) (one : IsHeldIn disk pool y.slot y) where
+    -- no volume stands on it: none has a base
+    off : StandOff pool.containers slot states
+    off = alone_off pool.containers slot states (λ k z here. housed_alone pool.containers states housed k z here (subst (λ (o : Option VolumeState). IfSome o (λ x. x.base ≡ None)) here (bare k)))
+
     told : TellsEntries disk pool.containers
     told = (one.stands.told.0, one.stands.told.2)
 
@@ -97,15 +100,23 @@ module _ (disk : Shown) (pool : Pool) (states : States) (housed : AreHoused pool
       stands = stays.standing;
       led = stays.led one.led;
       well = stays.well one.well;
-      wide = one.wide;
+      bare = one.bare;
+      wide = subst (λ (v : Model). v.most + (set.len (base_ids v.base) + 256) ≤ v.span) (sym stays.volume) one.wide;
       within = one.within;
     }
 
+  bare_held : ((s : ℕ) → IfSome (state_at states s) (IsHeldIn disk pool s)) → AreBare states
+  bare_held each s = by (state_at states s) (each s)
+    where
+      by : (o : Option VolumeState) → IfSome o (IsHeldIn disk pool s) → IfSome o (λ x. x.base ≡ None)
+      by None is = tt
+      by (Some x) is = is.bare
+
   -- so is the volume of each slot
   pub held_left : ((s : ℕ) → IfSome (state_at states s) (IsHeldIn disk pool s)) → (s : ℕ) → IfSome (state_at new s) (IsHeldIn after left s)
-  held_left = removed.each_left pool states housed slot x map there new left gone (IsHeldIn disk pool) (IsHeldIn after left) (λ s y differ at is.
+  held_left each = removed.each_left pool states housed slot x map there new left gone (IsHeldIn disk pool) (IsHeldIn after left) (λ s y differ at is.
       let same = is.slot in
-      subst (λ (n : ℕ). IsHeldIn after left n y) same (beside_held y (ap (state_at states) same ∙ at) (λ e. differ (sym same ∙ e)) (subst (λ (n : ℕ). IsHeldIn disk pool n y) (sym same) is)))
+      subst (λ (n : ℕ). IsHeldIn after left n y) same (beside_held (bare_held each) y (ap (state_at states) same ∙ at) (λ e. differ (sym same ∙ e)) (subst (λ (n : ℕ). IsHeldIn disk pool n y) (sym same) is))) each
 
   -- ---- all volumes
 

@@ -2,7 +2,7 @@
 use Rattle.std.proofs.Common.{◌≡◌, ◌≢◌, ℕ, ◌+◌, ◌<◌, ◌≤◌, Bool, true, false, not, ◌&&◌, ◌||◌, List, [], ◌∷◌, Option, Some, None, inl, refl, sym, ap, subst, ◌∙◌, arith, length}
 use Rattle.std.specs.Prelude.{All, IfSome, nat_le, nat_lt, map, slice_index_or, take, ◌==◌}
 use Rattle.std.specs.List.{list_all}
-use Rattle.std.specs.Option.{option_and_then, option_map_or}
+use Rattle.std.specs.Option.{option_and_then, option_map, option_map_or}
 use Rattle.std.specs.FinSet as set
 use Rattle.std.proofs.lemmas.Bool.{and_from, and_parts}
 use Rattle.std.proofs.lemmas.Bool.Decides.{nat_tests}
@@ -12,7 +12,7 @@ use Rattle.fv_codec.specs.declared.inode.InodeRecord.{InodeRecord}
 use Rattle.fv_codec.specs.declared.pointer.Pointer.{Pointer}
 use Rattle.fv_codec.specs.Blocks.{greatest_word}
 use Rattle.fv_model.specs.Machines.{capacity, first_block}
-use Rattle.fv_model.specs.Places.{id_cmp}
+use Rattle.fv_model.specs.Places.{Id, id_cmp}
 use Rattle.fv_model.specs.Space.{base_ids, commits, use_of}
 use Rattle.fv_model.specs.Tables.{empty_table}
 use Rattle.fv_model.specs.Volumes.{Volume}
@@ -38,7 +38,6 @@ use Rattle.fv_image.specs.VolumeRules.{comes_to_end, commits_seen, has_commits_i
 use Rattle.fv_image.specs.Views.{Footing, Head, Rooted, Snap as HeadSnap, View, slots}
 use Rattle.fv_image.specs.Volumes.{active_at, named_with, standing_of, table_at, volume_told, volume_with}
 use Rattle.fv_image.proofs.Committed.{commits_told}
-use Rattle.fv_image.proofs.LoneTables.{form_base}
 use Rattle.fv_image.proofs.SameSeen.{seen_at}
 use Rattle.fv_root.specs.Finding.{root_found}
 use Rattle.fv_container.specs.declared.entry.Entry.{Entry}
@@ -46,20 +45,22 @@ use Rattle.fv_container.specs.Chains.{container_at}
 use Rattle.fv_volmap.specs.Slots.{IsVolume}
 use Rattle.fv_pool.specs.declared.pool.Pool.{Pool}
 use Rattle.fv_pool.specs.BlocksOver.{held_entry}
+use Rattle.fv_volume.specs.declared.state.Base.{Base as StateBase}
 use Rattle.fv_volume.specs.declared.state.Snap.{Snap}
 use Rattle.fv_volume.specs.declared.state.VolumeState.{VolumeState}
-use Rattle.fv_volume.specs.Files.{AreStates, IsState, has_form}
+use Rattle.fv_volume.specs.Files.{AreStates, IsState}
 use Rattle.fv_volume.specs.Numbering.{AreNumbersSeen}
-use Rattle.fv_volume.specs.OneVolume.{blocks_in, shows, table_for, volume_for, IsReady, IsStanding, RootStands}
+use Rattle.fv_volume.specs.OneVolume.{IsReady, IsStanding, RootStands, base_by, blocks_in, shows, table_for, tables_of, volume_for}
 use Rattle.fv_volume.specs.Placing.{IsLedTo, IsStoredWell}
 use Rattle.fv_pool.specs.Tables.{trees_by}
 use Rattle.fv_volume.specs.Sharing.{differs_in, pointer_in, trees_kept, AreShared, SharesWith}
 use Rattle.fv_volume.specs.Slots.{sum_of}
-use Rattle.fv_volume.specs.States.{States, head_in, rooted_as, state_at, view_over}
+use Rattle.fv_volume.specs.States.{States, footing_in, head_in, rooted_as, state_at, view_over}
 use Rattle.fv_volume.specs.Trees.{active_in, no_trees}
 use Rattle.fv_volumes.proofs.Distinct.{same_names}
 use Rattle.fv_volumes.proofs.Made.{commits_are}
 use Rattle.fv_volume.proofs.EachRoot.{each_root}
+use Rattle.fv_volume.proofs.TablesOf.{snaps_all}
 use Rattle.fv_pool.proofs.OverBlocks.{same_place}
 use Rattle.fv_volume.proofs.ActiveStands.{agrees, roots_stand}
 use Rattle.fv_volumes.proofs.Reached.{standing_reach}
@@ -67,7 +68,7 @@ use Rattle.fv_volume.proofs.Shared.{shares_back}
 use Rattle.fv_volume.proofs.SharedRoots.{alike_shares, stored_place, stored_same}
 use Rattle.fv_volume.proofs.SnapNames.{names_in}
 use Rattle.fv_volumes.proofs.Agreed.{root_agrees}
-use Rattle.fv_volumes.proofs.Standings.{standing_state, standing_table, standing_volume}
+use Rattle.fv_volumes.proofs.Standings.{none_based, standing_state, standing_table, standing_volume}
 use Rattle.fv_volumes.proofs.Told.{head_there, is_inside}
 use Rattle.fv_volumes.proofs.Trees.{unchanged_machine}
 use Rattle.fv_volumes.proofs.Facts.{are_ruled, led_by, led_place}
@@ -132,11 +133,8 @@ module _ (disk : Shown) (pool : Pool) (states : States) (housed : AreHoused pool
   abbrev s : ℕ
   s = x.slot
 
-  form : has_form h ≡ true
-  form = one.ready.labelled.form
-
   base : h.base ≡ None
-  base = form_base h form
+  base = ap (option_map footing_in) one.bare
 
   span : x.map.span ≡ x.span
   span = one.ready.labelled.map
@@ -173,8 +171,16 @@ module _ (disk : Shown) (pool : Pool) (states : States) (housed : AreHoused pool
   abbrev snap_trees : Snap → Trees
   snap_trees = trees_kept (blocks_in disk pool x)
 
-  shared : AreShared active_trees (blocks_in disk pool x) x.snapshots
-  shared = subst (λ (o : Option Files). AreShared (trees_by (blocks_of (shows disk pool x)) x.active o) (blocks_in disk pool x) x.snapshots) no_files one.stands.shared
+  shared : AreShared active_trees (blocks_in disk pool x) (tables_of x)
+  shared = subst (λ (o : Option Files). AreShared (trees_by (blocks_of (shows disk pool x)) x.active o) (blocks_in disk pool x) (tables_of x)) no_files one.stands.shared
+
+  -- so do its snapshots' tables
+  active_shared : All (λ (q : Snap). SharesWith active_trees (snap_trees q)) x.snapshots
+  active_shared = snaps_all (λ (q : Snap). SharesWith active_trees (snap_trees q)) x shared.active
+
+  snaps_shared : All (λ (p : Snap). All (λ (q : Snap). SharesWith (snap_trees p) (snap_trees q)) x.snapshots) x.snapshots
+  snaps_shared = λ n p lt. snaps_all (λ (q : Snap). SharesWith (snap_trees (slice_index_or x.snapshots n p)) (snap_trees q)) x
+      (snaps_all (λ (p : Snap). All (λ (q : Snap). SharesWith (snap_trees p) (snap_trees q)) (tables_of x)) x shared.kept n p lt)
 
   active_place : (o : Option ℕ) (level index : ℕ) → pointer_in (active_trees o) level index ≡ led 0 h.active o level index
   active_place o level index =
@@ -195,7 +201,7 @@ module _ (disk : Shown) (pool : Pool) (states : States) (housed : AreHoused pool
   with_active : (j : ℕ) (r : Rooted) → IsRoot j r → AreOneToOne (led 0 h.active) (led j r)
   with_active = each_root x (λ j r. AreOneToOne (led 0 h.active) (led_by (blocks_in disk pool x j) r)) (one_itself w s h h.active (led 0 h.active) (ruled 0 h.active (inl refl)))
       (λ n q lt. alike_shares active_trees (snap_trees (slice_index_or x.snapshots n q)) (led 0 h.active) (led_by (blocks_in disk pool x (slice_index_or x.snapshots n q).slot) (slice_index_or x.snapshots n q).table)
-      active_place (snap_place (slice_index_or x.snapshots n q)) active_same (snap_same (slice_index_or x.snapshots n q)) (shared.active n q lt))
+      active_place (snap_place (slice_index_or x.snapshots n q)) active_same (snap_same (slice_index_or x.snapshots n q)) (active_shared n q lt))
 
   -- and so are those of a snapshot's
   with_snap : (p : Snap) → SharesWith active_trees (snap_trees p) → All (λ (q : Snap). SharesWith (snap_trees p) (snap_trees q)) x.snapshots → (j : ℕ) (r : Rooted) → IsRoot j r → AreOneToOne (led_by (blocks_in disk pool x p.slot) p.table) (led j r)
@@ -208,7 +214,7 @@ module _ (disk : Shown) (pool : Pool) (states : States) (housed : AreHoused pool
   -- Pointers of two roots lead to one VVBN exactly where they have one id.
   pub one_to_one : (k : ℕ) (r : Rooted) (j : ℕ) (q : Rooted) → IsRoot k r → IsRoot j q → AreOneToOne (led k r) (led j q)
   one_to_one k r j q one two = each_root x (λ k r. AreOneToOne (led_by (blocks_in disk pool x k) r) (led j q)) (with_active j q two)
-      (λ n p lt. with_snap (slice_index_or x.snapshots n p) (shared.active n p lt) (shared.kept n p lt) j q two) k r one
+      (λ n p lt. with_snap (slice_index_or x.snapshots n p) (active_shared n p lt) (snaps_shared n p lt) j q two) k r one
 
   -- The names of its snapshots differ.
   pub names_rule : are_distinct (map (λ (p : HeadSnap). p.name) h.snapshots) ≡ true
@@ -298,13 +304,11 @@ module _ (disk : Shown) (pool : Pool) (states : States) (housed : AreHoused pool
   table_is = ap (λ (o : Option Head). option_map_or (λ h. table_at w s h.active) o empty_table) here
 
   volume_is : volume_told w s h ≡ volume_for disk pool x
-  volume_is = ap (volume_with w s h) (sym table_is) ∙ standing_volume disk pool states x there housed.parents whole span one.stands no_files base
+  volume_is = ap (volume_with w s h) (sym table_is) ∙ standing_volume disk pool states x there housed.parents whole span one.stands no_files (none_based w (blocks_in disk pool x) x one.bare)
 
   pub wide_rule : nat_le (h.most + (set.len (base_ids (volume_told w s h).base) + 256)) h.span ≡ true
-  wide_rule =
-      let nothing : set.len (base_ids (volume_told w s h).base) ≡ 0 = ap (λ (v : Volume). set.len (base_ids v.base)) volume_is ∙ set.len-empty id_cmp in
-      let wide = one.wide in
-      at_most (h.most + (set.len (base_ids (volume_told w s h).base) + 256)) h.span (omega (arith, nothing, wide))
+  wide_rule = at_most (h.most + (set.len (base_ids (volume_told w s h).base) + 256)) h.span
+      (subst (λ (v : Volume). x.most + (set.len (base_ids v.base) + 256) ≤ x.span) (sym volume_is) one.wide)
 
   pub size_rule : nat_le (use_of (volume_told w s h)) h.size ≡ true
   size_rule =
@@ -330,7 +334,7 @@ module _ (disk : Shown) (pool : Pool) (states : States) (housed : AreHoused pool
 
   -- and it as it is,
   pub state_is : IsState w no_trees s x
-  state_is = standing_state disk pool states x there housed.parents whole span one.stands no_files one.ready.labelled
+  state_is = standing_state disk pool states x there housed.parents whole span one.stands no_files (none_based w (blocks_in disk pool x) x one.bare) one.ready.labelled
 
   -- with what it reaches,
   pub reach_is : ReachesAll w s x
@@ -357,14 +361,18 @@ module _ (pool : Pool) (states : States) (i : Image) (long : length states ≡ 6
   stands : seen_by.head s ≡ Some head
   stands = head_there pool states i s x there
 
-  -- its span is wide enough for all that it may grow to
-  seen_wide : x.most + 256 ≤ x.span
+  span_wide : x.most + 256 ≤ x.span
   unfolding has_wide_spans volume_seen
-  seen_wide = by (set.len (base_ids (volume_told seen_by s head).base))
+  span_wide = by (set.len (base_ids (volume_told seen_by s head).base))
       (of_volume seen_by (λ s y. nat_le (y.head.most + (set.len (base_ids y.volume.base) + 256)) y.head.span) s head tables.spans small stands)
     where
       by : (n : ℕ) → nat_le (x.most + (n + 256)) x.span ≡ true → x.most + 256 ≤ x.span
       by n test = let enough = at_least (x.most + (n + 256)) x.span test in omega (arith, enough)
+
+  -- its span is wide enough for all that it may grow to
+  seen_wide : (o : Option StateBase) (blocks : ℕ → Under) → o ≡ None → x.most + (set.len (base_ids (base_by blocks o)) + 256) ≤ x.span
+  seen_wide o blocks bare = subst (λ (b : Option StateBase). x.most + (set.len (base_ids (base_by blocks b)) + 256) ≤ x.span) (sym bare)
+      (let none : set.len (set.empty {K = Id} {R = id_cmp}) ≡ 0 = set.len-empty id_cmp in omega (arith, none, span_wide))
 
   -- and it uses at most its size
   seen_within : x.ledger.charge ≤ x.size
@@ -375,21 +383,21 @@ module _ (pool : Pool) (states : States) (i : Image) (long : length states ≡ 6
       let charged : x.ledger.charge ≡ charge (volume_told seen_by s head) = state.ledger.charged ∙ ap (λ (t : Table). charge (volume_with seen_by s head t)) table in
       omega (arith, fits, charged)
 
-  -- So it is what it is between points, where calls can be made on it and it stands for one of the machine.
-  seen_held : (disk : Shown) → IsReady disk pool x → IsStanding disk pool x → IsLedTo disk pool x → IsStoredWell disk pool x → IsHeldIn disk pool s x
-  seen_held disk ready stood leads stored_so = record { slot = state.labelled.slot_is; ready = ready; stands = stood; led = leads; well = stored_so; wide = seen_wide; within = seen_within }
+  -- So it is what it is between points, where it has no base, calls can be made on it and it stands for one of the machine.
+  seen_held : (disk : Shown) → x.base ≡ None → IsReady disk pool x → IsStanding disk pool x → IsLedTo disk pool x → IsStoredWell disk pool x → IsHeldIn disk pool s x
+  seen_held disk bare ready stood leads stored_so = record { slot = state.labelled.slot_is; ready = ready; stands = stood; led = leads; well = stored_so; bare = bare; wide = seen_wide x.base (blocks_in disk pool x) bare; within = seen_within }
 
 -- ---- all that a sound view tells
 
 module _ (pool : Pool) (states : States) (i : Image) (long : length states ≡ 64) (tables : AreTables (seen (view_over pool states i))) (are : AreStates (view_over pool states i) no_trees states) where
   -- so is each of them,
-  pub each_held : (disk : Shown) (s : ℕ) → IfSome (state_at states s) (IsReady disk pool) → IfSome (state_at states s) (IsStanding disk pool) → IfSome (state_at states s) (IsLedTo disk pool) → IfSome (state_at states s) (IsStoredWell disk pool)
+  pub each_held : (disk : Shown) (s : ℕ) → IfSome (state_at states s) (λ x. x.base ≡ None) → IfSome (state_at states s) (IsReady disk pool) → IfSome (state_at states s) (IsStanding disk pool) → IfSome (state_at states s) (IsLedTo disk pool) → IfSome (state_at states s) (IsStoredWell disk pool)
       → IfSome (state_at states s) (IsHeldIn disk pool s)
   each_held disk s = by (state_at states s) refl
     where
-      by : (o : Option VolumeState) → state_at states s ≡ o → IfSome o (IsReady disk pool) → IfSome o (IsStanding disk pool) → IfSome o (IsLedTo disk pool) → IfSome o (IsStoredWell disk pool) → IfSome o (IsHeldIn disk pool s)
-      by None there a b c d = tt
-      by (Some x) there a b c d = seen_held pool states i long tables s x there (subst (λ (o : Option VolumeState). IfSome o (IsState (view_over pool states i) no_trees s)) there (are.each s)) disk a b c d
+      by : (o : Option VolumeState) → state_at states s ≡ o → IfSome o (λ x. x.base ≡ None) → IfSome o (IsReady disk pool) → IfSome o (IsStanding disk pool) → IfSome o (IsLedTo disk pool) → IfSome o (IsStoredWell disk pool) → IfSome o (IsHeldIn disk pool s)
+      by None there bare a b c d = tt
+      by (Some x) there bare a b c d = seen_held pool states i long tables s x there (subst (λ (o : Option VolumeState). IfSome o (IsState (view_over pool states i) no_trees s)) there (are.each s)) disk bare a b c d
 
   -- and what they commit fits
   pub commits_fit : sum_of states ≤ capacity pool.found.blocks

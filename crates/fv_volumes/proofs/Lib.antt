@@ -66,3 +66,12 @@ pub mod Emptied
 pub mod SlotReads
 pub mod SlotRoots
 pub mod StandingMaps
+mod EndsIn
+pub mod OnChains
+pub mod Footed
+pub mod AddedClone
+pub mod NamedBases
+pub mod SlotTests
+pub mod FootedSeen
+pub mod LoadedBase
+pub mod Learned

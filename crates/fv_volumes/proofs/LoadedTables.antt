@@ -34,8 +34,8 @@ use Rattle.fv_image.specs.Soundness.{AreTables, AreMaps}
 use Rattle.fv_image.specs.TableRules.{all_items, has_stamps_past}
 use Rattle.fv_image.specs.Views.{Placed, Head, Rooted, View, volume_bit}
 use Rattle.fv_image.specs.Volumes.{standing_of, table_at}
-use Rattle.fv_image.specs.WholeMachine.{Tells, has_no_reserves}
-use Rattle.fv_image.proofs.LoneTables.{built_reserves, form_known, kind_led, IsLedEntry}
+use Rattle.fv_image.specs.WholeMachine.{Tells, has_no_reserves, is_built}
+use Rattle.fv_image.proofs.LoneTables.{built_reserves, kind_led, IsLedEntry}
 use Rattle.fv_image.proofs.OwnUses.{HasLabelNumbers}
 use Rattle.fv_image.proofs.RootTables.{led_below, led_entry, root_bit, root_led, root_led_once, root_reach}
 use Rattle.fv_image.proofs.SameSeen.{of_volume}
@@ -55,10 +55,11 @@ use Rattle.fv_volume.specs.Loading.{HaveBits, KeptTo, LoadedTo}
 use Rattle.fv_volume.specs.OneVolume.{blocks_in, uses_in}
 use Rattle.fv_volume.specs.States.{States, head_in, parent_in, placed_in, state_at, view_over}
 use Rattle.fv_pool.proofs.Holding.{has_taken, held_some}
+use Rattle.fv_volumes.proofs.Chains.{place_view}
 use Rattle.fv_volume.proofs.KeptSlots.{root_bits, root_few}
 use Rattle.fv_pool.proofs.OverBlocks.{same_place}
 use Rattle.fv_volumes.proofs.Chains.{place_view}
-use Rattle.fv_volumes.proofs.Told.{head_there, is_inside}
+use Rattle.fv_volumes.proofs.Told.{head_there, is_inside, bare_built}
 use Rattle.fv_volumes.proofs.Viewed.{viewed}
 
 -- ---- a volume of a session
@@ -301,6 +302,14 @@ module _ (disk : Disk) (pool : Pool) (states : States) (x : VolumeState) (is : S
 
 -- ---- what a sound image tells
 
+-- A volume has no base, over an image that stands for a machine.
+pub none_told : (disk : Disk) (pool : Pool) (states : States) → length states ≡ 64 → length pool.containers.containers ≡ 64 → LoadedTo disk.reads pool.found slot_count states pool.containers → IsAsFound pool
+    → (m : Machine) → Tells (layout_at (root_found pool.found) disk.reads) m → (x : VolumeState) → state_at states x.slot ≡ Some x → x.base ≡ None
+unfolding layout_at
+none_told disk pool states long few loaded none m is x there =
+    let alike : view_over pool states disk.reads ≡ view_at (root_found pool.found) disk.reads = viewed pool disk.reads states long few loaded none in
+    subst (λ (o : Option VolumeState). IfSome o (λ x. x.base ≡ None)) there (bare_built pool states disk.reads long (subst (λ (v : View). is_built v ≡ true) (sym alike) is.built) x.slot)
+
 -- a volume that stands as its label says, over an image that stands for a machine
 pub in_view : (disk : Disk) (pool : Pool) (states : States) → length states ≡ 64 → length pool.containers.containers ≡ 64 → ((s : ℕ) → parent_at pool.containers s ≡ parent_in (state_at states s))
     → LoadedTo disk.reads pool.found slot_count states pool.containers → IsAsFound pool → (m : Machine) → Tells (layout_at (root_found pool.found) disk.reads) m → ((b : ℕ) → length (disk.reads b) ≡ 4096)
@@ -312,7 +321,7 @@ in_view disk pool states long few parents loaded none m is whole x there labelle
     record {
       small = small;
       there = there;
-      known = form_known (head_in x) labelled.form;
+      known = (and_parts x.known _ labelled.form).0;
       parents = parents;
       span = labelled.span;
       numbers = numbers_at (root_found pool.found) disk.reads whole x.slot (head_in x) (ap (λ (v : View). v.head x.slot) (sym alike) ∙ head_there pool states disk.reads x.slot x there);

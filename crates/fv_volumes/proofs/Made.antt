@@ -38,18 +38,18 @@ use Rattle.fv_container.specs.Chains.{Slots, container_at, map_in, own_entry, wi
 use Rattle.fv_container.specs.Paged.{Paged, empty_paged}
 use Rattle.fv_image.specs.Chains.{parent_in, under}
 use Rattle.fv_image.specs.Views.{Head, Placed, View, entry_count}
-use Rattle.fv_image.proofs.LoneTables.{form_base, no_parent, place_own}
+use Rattle.fv_image.proofs.LoneTables.{no_parent, place_own}
 use Rattle.fv_volmap.specs.Slots.{Volume as MapSlots, empty_volume as no_numbers, stored_count}
 use Rattle.fv_pool.specs.declared.pool.Pool.{Pool}
 use Rattle.fv_volume.specs.declared.state.VolumeState.{VolumeState}
 use Rattle.fv_volumes.specs.Creating.{Admits, IsNew, Refuses, new_ledger_of}
 use Rattle.fv_volume.specs.SnapRecords.{hole, AreSayable, IsSayableSnap}
-use Rattle.fv_volume.proofs.Labels.{IsSayable, label_range}
+use Rattle.fv_volume.proofs.Labels.{IsSayable, IsSayableBase, label_range}
 use Rattle.fv_volume.specs.Slots.{is_named, HasName, HaveSpans, HasSpan, IsFirstFree, IsFull, NoneHasName, sum_of}
 use Rattle.fv_volume.proofs.StayingMaps.{no_waits}
 use Rattle.fv_volume.specs.Files.{AreNamed, AreStates, HasSlotsOf, IsLabelled, IsState, has_form}
 use Rattle.fv_volume.proofs.MapSlots.{one_empty, slots_of_one}
-use Rattle.fv_volume.specs.States.{States, empty_head, head_in, ledger_of_empty, placed_in, state_at, view_over, with_state}
+use Rattle.fv_volume.specs.States.{AreBare, States, empty_head, footing_in, head_in, ledger_of_empty, placed_in, state_at, view_over, with_state}
 use Rattle.fv_volume.specs.Trees.{Trees, active_by, active_in, machine_in}
 use Rattle.fv_volumes.proofs.Told.{Named, AreDistinct, named_from, volume_by, all_named, counted, distinct_from, fewer_named, find_set, head_there, is_inside, ledger_commit, none_named, none_some, same_named, some_named, summed, summed_states, volumes_are}
 use Rattle.fv_volumes.proofs.Trees.{told_alike, same_active, same_snaps}
@@ -232,6 +232,7 @@ sayable_new y name size kind span fits is head sized named =
       span_step = omega (arith, span_is, is);
       now = rw now_is (omega arith);
       levels = omega (arith, levels_are);
+      base = subst (λ (h : Head). IfSome h.base IsSayableBase) (sym head) tt;
       root = subst IsPointer (sym root_is) (record { vvbn = omega arith; pvbn = omega arith; stamp = omega arith });
       snapshots = subst AreSayable (sym head) (new_sayable name size kind span);
     }
@@ -248,7 +249,7 @@ new_labelled y slot name size kind span fits is at head ledger sized named map s
       span = omega (arith, span_is, fits);
       map = ap (λ (x : MapSlots). x.span) map ∙ sym span_is;
       snapshots = subst AreSayable (sym head) (new_sayable name size kind span);
-      slots = subst (λ (h : Head). HasSlotsOf h y.map) (sym head) (subst (HasSlotsOf (empty_head name size kind span)) (sym map) (slots_of_one (empty_head name size kind span) (no_numbers span) refl (one_empty span)));
+      slots = subst (λ (h : Head). HasSlotsOf h y.map) (sym head) (subst (HasSlotsOf (empty_head name size kind span)) (sym map) (slots_of_one (empty_head name size kind span) (no_numbers span) refl refl (one_empty span)));
       waits = no_waits y settled;
       counts = ap (λ (l : Ledger). l.span) ledger ∙ sym span_is;
       levels = omega (arith, levels);
@@ -305,7 +306,7 @@ added_by pool states slot name size kind span y new_pool container long is at he
 }
 
 module _ (pool : Pool) (states : States) (slot : ℕ) (name : List ℕ) (size : ℕ) (kind : Kind) (y : VolumeState) (new_pool : Pool) (is : IsAdded pool states slot name size kind y new_pool) (trees : Trees) (i : Image)
-    (are : AreStates (view_over pool states i) trees states) where
+    (are : AreStates (view_over pool states i) trees states) (bare : AreBare states) where
   abbrev new_states : States
   new_states = with_state states slot (Some y)
 
@@ -323,6 +324,9 @@ module _ (pool : Pool) (states : States) (slot : ℕ) (name : List ℕ) (size : 
 
   new_long : length new_states ≡ 64
   new_long = length-set states slot (Some y) ∙ is.long
+
+  no_base : (s : ℕ) (x : VolumeState) → state_at states s ≡ Some x → (head_in x).base ≡ None
+  no_base s x in_slot = ap (option_map footing_in) (subst (λ (o : Option VolumeState). IfSome o (λ x. x.base ≡ None)) in_slot (bare s))
 
   -- ---- the other slots
 
@@ -390,7 +394,7 @@ module _ (pool : Pool) (states : States) (slot : ℕ) (name : List ℕ) (size : 
   -- a volume of another slot is one still
   old_state : (s : ℕ) → s ≢ slot → (x : VolumeState) → state_at states s ≡ Some x → IsState before trees s x → IsState now trees s x
   old_state s other x in_slot was =
-      let base : (head_in x).base ≡ None = form_base (head_in x) was.labelled.form in
+      let base = no_base s x in_slot in
       let active = other_active s other x in_slot base in
       record {
         labelled = was.labelled;
@@ -445,7 +449,7 @@ module _ (pool : Pool) (states : States) (slot : ℕ) (name : List ℕ) (size : 
   old_same : named_from (volume_by now (active_in now trees)) 0 states ≡ named_from (volume_by before (active_in before trees)) 0 states
   old_same = same_named (volume_by before (active_in before trees)) (volume_by now (active_in now trees)) states 0 (λ k x in_slot.
       let zero_is : 0 + k ≡ k = omega arith in
-      let base : (head_in x).base ≡ None = form_base (head_in x) (state_is pool states trees i is.long are k x in_slot).labelled.form in
+      let base = no_base k x in_slot in
       subst (λ (n : ℕ). volume_by now (active_in now trees) n x ≡ volume_by before (active_in before trees) n x) (sym zero_is)
       (other_told k (λ same. none_some x (sym in_slot ∙ ap (state_at states) same ∙ free.free)) x in_slot base))
 

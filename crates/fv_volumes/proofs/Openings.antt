@@ -29,7 +29,7 @@ use Rattle.fv_volume.specs.Trees.{no_trees}
 use Rattle.fv_volumes.proofs.Apart.{loaded_apart}
 use Rattle.fv_volumes.proofs.CleanSlots.{loaded_clean}
 use Rattle.fv_volume.proofs.Counted.{counted_within}
-use Rattle.fv_volumes.proofs.LoadedTables.{loaded_stands}
+use Rattle.fv_volumes.proofs.LoadedTables.{loaded_stands, none_told}
 use Rattle.fv_volume.proofs.OneVolumes.{still_standing}
 use Rattle.fv_volumes.proofs.Standings.{seen_led, seen_standing, seen_well}
 use Rattle.fv_volume.proofs.OneVolumes.{still_led, still_well}
@@ -84,7 +84,7 @@ module _ (pool : Pool) (states : States) (kept : KeptTo slot_count states pool.c
   loaded_standing disk tells whole loaded none map m is =
       seen_standing disk pool states x
       (loaded_stands disk pool states kept loaded none m is whole x here)
-      counted.none tells
+      counted.none (none_told disk pool states kept.long kept.few loaded none m is x here) tells
       (loaded_apart pool disk.reads states is.sound map kept loaded x.map x.slot)
       (loaded_clean pool.found disk.reads states pool.containers whole is.sound kept.few loaded)
       (subst (λ (o : Option VolumeState). IfSome o (IsState (view_over pool states disk.reads) no_trees x.slot)) here ((loaded_states pool disk.reads states kept loaded none m is whole).each x.slot))

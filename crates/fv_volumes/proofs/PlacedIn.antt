@@ -5,6 +5,9 @@ use Rattle.std.specs.Option.{option_map}
 use Rattle.std.proofs.lemmas.Bool.{both_ways, cases_Bool, cases_eq, or_from, or_right}
 use Rattle.std.proofs.lemmas.List.{set-get_or}
 use Rattle.std.proofs.lemmas.List.Sums.{sum_by-set}
+use Rattle.std.specs.FinSet as set
+use Rattle.fv_model.specs.Space.{base_ids}
+use Rattle.fv_model.specs.Volumes.{Volume as Model}
 use Rattle.fv_disk.specs.Shown.{Image, Shown}
 use Rattle.fv_disk.specs.DiskCalls.{OnlyReads}
 use Rattle.fv_model.specs.Volumes.{Volume}
@@ -341,7 +344,8 @@ module _ (disk after : Shown) (pool left : Pool) (states stay : States) (x y : V
 
     -- the volumes stand together: none has a base
     together : StandTogether pool x.map s states
-    together = alone_together disk pool states x.map s each (subst (λ (o : Option VolumeState). IfSome o (λ z. z.map ≡ x.map)) (sym there) refl) lies (housed_alone pool.containers states housed)
+    together = alone_together disk pool states x.map s each (subst (λ (o : Option VolumeState). IfSome o (λ z. z.map ≡ x.map)) (sym there) refl) lies
+        (λ k z at. housed_alone pool.containers states housed k z at (subst (λ (o : Option VolumeState). IfSome o (IsHeldIn disk pool k)) at (each k)).bare)
       where
         lies : (k : ℕ) (w : VolumeState) → k ≢ s → state_at states k ≡ Some w → LiesApart pool.containers k s
         lies k w differ at v e own owned = spaced.apart k s e.pvbn (is_inside states k w housed.long at) inside differ
@@ -362,7 +366,8 @@ module _ (disk after : Shown) (pool left : Pool) (states stay : States) (x y : V
           stands = b.standing;
           led = b.led one.led;
           well = b.well one.well;
-          wide = one.wide;
+          bare = one.bare;
+          wide = subst (λ (v : Model). v.most + (set.len (base_ids v.base) + 256) ≤ v.span) (sym b.volume) one.wide;
           within = one.within;
         }
 
@@ -373,7 +378,8 @@ module _ (disk after : Shown) (pool left : Pool) (states stay : States) (x y : V
       stands = standing;
       led = placed.led mine.stands mine.led;
       well = placed.well mine.stands mine.led mine.well;
-      wide = subst (λ (v : VolumeState). v.most + 256 ≤ v.span) (sym placed.keeps) mine.wide;
+      bare = ap (λ (v : VolumeState). v.base) placed.keeps ∙ mine.bare;
+      wide = subst (λ (v : Model). v.most + (set.len (base_ids v.base) + 256) ≤ v.span) (sym (placed.volume mine.stands)) mine.wide;
       within = subst (λ (v : VolumeState). v.ledger.charge ≤ v.size) (sym placed.keeps) mine.within;
     }
 

@@ -22,7 +22,7 @@ use Rattle.fv_volume.specs.Placing.{IsLedTo, IsStoredWell}
 use Rattle.fv_volume.specs.States.{States, head_in, state_at, view_over}
 use Rattle.fv_volume.specs.Trees.{active_in, no_trees}
 use Rattle.fv_volumes.proofs.Apart.{entries_apart, sound_holds}
-use Rattle.fv_volumes.proofs.LoadedTables.{StandsInView, in_view}
+use Rattle.fv_volumes.proofs.LoadedTables.{StandsInView, in_view, none_told}
 use Rattle.fv_volumes.proofs.CleanSlots.{loaded_clean}
 use Rattle.fv_volumes.proofs.Standings.{active_is, seen_led, seen_standing, seen_table, seen_well}
 use Rattle.fv_volumes.proofs.Told.{head_there}
@@ -57,4 +57,4 @@ module _ (disk : Shown) (pool : Pool) (states : States) (housed : AreHoused pool
         (λ b bit. ap (λ (set : List Bool). is_member set b) map.same ∙ (map.bits b ∙ bit)) x.map x.slot
 
     pub standing : AreNumbersSeen w x.slot (Some x) → IsStanding disk pool x
-    standing numbered = seen_standing disk pool states x stands no_files tells apart (loaded_clean pool.found disk.reads states pool.containers whole told.sound few loaded) (subst (λ (o : Option VolumeState). IfSome o (IsState w no_trees x.slot)) there (are.each x.slot)) (subst (AreNumbersIf x.numbers) (sym told_as) numbered)
+    standing numbered = seen_standing disk pool states x stands no_files (none_told disk pool states housed.long few loaded unkept m told x there) tells apart (loaded_clean pool.found disk.reads states pool.containers whole told.sound few loaded) (subst (λ (o : Option VolumeState). IfSome o (IsState w no_trees x.slot)) there (are.each x.slot)) (subst (AreNumbersIf x.numbers) (sym told_as) numbered)

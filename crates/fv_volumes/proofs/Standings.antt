@@ -1,5 +1,5 @@
 -- From a volume of a session's view to one volume with nothing of it in memory, and back.
-use Rattle.std.proofs.Common.{◌≡◌, ◌≢◌, ℕ, Bool, true, false, ◌&&◌, List, [], ◌∷◌, Option, Some, None, is_some, inl, inr, refl, sym, ap, ap₂, subst, ◌∙◌, arith}
+use Rattle.std.proofs.Common.{◌≡◌, ◌≢◌, ℕ, Bool, true, false, ◌&&◌, List, [], ◌∷◌, ◌++◌, Option, Some, None, is_some, inl, inr, refl, sym, ap, ap₂, subst, ◌∙◌, arith}
 use Rattle.std.specs.Prelude.{All, IsTrue, map, nat_le, nat_lt, slice_index_or}
 use Rattle.std.specs.Option.{option_map, option_map_or}
 use Rattle.std.specs.FinMap as fin
@@ -36,23 +36,24 @@ use Rattle.fv_image.specs.Seen.{roots_of, volume_seen}
 use Rattle.fv_image.specs.VolumeRules.{has_distinct_snapshots}
 use Rattle.fv_image.specs.Views.{Head, Rooted as Root, Snap, View}
 use Rattle.fv_image.specs.Volumes.{base_from, snap_told, table_at, volume_with}
-use Rattle.fv_image.proofs.LoneTables.{form_base}
 use Rattle.fv_image.proofs.SameSeen.{of_volume}
 use Rattle.fv_charge.specs.Ledgers.{IsLedgerOf}
 use Rattle.fv_container.specs.Chains.{AreCleanOn, parent_at}
 use Rattle.fv_volmap.specs.Slots.{IsVolume, active_of, has, slot_at}
 use Rattle.fv_files.specs.Numbering.{AreNumbersIf}
 use Rattle.fv_pool.specs.declared.pool.Pool.{Pool}
+use Rattle.fv_volume.specs.declared.state.Base.{Base}
 use Rattle.fv_volume.specs.declared.state.Snap.{Snap as Kept}
 use Rattle.fv_volume.specs.declared.state.VolumeState.{VolumeState}
 use Rattle.fv_pool.specs.BlocksOver.{AreApart}
 use Rattle.fv_volume.specs.Files.{IsLabelled, IsState}
 use Rattle.fv_pool.specs.Tables.{standing_by, AreLaidBy, AreSoundBy, AreLedBy, AreStoredBy, trees_by}
-use Rattle.fv_volume.specs.OneVolume.{blocks_in, shows, snap_by, snaps_by, standing_kept, table_for, uses_in, volume_as, volume_for, IsKeptTable, IsStanding, RootStands}
+use Rattle.fv_volume.specs.OneVolume.{blocks_in, shows, snap_by, snaps_by, standing_kept, table_for, uses_in, volume_as, volume_for, IsKeptTable, IsStanding, RootStands, base_by, base_table, base_told_by, tables_of}
 use Rattle.fv_volume.specs.Placing.{IsLedTo, IsStoredWell}
 use Rattle.fv_volume.specs.Sharing.{pointer_in, AreShared, SharesWith}
-use Rattle.fv_volume.specs.States.{States, head_in, parent_in, rooted_as, snap_in, state_at, table_in, view_over}
+use Rattle.fv_volume.specs.States.{States, footing_in, head_in, parent_in, rooted_as, snap_in, state_at, table_in, view_over}
 use Rattle.fv_volume.specs.Trees.{active_in, no_trees}
+use Rattle.fv_volume.proofs.TablesOf.{snaps_all}
 use Rattle.fv_volume.proofs.EachRoot.{all_among}
 use Rattle.fv_volumes.proofs.Agreed.{held_there, slot_there}
 use Rattle.fv_volumes.proofs.LoadedStored.{stands_indexes, stands_stored}
@@ -84,10 +85,11 @@ module _ (w : View) (s : ℕ) (blocks : ℕ → Under) where
   snaps_told [] all = refl
   snaps_told (q ∷ qs) all = ap₂ (λ e es. e ∷ es) (ap (λ (t : Table). (q.name, t)) (All-head TellsSnap q qs all)) (snaps_told qs (All-tail TellsSnap q qs all))
 
-  -- it tells a volume without a base by any active table
-  volume_by_snaps : (x : VolumeState) → (head_in x).base ≡ None → All TellsSnap x.snapshots → (active : Table) → volume_with w s (head_in x) active ≡ volume_as x (record { active = active; snapshots = snaps_by blocks x.snapshots })
+  -- and what the volume stands on as the slot of its base does, it tells the volume by any active table
+  volume_by_snaps : (x : VolumeState) → base_from w (head_in x).base ≡ base_by blocks x.base → All TellsSnap x.snapshots → (active : Table)
+      → volume_with w s (head_in x) active ≡ volume_as x (record { active = active; snapshots = snaps_by blocks x.snapshots; base = base_told_by blocks x.base })
   unfolding volume_with
-  volume_by_snaps x base all active = λ i. record {
+  volume_by_snaps x based all active = λ i. record {
     kind = x.kind;
     size = x.size;
     most = x.most;
@@ -95,9 +97,13 @@ module _ (w : View) (s : ℕ) (blocks : ℕ → Under) where
     now = x.now;
     active = active;
     snapshots = fin.from_entries {R = name_cmp} (snaps_told x.snapshots all i);
-    base = ap (base_from w) base i;
+    base = based i;
     known = x.known;
   }
+
+-- so it is told what a volume without a base stands on
+pub none_based : (w : View) (blocks : ℕ → Under) (x : VolumeState) → x.base ≡ None → base_from w (head_in x).base ≡ base_by blocks x.base
+none_based w blocks x bare = (λ i. base_from w (option_map footing_in (bare i))) ∙ sym (ap (base_by blocks) bare)
 
 -- ---- to the view
 
@@ -116,8 +122,9 @@ module _ (disk : Disk) (pool : Pool) (states : States) (x : VolumeState) (there 
   same_there = held_there disk pool states parents x there whole span
 
   -- The tables of its snapshots are told as they lie in their slots, and so is the volume by any active table.
-  pub seen_volume : (head_in x).base ≡ None → All (IsKeptTable disk pool x) x.snapshots → (active : Table) → volume_with u x.slot (head_in x) active ≡ volume_as x (record { active = active; snapshots = snaps_by (blocks_in disk pool x) x.snapshots })
-  seen_volume base kept = volume_by_snaps u x.slot (blocks_in disk pool x) x base
+  pub seen_volume : base_from u (head_in x).base ≡ base_by (blocks_in disk pool x) x.base → All (IsKeptTable disk pool x) x.snapshots → (active : Table)
+      → volume_with u x.slot (head_in x) active ≡ volume_as x (record { active = active; snapshots = snaps_by (blocks_in disk pool x) x.snapshots; base = base_told_by (blocks_in disk pool x) x.base })
+  seen_volume based kept = volume_by_snaps u x.slot (blocks_in disk pool x) x based
       (λ n q lt. kept_by disk pool x (slice_index_or x.snapshots n q) (kept n q lt) (under u x.slot) (slot_there disk pool states parents x there whole span (slice_index_or x.snapshots n q).slot))
 
   -- ---- where nothing is in memory
@@ -139,17 +146,17 @@ module _ (disk : Disk) (pool : Pool) (states : States) (x : VolumeState) (there 
         ∙ kept_table (blocks_of shown) (under u x.slot) x.active.levels x.active.root agree
         ∙ sym (ap (λ (o : Option Files). table_told (standing_by (blocks_of shown) x.active o)) none)
 
-    -- so the volume that it stands for, where this has no base.
-    pub standing_volume : (head_in x).base ≡ None → volume_with u x.slot (head_in x) (active_in u no_trees x.slot) ≡ volume_for disk pool x
-    standing_volume base = ap (volume_with u x.slot (head_in x)) standing_table ∙ seen_volume base is.kept (table_for disk pool x)
+    -- so the volume that it stands for, where it tells what this stands on.
+    pub standing_volume : base_from u (head_in x).base ≡ base_by (blocks_in disk pool x) x.base → volume_with u x.slot (head_in x) (active_in u no_trees x.slot) ≡ volume_for disk pool x
+    standing_volume based = ap (volume_with u x.slot (head_in x)) standing_table ∙ seen_volume based (snaps_all (IsKeptTable disk pool x) x is.kept) (table_for disk pool x)
 
     -- The volume is one of the machine that the view tells.
-    pub standing_state : IsLabelled x.slot x → IsState u no_trees x.slot x
-    standing_state labelled = record {
+    pub standing_state : base_from u (head_in x).base ≡ base_by (blocks_in disk pool x) x.base → IsLabelled x.slot x → IsState u no_trees x.slot x
+    standing_state based labelled = record {
       labelled = labelled;
       table = subst (IsWellTable x.now) (sym standing_table) is.table;
       reserves = subst HasNoReserve (sym standing_table) is.reserves;
-      ledger = subst (λ v. IsLedgerOf v x.ledger) (sym (standing_volume (form_base (head_in x) labelled.form))) is.ledger;
+      ledger = subst (λ v. IsLedgerOf v x.ledger) (sym (standing_volume based)) is.ledger;
     }
 
 -- ---- from the view
@@ -280,9 +287,10 @@ module _ (disk : Disk) (pool : Pool) (states : States) (x : VolumeState) (is : S
   pub seen_kept : All (IsKeptTable disk pool x) x.snapshots
   seen_kept = all_among (IsKeptTable disk pool x) x.snapshots each_kept
 
-  -- So the view tells the volume by any active table, where it has no base.
-  seen_as : (head_in x).base ≡ None → (active : Table) → volume_with w x.slot (head_in x) active ≡ volume_as x (record { active = active; snapshots = snaps_by (blocks_in disk pool x) x.snapshots })
-  seen_as base = volume_by_snaps w x.slot (blocks_in disk pool x) x base (all_among (TellsSnap w x.slot (blocks_in disk pool x)) x.snapshots snap_seen)
+  -- So the view tells the volume by any active table, where it tells what this stands on.
+  seen_as : base_from w (head_in x).base ≡ base_by (blocks_in disk pool x) x.base → (active : Table)
+      → volume_with w x.slot (head_in x) active ≡ volume_as x (record { active = active; snapshots = snaps_by (blocks_in disk pool x) x.snapshots; base = base_told_by (blocks_in disk pool x) x.base })
+  seen_as based = volume_by_snaps w x.slot (blocks_in disk pool x) x based (all_among (TellsSnap w x.slot (blocks_in disk pool x)) x.snapshots snap_seen)
 
   -- ---- its active table, over all blocks that it holds
 
@@ -330,19 +338,23 @@ module _ (disk : Disk) (pool : Pool) (states : States) (x : VolumeState) (is : S
     pub seen_well : IsStoredWell disk pool x
     seen_well = subst (AreStoredBy (blocks_of source) x.active) (sym none) (over_stored (blocks_in disk pool x 0) (blocks_of source) x.active.levels x.active.root held_agrees active.well)
 
-    -- The volume stands for the one of the view.
-    pub seen_standing : IsTrue disk.tells → AreApart pool x.map x.slot → AreCleanOn disk.reads pool.containers → IsState w no_trees x.slot x → AreNumbersIf x.numbers (table_for disk pool x) → IsStanding disk pool x
-    seen_standing tells apart clean state numbered =
+    -- The volume stands for the one of the view, where it has no base.
+    pub seen_standing : x.base ≡ None → IsTrue disk.tells → AreApart pool x.map x.slot → AreCleanOn disk.reads pool.containers → IsState w no_trees x.slot x → AreNumbersIf x.numbers (table_for disk pool x) → IsStanding disk pool x
+    seen_standing bare tells apart clean state numbered =
         let told : active_in w no_trees x.slot ≡ table_for disk pool x = active_is w x.slot (head_in x) (head_there pool states disk.reads x.slot x is.there) ∙ sym seen_table in
         record {
           told = (tells, apart, clean);
           table = subst (IsWellTable x.now) told state.table;
           reserves = subst HasNoReserve told state.reserves;
-          kept = seen_kept;
+          kept = subst (All (IsKeptTable disk pool x)) (sym alone) seen_kept;
           names = seen_names;
-          shared = subst (λ (o : Option Files). AreShared (trees_by (blocks_of source) x.active o) (blocks_in disk pool x) x.snapshots) (sym none) active_shared;
-          ledger = subst (λ v. IsLedgerOf v x.ledger) (ap (volume_with w x.slot (head_in x)) told ∙ seen_as (form_base (head_in x) state.labelled.form) (table_for disk pool x)) state.ledger;
+          shared = subst (λ (o : Option Files). AreShared (trees_by (blocks_of source) x.active o) (blocks_in disk pool x) (tables_of x)) (sym none)
+              (subst (AreShared (stored_trees (blocks_of source) x.active.levels x.active.root) (blocks_in disk pool x)) (sym alone) active_shared);
+          ledger = subst (λ v. IsLedgerOf v x.ledger) (ap (volume_with w x.slot (head_in x)) told ∙ seen_as (none_based w (blocks_in disk pool x) x bare) (table_for disk pool x)) state.ledger;
           trees = subst (AreSoundBy (blocks_of source) source.used x.active) (sym none) active_reached;
           laid = subst (AreLaidBy (blocks_of source)) (sym none) tt;
           numbers = numbered;
         }
+      where
+        alone : tables_of x ≡ x.snapshots
+        alone = ap (λ (o : Option Base). base_table o ++ x.snapshots) bare

@@ -30,7 +30,6 @@ use Rattle.fv_image.specs.Staying.{StaysHeld, own_items}
 use Rattle.fv_image.specs.WholeMachine.{is_built, machine_from}
 use Rattle.fv_image.proofs.Counted.{HasHeads}
 use Rattle.fv_image.proofs.LabelNumbers.{label_numbers}
-use Rattle.fv_image.proofs.LoneTables.{form_base}
 use Rattle.fv_image.proofs.OwnBases.{uses_own}
 use Rattle.fv_image.proofs.OwnUses.{HasLabelNumbers}
 use Rattle.fv_image.proofs.Points.{Ends, UsesOwn, end_machine, has_bits_of, maps_from}
@@ -51,7 +50,7 @@ use Rattle.fv_volume.specs.Files.{AreNamed, IsLabelled}
 use Rattle.fv_volumes.specs.Housed.{AreHoused, HaveReaches, ReachesAll, settled_as, settled_at}
 use Rattle.fv_volume.specs.Labels.{label_said}
 use Rattle.fv_volume.specs.Loading.{HaveBits, label_of}
-use Rattle.fv_volume.specs.States.{States, head_in, state_at, view_over}
+use Rattle.fv_volume.specs.States.{AreBare, States, footing_in, head_in, state_at, view_over}
 use Rattle.fv_volume.specs.Stored.{has_block, has_stored_map, map_slot, stays}
 use Rattle.fv_volumes.specs.UnderRoot.{AllStandUnder}
 use Rattle.fv_volumes.proofs.Distinct.{same_names}
@@ -62,7 +61,7 @@ use Rattle.fv_volumes.proofs.StoredSlot.{HaveNonePast}
 use Rattle.fv_volumes.proofs.Told.{is_inside}
 use Rattle.fv_volumes.proofs.Viewed.{entry_of}
 
-module _ (pool : Pool) (states : States) (before : Image) (housed : AreHoused pool.containers states) (tables : AreTables (seen (view_over pool states before))) (reach : HaveReaches (view_over pool states before) states) where
+module _ (pool : Pool) (states : States) (before : Image) (housed : AreHoused pool.containers states) (tables : AreTables (seen (view_over pool states before))) (reach : HaveReaches (view_over pool states before) states) (bare : AreBare states) where
   abbrev w : View
   w = view_over pool states before
 
@@ -102,7 +101,8 @@ module _ (pool : Pool) (states : States) (before : Image) (housed : AreHoused po
   no_footing : (s : ℕ) (h : Head) (b : Footing) → w.head s ≡ Some h → h.base ≡ Some b → ⊥
   no_footing s h b is_head based =
       let x = state_of s h is_head in
-      none-some b (sym (form_base (head_in x.0) (labelled s x.0 x.1).form) ∙ ap (λ (g : Head). g.base) x.2 ∙ based)
+      let none : x.0.base ≡ None = subst (λ (o : Option VolumeState). IfSome o (λ x. x.base ≡ None)) x.1 (bare s) in
+      none-some b (sym (ap (option_map footing_in) none) ∙ ap (λ (g : Head). g.base) x.2 ∙ based)
 
   -- What roots reach stays in a view with the same heads in which the entries stay that do.
   pub stays_in : (u : View) → u.blocks ≡ w.blocks → u.version ≡ w.version → ((s : ℕ) → u.head s ≡ w.head s) → ((s v : ℕ) (x : VolumeState) → s < 64 → state_at states s ≡ Some x → stays x v ≡ true → u.entry s v ≡ w.entry s v) → StaysHeld w u

@@ -1,6 +1,6 @@
 -- What volumes by slot tell of: their names, their number and what they commit.
 use Rattle.std.proofs.Common.{◌≡◌, ◌≢◌, ◌<◌, ◌≤◌, ◌+◌, ◌*◌, ℕ, zero, suc, Bool, true, false, cond, List, [], ◌∷◌, ◌++◌, length, Option, Some, None, flat_map, sum_by, true≢false, refl, sym, ap, subst, ◌∙◌, ⊎_elim, arith}
-use Rattle.std.specs.Prelude.{IsSome}
+use Rattle.std.specs.Prelude.{IfSome, IsSome}
 use Rattle.std.specs.List.{range_with_len}
 use Rattle.std.specs.Option.{is_some, option_map, option_map_or}
 use Rattle.std.specs.Ordering.{is_eq}
@@ -23,12 +23,15 @@ use Rattle.fv_laws.proofs.Commits.{commit_at}
 use Rattle.fv_laws.proofs.Maps.{sum-insert}
 use Rattle.fv_image.specs.Views.{View, slots}
 use Rattle.fv_image.specs.Volumes.{named_with, volume_with, volumes_with}
+use Rattle.fv_image.specs.WholeMachine.{is_built}
+use Rattle.fv_image.proofs.LoneTables.{built_forms, form_base}
 use Rattle.fv_charge.specs.declared.ledger.Ledger.{Ledger}
 use Rattle.fv_charge.specs.Ledgers.{IsLedgerOf, committed, promised_to}
 use Rattle.fv_volume.specs.declared.state.VolumeState.{VolumeState}
 use Rattle.fv_pool.specs.declared.pool.Pool.{Pool}
-use Rattle.fv_volume.specs.States.{States, head_in, state_at, view_over, with_state}
+use Rattle.fv_volume.specs.States.{AreBare, States, head_in, state_at, view_over, with_state}
 use Rattle.fv_volume.specs.Slots.{committed_by, is_named, sum_of}
+use Rattle.fv_volume.proofs.TablesOf.{no_footing}
 
 abbrev pub Named : Type 0
 Named = List (List ℕ × Volume)
@@ -246,3 +249,11 @@ is_inside states s x long there = ⊎_elim
     (λ (low : s < 64). low)
     (λ (past : 64 ≤ s). absurd (none_some x (sym there ∙ get_or_past states s None (omega (arith, past, long)))))
     (cases_lt s 64)
+
+-- no volume has a base where each has a form that is built
+pub bare_built : (pool : Pool) (states : States) (i : Image) → length states ≡ 64 → is_built (view_over pool states i) ≡ true → AreBare states
+bare_built pool states i long built s = by (state_at states s) refl
+  where
+    by : (o : Option VolumeState) → state_at states s ≡ o → IfSome o (λ x. x.base ≡ None)
+    by None there = tt
+    by (Some x) there = no_footing x.base (form_base (head_in x) (built_forms (view_over pool states i) built s (head_in x) (is_inside states s x long there) (head_there pool states i s x there)))

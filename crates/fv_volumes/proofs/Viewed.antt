@@ -25,7 +25,7 @@ use Rattle.fv_image.specs.Volumes.{table_at, volume_with, volume_told, told}
 use Rattle.fv_image.specs.Seen.{seen}
 use Rattle.fv_image.specs.Soundness.{AreTables, AreMaps}
 use Rattle.fv_image.specs.WholeMachine.{Tells}
-use Rattle.fv_image.proofs.LoneTables.{built_reserves, form_base, lone_reserves}
+use Rattle.fv_image.proofs.LoneTables.{built_forms, built_reserves, form_base, lone_reserves}
 use Rattle.fv_image.proofs.WellLabels.{names_apart, numbers_at, volumes_are_well}
 use Rattle.fv_charge.specs.Ledgers.{IsLedgerOf}
 use Rattle.fv_container.specs.declared.entry.Entry.{Entry}
@@ -166,11 +166,16 @@ module _ (pool : Pool) (i : Image) (states : States) (kept : KeptTo slot_count s
     unfolding volume_with
     table = (volumes_are_well (root_found pool.found) i whole tables s (head_in x) small there_is).active
 
+    -- no base is told
+    none_told : (head_in x).base ≡ None
+    unfolding layout_at
+    none_told = form_base (head_in x) (built_forms w is.built s (head_in x) small there_is)
+
     ledger : IsLedgerOf (volume_told w s (head_in x)) x.ledger
-    ledger = counted_ledger w s (head_in x) small there_is tables maps (numbers_at (root_found pool.found) i whole s (head_in x) there_is) (form_base (head_in x) labelled.form)
+    ledger = counted_ledger w s (head_in x) small there_is tables maps (numbers_at (root_found pool.found) i whole s (head_in x) there_is) none_told
         x.map labelled.map labelled.slots labelled.snapshots.slots bits x.ledger
         (subst (λ (n : ℕ). HasCounted x.map None n x.span x.size x.kind x.ledger) (sym (length-map x.snapshots snap_in))
-        (subst (λ (b : Option (List Bool)). HasCounted x.map b (length x.snapshots) x.span x.size x.kind x.ledger) (none_counted x.base x.map (form_base (head_in x) labelled.form)) is_counted.ledger)) reserves
+        (subst (λ (b : Option (List Bool)). HasCounted x.map b (length x.snapshots) x.span x.size x.kind x.ledger) (none_counted x.base x.map none_told) is_counted.ledger)) reserves
 
     active_is : active_in w no_trees s ≡ table_at w s (head_in x).active
     active_is = ap (λ (o : Option Head). option_map_or (λ h. table_at w s h.active) o empty_table) there_is

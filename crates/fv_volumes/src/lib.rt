@@ -5,6 +5,7 @@
 mod admit;
 mod destroying;
 mod giving;
+mod learning;
 mod load;
 mod promising;
 mod search;

@@ -17,7 +17,7 @@ ghost use Rattle.fv_store.specs.Held.{StandsOn};
 ghost use Rattle.fv_volumes.specs.Creating.{Admits, IsMade, IsNew, with_holes, Refuses};
 ghost use Rattle.fv_pool.specs.Causes.{WithBlockFault};
 ghost use Rattle.fv_volume.specs.Opening.{OpensVolumes};
-ghost use Rattle.fv_volume.specs.States.{view_over, state_at, with_state};
+ghost use Rattle.fv_volume.specs.States.{AreBare, view_over, state_at, with_state};
 ghost use Rattle.fv_volume.specs.Trees.{Trees, machine_in};
 ghost use Rattle.fv_volume.specs.Files.{AreStates, IsLabelled, Over};
 ghost use Rattle.fv_volume.specs.Slots.{IsFirstFree, IsFull, HasName, NoneHasName, sum_of};
@@ -65,7 +65,7 @@ impl Volumes {
     ///
     /// # Errors
     /// `Damaged` comes only where a block that this call read isn't as it has to be: a label without its
-    /// shape, or with a base or an unknown place, neither of which can be loaded yet; a node
+    /// shape, or of a volume that is being split or has an unknown place, neither of which can be loaded yet; a node
     /// of a container without its shape, whatever position it names; or a block of a map with a bit set
     /// past the span. `DiskFault` comes only where a read failed in this call, and `Memory` where memory ran out. The
     /// pool's containers stay then.
@@ -173,9 +173,9 @@ impl Volumes {
         ensures holes { IfOk result (λ slot. pool.new ≡ with_holes pool.old slot size) }
         ensures long { length self.new ≡ slot_count }
         ensures each { OnOk result ((s : ℕ) → IfSome (state_at self.new s) (IsLabelled s)) }
-        ensures states { OnOk result ((trees : Trees) (i : Image) → AreStates (view_over pool.old self.old i) trees self.old → AreStates (view_over pool.new self.new i) trees self.new) }
+        ensures states { OnOk result ((trees : Trees) (i : Image) → AreBare self.old → AreStates (view_over pool.old self.old i) trees self.old → AreStates (view_over pool.new self.new i) trees self.new) }
         ensures accepted { OnOk result ((trees : Trees) → Over pool.old self.old trees (λ m. refusal m (VolCreate name.now size kind) ≡ None)) }
-        ensures machine { OnOk result ((trees : Trees) (i : Image) → AreStates (view_over pool.old self.old i) trees self.old
+        ensures machine { OnOk result ((trees : Trees) (i : Image) → AreBare self.old → AreStates (view_over pool.old self.old i) trees self.old
             → machine_in pool.new self.new trees i ≡ next (machine_in pool.old self.old trees i) (VolCreate name.now size kind)) }
         ensures same { OnErr result ((self.new ≡ self.old) × (pool.new ≡ pool.old)) }
     {

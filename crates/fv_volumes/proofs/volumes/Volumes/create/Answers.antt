@@ -9,7 +9,7 @@ use Rattle.fv_volumes.specs.Creating.{Admits, new_ledger_of}
 use Rattle.fv_pool.specs.declared.pool.Pool.{Pool}
 use Rattle.fv_volume.specs.Files.{AreStates, IsLabelled}
 use Rattle.fv_volume.specs.Slots.{committed_by, sum_of}
-use Rattle.fv_volume.specs.States.{States, ledger_of_empty, state_at, view_over, with_state}
+use Rattle.fv_volume.specs.States.{AreBare, States, ledger_of_empty, state_at, view_over, with_state}
 use Rattle.fv_volume.proofs.Committed.{sum_with}
 use Rattle.fv_volume.specs.Trees.{machine_in}
 use Rattle.fv_volumes.proofs.Made.{IsAdded, accepted, added_by, added_states, is_new, each_made, made_next}
@@ -25,8 +25,8 @@ is_added c = added_by c.args.pool.now c.self.inside.states.items c.args.admitted
     c.in_ok-state.ensures.slot c.in_ok-state.ensures.head c.in_ok-state.ensures.ledger c.in_ok-state.ensures.named c.in_ok-state.ensures.map c.in_ok-state.ensures.rests.fresh refl refl refl c.put.ensures.put
 
 pub returns-clause-states : goal.returns-clause-states
-returns-clause-states c = λ trees i are. added_states c.args.pool.now c.self.inside.states.items c.args.admitted.slot c.args.name.now c.args.size c.args.kind c.in_ok-state.state (new_pool c) (is_added c) trees i
-    (subst (λ (s : States). AreStates (view_over c.args.pool.now s i) trees s) (sym c.self.view_is) are)
+returns-clause-states c = λ trees i bare are. added_states c.args.pool.now c.self.inside.states.items c.args.admitted.slot c.args.name.now c.args.size c.args.kind c.in_ok-state.state (new_pool c) (is_added c) trees i
+    (subst (λ (s : States). AreStates (view_over c.args.pool.now s i) trees s) (sym c.self.view_is) are) (subst AreBare (sym c.self.view_is) bare)
 
 pub returns-clause-accepted : goal.returns-clause-accepted
 returns-clause-accepted c = λ trees i are.
@@ -35,8 +35,8 @@ returns-clause-accepted c = λ trees i are.
     accepted c.args.pool.now states trees i long are c.args.name.now c.args.size c.args.kind c.args.admitted.slot c.args.admitted.span c.requires.admitted
 
 pub returns-clause-machine : goal.returns-clause-machine
-returns-clause-machine c = λ trees i are. made_next c.args.pool.now c.self.inside.states.items c.args.admitted.slot c.args.name.now c.args.size c.args.kind c.in_ok-state.state (new_pool c) (is_added c) trees i
-    (subst (λ (s : States). AreStates (view_over c.args.pool.now s i) trees s) (sym c.self.view_is) are)
+returns-clause-machine c = λ trees i bare are. made_next c.args.pool.now c.self.inside.states.items c.args.admitted.slot c.args.name.now c.args.size c.args.kind c.in_ok-state.state (new_pool c) (is_added c) trees i
+    (subst (λ (s : States). AreStates (view_over c.args.pool.now s i) trees s) (sym c.self.view_is) are) (subst AreBare (sym c.self.view_is) bare)
     ∙ ap (λ (s : States). next (machine_in c.args.pool.now s trees i) (VolCreate c.args.name.now c.args.size c.args.kind)) c.self.view_is
 
 pub returns-clause-new : goal.returns-clause-new

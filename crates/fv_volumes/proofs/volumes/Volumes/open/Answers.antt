@@ -21,6 +21,7 @@ returns g c =
     record {
       loaded = did.loaded;
       states = did.kept;
+      bases = did.bases;
       view = λ tells none. viewed left i states did.kept.long did.kept.few (did.loaded tells) (same none);
       machine = λ tells none m is. loaded_machine left i states did.kept (did.loaded tells) (same none) m is;
       whole = λ tells none m is. loaded_states left i states did.kept (did.loaded tells) (same none) m is (whole tells);
