@@ -9,12 +9,12 @@ use Rattle.fv_model.specs.declared.answers.Reply.{Reply}
 use Rattle.fv_model.specs.declared.answers.Reply.TheVariants.{Done, Names, Refused}
 use Rattle.fv_model.specs.declared.commands.Kind.{Kind}
 use Rattle.fv_model.specs.declared.commands.Command.{Command}
-use Rattle.fv_model.specs.declared.commands.Command.TheVariants.{VolCreate, VolDestroy, VolResize, VolGuarantee, VolList, VolStat, New, Put, Get, Len, Cut, Remove, Ls, SnapCreate, SnapDelete, SnapRestore, SnapList, Cp}
+use Rattle.fv_model.specs.declared.commands.Command.TheVariants.{VolCreate, VolDestroy, VolResize, VolGuarantee, VolList, VolStat, New, Put, Get, Len, Cut, Remove, Ls, SnapCreate, SnapDelete, SnapRestore, SnapList, CloneCreate, Cp}
 use Rattle.fv_model.specs.Machines.{Machine}
 use Rattle.fv_model.specs.Effects.{change_of}
 use Rattle.fv_model.specs.Refusals.{conditions, next}
 use Rattle.fv_model.specs.Replies.{Allows, answer}
-use Rattle.fv_model.specs.Space.{overhead, span_of}
+use Rattle.fv_model.specs.Space.{overhead}
 use Rattle.fv_container.proofs.Changing.{maps_same}
 use Rattle.fv_aggregate.specs.declared.fault.Fault.{Fault}
 use Rattle.fv_aggregate.specs.declared.fault.Fault.TheVariants.{Memory}
@@ -74,68 +74,12 @@ fault_plain command shown disk session f damage built whole snap names = record 
   snapshots = λ fresh name list. absurd (names fresh name list);
 }
 
--- ---- vol create
-
-module _ (command : Command) (name : List ℕ) (size : ℕ) (kind : Kind) (is : command ≡ VolCreate name size kind) where
-  pub create_goes : (before : Shown) (old : Session) (after : Shown) (new : Session) (result : Result Reply Fault) → Goes (overhead (span_of size 0 0)) AsksNothing before old after new result → Goes (room_by old.volumes command) (asked_by old.volumes command) before old after new result
-  unfolding room_with asked_by
-  create_goes before old after new result goes = subst (λ (c : Command). Goes (room_by old.volumes c) (asked_by old.volumes c) before old after new result) (sym is) goes
-
-  pub create_goes_for : (before : Shown) (last m : Machine) (after : Shown) (new : Session) (result : Result Reply Fault) → GoesFor before last m (next m (VolCreate name size kind)) after new result → GoesFor before last m (machine_after m command) after new result
-  unfolding is_built machine_after
-  create_goes_for before last m after new result goes = subst (λ (c : Command). GoesFor before last m (machine_after m c) after new result) (sym is) goes
-
-  pub create_replies : (m : Machine) (result : Result Reply Fault) → IfOk result (Allows m (VolCreate name size kind)) → IfOk result (Replies m command)
-  unfolding is_built
-  create_replies m result allowed = subst (λ (c : Command). IfOk result (Replies m c)) (sym is) allowed
-
-  pub create_asks : (before : Shown) (old : Session) (after : Shown) (new : Session) → KeepsAsking (overhead (span_of size 0 0)) before old after new → KeepsAsking (room_by old.volumes command) before old after new
-  unfolding room_with
-  create_asks before old after new asks = subst (λ (c : Command). KeepsAsking (room_by old.volumes c) before old after new) (sym is) asks
-
-  pub create_built : (X : Type 0) → is_built command ≡ false → X
-  unfolding is_built
-  create_built X none = absurd (true≢false (ap is_built (sym is) ∙ none))
-
-  pub create_no_files : (X : Type 0) → reads_files command ≡ true → X
-  unfolding reads_files
-  create_no_files X files = absurd (true≢false (sym files ∙ ap reads_files is))
-
-  pub create_no_point : (X : Type 0) → command ≡ Cp → X
-  create_no_point X cp = absurd (apart (sym is ∙ cp))
-    where
-      apart : VolCreate name size kind ≡ Cp → ⊥
-      apart e = cc
-
-  pub create_no_list : (X : Type 0) → command ≡ VolList → X
-  create_no_list X list = absurd (apart (sym is ∙ list))
-    where
-      apart : VolCreate name size kind ≡ VolList → ⊥
-      apart e = cc
-
-  pub create_no_whole : (X : Type 0) (other : List ℕ) → managed_by command ≡ Some other → X
-  create_no_whole X other of = absurd (some_none other (sym of ∙ ap managed_by is))
-
-  pub create_no_snap : (X : Type 0) (other : List ℕ) → snapped_by command ≡ Some other → X
-  create_no_snap X other of = absurd (some_none other (sym of ∙ ap snapped_by is))
-
-  pub create_no_names : (X : Type 0) (other : List ℕ) → command ≡ SnapList other → X
-  create_no_names X other names = absurd (apart (sym is ∙ names))
-    where
-      apart : VolCreate name size kind ≡ SnapList other → ⊥
-      apart e = cc
-
-  pub create_room : (old : Session) → room_by old.volumes command ≡ overhead (span_of size 0 0)
-  unfolding room_with
-  create_room old = ap (room_by old.volumes) is
+-- ---- a volume that is made
 
 -- a volume has room of its own, whatever its span
 pub own_room : (span : ℕ) → 0 < overhead span
 unfolding overhead
 own_room span = omega arith
-
-pub some_room : (size : ℕ) → overhead (span_of size 0 0) ≡ 0 → ⊥
-some_room size none = let some = own_room (span_of size 0 0) in omega (arith, some, none)
 
 -- ---- vol list
 
@@ -244,27 +188,29 @@ none_if true v none = absurd (some_none v none)
 none_if false v none = refl
 
 -- a command that is about a whole volume, or isn't built
-pub managed_or_unbuilt : (command : Command) → ((name : List ℕ) (size : ℕ) (kind : Kind) → command ≢ VolCreate name size kind) → command ≢ VolList → command ≢ Cp → ((name : List ℕ) → command ≢ SnapList name) → volume_asked command ≡ None → changed_by command ≡ None → snapped_by command ≡ None → (is_some (managed_by command) ≡ true) ⊎ (is_built command ≡ false)
+pub managed_or_unbuilt : (command : Command) → ((name : List ℕ) (size : ℕ) (kind : Kind) → command ≢ VolCreate name size kind) → ((clone parent snapshot : List ℕ) (size : ℕ) (kind : Kind) → command ≢ CloneCreate clone parent snapshot size kind)
+    → command ≢ VolList → command ≢ Cp → ((name : List ℕ) → command ≢ SnapList name) → volume_asked command ≡ None → changed_by command ≡ None → snapped_by command ≡ None → (is_some (managed_by command) ≡ true) ⊎ (is_built command ≡ false)
 unfolding is_built
-managed_or_unbuilt (VolCreate v size kind) a b c d asked changed snaps = absurd (a v size kind refl)
-managed_or_unbuilt (VolDestroy v) a b c d asked changed snaps = inl refl
-managed_or_unbuilt (VolResize v size) a b c d asked changed snaps = inl refl
-managed_or_unbuilt (VolGuarantee v kind) a b c d asked changed snaps = inl refl
-managed_or_unbuilt VolList a b c d asked changed snaps = absurd (b refl)
-managed_or_unbuilt (VolStat v) a b c d asked changed snaps = inl refl
-managed_or_unbuilt (New v f reserve) a b c d asked changed snaps = inr (none_if (reserve == 0) v changed)
-managed_or_unbuilt (Put v f i block) a b c d asked changed snaps = absurd (some_none v changed)
-managed_or_unbuilt (Get v s f i) a b c d asked changed snaps = absurd (some_none v asked)
-managed_or_unbuilt (Len v s f) a b c d asked changed snaps = absurd (some_none v asked)
-managed_or_unbuilt (Cut v f length) a b c d asked changed snaps = absurd (some_none v changed)
-managed_or_unbuilt (Remove v f) a b c d asked changed snaps = absurd (some_none v changed)
-managed_or_unbuilt (Ls v s) a b c d asked changed snaps = absurd (some_none v asked)
-managed_or_unbuilt (SnapCreate v s) a b c d asked changed snaps = absurd (some_none v snaps)
-managed_or_unbuilt (SnapDelete v s) a b c d asked changed snaps = absurd (some_none v snaps)
-managed_or_unbuilt (SnapRestore v s) a b c d asked changed snaps = absurd (some_none v snaps)
-managed_or_unbuilt (SnapList v) a b c d asked changed snaps = absurd (d v refl)
-managed_or_unbuilt Cp a b c d asked changed snaps = absurd (c refl)
-managed_or_unbuilt command a b c d asked changed snaps = inr refl
+managed_or_unbuilt (VolCreate v size kind) a l b c d asked changed snaps = absurd (a v size kind refl)
+managed_or_unbuilt (VolDestroy v) a l b c d asked changed snaps = inl refl
+managed_or_unbuilt (VolResize v size) a l b c d asked changed snaps = inl refl
+managed_or_unbuilt (VolGuarantee v kind) a l b c d asked changed snaps = inl refl
+managed_or_unbuilt VolList a l b c d asked changed snaps = absurd (b refl)
+managed_or_unbuilt (VolStat v) a l b c d asked changed snaps = inl refl
+managed_or_unbuilt (New v f reserve) a l b c d asked changed snaps = inr (none_if (reserve == 0) v changed)
+managed_or_unbuilt (Put v f i block) a l b c d asked changed snaps = absurd (some_none v changed)
+managed_or_unbuilt (Get v s f i) a l b c d asked changed snaps = absurd (some_none v asked)
+managed_or_unbuilt (Len v s f) a l b c d asked changed snaps = absurd (some_none v asked)
+managed_or_unbuilt (Cut v f length) a l b c d asked changed snaps = absurd (some_none v changed)
+managed_or_unbuilt (Remove v f) a l b c d asked changed snaps = absurd (some_none v changed)
+managed_or_unbuilt (Ls v s) a l b c d asked changed snaps = absurd (some_none v asked)
+managed_or_unbuilt (SnapCreate v s) a l b c d asked changed snaps = absurd (some_none v snaps)
+managed_or_unbuilt (SnapDelete v s) a l b c d asked changed snaps = absurd (some_none v snaps)
+managed_or_unbuilt (SnapRestore v s) a l b c d asked changed snaps = absurd (some_none v snaps)
+managed_or_unbuilt (SnapList v) a l b c d asked changed snaps = absurd (d v refl)
+managed_or_unbuilt (CloneCreate v p s size kind) a l b c d asked changed snaps = absurd (l v p s size kind refl)
+managed_or_unbuilt Cp a l b c d asked changed snaps = absurd (c refl)
+managed_or_unbuilt command a l b c d asked changed snaps = inr refl
 
 -- a command that neither asks for files nor changes one reads none
 pub no_files : (command : Command) → volume_asked command ≡ None → changed_by command ≡ None → reads_files command ≡ false

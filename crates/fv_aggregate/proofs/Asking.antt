@@ -1,34 +1,29 @@
 -- What a consistency point asks for, and the image that lacks it.
 use Rattle.std.proofs.Common.{◌≡◌, ◌<◌, ◌≤◌, ◌+◌, ℕ, Bool, true, false, cond, List, length, Option, Some, None, refl, sym, ap, subst, ◌∙◌, arith}
 use Rattle.std.specs.Prelude.{IfSome, IsTrue, max}
-use Rattle.std.proofs.lemmas.List.{get_or-set_same}
 use Rattle.std.proofs.lemmas.List.Sums.{sum_by-set}
 use Rattle.fv_disk.specs.Shown.{Image, Shown}
 use Rattle.fv_disk.specs.DiskCalls.{OnlyReads}
-use Rattle.fv_model.specs.declared.commands.Kind.{Kind}
-use Rattle.fv_model.specs.Space.{overhead, span_of}
+use Rattle.fv_model.specs.Space.{overhead}
 use Rattle.fv_image.specs.Layout.{root_place}
 use Rattle.fv_image.specs.Held.{view_at}
-use Rattle.fv_image.specs.Views.{Head, overheads}
+use Rattle.fv_image.specs.Views.{overheads}
 use Rattle.fv_image.proofs.Counts.{none_sum}
 use Rattle.fv_root.specs.declared.find.Found.{Found}
 use Rattle.fv_root.specs.Finding.{root_found}
 use Rattle.fv_aggmap.specs.Space.{free_blocks}
-use Rattle.fv_container.specs.Paged.{Paged}
 use Rattle.fv_pool.specs.declared.pool.Pool.{Pool}
 use Rattle.fv_volume.specs.declared.state.VolumeState.{VolumeState}
-use Rattle.fv_volumes.specs.Creating.{IsMade, IsNew}
-use Rattle.fv_volume.specs.Files.{IsLabelled}
-use Rattle.fv_volume.specs.Slots.{IsFirstFree}
-use Rattle.fv_volume.specs.States.{States, state_at, view_over}
+use Rattle.fv_volume.specs.States.{States, state_at, view_over, with_state}
 use Rattle.fv_volume.specs.Writing.{asked, map_wait}
-use Rattle.fv_volume.proofs.MapCounts.{alone_waits}
 use Rattle.fv_cp.specs.Lent.{asked_by, blocks_asked, maps_waiting, waiting_by, HaveNoneWaiting}
 use Rattle.fv_cp.specs.Placing.{pending_by, pending_files}
 use Rattle.fv_aggregate.specs.declared.session.Session.{Session}
+use Rattle.fv_aggregate.specs.Adding.{IsYetToWrite}
 use Rattle.fv_aggregate.specs.Asking.{AsksWithin, IsShort}
 use Rattle.fv_aggregate.specs.Standing.{overhead_by, overheads_in, taken_since, StandsReady}
 use Rattle.fv_aggregate.proofs.Clear.{clear_is, clear_stays, free_and_placed}
+use Rattle.fv_aggregate.proofs.YetToWrite.{none_waits}
 use Rattle.fv_aggregate.proofs.Sums.{asked_within, none_waiting, over_slots, overheads_are, overheads_in_with, pending_with, waiting_with}
 
 -- ---- an image that lacks blocks
@@ -79,61 +74,49 @@ asked_unchanged states long unchanged = over_slots asked_by states long ∙ none
     by None is = refl
     by (Some x) is = ap {B = ℕ} (λ (b : Bool). cond b (asked x) 0) is
 
--- no map of a new volume waits
-wait_made : (states : States) (slot : ℕ) (name : List ℕ) (size : ℕ) (kind : Kind) (now : States) → length states ≡ 64 → IsFirstFree states slot → (made : IsMade states slot name size kind now)
-    → ((s : ℕ) → IfSome (state_at now s) (IsLabelled s)) → map_wait made.state ≡ 0
-wait_made states slot name size kind now long free made labelled =
-    let inside : slot < length states = omega (arith, long, free.within) in
-    let there : state_at now slot ≡ Some made.state = ap (λ (xs : States). state_at xs slot) made.states ∙ get_or-set_same states slot (Some made.state) None inside in
-    alone_waits slot made.state (subst (λ (o : Option VolumeState). IfSome o (IsLabelled slot)) there (labelled slot)) (ap (λ (h : Head). h.snapshots) made.head)
+-- ---- a volume more
 
--- so as many wait as before
-pub waiting_made : (states : States) (slot : ℕ) (name : List ℕ) (size : ℕ) (kind : Kind) (now : States) → length states ≡ 64 → IsFirstFree states slot → IsMade states slot name size kind now
-    → ((s : ℕ) → IfSome (state_at now s) (IsLabelled s)) → maps_waiting now ≡ maps_waiting states
-waiting_made states slot name size kind now long free made labelled =
-    let sum : maps_waiting now + waiting_by (state_at states slot) ≡ maps_waiting states + waiting_by (Some made.state) =
-    ap (λ (xs : States). maps_waiting xs + waiting_by (state_at states slot)) made.states ∙ waiting_with states slot (Some made.state) (omega (arith, long, free.within)) in
-    let nothing : waiting_by (state_at states slot) ≡ 0 = ap waiting_by free.free in
-    let none : waiting_by (Some made.state) ≡ 0 = wait_made states slot name size kind now long free made labelled in
-    omega (arith, sum, nothing, none)
+module _ (states : States) (x : VolumeState) (long : length states ≡ 64) (within : x.slot < 64) (free : state_at states x.slot ≡ None) (is : IsYetToWrite x) where
+  abbrev now : States
+  now = with_state states x.slot (Some x)
 
--- a new volume asks for its overhead
-pub asked_made : (states : States) (slot : ℕ) (name : List ℕ) (size : ℕ) (kind : Kind) (now : States) → length states ≡ 64 → IsFirstFree states slot → IsMade states slot name size kind now
-    → ((s : ℕ) → IfSome (state_at now s) (IsLabelled s)) → blocks_asked now ≤ blocks_asked states + overhead (span_of size 0 0)
-asked_made states slot name size kind now long free made labelled =
-    let inside : slot < length states = omega (arith, long, free.within) in
-    let alone : asked made.state ≡ overhead made.state.span = only_overhead (overhead made.state.span) (map_wait made.state) (wait_made states slot name size kind now long free made labelled) in
-    let sum : blocks_asked now + asked_by (state_at states slot) ≡ blocks_asked states + asked_by (Some made.state) =
-    ap (λ (xs : States). blocks_asked xs + asked_by (state_at states slot)) made.states ∙ sum_by-set asked_by states slot (Some made.state) None inside in
-    let nothing : asked_by (state_at states slot) ≡ 0 = ap asked_by free.free in
-    let span : made.state.span ≡ span_of size 0 0 = ap (λ (h : Head). h.span) made.head in
-    omega (arith, sum, nothing, ap overhead span, alone, chosen made.state.changed (asked made.state))
-  where
-    chosen : (b : Bool) (n : ℕ) → cond b n 0 ≤ n
-    chosen true n = omega arith
-    chosen false n = omega arith
+  inside : x.slot < length states
+  inside = omega (arith, long, within)
 
-    only_overhead : (a b : ℕ) → b ≡ 0 → a + b ≡ a
-    only_overhead a b none = omega (arith, none)
+  -- no map of a new volume waits, so as many do as before
+  pub waiting_added : maps_waiting now ≡ maps_waiting states
+  waiting_added =
+      let sum : maps_waiting now + waiting_by (state_at states x.slot) ≡ maps_waiting states + waiting_by (Some x) = waiting_with states x.slot (Some x) inside in
+      let nothing : waiting_by (state_at states x.slot) ≡ 0 = ap waiting_by free in
+      let none : waiting_by (Some x) ≡ 0 = none_waits x is in
+      omega (arith, sum, nothing, none)
 
--- and it is one more to keep room for
-pub overheads_made : (states : States) (slot : ℕ) (name : List ℕ) (size : ℕ) (kind : Kind) (now : States) → length states ≡ 64 → IsFirstFree states slot → IsMade states slot name size kind now
-    → overheads_in now ≡ overheads_in states + overhead (span_of size 0 0)
-overheads_made states slot name size kind now long free made =
-    let sum : overheads_in now + overhead_by (state_at states slot) ≡ overheads_in states + overhead_by (Some made.state) =
-    ap (λ (xs : States). overheads_in xs + overhead_by (state_at states slot)) made.states ∙ overheads_in_with states slot (Some made.state) (omega (arith, long, free.within)) in
-    let nothing : overhead_by (state_at states slot) ≡ 0 = ap overhead_by free.free in
-    let span : made.state.span ≡ span_of size 0 0 = ap (λ (h : Head). h.span) made.head in
-    omega (arith, sum, nothing, ap overhead span)
+  -- a new volume asks for its overhead
+  pub asked_added : blocks_asked now ≤ blocks_asked states + overhead x.span
+  asked_added =
+      let alone : asked x ≡ overhead x.span = only_overhead (overhead x.span) (map_wait x) (none_waits x is) in
+      let sum : blocks_asked now + asked_by (state_at states x.slot) ≡ blocks_asked states + asked_by (Some x) = sum_by-set asked_by states x.slot (Some x) None inside in
+      let nothing : asked_by (state_at states x.slot) ≡ 0 = ap asked_by free in
+      omega (arith, sum, nothing, alone, chosen x.changed (asked x))
+    where
+      chosen : (b : Bool) (n : ℕ) → cond b n 0 ≤ n
+      chosen true n = omega arith
+      chosen false n = omega arith
 
--- without a file in memory
-pub pending_made : (states : States) (slot : ℕ) (name : List ℕ) (size : ℕ) (kind : Kind) (now : States) (container : Option Paged) → length states ≡ 64 → IsFirstFree states slot → IsMade states slot name size kind now
-    → IsNew (state_at now slot) container name size kind → pending_files now ≡ pending_files states
-pending_made states slot name size kind now container long free made new =
-    let inside : slot < length states = omega (arith, long, free.within) in
-    let sum : pending_files now + pending_by (state_at states slot) ≡ pending_files states + pending_by (Some made.state) =
-    ap (λ (xs : States). pending_files xs + pending_by (state_at states slot)) made.states ∙ pending_with states slot (Some made.state) inside in
-    let nothing : pending_by (state_at states slot) ≡ 0 = ap pending_by free.free in
-    let there : state_at now slot ≡ Some made.state = ap (λ (xs : States). state_at xs slot) made.states ∙ get_or-set_same states slot (Some made.state) None inside in
-    let bare : pending_by (Some made.state) ≡ 0 = ap pending_by (sym there ∙ new.state_is) ∙ ap (λ f. pending_by (Some (record new.volume { files = f }))) new.files in
-    omega (arith, sum, nothing, bare)
+      only_overhead : (a b : ℕ) → b ≡ 0 → a + b ≡ a
+      only_overhead a b none = omega (arith, none)
+
+  -- and it is one more to keep room for
+  pub overheads_added : overheads_in now ≡ overheads_in states + overhead x.span
+  overheads_added =
+      let sum : overheads_in now + overhead_by (state_at states x.slot) ≡ overheads_in states + overhead_by (Some x) = overheads_in_with states x.slot (Some x) inside in
+      let nothing : overhead_by (state_at states x.slot) ≡ 0 = ap overhead_by free in
+      omega (arith, sum, nothing)
+
+  -- without a file in memory
+  pub pending_added : pending_files now ≡ pending_files states
+  pending_added =
+      let sum : pending_files now + pending_by (state_at states x.slot) ≡ pending_files states + pending_by (Some x) = pending_with states x.slot (Some x) inside in
+      let nothing : pending_by (state_at states x.slot) ≡ 0 = ap pending_by free in
+      let bare : pending_by (Some x) ≡ 0 = ap (λ f. pending_by (Some (record x { files = f }))) is.files in
+      omega (arith, sum, nothing, bare)

@@ -1,5 +1,5 @@
 -- One volume of a session was changed in memory: all of them are what they were between points.
-use Rattle.std.proofs.Common.{◌≡◌, ℕ, ◌+◌, ◌<◌, ◌≤◌, false, length, Option, Some, None, refl, sym, ap, subst, ◌∙◌}
+use Rattle.std.proofs.Common.{◌≡◌, ℕ, ◌+◌, ◌<◌, ◌≤◌, false, length, Option, Some, None, refl, sym, ap, subst, ◌∙◌, arith}
 use Rattle.std.specs.Prelude.{IfSome}
 use Rattle.fv_disk.specs.Shown.{Image, Shown}
 use Rattle.fv_model.specs.Machines.{Machine, capacity}
@@ -17,17 +17,25 @@ use Rattle.fv_volume.specs.declared.state.VolumeState.{VolumeState}
 use Rattle.fv_pool.specs.Calls.{GivesUp, Reads}
 use Rattle.fv_volume.specs.Files.{AreNamed}
 use Rattle.fv_volume.specs.Loading.{IsLoaded}
-use Rattle.fv_volume.specs.OneVolume.{IsReady, IsStanding}
+use Rattle.fv_volume.specs.OneVolume.{IsReady, IsStanding, base_by, blocks_in}
 use Rattle.fv_volume.specs.Placing.{IsLedTo, IsStoredWell}
 use Rattle.fv_volume.specs.Slots.{sum_of}
 use Rattle.fv_volume.specs.States.{States, state_at, with_state}
 use Rattle.fv_volume.specs.Stored.{AreSpacedIn, is_of}
 use Rattle.fv_volumes.specs.UnderRoot.{IsLentAt, IsMapOf}
-use Rattle.fv_volume.proofs.OneVolumes.{still_ready, still_standing}
+use Rattle.fv_volume.proofs.OneVolumes.{still_ready, still_standing, still_volume}
 use Rattle.fv_volumes.proofs.StandingMaps.{maps_still}
 use Rattle.fv_volume.proofs.OneVolumes.{still_led, still_well}
 use Rattle.fv_cp.specs.Held.{IsHeld, IsHeldIn}
+use Rattle.fv_tables.specs.Spelled.{Under}
+use Rattle.fv_volmap.specs.Slots.{slot_of_base}
+use Rattle.fv_volume.proofs.SlotMoves.{blocks_move}
+use Rattle.fv_volumes.specs.Footing.{AreFooted}
+use Rattle.fv_volumes.proofs.CalledFooted.{called_footed}
 use Rattle.fv_aggregate.proofs.Replaced.{each_slot, lent_as, named_as, spaced_as}
+use Rattle.std.specs.FinSet as set
+use Rattle.fv_model.specs.Space.{base_ids}
+use Rattle.fv_model.specs.Volumes.{Base, Volume}
 
 -- What a call that changes a volume's files in memory leaves of it. Unmarked it is as it was, but for the numbers of its files.
 pub record IsCalled (disk : Shown) (pool : Pool) (x y : VolumeState) : Type 0 where
@@ -53,14 +61,14 @@ module _ (d e : Shown) (p q : Pool) (reads : Reads d p e q) where
     stands = still_standing d e p q reads w is.stands;
     led = still_led d e p q reads w is.led;
     well = still_well d e p q reads w is.well;
-    wide = is.wide;
+    wide = subst (λ (v : Volume). v.most + (set.len (base_ids v.base) + 256) ≤ v.span) (sym (still_volume d e p q reads w)) is.wide;
     within = is.within;
   }
 
   -- Other volumes over the same root are what they have to be, where each is that, and they are laid out so.
   pub held_over : {were : States} (states : States) (before : Machine) → IsHeld d p were before → ((k : ℕ) → k < 64 → IsLentAt d.reads p.found k (state_at states k) (paged_at p.containers k))
-      → AreSpacedIn p.found.blocks p.map.next (state_at states) (container_at p.containers) → AreNamed states → ((k : ℕ) → IfSome (state_at states k) (IsHeldIn e q k)) → sum_of states ≤ capacity p.found.blocks → IsHeld e q states before
-  held_over states before held slots spaced names each commits =
+      → AreSpacedIn p.found.blocks p.map.next (state_at states) (container_at p.containers) → AreNamed states → ((k : ℕ) → IfSome (state_at states k) (IsHeldIn e q k)) → sum_of states ≤ capacity p.found.blocks → AreFooted states p.containers → IsHeld e q states before
+  held_over states before held slots spaced names each commits footed =
       let same = reads.only_reads.stays.reads in
       let found = reads.leaves.found in
       record {
@@ -78,6 +86,7 @@ module _ (d e : Shown) (p q : Pool) (reads : Reads d p e q) where
         names = names;
         each = each;
         commits = subst (λ (f : Found). sum_of states ≤ capacity f.blocks) (sym found) commits;
+        footed = subst (AreFooted states) (sym reads.leaves.containers) footed;
       }
 
   module _ (states : States) (before : Machine) (held : IsHeld d p states before) (long : length states ≡ 64) (s : ℕ) (x y : VolumeState) (there : state_at states s ≡ Some x) (called : IsCalled e q x y)
@@ -88,6 +97,12 @@ module _ (d e : Shown) (p q : Pool) (reads : Reads d p e q) where
     mine : IsHeldIn d p s x
     mine = subst (λ (o : Option VolumeState). IfSome o (IsHeldIn d p s)) there (held.each s)
 
+    -- the slot of its base has the blocks that it had
+    same_base : base_by (blocks_in e q y) x.base ≡ base_by (blocks_in d p x) x.base
+    same_base = ap (λ (u : Under). base_by (λ k. u) x.base)
+        (blocks_move e q x y (ap (λ (z : VolumeState). z.slot) called.same) slot_of_base slot_of_base (called.maps.snapshots slot_of_base (λ zero. absurd (omega (arith, zero)))))
+        ∙ ap (λ (v : Volume). v.base) (still_volume d e p q reads x)
+
     held_new : IsHeldIn e q s y
     held_new = record {
       slot = ap (λ (z : VolumeState). z.slot) called.same ∙ mine.slot;
@@ -95,7 +110,8 @@ module _ (d e : Shown) (p q : Pool) (reads : Reads d p e q) where
       stands = called.stands;
       led = called.led;
       well = called.well;
-      wide = subst (λ (z : VolumeState). z.most + 256 ≤ z.span) (sym called.same) mine.wide;
+      wide = subst (λ (z : VolumeState). z.most + (set.len (base_ids (base_by (blocks_in e q y) z.base)) + 256) ≤ z.span) (sym called.same)
+          (subst (λ (b : Option Base). x.most + (set.len (base_ids b) + 256) ≤ x.span) (sym same_base) mine.wide);
       within = called.within;
     }
 
@@ -125,4 +141,4 @@ module _ (d e : Shown) (p q : Pool) (reads : Reads d p e q) where
     names_now = named_as states long s x y there (ap (λ (z : VolumeState). z.name) called.same) held.names
 
     pub called_held : IsHeld e q stay before
-    called_held = held_over stay before held slots_there spaced_there names_now each_now commits
+    called_held = held_over stay before held slots_there spaced_there names_now each_now commits (called_footed states s x y there p.containers called.same called.maps held.footed)

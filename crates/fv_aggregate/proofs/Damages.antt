@@ -145,7 +145,7 @@ module _ (d e : Shown) (tells : e.tells ≡ d.tells) (reads : e.reads ≡ d.read
 -- ---- in a session
 
 pub keeps_map : (m : Volume) → GivesUp m m
-keeps_map m = record { span = refl; snapshots = λ s other. refl; numbers = omega arith }
+keeps_map m = record { span = refl; snapshots = λ s other. refl; numbers = omega arith; active = λ v does. does }
 
 module _ (d e : Shown) (s : Session) (fresh : IsNone s.failed) (slot : ℕ) (x : VolumeState) (there : state_at s.volumes slot ≡ Some x) (q : Pool) (reads : Reads d s.pool e q) (calm : e.faults ≡ d.faults) (snapshot : Option (List ℕ)) (at want found : ℕ) (finds : FindsBad d s.pool x snapshot at want found) where
   now_found : FindsBad e s.pool x snapshot at want found

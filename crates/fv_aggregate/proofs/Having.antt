@@ -20,13 +20,13 @@ use Rattle.fv_aggregate.proofs.HeldMachine.{blocks_are, commits_are, is_there, n
 module _ (disk : Shown) (pool : Pool) (states : States) (long : length states ≡ 64) (last : Machine) (held : IsHeld disk pool states last) where
   -- a slot without a volume holds nothing
   abbrev no_content : Content
-  no_content = record { active = empty_table; snapshots = fin.empty }
+  no_content = record { active = empty_table; snapshots = fin.empty; base = empty_table }
 
   -- what the volume of each slot holds
   abbrev pub contents : ℕ → Content
   contents s = option_map_or (λ (x : VolumeState). content_for disk pool x) (state_at states s) no_content
 
-  its_content : (s : ℕ) (x : VolumeState) → state_at states s ≡ Some x → content_for disk pool x ≡ contents s
+  pub its_content : (s : ℕ) (x : VolumeState) → state_at states s ≡ Some x → content_for disk pool x ≡ contents s
   its_content s x there = sym (ap (λ (o : Option VolumeState). option_map_or (λ (y : VolumeState). content_for disk pool y) o no_content) there)
 
   pub has_volumes : HasVolumes states contents pool.found.blocks (machine_held disk pool states)

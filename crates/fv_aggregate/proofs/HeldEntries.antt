@@ -23,7 +23,6 @@ use Rattle.fv_image.proofs.Behind.{first_there}
 use Rattle.fv_image.proofs.CountedCharge.{HasParentNumbers}
 use Rattle.fv_image.proofs.Counts.{none_between}
 use Rattle.fv_image.proofs.LabelNumbers.{label_numbers}
-use Rattle.fv_image.proofs.LoneTables.{form_base}
 use Rattle.fv_image.proofs.OwnBlocks.{own_tests}
 use Rattle.fv_image.proofs.OwnUses.{HasLabelNumbers}
 use Rattle.fv_image.proofs.SoundFacts.{of_slot}
@@ -44,6 +43,7 @@ use Rattle.fv_volumes.proofs.Told.{head_at, head_there}
 use Rattle.fv_cp.proofs.OwnCharged.{all_pass, own_charged}
 use Rattle.fv_aggregate.specs.Delayed.{held_by, held_in}
 use Rattle.fv_aggregate.proofs.UnderEntries.{entries_at, entries_of}
+use Rattle.fv_volume.proofs.TablesOf.{head_whole}
 
 -- ---- tests of ranges
 
@@ -168,7 +168,7 @@ module _ (pool : Pool) (states : States) (i : Image) (are : AreStates (view_over
       of_state x e state =
           let label = state.labelled in
           let there = head_there pool states i s x e in
-          let whole : is_splitting (head_in x).base ≡ false = ap is_splitting (form_base (head_in x) label.form) in
+          let whole : is_splitting (head_in x).base ≡ false = head_whole s x label in
           let same = entries_are w s (head_in x) inside there tables maps (label_has s (head_in x) there) label.snapshots.slots (λ b g based parent. label_has b.parent g parent) whole in
           let charged : x.ledger.charge ≡ charge (volume_told w s (head_in x)) = state.ledger.charged ∙ ap charge (ap (volume_with w s (head_in x)) (active_is w s (head_in x) there)) in
           omega (arith, same, charged)

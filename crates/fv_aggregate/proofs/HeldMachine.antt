@@ -109,10 +109,6 @@ module _ (disk : Shown) (pool : Pool) (states : States) (long : length states �
   pub not_there : (name : List ℕ) → NoneHasName states name → fin.get m.volumes name ≡ None
   not_there name no_name = at_name name ∙ none_named meant states 0 name (λ s lt. no_name.none s (omega (arith, lt, long)))
 
-  -- no volume of it has a base
-  pub bare : (name : List ℕ) (v : Volume) → fin.get m.volumes name ≡ Some v → v.base ≡ None
-  bare name v at = let r = found_back meant states 0 name v (sym (at_name name) ∙ at) in ap (λ (w : Volume). w.base) (sym r.1.1.1)
-
   module _ (before : Machine) (held : IsHeld disk pool states before) where
     pub distinct : AreDistinct (named_from meant 0 states)
     distinct = distinct_from meant states 0 (λ e s x y lt here there. unless (is_same_name y.name x.name)

@@ -2,7 +2,6 @@
 use Rattle.std.proofs.Common.{◌≡◌, ◌≢◌, ◌≤◌, ◌<◌, ◌+◌, ◌⊎◌, ℕ, Bool, true, false, List, Option, None, inl, inr, true≢false, sym, ap, subst, ◌∙◌, arith, get_or-set_other}
 use Rattle.std.specs.Prelude.{IsSome, nat_le}
 use Rattle.std.proofs.lemmas.Bool.Decides.{nat_tests}
-use Rattle.fv_model.specs.declared.commands.Kind.{Kind}
 use Rattle.fv_aggmap.specs.Space.{Space}
 use Rattle.fv_container.specs.Chains.{Slots, container_at, map_in, own_entry}
 use Rattle.fv_container.specs.Mapped.{Mapped}
@@ -25,14 +24,14 @@ read_entries old mid new leaves keeps =
     subst (λ (m : Space). PlacesEntries m old.pool.containers new.pool.containers) leaves.map (subst (λ (c : Slots). PlacesEntries mid.pool.map c new.pool.containers) leaves.containers keeps)
 
 -- a volume was added in a free slot
-pub added_entries : (old : Session) (name : List ℕ) (size : ℕ) (kind : Kind) (room : ℕ) (new : Session) → IsAdded old name size kind room new → MakesNoHoles old new
-added_entries old name size kind room new added s there v = inl (ap (λ (c : Option Mapped). own_entry c v) (ap (λ (p : Pool). container_at p.containers s) added.holes ∙ ap map_in (get_or-set_other old.pool.containers.containers added.slot s _ None differ)))
+pub added_entries : (old : Session) (x : VolumeState) (room : ℕ) (new : Session) → IsAdded old x room new → MakesNoHoles old new
+added_entries old x room new added s there v = inl (ap (λ (c : Option Mapped). own_entry c v) (ap (λ (p : Pool). container_at p.containers s) added.put.holes ∙ ap map_in (get_or-set_other old.pool.containers.containers x.slot s _ None differ)))
   where
     none : (o : Option VolumeState) → o ≡ None → IsSome o → ⊥
     none o is some = true≢false (sym (subst IsSome is some))
 
-    differ : s ≢ added.slot
-    differ e = none (state_at old.volumes added.slot) added.free.free (subst (λ (n : ℕ). IsSome (state_at old.volumes n)) e there)
+    differ : s ≢ x.slot
+    differ e = none (state_at old.volumes x.slot) added.put.free (subst (λ (n : ℕ). IsSome (state_at old.volumes n)) e there)
 
 -- so it is of each volume
 pub no_holes : (old new : Session) → KeepsEntries old new → MakesNoHoles old new

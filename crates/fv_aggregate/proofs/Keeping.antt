@@ -61,10 +61,10 @@ pub keeps_none : (old new : States) → KeepsNumbersBut (λ s. ⊥) old new → 
 keeps_none old new kept s known = kept s known (λ never. never)
 
 -- a volume was added
-pub keeps_added : (old : Session) (name : List ℕ) (size : ℕ) (kind : Kind) (room : ℕ) (new : Session) → IsAdded old name size kind room new → KeepsNumbers old.volumes new.volumes
-keeps_added old name size kind room new added = subst (KeepsNumbers old.volumes) (sym added.made.states)
-    (keeps_none old.volumes _ (keeps_with (λ s. ⊥) old.volumes added.slot (Some added.made.state) (let low = added.free.within in let long = added.long in omega (arith, low, long))
-    (λ known stays. absurd (subst KnowsNumbers added.free.free known))))
+pub keeps_added : (old : Session) (x : VolumeState) (room : ℕ) (new : Session) → IsAdded old x room new → KeepsNumbers old.volumes new.volumes
+keeps_added old x room new added = subst (KeepsNumbers old.volumes) (sym added.put.row)
+    (keeps_none old.volumes _ (keeps_with (λ s. ⊥) old.volumes x.slot (Some x) (let low = added.put.within in let long = added.fit.housed.long in omega (arith, low, long))
+    (λ known stays. absurd (subst KnowsNumbers added.put.free known))))
 
 -- ---- a command that changes files
 

@@ -54,6 +54,7 @@ mod Keeping
 mod Stepped
 mod SnapSteps
 mod SnapSessions
+mod SnapClones
 mod SnapDone
 mod SnapCommands
 mod SnapCarried
@@ -62,6 +63,13 @@ mod SnapListed
 mod SnapLost
 mod SnapApplied
 mod SnapFits
+mod SnapAt
 mod SnapNow
 mod Serving
 mod Aimed
+mod YetToWrite
+mod Created
+mod Making
+mod Putting
+mod StillAdmitted
+mod Cloned

@@ -44,7 +44,7 @@ module _ (d e : Shown) (p q : Pool) (reads : Reads d p e q) where
   over_slot A B to (Some x) is = to x is
 
   pub held_read : (states : States) (before : Machine) → IsHeld d p states before → IsHeld e q states before
-  held_read states before is = held_over d e p q reads states before is is.slots is.spaced is.names (λ s. over_slot (IsHeldIn d p s) (IsHeldIn e q s) (held_in_read d e p q reads s) (state_at states s) (is.each s)) is.commits
+  held_read states before is = held_over d e p q reads states before is is.slots is.spaced is.names (λ s. over_slot (IsHeldIn d p s) (IsHeldIn e q s) (held_in_read d e p q reads s) (state_at states s) (is.each s)) is.commits is.footed
 
   pub machine_read : (states : States) → machine_held e q states ≡ machine_held d p states
   unfolding machine_held

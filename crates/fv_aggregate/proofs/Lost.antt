@@ -53,8 +53,11 @@ err_ok : (reply : Reply) (f : Fault) (X : Type 0) → ◌≡◌ {A = Result Repl
 err_ok reply f X is = absurd (let no : ⊥ = cc in no)
 
 -- a fault of a session is no refusal
+no_answer : (w : Refusal) (X : Type 0) (f : Fault) (result : Result Reply Fault) → result ≡ Err f → result ≡ Ok (Refused w) → X
+no_answer w X f result failed answer = err_ok (Refused w) f X (sym failed ∙ answer)
+
 pub no_refusal : (X : Type 0) (f : Fault) (result : Result Reply Fault) → result ≡ Err f → result ≡ Ok (Refused NoSnapshot) → X
-no_refusal X f result failed answer = err_ok (Refused NoSnapshot) f X (sym failed ∙ answer)
+no_refusal = no_answer NoSnapshot
 
 range_differs : volume.Refused NoSnapshot ≡ volume.Refused Range → ⊥
 range_differs is = cc
@@ -73,9 +76,12 @@ module _ (D : Type 0) (x : VolumeState) (old new : D) (p q : Pool) (c : Command)
   lost_within true range lost = lost_alone (lost refl)
   lost_within false range lost = absurd (range_differs (sym refused ∙ same_err T f (volume.Refused Range) (range refl).answer))
 
--- what a session answers for it
+-- what a session answers for it, and for any refusal
+pub replied_as : (w : Refusal) (e : Shown) (r : Result Reply VolumeFault) (old new : Session) (result : Result Reply Fault) → r ≡ Err (volume.Refused w) → Replied e r old new result → (result ≡ Ok (Refused w)) × (new ≡ old)
+replied_as w e r old new result is replied = subst (λ (z : Result Reply VolumeFault). Replied e z old new result) is replied
+
 pub replied_lost : (e : Shown) (r : Result Reply VolumeFault) (old new : Session) (result : Result Reply Fault) → r ≡ Err (volume.Refused NoSnapshot) → Replied e r old new result → (result ≡ Ok (Refused NoSnapshot)) × (new ≡ old)
-replied_lost e r old new result is replied = subst (λ (z : Result Reply VolumeFault). Replied e z old new result) is replied
+replied_lost = replied_as NoSnapshot
 
 -- a session whose volume was lent to the call is as it was
 pub lost_lent : {D : Type 0} (disk left : D) (e : Shown) (v s : Session) → v ≡ s → (slot : ℕ) (x : VolumeState) → state_at v.volumes slot ≡ Some x → (c : Command) (q : Pool) (y : VolumeState) → y ≡ x → (r : Result Reply VolumeFault)
@@ -87,19 +93,22 @@ lost_lent disk left e v s same slot x lent c q y still r refuses new result repl
     let is = replied_lost e r (record v { volumes = with_state v.volumes slot (Some y); pool = q }) new result at.answer replied in
     (is.0, (at.same_disk, is.1 ∙ (λ j. record v { volumes = put_back v.volumes slot x y lent still j; pool = at.same_pool j }) ∙ same)))
 
-same_refusal : (r : Refusal) → ◌≡◌ {A = Result Reply Fault} (Ok (Refused r)) (Ok (Refused NoSnapshot)) → r ≡ NoSnapshot
-same_refusal r is = cc
+same_refusal : (r w : Refusal) → ◌≡◌ {A = Result Reply Fault} (Ok (Refused r)) (Ok (Refused w)) → r ≡ w
+same_refusal r w is = cc
 
 same_reply : (a b : Reply) → ◌≡◌ {A = Result Reply Fault} (Ok a) (Ok b) → a ≡ b
 same_reply a b is = cc
 
 -- it answers so only where the volume did
+pub replied_only_as : (w : Refusal) (e : Shown) (r : Result Reply VolumeFault) (old new : Session) (result : Result Reply Fault) → IfOk r (λ reply. is_refusal reply ≡ false) → Replied e r old new result → result ≡ Ok (Refused w) → r ≡ Err (volume.Refused w)
+replied_only_as w e (Ok reply) old new result told replied is = absurd (true≢false (sym (ap is_refusal (same_reply reply (Refused w) (sym replied.0 ∙ is))) ∙ told))
+replied_only_as w e (Err (volume.Refused r)) old new result told replied is = ap (λ (k : Refusal). Err (volume.Refused k)) (same_refusal r w (sym replied.0 ∙ is))
+replied_only_as w e (Err volume.DiskFault) old new result told replied is = no_answer w _ replied.0 result replied.1.0 is
+replied_only_as w e (Err (volume.Damaged at want found)) old new result told replied is = no_answer w _ replied.0 result replied.1.0 is
+replied_only_as w e (Err volume.Memory) old new result told replied is = no_answer w _ replied.0 result replied.1.0 is
+
 pub replied_only : (e : Shown) (r : Result Reply VolumeFault) (old new : Session) (result : Result Reply Fault) → IfOk r (λ reply. is_refusal reply ≡ false) → Replied e r old new result → result ≡ Ok (Refused NoSnapshot) → r ≡ Err (volume.Refused NoSnapshot)
-replied_only e (Ok reply) old new result told replied is = absurd (true≢false (sym (ap is_refusal (same_reply reply (Refused NoSnapshot) (sym replied.0 ∙ is))) ∙ told))
-replied_only e (Err (volume.Refused r)) old new result told replied is = ap (λ (k : Refusal). Err (volume.Refused k)) (same_refusal r (sym replied.0 ∙ is))
-replied_only e (Err volume.DiskFault) old new result told replied is = no_refusal _ replied.0 result replied.1.0 is
-replied_only e (Err (volume.Damaged at want found)) old new result told replied is = no_refusal _ replied.0 result replied.1.0 is
-replied_only e (Err volume.Memory) old new result told replied is = no_refusal _ replied.0 result replied.1.0 is
+replied_only = replied_only_as NoSnapshot
 
 -- ---- whether a snapshot is asked
 

@@ -9,7 +9,7 @@ use Rattle.fv_model.specs.declared.answers.Refusal.{Refusal}
 use Rattle.fv_model.specs.declared.answers.Reply.{Reply}
 use Rattle.fv_model.specs.declared.answers.Reply.TheVariants.{Refused}
 use Rattle.fv_model.specs.declared.commands.Command.{Command}
-use Rattle.fv_model.specs.declared.commands.Command.TheVariants.{Cp, VolCreate, VolList, New, Put, Cut, Remove, SnapCreate, SnapList}
+use Rattle.fv_model.specs.declared.commands.Command.TheVariants.{Cp, VolCreate, VolList, New, Put, Cut, Remove, SnapCreate, SnapList, CloneCreate}
 use Rattle.fv_model.specs.Machines.{Machine}
 use Rattle.fv_pool.specs.Calls.{Reads}
 use Rattle.fv_volume.specs.States.{States}
@@ -58,15 +58,16 @@ unfolding room_with
 cp_room states c is = ap (λ (k : Command). room_by states k) is
 
 -- a command on a whole volume, and one that isn't built, has none
-pub managed_room : (maps : List ℕ → ℕ) (c : Command) → (is_some (managed_by c) ≡ true) ⊎ (is_built c ≡ false) → room_with maps c ≡ 0
+pub managed_room : (maps : List ℕ → ℕ) (spans : List ℕ → List ℕ → ℕ → ℕ) (c : Command) → (is_some (managed_by c) ≡ true) ⊎ (is_built c ≡ false) → room_with maps spans c ≡ 0
 unfolding room_with is_built
-managed_room maps (VolCreate v size kind) either = ⊎_elim (λ some. absurd (true≢false (sym some))) (λ none. absurd (true≢false none)) either
-managed_room maps (New v f reserve) either = ⊎_elim (λ some. absurd (true≢false (sym some))) (λ none. ap (λ (b : Bool). if b then file_room else 0) none) either
-managed_room maps (Put v f index block) either = ⊎_elim (λ some. absurd (true≢false (sym some))) (λ none. absurd (true≢false none)) either
-managed_room maps (Cut v f long) either = ⊎_elim (λ some. absurd (true≢false (sym some))) (λ none. absurd (true≢false none)) either
-managed_room maps (Remove v f) either = ⊎_elim (λ some. absurd (true≢false (sym some))) (λ none. absurd (true≢false none)) either
-managed_room maps (SnapCreate v snapshot) either = ⊎_elim (λ some. absurd (true≢false (sym some))) (λ none. absurd (true≢false none)) either
-managed_room maps c either = refl
+managed_room maps spans (VolCreate v size kind) either = ⊎_elim (λ some. absurd (true≢false (sym some))) (λ none. absurd (true≢false none)) either
+managed_room maps spans (New v f reserve) either = ⊎_elim (λ some. absurd (true≢false (sym some))) (λ none. ap (λ (b : Bool). if b then file_room else 0) none) either
+managed_room maps spans (Put v f index block) either = ⊎_elim (λ some. absurd (true≢false (sym some))) (λ none. absurd (true≢false none)) either
+managed_room maps spans (Cut v f long) either = ⊎_elim (λ some. absurd (true≢false (sym some))) (λ none. absurd (true≢false none)) either
+managed_room maps spans (Remove v f) either = ⊎_elim (λ some. absurd (true≢false (sym some))) (λ none. absurd (true≢false none)) either
+managed_room maps spans (SnapCreate v snapshot) either = ⊎_elim (λ some. absurd (true≢false (sym some))) (λ none. absurd (true≢false none)) either
+managed_room maps spans (CloneCreate clone parent snapshot size kind) either = ⊎_elim (λ some. absurd (true≢false (sym some))) (λ none. absurd (true≢false none)) either
+managed_room maps spans c either = refl
 
 -- ---- what a point left is there still while the disk is only read
 

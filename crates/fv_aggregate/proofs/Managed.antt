@@ -142,6 +142,7 @@ module _ (disk : Shown) (session : Session) where
           missing = λ near none. absurd (ok_err u _ (did.missing (sym range ∙ near) none));
           told = λ is. absurd (no_stat is);
           removed = λ is. absurd (no_removal is);
+          in_use = λ is. absurd (no_removal is);
           answered = λ other. inl refl;
           done = λ is. carried did.done;
           stays = λ is. absurd (no_stat is);
@@ -167,6 +168,7 @@ module _ (disk : Shown) (session : Session) where
             missing = λ near none. same_refusal r _ (did.missing (sym range ∙ near) none);
             told = λ is. absurd (no_stat is);
             removed = λ is. absurd (no_removal is);
+            in_use = λ is. absurd (no_removal is);
             answered = λ other. inr refl;
             done = λ is. absurd (refused_done r is);
             stays = λ is. absurd (no_stat is);
@@ -219,6 +221,7 @@ module _ (disk : Shown) (session : Session) where
         missing = λ near nowhere. refl;
         told = λ is slot small has. absurd (true≢false (sym has.named ∙ none.none slot small));
         removed = λ is. absurd (no_removal is);
+        in_use = λ is. absurd (no_removal is);
         answered = λ other. absurd (other refl);
         done = λ is. absurd (refused_done NoVolume is);
         stays = λ is. refl;
@@ -259,6 +262,7 @@ module _ (disk : Shown) (session : Session) where
               missing = λ near none. absurd (true≢false (sym is.named.named ∙ none.none is.slot is.within));
               told = λ asked slot small has. is;
               removed = λ other. absurd (no_removal other);
+              in_use = λ other. absurd (no_removal other);
               answered = λ other. absurd (other refl);
               done = λ done. absurd (not_done (sym is.told ∙ done));
               stays = λ is. refl;

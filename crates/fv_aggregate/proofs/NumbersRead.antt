@@ -16,7 +16,7 @@ use Rattle.fv_charge.specs.Ledgers.{committed}
 use Rattle.fv_pool.specs.declared.pool.Pool.{Pool}
 use Rattle.fv_volume.specs.declared.state.VolumeState.{VolumeState}
 use Rattle.fv_pool.specs.Calls.{GivesUp, Reads}
-use Rattle.fv_volmap.specs.Slots.{slot_at}
+use Rattle.fv_volmap.specs.Slots.{has, slot_at}
 use Rattle.fv_pool.specs.BlocksOver.{free_numbers}
 use Rattle.fv_pool.specs.Causes.{of_block}
 use Rattle.fv_volume.specs.OneVolume.{volume_for, IsReady, IsStanding}
@@ -115,7 +115,7 @@ module _ (d e : Shown) (s : Session) (q : Pool) (slot : ℕ) (x y : VolumeState)
     called = record {
       same = as_changed;
       unchanged = λ un. same;
-      maps = record { span = ap (λ (z : VolumeState). z.map.span) same; snapshots = λ k other. ap (λ (z : VolumeState). slot_at z.map k) same; numbers = (let numbers : free_numbers y.map ≡ free_numbers x.map = ap (λ (z : VolumeState). free_numbers z.map) same in omega (arith, numbers)) };
+      maps = record { span = ap (λ (z : VolumeState). z.map.span) same; snapshots = λ k other. ap (λ (z : VolumeState). slot_at z.map k) same; active = λ v has_it. sym (ap (λ (z : VolumeState). has v (slot_at z.map 0)) same) ∙ has_it; numbers = (let numbers : free_numbers y.map ≡ free_numbers x.map = ap (λ (z : VolumeState). free_numbers z.map) same in omega (arith, numbers)) };
       ready = ready;
       stands = standing its.stands;
       led = subst (IsLedTo e q) (sym same) (still_led d e s.pool q reads x its.led);

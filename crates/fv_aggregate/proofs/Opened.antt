@@ -36,6 +36,7 @@ use Rattle.fv_aggmap.proofs.Room.{room_when_sound}
 use Rattle.fv_disk.specs.declared.fault.BlockFault.{BlockFault}
 use Rattle.fv_disk.specs.declared.fault.BlockFault.TheVariants.{DiskFault, Damaged, Memory}
 use Rattle.fv_pool.specs.Keeping.{Blocks}
+use Rattle.fv_volume.specs.KnownBase.{KnowBases}
 use Rattle.fv_volume.specs.declared.state.VolumeState.{VolumeState}
 use Rattle.fv_volume.specs.Files.{HasOwnSlots, IsLabelled, IsState}
 use Rattle.fv_volume.specs.Loading.{IsCounted, IsLoadFault, KeptTo}
@@ -143,9 +144,9 @@ slots_of states s w are = by (state_at states s) are
     by None is = tt
     by (Some x) is = (is.labelled.slots, is.labelled.snapshots.slots)
 
-lent_opened : (disk : Shown) (session : Session) (m : Machine) → IsSettled disk → ((b : ℕ) → length (disk.reads b) ≡ 4096) → IsOpened disk.reads session → machine_of disk.reads ≡ Some m → IsLent disk session.pool session.volumes m
+lent_opened : (disk : Shown) (session : Session) (m : Machine) → IsSettled disk → ((b : ℕ) → length (disk.reads b) ≡ 4096) → IsOpened disk.reads session → KnowBases session.volumes → machine_of disk.reads ≡ Some m → IsLent disk session.pool session.volumes m
 unfolding layout_at
-lent_opened disk session m settled whole opened machine =
+lent_opened disk session m settled whole opened knows machine =
     let found = session.pool.found in
     let t = root_found found in
     let tells = found_tells disk.reads found m opened.found machine in
@@ -162,6 +163,7 @@ lent_opened disk session m settled whole opened machine =
       built = subst (λ (w : View). is_built w ≡ true) (sym alike) tells.built;
       tables = subst (λ (w : View). AreTables (seen w)) (sym alike) tells.sound.tables;
       reach = subst (λ (w : View). HaveReaches w session.volumes) (sym alike) (reach_opened disk.reads found m tells session.volumes session.pool.containers opened.slots own whole);
+      knows = knows;
     }
 
 -- Over an image that stands for a machine more blocks are held than volumes are known to have just where some entry is delayed: all that are held
@@ -203,7 +205,7 @@ opened_for disk session m settled told whole opened each fresh machine =
     let waiting = none_waiting session.volumes each.fit.housed.long each.waiting in
     let over = overheads_are session.pool session.volumes disk.reads each.fit.housed.long in
     let same = ap overheads alike in
-    let held : IsHeld disk session.pool session.volumes m = lent_held disk session.pool session.volumes m (lent_opened disk session m settled whole opened machine) each.fit.housed.long
+    let held : IsHeld disk session.pool session.volumes m = lent_held disk session.pool session.volumes m (lent_opened disk session m settled whole opened each.knows machine) each.fit each.maps
     (λ s. ready_of s (state_at session.volumes s) (each.ready s)) (each.standing m told machine) (each.led m told machine) (each.well m told machine) in
     record {
       held = held;

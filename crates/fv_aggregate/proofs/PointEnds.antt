@@ -41,23 +41,21 @@ use Rattle.fv_pool.specs.declared.fault.VolumeFault.{VolumeFault}
 use Rattle.fv_pool.specs.declared.fault.VolumeFault.TheVariants as cp
 use Rattle.fv_pool.specs.declared.pool.Pool.{Pool}
 use Rattle.fv_volume.specs.declared.state.VolumeState.{VolumeState}
-use Rattle.fv_volumes.specs.Creating.{Admits}
 use Rattle.fv_volume.specs.Loading.{IsLoaded}
-use Rattle.fv_volume.specs.Slots.{is_named, sum_of}
 use Rattle.fv_volume.specs.Held.{IsHeldIn}
 use Rattle.fv_volume.specs.States.{States, state_at, view_over}
 use Rattle.fv_volumes.proofs.FreeNumbers.{has_numbers}
 use Rattle.fv_volumes.proofs.StillLoaded.{none_loaded}
 use Rattle.fv_aggregate.specs.declared.session.Session.{Session}
 use Rattle.fv_aggregate.specs.declared.fault.Fault.TheVariants.{Damaged, Memory}
-use Rattle.fv_aggregate.specs.Adding.{HasRoom, IsPointed, StillAdmits}
+use Rattle.fv_aggregate.specs.Adding.{HasRoom, IsPointed}
 use Rattle.fv_aggregate.specs.Commands.{AsksPoint}
 use Rattle.fv_aggregate.specs.Calls.{Goes, HasFilesToPlace, HasLostLeaf, IsForWant, IsUnpointed, KeepsAsking, LacksBlocks}
 use Rattle.fv_aggregate.proofs.Damages.{lacks_after, loaded_after}
 use Rattle.fv_aggregate.specs.Standing.{clear_blocks, overheads_in, taken_since, unwritten, OneOf, StandsFor, StandsReady}
 use Rattle.fv_aggregate.proofs.Asking.{asked_unchanged, asks_more, asks_still, short_is}
 use Rattle.fv_aggregate.proofs.Clear.{clear_is_free, clear_stays, free_and_placed, none_held, none_placed}
-use Rattle.fv_aggregate.proofs.Commits.{commits_kept}
+use Rattle.fv_aggregate.proofs.StillAdmitted.{admits_still}
 use Rattle.fv_aggregate.proofs.Standing.{known_still, settled_after_reads}
 use Rattle.fv_aggregate.proofs.Sums.{all_within, none_pending, none_waiting, one_pending, overheads_are, overheads_kept, same_overheads}
 
@@ -339,44 +337,6 @@ module _ (before : Shown) (old : Session) (after : Shown) (new : Session) (has :
         few = omega (arith, spent.blocks, clear, free_and_placed old.pool.map, free_and_placed new.pool.map, stands.few);
         room = omega (arith, same, clear, pending_same, stands.room);
       }
-
--- what was admitted before a point is admitted after it
-module _ (states stay : States) (cores : KeepCores states stay) where
-  named_core : (o : Option VolumeState) (name : List ℕ) → is_named (option_map core_of o) name ≡ is_named o name
-  named_core None name = refl
-  named_core (Some x) name = refl
-
-  used_core : (o : Option VolumeState) → IsSome (option_map core_of o) → IsSome o
-  used_core None is = is
-  used_core (Some x) is = is
-
-  core_used : (o : Option VolumeState) → IsSome o → IsSome (option_map core_of o)
-  core_used None is = is
-  core_used (Some x) is = is
-
-  free_core : (o : Option VolumeState) → option_map core_of o ≡ None → o ≡ None
-  free_core None e = refl
-  free_core (Some x) e = cc
-
-  pub admits_by_cores : (blocks : ℕ) (name : List ℕ) (size : ℕ) (kind : Kind) (slot span : ℕ) → length states ≡ 64 → length stay ≡ 64 → Admits states blocks name size kind slot span → Admits stay blocks name size kind slot span
-  admits_by_cores blocks name size kind slot span long long_too is =
-      let sum : sum_of stay ≡ sum_of states = commits_kept states stay cores in
-      record {
-        size_is = is.size_is;
-        name_is = record { none = λ s within. sym (named_core (state_at stay s) name) ∙ ap (λ (o : Option VolumeState). is_named o name) (cores s) ∙ named_core (state_at states s) name ∙ is.name_is.none s within };
-        free = record {
-          within = is.free.within;
-          free = free_core (state_at stay slot) (cores slot ∙ ap (option_map core_of) is.free.free);
-          first = λ s lt. used_core (state_at stay s) (subst (λ (o : Option VolumeState). IsSome o) (sym (cores s)) (core_used (state_at states s) (is.free.first s lt)));
-        };
-        span_is = is.span_is;
-        most = is.most;
-        room = omega (arith, sum, is.room);
-      }
-
-admits_still : (old new : Session) → length old.volumes ≡ 64 → length new.volumes ≡ 64 → KeepCores old.volumes new.volumes → new.pool.found.blocks ≡ old.pool.found.blocks → StillAdmits old new
-admits_still old new long long_too cores blocks name size kind slot span is =
-    subst (λ (n : ℕ). Admits new.volumes n name size kind slot span) (sym blocks) (admits_by_cores old.volumes new.volumes cores old.pool.found.blocks name size kind slot span long long_too is)
 
 pub pointed_left : (before : Shown) (old : Session) (after : Shown) (new : Session) (pool : Pool) (states : States) → new.pending ≡ 0 → pool ≡ old.pool → states ≡ old.volumes → length old.volumes ≡ 64
     → GoesOnWhole before pool states after new.pool new.volumes → IsPointed before old new

@@ -1,11 +1,11 @@
 -- A volume was removed, or not: what `apply` says of it.
-use Rattle.std.proofs.Common.{◌≡◌, inl, inr, ◌≤◌, ℕ, true, cond, List, Option, Some, None, Result, Ok, Err, true≢false, refl, sym, ap, subst, ◌∙◌, arith}
+use Rattle.std.proofs.Common.{◌≡◌, inl, inr, ◌≤◌, ◌<◌, ℕ, Bool, true, false, cond, List, Option, Some, None, Result, Ok, Err, true≢false, refl, sym, ap, subst, ◌∙◌, arith}
 use Rattle.std.specs.Prelude.{IfErr, IfOk, IsNone, IsTrue, OnErr, OnOk}
 use Rattle.std.specs.Option.{is_some}
 use Rattle.fv_disk.specs.Shown.{Image, IsDisk, Rose, Shown}
 use Rattle.fv_disk.specs.DiskCalls.{OnlyReads}
 use Rattle.fv_model.specs.declared.answers.Refusal.{Refusal}
-use Rattle.fv_model.specs.declared.answers.Refusal.TheVariants.{NoVolume}
+use Rattle.fv_model.specs.declared.answers.Refusal.TheVariants.{NoVolume, VolumeInUse}
 use Rattle.fv_model.specs.declared.answers.Reply.{Reply}
 use Rattle.fv_model.specs.declared.answers.Reply.TheVariants.{Done, Refused}
 use Rattle.fv_model.specs.declared.commands.Command.{Command}
@@ -28,8 +28,15 @@ use Rattle.fv_pool.specs.declared.pool.Pool.{Pool}
 use Rattle.fv_pool.specs.BlocksOver.{HasShapeOf, LeavesPool}
 use Rattle.fv_pool.specs.Calls.{Reads}
 use Rattle.fv_pool.specs.Causes.{HasVolumeCause}
-use Rattle.fv_volume.specs.States.{States}
+use Rattle.fv_laws.proofs.Changes.{itself, same_name}
+use Rattle.fv_model.specs.Spelling.{is_same_name}
+use Rattle.fv_volume.specs.declared.state.VolumeState.{VolumeState}
+use Rattle.fv_volume.specs.Files.{AreNamed}
+use Rattle.fv_volume.specs.Slots.{is_named}
+use Rattle.fv_volume.specs.States.{States, state_at}
 use Rattle.fv_volumes.specs.Destroying.{Destroys, IsSaid}
+use Rattle.fv_volumes.specs.Footing.{is_stood_on}
+use Rattle.fv_volumes.proofs.Made.{to_pair}
 use Rattle.fv_cp.specs.Held.{machine_held}
 use Rattle.fv_cp.specs.Lent.{blocks_asked, FitTogether}
 use Rattle.fv_cp.proofs.CameIn.{lent_clean}
@@ -93,9 +100,26 @@ module _ {D : Type 0} (d e : Shown) (laws : IsDisk d) (at left : D) (s : Session
   -- what the machine says of it
   said : (r : Result Unit VolumeFault) → Destroys d s.volumes s.pool name new pool r → (last m : Machine) → StandsFor d s last m → IsSaid (refusal m removal) r
   said r did last m is = subst (λ (k : Machine). IsSaid (refusal k removal) r) is.machine
-      (did.agrees (contents d s.pool s.volumes fit.housed.long last is.held) s.pool.found.blocks (machine_held d s.pool s.volumes) (has_volumes d s.pool s.volumes fit.housed.long last is.held))
+      (did.agrees is.held.footed is.held.names (contents d s.pool s.volumes fit.housed.long last is.held) s.pool.found.blocks (machine_held d s.pool s.volumes) (has_volumes d s.pool s.volumes fit.housed.long last is.held))
 
   -- ---- it is gone
+
+  -- no clone stands on the volume that went: it was the first of its name
+  gone_unused : (u : Unit {0}) → (did : Destroys d s.volumes s.pool name new pool (Ok u)) → AreNamed s.volumes → is_stood_on s.volumes did.done.slot ≡ false
+  gone_unused u did names = did.unused did.done.slot (record {
+    named = ap (λ (o : Option VolumeState). is_named o name) did.done.there ∙ ap (λ (n : List ℕ). is_same_name n name) did.done.named ∙ itself name;
+    first = λ k low. by k low (state_at s.volumes k) refl;
+  })
+    where
+      by : (k : ℕ) → k < did.done.slot → (o : Option VolumeState) → state_at s.volumes k ≡ o → is_named o name ≡ false
+      by k low None there = refl
+      by k low (Some y) there = so (is_same_name y.name name) refl
+        where
+          so : (b : Bool) → is_same_name y.name name ≡ b → is_same_name y.name name ≡ false
+          so false isnt = isnt
+          so true same =
+              let one : k ≡ did.done.slot = to_pair s.volumes names k did.done.slot y did.done.state there did.done.there (same_name y.name name same ∙ sym did.done.named) in
+              absurd (omega (arith, low, one))
 
   dropped_done : (u : Unit {0}) → e.faults ≡ d.faults → Destroys d s.volumes s.pool name new pool (Ok u) → IsDropped d at s name e left mid (Ok Done)
   unfolding is_built answer change_of
@@ -104,14 +128,15 @@ module _ {D : Type 0} (d e : Shown) (laws : IsDisk d) (at left : D) (s : Session
     asks = λ tells kept asks none. record { asked = omega (arith, fewer, named, asks.asked); pending = omega (arith, asks.pending) };
     goes_for = λ tells last m is. subst (λ (k : Machine). GoesFor d last m k e mid (Ok Done))
         (sym (after_built m removal refl ∙ ap (λ (o : Option Refusal). cond (is_some o) m (effect m removal)) (said (Ok u) did last m is)))
-        (goes_for_done d e laws s mid 0 only fresh fresh ready Done last m (changed m (Leaves name)) is (stands_for_without d s fit name new pool did.done e only cache last m is));
+        (goes_for_done d e laws s mid 0 only fresh fresh ready Done last m (changed m (Leaves name)) is (stands_for_without d s fit name new pool did.done e only cache (gone_unused u did is.held.names) last m is));
     reply = λ last m is. replies_built m removal Done refl (answer_allows m removal Done (said (Ok u) did last m is) refl refl);
     damage = tt;
     managed = record {
       far = λ out. absurd (true≢false out);
       missing = λ near none. absurd (done_failed (did.missing none));
       told = λ is. absurd (no_stat name is);
-      removed = λ is slot small has. refl;
+      removed = λ is slot small has unused. refl;
+      in_use = λ is slot small has used. absurd (done_used (did.in_use slot small has used));
       answered = λ other. inl refl;
       done = λ is. did.done;
       stays = λ is. absurd (no_stat name is);
@@ -127,6 +152,9 @@ module _ {D : Type 0} (d e : Shown) (laws : IsDisk d) (at left : D) (s : Session
 
       done_failed : ◌≡◌ {A = Result Unit VolumeFault} (Ok u) (Err (volume.Refused NoVolume)) → ⊥
       done_failed is = cc
+
+      done_used : ◌≡◌ {A = Result Unit VolumeFault} (Ok u) (Err (volume.Refused VolumeInUse)) → ⊥
+      done_used is = cc
 
       fewer : blocks_asked new ≤ blocks_asked s.volumes
       fewer = asked_without d s fit name new pool did.done e only cache
@@ -164,7 +192,8 @@ module _ {D : Type 0} (d e : Shown) (laws : IsDisk d) (at left : D) (s : Session
         far = λ out. absurd (true≢false out);
         missing = λ near none. ap Refused (same_refusal r NoVolume (did.missing none));
         told = λ is. absurd (no_stat name is);
-        removed = λ is slot small has. absurd (did.there slot small has r refl);
+        removed = λ is slot small has unused. absurd (did.there slot small has unused r refl);
+        in_use = λ is slot small has used. ap Refused (same_refusal r VolumeInUse (did.in_use slot small has used));
         answered = λ other. inr refl;
         done = λ is. absurd (refused_done r is);
         stays = λ is. absurd (no_stat name is);
@@ -317,15 +346,15 @@ module _ {D : Type 0} (name : List ℕ) (d e : Shown) (at left : D) (s n : Sessi
   dropped_applied : IsNone s.failed → (steps : ℕ) → IsDropped d at s name e left n r → OnlyReads d e → IfOk r (λ reply. IsTrue (is_refusal reply) → IsUntouched at s left n) → HasApplied (VolDestroy name) d at s steps e left n steps r
   unfolding asked_by
   dropped_applied fresh steps did only refused = record {
-    goes = subst (λ (k : ℕ). Goes k (AsksLeaves (slot_named s.volumes name)) d s e n r) (sym (managed_room _ (VolDestroy name) (inl refl))) did.goes;
-    asks = λ calm. subst (λ (k : ℕ). KeepsAsking k d s e n) (sym (managed_room _ (VolDestroy name) (inl refl))) did.asks;
+    goes = subst (λ (k : ℕ). Goes k (AsksLeaves (slot_named s.volumes name)) d s e n r) (sym (managed_room _ _ (VolDestroy name) (inl refl))) did.goes;
+    asks = λ calm. subst (λ (k : ℕ). KeepsAsking k d s e n) (sym (managed_room _ _ (VolDestroy name) (inl refl))) did.asks;
     goes_for = did.goes_for;
     reply = λ tells last m held. did.reply last m held;
     plain = λ plain. dropped_plain did only refused;
     on_files = λ files. absurd (true≢false (sym files ∙ no_files (VolDestroy name) refl refl));
     point = λ tells last m held cp. absurd (no_point name cp);
     sides = λ tells last m held cp. absurd (no_point name cp);
-    roomy = none_roomy (room_by s.volumes (VolDestroy name)) d s e r (managed_room _ (VolDestroy name) (inl refl));
+    roomy = none_roomy (room_by s.volumes (VolDestroy name)) d s e r (managed_room _ _ (VolDestroy name) (inl refl));
     calm = λ other few. only;
     entries = λ other few stays. absurd (true≢false stays);
     files = λ tells none without. did.files without;

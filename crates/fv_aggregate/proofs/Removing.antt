@@ -27,13 +27,14 @@ use Rattle.fv_pool.specs.declared.fault.VolumeFault.{VolumeFault}
 use Rattle.fv_pool.specs.declared.pool.Pool.{Pool}
 use Rattle.fv_volume.specs.declared.state.VolumeState.{VolumeState}
 use Rattle.fv_volumes.specs.Destroying.{Destroys, IsDestroyed, IsGone}
+use Rattle.fv_volumes.specs.Footing.{is_stood_on}
 use Rattle.fv_volume.specs.OneVolume.{volume_for}
 use Rattle.fv_volume.specs.Slots.{is_named, NoneHasName}
 use Rattle.fv_volume.specs.States.{States, state_at, with_state}
 use Rattle.fv_volume.specs.Stored.{AreSpacedIn}
 use Rattle.fv_volumes.specs.UnderRoot.{IsLentAt, IsMapOf}
 use Rattle.fv_volume.specs.Writing.{IsTaken}
-use Rattle.fv_volumes.proofs.DestroyedOthers.{beside_volume, held_left, spaced_left}
+use Rattle.fv_volumes.proofs.DestroyedOthers.{beside_volume, footed_left, held_left, spaced_left}
 use Rattle.fv_volumes.proofs.Made.{to_pair}
 use Rattle.fv_volumes.proofs.PlacedIn.{found_read, keeps_read}
 use Rattle.fv_volumes.proofs.Removed.{each_left, empty_state, given_within, housed_left, lent_left, names_left, other_state, ready_left, sum_left, sum_less, unkept_left}
@@ -94,7 +95,7 @@ module _ {told : Type 0} (pool : Pool) (states : States) (fit : FitTogether pool
 -- ---- over a machine, once leaves were read
 
 module _ (disk : Shown) (pool : Pool) (states : States) (fit : FitTogether pool states) (name : List ℕ) (new : States) (left : Pool) (is : IsGone (TellsEntries disk pool.containers) states pool name new left)
-    (after : Shown) (reads : OnlyReads disk after) (stands : StandsOn after left.store.pairs) (last : Machine) (held : IsHeld disk pool states last) where
+    (unused : is_stood_on states is.slot ≡ false) (after : Shown) (reads : OnlyReads disk after) (stands : StandsOn after left.store.pairs) (last : Machine) (held : IsHeld disk pool states last) where
   abbrev was : Machine
   was = machine_held disk pool states
 
@@ -127,11 +128,12 @@ module _ (disk : Shown) (pool : Pool) (states : States) (fit : FitTogether pool 
     spaced = subst (λ (f : Found). AreSpacedIn f.blocks left.map.next (state_at new) (container_at left.containers)) (sym its_gone.found)
         (spaced_left disk pool states fit.housed held.slots held.spaced is.slot is.state is.map is.there is.lies new left its_gone after reads stands told_here);
     names = names_left pool states fit.housed is.slot is.state is.map is.there new left its_gone held.names;
-    each = held_left disk pool states fit.housed held.slots held.spaced is.slot is.state is.map is.there is.lies new left its_gone after reads stands held.each;
+    each = held_left disk pool states fit.housed held.slots held.spaced is.slot is.state is.map is.there is.lies new left its_gone after reads stands held.footed unused held.each;
     commits = (let fewer = sum_left pool states fit.housed is.slot is.state is.map is.there new left its_gone in
         let size : capacity left.found.blocks ≡ capacity pool.found.blocks = ap (λ (f : Found). capacity f.blocks) its_gone.found in
         let fits = held.commits in
         omega (arith, fewer, size, fits));
+    footed = footed_left disk pool states fit.housed held.slots held.spaced is.slot is.state is.map is.there is.lies new left its_gone after reads stands held.footed unused;
   }
 
   -- the others stand for what they stood for
@@ -147,7 +149,7 @@ module _ (disk : Shown) (pool : Pool) (states : States) (fit : FitTogether pool 
       beside : (k : ℕ) (y : VolumeState) → k ≢ is.slot → state_at states k ≡ Some y → volume_for after left y ≡ volume_for disk pool y
       beside k y differ at =
           let its = mine k y at in
-          beside_volume disk pool states fit.housed held.slots held.spaced is.slot is.state is.map is.there is.lies new left its_gone after reads stands y
+          beside_volume disk pool states fit.housed held.slots held.spaced is.slot is.state is.map is.there is.lies new left its_gone after reads stands held.footed unused y
           (ap (state_at states) its.slot ∙ at) (λ same. differ (sym its.slot ∙ same)) (subst (λ (s : ℕ). IsHeldIn disk pool s y) (sym its.slot) its)
 
   -- none of them has its name
@@ -231,8 +233,8 @@ module _ (disk : Shown) (session : Session) (fit : FitTogether session.pool sess
   asked_without = less asked_by refl
 
   -- it stands for the machine without the volume
-  pub stands_for_without : (last m : Machine) → StandsFor disk session last m → StandsFor over after last (changed m (Goes name))
-  stands_for_without last m stands =
+  pub stands_for_without : is_stood_on session.volumes is.slot ≡ false → (last m : Machine) → StandsFor disk session last m → StandsFor over after last (changed m (Goes name))
+  stands_for_without unused last m stands =
       let files = less pending_by refl in
       let wide = less overhead_by refl in
       let maps = less waiting_by refl in
@@ -242,8 +244,8 @@ module _ (disk : Shown) (session : Session) (fit : FitTogether session.pool sess
       ap (λ (f : Found). overheads (view_at (root_found f) over.reads)) is.gone.found ∙ ap (λ (i : Image). overheads (view_at (root_found session.pool.found) i)) reads.stays.reads in
       let taken : taken_since left.map ≤ taken_since session.pool.map = omega (arith, clear, free) in
       record {
-        held = held_without disk session.pool session.volumes fit name new left is over reads cache last stands.held;
-        machine = machine_without disk session.pool session.volumes fit name new left is over reads cache last stands.held ∙ ap (λ (k : Machine). changed k (Goes name)) stands.machine;
+        held = held_without disk session.pool session.volumes fit name new left is unused over reads cache last stands.held;
+        machine = machine_without disk session.pool session.volumes fit name new left is unused over reads cache last stands.held ∙ ap (λ (k : Machine). changed k (Goes name)) stands.machine;
         settled = settled_over disk over reads stands.settled;
         delays = known_still disk.reads over.reads session.pool.found left.found session.delays session.delays reads.stays.reads is.gone.found refl stands.delays;
         pending = omega (arith, files, maps, wide, held, taken, stands.pending);

@@ -17,6 +17,7 @@ use Rattle.fv_volume.specs.Calls.{Has}
 use Rattle.fv_volume.specs.OneVolume.{content_for, volume_for}
 use Rattle.fv_volume.specs.Promising.{promised, IsPromised, PromisesOne}
 use Rattle.fv_volume.specs.States.{States}
+use Rattle.fv_volumes.proofs.CalledFooted.{promised_footed}
 use Rattle.fv_volumes.proofs.PromisedAll.{each_promised, held_promised, housed_promised, lent_promised, names_promised, ready_promised, spaced_promised, sum_promised}
 use Rattle.fv_cp.specs.Held.{machine_held, IsHeld}
 use Rattle.fv_cp.specs.Lent.{FitTogether, waiting_by}
@@ -83,6 +84,7 @@ module _ (session : Session) (c : Command) (name : List ℕ) (size : VolumeState
       names = names_promised session.volumes pool.found.blocks c name size kind new is held.names;
       each = held_promised session.volumes pool.found.blocks c name size kind new is disk pool held.each;
       commits = is.sum;
+      footed = promised_footed session.volumes pool.found.blocks c name size kind new is pool.containers held.footed;
     }
 
     has : Has name (volume_for disk pool x) m

@@ -137,7 +137,7 @@ managed_applied c d laws at old fit fresh stands steps new reply stays either ma
       on_files = λ files. absurd (true≢false (sym files ∙ reads));
       point = λ tells last m held cp. absurd (no_point cp);
       sides = λ tells last m held cp. absurd (no_point cp);
-      roomy = none_roomy (room_by old.volumes c) d old d (Ok reply) (managed_room _ c either);
+      roomy = none_roomy (room_by old.volumes c) d old d (Ok reply) (managed_room _ _ c either);
       calm = λ other few. reads_itself d;
       entries = λ other few stays. no_holes old new (kept_entries old new (over.containers stays));
       files = λ tells none without. over.files without;

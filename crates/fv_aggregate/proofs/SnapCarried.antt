@@ -1,8 +1,6 @@
 -- Each command on snapshots, carried out by the call of the volume of its slot: what the session answers, and what it stands for then.
-use Rattle.std.proofs.Common.{◌≡◌, ◌<◌, ◌≤◌, ◌+◌, ◌⊎◌, ℕ, Bool, true, false, ◌||◌, List, [], ◌∷◌, length, Option, Some, None, is_some, Result, Ok, Err, inl, inr, ⊎_elim, true≢false, refl, sym, ap, subst, ◌∙◌, arith}
-use Rattle.std.specs.Prelude.{IfErr, IsNone}
-use Rattle.std.specs.List.{list_any}
-use Rattle.std.specs.Option.{option_map_or}
+use Rattle.std.proofs.Common.{◌≡◌, ◌<◌, ◌≤◌, ◌+◌, ◌⊎◌, ℕ, true, false, List, length, Option, Some, None, is_some, Result, Ok, Err, inl, inr, ⊎_elim, true≢false, refl, sym, ap, subst, ◌∙◌, arith}
+use Rattle.std.specs.Prelude.{IfErr, IfSome, IsNone}
 use Rattle.std.specs.FinMap as fin
 use Rattle.std.proofs.lemmas.List.{set-get_or}
 use Rattle.fv_disk.specs.Shown.{IsDisk, Rose, Shown}
@@ -15,19 +13,16 @@ use Rattle.fv_model.specs.declared.commands.Command.{Command}
 use Rattle.fv_model.specs.declared.commands.Command.TheVariants.{SnapCreate, SnapDelete, SnapRestore}
 use Rattle.fv_model.specs.Machines.{Machine}
 use Rattle.fv_model.specs.Effects.{Becomes, change_of}
-use Rattle.fv_model.specs.Refusals.{refusal, some_base}
+use Rattle.fv_model.specs.Refusals.{refusal}
 use Rattle.fv_model.specs.Replies.{answer, Allows}
 use Rattle.fv_model.specs.Space.{map_blocks}
-use Rattle.fv_model.specs.Volumes.{Base, Volume}
 use Rattle.fv_bits.specs.Members.{is_member}
 use Rattle.fv_laws.proofs.Changes.{itself}
-use Rattle.fv_laws.proofs.Lists.{In}
-use Rattle.fv_laws.proofs.Orders.{name_total}
-use Rattle.fv_laws.proofs.Room.{entry_there}
 use Rattle.fv_pool.specs.declared.fault.VolumeFault.{VolumeFault}
 use Rattle.fv_pool.specs.declared.fault.VolumeFault.TheVariants as volume
 use Rattle.fv_pool.specs.declared.pool.Pool.{Pool}
 use Rattle.fv_volume.specs.declared.state.VolumeState.{VolumeState}
+use Rattle.fv_volume.specs.Files.{IsLabelled}
 use Rattle.fv_volume.specs.Held.{MayFail}
 use Rattle.fv_volume.specs.OneVolume.{volume_for, IsReady}
 use Rattle.fv_pool.specs.Tables.{pending_of}
@@ -40,7 +35,8 @@ use Rattle.fv_cp.specs.Lent.{FitTogether}
 use Rattle.fv_cp.proofs.Flushing.{passed_none}
 use Rattle.fv_cp.specs.Placing.{pending_by, HasNoFiles, HasNumbers, HaveNoFiles, IsPlacedAs}
 use Rattle.fv_snapshot.specs.Creating.{creation_refusal, Creates, TellsCreation}
-use Rattle.fv_snapshot.specs.Deleting.{Deletes, HasUnused}
+use Rattle.fv_snapshot.specs.Deleting.{Deletes, HasStood, is_used}
+use Rattle.fv_snapshot.proofs.InUse.{base_used}
 use Rattle.fv_snapshot.specs.Restoring.{Restores}
 use Rattle.fv_aggregate.specs.declared.fault.Fault.{Fault}
 use Rattle.fv_aggregate.specs.declared.fault.Fault.TheVariants.{Damaged, DiskFault, Memory}
@@ -53,32 +49,21 @@ use Rattle.fv_aggregate.specs.Standing.{IsWithoutFiles, StandsFor, StandsReady}
 use Rattle.fv_aggregate.proofs.Holes.{kept_entries}
 use Rattle.fv_aggregate.proofs.Asked.{answer_allows}
 use Rattle.fv_aggregate.proofs.Changed.{beside, has_within, mine}
-use Rattle.fv_aggregate.proofs.HeldMachine.{bare, is_there}
+use Rattle.fv_aggregate.proofs.Having.{contents, has_volumes}
+use Rattle.fv_aggregate.proofs.HeldMachine.{is_there}
 use Rattle.fv_aggregate.proofs.Keeping.{keeps_with}
 use Rattle.fv_aggregate.proofs.PointEnds.{has_full_room}
 use Rattle.fv_aggregate.proofs.Rooms.{slot_there}
 use Rattle.fv_aggregate.proofs.SnapCommands.{snap_cases}
 use Rattle.fv_aggregate.proofs.Calls.{reads_itself}
 use Rattle.fv_aggregate.proofs.SnapDone.{carried_broken, carried_damaged, carried_done, carried_refused, carried_wanting, IsCarried}
+use Rattle.fv_aggregate.proofs.SnapClones.{made_clones, removed_clones, turned_clones}
 use Rattle.fv_aggregate.proofs.SnapSessions.{none_with, placed_entries, placed_for, placed_stands, snapped_for, snapped_stands, stepped_for, stepped_stands}
 use Rattle.fv_aggregate.proofs.SnapSteps.{made_waits, removed_waits, restored_step, snapped_step, unsnapped_step}
 use Rattle.fv_aggregate.proofs.Stepped.{IsStepped}
 use Rattle.fv_aggregate.proofs.Sums.{one_pending}
 
 -- ---- by the machine
-
--- where no volume has a base none passes a test
-unbased : (m : Machine) → ((name : List ℕ) (v : Volume) → fin.get m.volumes name ≡ Some v → v.base ≡ None) → (test : Base → Bool) → some_base m test ≡ false
-unbased m none test = none_of (fin.entries m.volumes) (λ e inside. inside)
-  where
-    of : List ℕ × Volume → Bool
-    of e = option_map_or test e.1.base false
-
-    none_of : (es : List (List ℕ × Volume)) → ((e : List ℕ × Volume) → In e es → In e (fin.entries m.volumes)) → list_any of es ≡ false
-    none_of [] part = refl
-    none_of (e ∷ es) part =
-        let first : of e ≡ false = ap (λ (o : Option Base). option_map_or test o false) (none e.0 e.1 (entry_there name_total m.volumes e (part e (inl refl)))) in
-        ap (λ (t : Bool). t || list_any of es) first ∙ none_of es (λ y inside. part y (inr inside))
 
 made_allows : (m : Machine) (v name : List ℕ) → refusal m (SnapCreate v name) ≡ None → Allows m (SnapCreate v name) Done
 unfolding answer
@@ -223,7 +208,7 @@ module _ {D : Type 0} (shown : D → Shown) (disk left : D) (laws : IsDisk (show
     made u did tells = carried_done d e disk left laws reads s fresh (SnapCreate x.name name) room (carried_session s slot q y room) fresh
         (snapped_stands d e s q slot x did.done.mid y there slot_is fit did.done.placed step ready room stands) (omega (arith, exact)) (numbers_stay (SnapCreate x.name name) y numbers) (placed_entries d e s q slot x did.done.mid there slot_is fit did.done.placed)
         did.calm (λ none. absurd (true≢false none)) uncalled
-        (λ last m is. snapped_for d e s q slot x did.done.mid y there slot_is fit did.done.placed step ready room (map_blocks x.span) waits pending enough (held_at q y (did.held (held last m is))) last m (SnapCreate x.name name) is (agreed last m is) (becomes last m is))
+        (λ last m is. snapped_for d e s q slot x did.done.mid y there slot_is fit did.done.placed step ready room (map_blocks x.span) waits pending enough (held_at q y (did.held (held last m is))) (made_clones d e s q slot x y there slot_is fit name did.done) last m (SnapCreate x.name name) is (agreed last m is) (becomes last m is))
         (λ last m is. made_allows m x.name name (agreed last m is))
         (files_stay q did.done.mid y did.done.placed (ap (λ (z : VolumeState). z.files) did.done.now ∙ did.done.none) room)
         (⊎_elim (λ none. absurd (true≢false none)) (λ without. ap (λ (p : Pool). p.map) (pool_stays q did.done.mid y did.done.placed without))) stands
@@ -273,15 +258,19 @@ module _ {D : Type 0} (shown : D → Shown) (disk left : D) (laws : IsDisk (show
   -- ---- a snapshot was removed
 
   module _ (name : List ℕ) (q : Pool) (y : VolumeState) (ready : IsReady e q y) (nothing : room ≡ 0) where
-    -- no clone stands on it
-    unused : (last m : Machine) → StandsFor d s last m → HasUnused x.name (volume_for d s.pool x) name (machine_held d s.pool s.volumes)
-    unused last m is = record { there = is_there d s.pool s.volumes long last is.held slot x there; unused = unbased (machine_held d s.pool s.volumes) (bare d s.pool s.volumes long) _ }
+    -- whether a clone stands on it is what the machine says
+    stood : (last m : Machine) → StandsFor d s last m → HasStood x.name (volume_for d s.pool x) (is_used s.volumes slot name) name (machine_held d s.pool s.volumes)
+    stood last m is = record {
+      there = is_there d s.pool s.volumes long last is.held slot x there;
+      stands = base_used s.volumes s.pool.containers is.held.footed is.held.names long (contents d s.pool s.volumes long last is.held) s.pool.found.blocks (machine_held d s.pool s.volumes) (has_volumes d s.pool s.volumes long last is.held)
+          slot x there (held last m is).stands.names (subst (λ (o : Option VolumeState). IfSome o (IsLabelled slot)) there (fit.housed.volumes slot)).snapshots.slots.rising name;
+    }
 
-    pub removed : (u : Unit {0}) → Deletes d s.pool x name e q y (Ok u) → IsCarried d disk s (SnapDelete x.name name) room e left (carried_session s slot q y room) (Ok Done)
+    pub removed : (u : Unit {0}) → Deletes d s.pool x (is_used s.volumes slot name) name e q y (Ok u) → IsCarried d disk s (SnapDelete x.name name) room e left (carried_session s slot q y room) (Ok Done)
     removed u did = carried_done d e disk left laws reads s fresh (SnapDelete x.name name) room (carried_session s slot q y room) fresh
         (snapped_stands d e s q slot x did.done.mid y there slot_is fit did.done.placed step ready room stands) (omega (arith, nothing)) (numbers_stay (SnapDelete x.name name) y numbers) (placed_entries d e s q slot x did.done.mid there slot_is fit did.done.placed)
         did.calm (λ none. absurd (true≢false none)) uncalled
-        (λ last m is. snapped_for d e s q slot x did.done.mid y there slot_is fit did.done.placed step ready room 0 waits pending (inl (refl, nothing)) (held_at q y (did.held (held last m is))) last m (SnapDelete x.name name) is (agreed last m is) (becomes last m is))
+        (λ last m is. snapped_for d e s q slot x did.done.mid y there slot_is fit did.done.placed step ready room 0 waits pending (inl (refl, nothing)) (held_at q y (did.held (held last m is))) (removed_clones d e s q slot x y there slot_is fit name did.done did.unused) last m (SnapDelete x.name name) is (agreed last m is) (becomes last m is))
         (λ last m is. removed_allows m x.name name (agreed last m is))
         (files_stay q did.done.mid y did.done.placed (ap (λ (z : VolumeState). z.files) did.done.now ∙ did.done.none) room)
         (⊎_elim (λ none. absurd (true≢false none)) (λ without. ap (λ (p : Pool). p.map) (pool_stays q did.done.mid y did.done.placed without))) stands
@@ -302,18 +291,18 @@ module _ {D : Type 0} (shown : D → Shown) (disk left : D) (laws : IsDisk (show
         numbers = ap (λ (z : VolumeState). z.numbers) did.done.now ∙ ap (λ (z : VolumeState). z.numbers) did.done.placed.keeps
 
         agreed : (last m : Machine) → StandsFor d s last m → refusal m (SnapDelete x.name name) ≡ None
-        agreed last m is = for_machine (λ (k : Machine). refusal k (SnapDelete x.name name) ≡ None) last m is ((did.changes (held last m is)).agrees _ (unused last m is))
+        agreed last m is = for_machine (λ (k : Machine). refusal k (SnapDelete x.name name) ≡ None) last m is ((did.changes (held last m is)).agrees _ (stood last m is))
 
         becomes : (last m : Machine) → StandsFor d s last m → change_of m (SnapDelete x.name name) ≡ Becomes x.name (volume_for e q y)
         becomes last m is = for_machine (λ (k : Machine). change_of k (SnapDelete x.name name) ≡ Becomes x.name (volume_for e q y)) last m is ((did.changes (held last m is)).becomes _ (is_there d s.pool s.volumes long last is.held slot x there))
 
     -- or not
-    pub unremoved : (f : VolumeFault) → ((w : Refusal) → f ≡ volume.Refused w → left ≡ disk) → Deletes d s.pool x name e q y (Err f) → (new : Session) (result : Result Reply Fault) → Replied e (Err f) (left_session s slot q y) new result → IsCarried d disk s (SnapDelete x.name name) room e left new result
+    pub unremoved : (f : VolumeFault) → ((w : Refusal) → f ≡ volume.Refused w → left ≡ disk) → Deletes d s.pool x (is_used s.volumes slot name) name e q y (Err f) → (new : Session) (result : Result Reply Fault) → Replied e (Err f) (left_session s slot q y) new result → IsCarried d disk s (SnapDelete x.name name) room e left new result
     unremoved (volume.Refused r) quiet did new result is =
         let same = did.refused r refl in
         carried_as (SnapDelete x.name name) new result (Ok (Refused r)) s (is.1 ∙ as_left q y same.0 same.1) is.0
         (carried_refused d e disk left laws reads s fresh (SnapDelete x.name name) room stands did.cause (quiet r refl) r
-        (λ last m is. for_machine (λ (k : Machine). refusal k (SnapDelete x.name name) ≡ Some r) last m is ((did.changes (held last m is)).agrees _ (unused last m is))) nothing)
+        (λ last m is. for_machine (λ (k : Machine). refusal k (SnapDelete x.name name) ≡ Some r) last m is ((did.changes (held last m is)).agrees _ (stood last m is))) nothing)
     unremoved volume.DiskFault quiet did new result b = carried_as (SnapDelete x.name name) new result (Err DiskFault) (record (left_session s slot q y) { failed = new.failed }) b.1.1.1.same (b.1.0 ∙ ap (λ (g : Fault). Err g) b.1.1.0) (broken (SnapDelete x.name name) q y did.failed refl new.failed did.cause.0.0 did.cause.1 b.1.1.1.written b.1.1.1.unwritten)
     unremoved (volume.Damaged at want found) quiet did new result b = carried_as (SnapDelete x.name name) new result (Err (Damaged at want found)) (left_session s slot q y) b.1.1.1 (b.1.0 ∙ ap (λ (g : Fault). Err g) b.1.1.0) (damaged (SnapDelete x.name name) q y did.failed refl did.cause.1 (removed_asks name) at want found did.cause.0)
     unremoved volume.Memory quiet did new result b = carried_as (SnapDelete x.name name) new result (Err Memory) (left_session s slot q y) b.1.1.1 (b.1.0 ∙ ap (λ (g : Fault). Err g) b.1.1.0) (wanting (SnapDelete x.name name) q y did.failed refl did.cause)
@@ -332,7 +321,7 @@ module _ {D : Type 0} (shown : D → Shown) (disk left : D) (laws : IsDisk (show
         (stepped_stands d s slot x y there slot_is long step ready room stands) (omega (arith, nothing))
         (keeps_with (MayLose (SnapRestore x.name name) s.volumes) s.volumes slot (Some y) inside (λ known stays. absurd (stays (x.name, (refl, ap (λ (o : Option VolumeState). is_named o x.name) there ∙ itself x.name))))) (kept_entries s (carried_session s slot s.pool y room) refl)
         refl (λ none. refl) (λ none. refl)
-        (λ last m is. stepped_for d s slot x y there slot_is long step ready room 0 waits pending (inl (refl, nothing)) (held_here (did.held (held last m is))) last m (SnapRestore x.name name) is (agreed last m is) (becomes last m is))
+        (λ last m is. stepped_for d s slot x y there slot_is long step ready room 0 waits pending (inl (refl, nothing)) (held_here (did.held (held last m is))) (turned_clones d d s s.pool slot x y there slot_is fit name did.done) last m (SnapRestore x.name name) is (agreed last m is) (becomes last m is))
         (λ last m is. turned_allows m x.name name (agreed last m is))
         (λ without. record { none = none_with s.volumes slot y inside none without.none; taken = without.taken })
         (λ which. refl) stands
@@ -386,7 +375,7 @@ module _ {D : Type 0} (shown : D → Shown) (disk left : D) (laws : IsDisk (show
 
   -- what is carried out of a command
   abbrev Carries : Command → Type 0
-  Carries c = (q : Pool) (y : VolumeState) (r : Result Unit VolumeFault) → IsReady e q y → (places_files c ≡ false → left ≡ disk) → IfErr r (λ f. (w : Refusal) → f ≡ volume.Refused w → left ≡ disk) → SnapsState d s.pool x (beside s.volumes slot) c e q y r → room ≡ snap_blocks (Some x) c → (room ≡ 0) ⊎ (s.pending + room ≤ 256) → room ≡ room_by s.volumes c
+  Carries c = (q : Pool) (y : VolumeState) (r : Result Unit VolumeFault) → IsReady e q y → (places_files c ≡ false → left ≡ disk) → IfErr r (λ f. (w : Refusal) → f ≡ volume.Refused w → left ≡ disk) → SnapsState d s.pool s.volumes slot x (beside s.volumes slot) c e q y r → room ≡ snap_blocks (Some x) c → (room ≡ 0) ⊎ (s.pending + room ≤ 256) → room ≡ room_by s.volumes c
       → IsAccepted (Some x) s.pool.found.blocks (beside s.volumes slot) c → (new : Session) (result : Result Reply Fault) → Replied e (done_as r) (after_call q y r) new result → IsCarried d disk s c room e left new result
 
   carries_create : (v name : List ℕ) → Carries (SnapCreate v name)
@@ -402,7 +391,7 @@ module _ {D : Type 0} (shown : D → Shown) (disk left : D) (laws : IsDisk (show
   carries_delete : (v name : List ℕ) → Carries (SnapDelete v name)
   carries_delete v name q y r ready kept quiet did room_is few exact accepted new result is = subst (λ (n : List ℕ). IsCarried d disk s (SnapDelete n name) room e left new result) (sym did.0) (by r quiet did.1 is)
     where
-      by : (r : Result Unit VolumeFault) → IfErr r (λ f. (w : Refusal) → f ≡ volume.Refused w → left ≡ disk) → Deletes d s.pool x name e q y r → Replied e (done_as r) (after_call q y r) new result → IsCarried d disk s (SnapDelete x.name name) room e left new result
+      by : (r : Result Unit VolumeFault) → IfErr r (λ f. (w : Refusal) → f ≡ volume.Refused w → left ≡ disk) → Deletes d s.pool x (is_used s.volumes slot name) name e q y r → Replied e (done_as r) (after_call q y r) new result → IsCarried d disk s (SnapDelete x.name name) room e left new result
       by (Ok u) still gone is = carried_as (SnapDelete x.name name) new result (Ok Done) (carried_session s slot q y room) is.1 is.0 (removed name q y ready room_is u gone)
       by (Err f) still gone is = unremoved name q y ready room_is f still gone new result is
 

@@ -39,10 +39,10 @@ module _ {D : Type 0} (shown : D → Shown) (disk left : D) (laws : IsDisk (show
   abbrev e : Shown
   e = shown left
 
-  pub carried_now : (q : Pool) (y : VolumeState) → IsReady e q y → (r : Result Unit VolumeFault) → (places_files c ≡ false → left ≡ disk) → IfErr r (λ f. (w : Refusal) → f ≡ volume.Refused w → left ≡ disk) → SnapsState d s.pool x others c e q y r
+  pub carried_now : (q : Pool) (y : VolumeState) → IsReady e q y → (r : Result Unit VolumeFault) → (places_files c ≡ false → left ≡ disk) → IfErr r (λ f. (w : Refusal) → f ≡ volume.Refused w → left ≡ disk) → SnapsState d s.pool s.volumes slot x others c e q y r
       → (before : Session) → before ≡ record s { volumes = with_state s.volumes slot (Some y); pool = q; pending = cond (is_ok r) (s.pending + granted.room) s.pending } → (asked : Result Reply VolumeFault) → asked ≡ done_as r → (new : Session) (result : Result Reply Fault) → Replied e asked before new result → IsCarried d disk s c granted.room e left new result
   carried_now q y ready r kept quiet did before before_is asked asked_is new result replied =
-      carried_by shown disk left laws reads s fresh stands fit slot x there slot_is named granted.room idle c of q y r ready kept quiet (subst (λ (n : ℕ). SnapsState d s.pool x n c e q y r) others_are did)
+      carried_by shown disk left laws reads s fresh stands fit slot x there slot_is named granted.room idle c of q y r ready kept quiet (subst (λ (n : ℕ). SnapsState d s.pool s.volumes slot x n c e q y r) others_are did)
       (grant.room ∙ ap (λ (o : Option VolumeState). snap_blocks o c) there) few (grant.room ∙ aimed_room s.volumes slot c aimed)
       (subst (λ (n : ℕ). IsAccepted (Some x) s.pool.found.blocks n c) others_are (subst (λ (o : Option VolumeState). IsAccepted o s.pool.found.blocks others c) there grant.accepted))
       new result (subst (λ (n : Session). Replied e (done_as r) n new result) (before_is ∙ as_said) (subst (λ (a : Result Reply VolumeFault). Replied e a before new result) asked_is replied))

@@ -6,6 +6,7 @@ use Rattle.std.proofs.lemmas.List.Sums.{sum_by-set}
 use Rattle.std.specs.Prelude.{IsTrue}
 use Rattle.fv_disk.specs.Shown.{Image, Shown}
 use Rattle.fv_disk.specs.DiskCalls.{OnlyReads}
+use Rattle.fv_volumes.specs.Footing.{AreFooted}
 use Rattle.fv_volumes.proofs.PlacedIn.{found_read}
 use Rattle.fv_model.specs.declared.commands.Command.{Command}
 use Rattle.fv_model.specs.Machines.{Machine}
@@ -128,11 +129,11 @@ module _ (d : Shown) (s : Session) (slot : ℕ) (x y : VolumeState) (there : sta
     ready = ready_stepped d s.pool s.volumes long slot x y there step ready slot_is (λ k differ. stands.ready k);
   }
 
-  -- It stands for the machine after the command, where so many blocks of maps wait more and the room for them is within the dirty limit, or none waits
+  -- It stands for the machine after the command, where clones stand on what they stood on, so many blocks of maps wait more and the room for them is within the dirty limit, or none waits
   -- more, without room.
-  pub stepped_for : (more : ℕ) → map_wait y ≤ map_wait x + more → pending_of y.files ≤ pending_of x.files → ((more ≡ 0) × (room ≡ 0)) ⊎ ((more ≤ room) × (s.pending + room ≤ 256)) → IsHeldIn d s.pool slot y
+  pub stepped_for : (more : ℕ) → map_wait y ≤ map_wait x + more → pending_of y.files ≤ pending_of x.files → ((more ≡ 0) × (room ≡ 0)) ⊎ ((more ≤ room) × (s.pending + room ≤ 256)) → IsHeldIn d s.pool slot y → (AreFooted s.volumes s.pool.containers → AreFooted (with_state s.volumes slot (Some y)) s.pool.containers)
       → (last m : Machine) (c : Command) → StandsFor d s last m → refusal m c ≡ None → change_of m c ≡ Becomes x.name (volume_for d s.pool y) → StandsFor d stepped_session last (next m c)
-  stepped_for more waits pending enough now last m c is accepted becomes =
+  stepped_for more waits pending enough now clones last m c is accepted becomes =
       let maps = waiting_stepped d s.pool s.volumes long slot x y there step ready more waits in
       let files = pending_stepped d s.pool s.volumes long slot x y there step ready pending in
       let over = overheads_stepped d s.pool s.volumes long slot x y there step ready in
@@ -140,8 +141,8 @@ module _ (d : Shown) (s : Session) (slot : ℕ) (x y : VolumeState) (there : sta
       let new : change_of (machine_held d s.pool s.volumes) c ≡ Becomes x.name (volume_for d s.pool y) = ap (λ (k : Machine). change_of k c) is.machine ∙ becomes in
       let grown : unwritten stepped_session ≤ unwritten s + more = omega (arith, maps, files) in
       record {
-        held = held_now d s.pool s.volumes long slot x y there step ready last is.held now c its new;
-        machine = machine_now d s.pool s.volumes long slot x y there step ready last is.held now c its new ∙ ap (λ (k : Machine). next k c) is.machine;
+        held = held_now d s.pool s.volumes long slot x y there step ready last is.held now (clones is.held.footed) c its new;
+        machine = machine_now d s.pool s.volumes long slot x y there step ready last is.held now (clones is.held.footed) c its new ∙ ap (λ (k : Machine). next k c) is.machine;
         settled = is.settled;
         delays = is.delays;
         pending = ⊎_elim (λ (none : (more ≡ 0) × (room ≡ 0)). omega (arith, grown, over, is.pending, none.0, none.1)) (λ (some : (more ≤ room) × (s.pending + room ≤ 256)). omega (arith, grown, over, is.pending, some.0)) enough;
@@ -184,9 +185,9 @@ module _ (d e : Shown) (s : Session) (q : Pool) (slot : ℕ) (x mid y : VolumeSt
   snapped_stands stands = subst (StandsReady e) as_snapped (stepped_stands e first slot mid y mid_there mid_slot mid_long step ready room (placed_stands d e s q slot x mid there slot_is fit placed stands))
 
   -- and it stands for the machine after the command.
-  pub snapped_for : (more : ℕ) → map_wait y ≤ map_wait mid + more → pending_of y.files ≤ pending_of mid.files → ((more ≡ 0) × (room ≡ 0)) ⊎ ((more ≤ room) × (s.pending + room ≤ 256)) → IsHeldIn e q slot y
+  pub snapped_for : (more : ℕ) → map_wait y ≤ map_wait mid + more → pending_of y.files ≤ pending_of mid.files → ((more ≡ 0) × (room ≡ 0)) ⊎ ((more ≤ room) × (s.pending + room ≤ 256)) → IsHeldIn e q slot y → (AreFooted (with_state s.volumes slot (Some mid)) q.containers → AreFooted (with_state s.volumes slot (Some y)) q.containers)
       → (last m : Machine) (c : Command) → StandsFor d s last m → refusal m c ≡ None → change_of m c ≡ Becomes x.name (volume_for e q y) → StandsFor e snapped_session last (next m c)
-  snapped_for more waits pending enough now last m c is accepted becomes = subst (λ (n : Session). StandsFor e n last (next m c)) as_snapped
-      (stepped_for e first slot mid y mid_there mid_slot mid_long step ready room more waits pending enough now last m c
+  snapped_for more waits pending enough now clones last m c is accepted becomes = subst (λ (n : Session). StandsFor e n last (next m c)) as_snapped
+      (stepped_for e first slot mid y mid_there mid_slot mid_long step ready room more waits pending enough now (λ were. subst (λ (ss : States). AreFooted ss q.containers) (sym twice) (clones were)) last m c
       (placed_for d e s q slot x mid there slot_is fit placed last m is) accepted
       (becomes ∙ ap (λ (n : List ℕ). Becomes n (volume_for e q y)) (sym (ap (λ (z : VolumeState). z.name) placed.keeps))))

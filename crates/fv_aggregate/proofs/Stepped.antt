@@ -25,6 +25,7 @@ use Rattle.fv_volume.specs.States.{States, parent_in, state_at, with_state}
 use Rattle.fv_volume.specs.Stored.{is_of}
 use Rattle.fv_volumes.specs.UnderRoot.{StandMaps}
 use Rattle.fv_volume.specs.Writing.{map_wait}
+use Rattle.fv_volumes.specs.Footing.{AreFooted}
 use Rattle.fv_volumes.proofs.Told.{ledger_commit}
 use Rattle.fv_cp.specs.Held.{machine_held, IsHeld, IsHeldIn}
 use Rattle.fv_cp.specs.Lent.{maps_waiting, waiting_by, FitTogether}
@@ -77,7 +78,7 @@ module _ (d : Shown) (p : Pool) (states : States) (long : length states ≡ 64) 
 
   -- ---- where the volumes are what they are between points
 
-  module _ (last : Machine) (held : IsHeld d p states last) (now : IsHeldIn d p s y) where
+  module _ (last : Machine) (held : IsHeld d p states last) (now : IsHeldIn d p s y) (footed : AreFooted stay p.containers) where
     -- The volumes are what they are between points,
     held_stepped : sum_of stay ≤ capacity p.found.blocks → IsHeld d p stay last
     held_stepped commits = record {
@@ -91,6 +92,7 @@ module _ (d : Shown) (p : Pool) (states : States) (long : length states ≡ 64) 
       names = named_as states long s x y there (ap (λ (z : VolumeState). z.name) step.same) held.names;
       each = each_slot states long s x y there (λ k o. IfSome o (IsHeldIn d p k)) now (λ k differ. held.each k);
       commits = commits;
+      footed = footed;
     }
 
     -- ---- the machine

@@ -59,6 +59,7 @@ module _ (d e : Shown) (p q : Pool) (x y : VolumeState) where
     maps = record {
       span = second.maps.span ∙ first.maps.span;
       snapshots = λ s other. second.maps.snapshots s other ∙ first.maps.snapshots s other;
+      active = λ v has_it. first.maps.active v (second.maps.active v has_it);
       numbers = omega (arith, first.maps.numbers, second.maps.numbers);
     };
     unwritten = λ was. second.unwritten (first.unwritten was);

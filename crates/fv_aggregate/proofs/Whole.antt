@@ -1,8 +1,8 @@
 -- An image that stands for a machine is damaged nowhere.
-use Rattle.std.proofs.Common.{◌≡◌, ◌≢◌, ◌<◌, ◌-◌, ◌*◌, ◌/◌, ◌%◌, ℕ, zero, suc, Bool, true, false, length, Option, Some, None, Result, Ok, Err, true≢false, refl, sym, ap, subst, ◌∙◌, ⊎_elim, inl, inr, arith}
+use Rattle.std.proofs.Common.{◌≡◌, ◌≢◌, ◌<◌, ◌≤◌, ◌-◌, ◌*◌, ◌/◌, ◌%◌, ℕ, zero, suc, Bool, true, false, length, Option, Some, None, Result, Ok, Err, true≢false, refl, sym, ap, subst, ◌∙◌, ⊎_elim, inl, inr, arith}
 use Rattle.std.specs.Prelude.{◌⊎◌, ◌&&◌, ◌==◌, IfErr, IsErr, nat_lt, if◌then◌else◌}
 use Rattle.std.specs.List.{list_any}
-use Rattle.std.specs.Option.{is_none, option_map}
+use Rattle.std.specs.Option.{option_map}
 use Rattle.std.proofs.lemmas.Bool.{and_parts}
 use Rattle.std.proofs.lemmas.Bool.Decides.{nat_tests}
 use Rattle.fv_disk.specs.Shown.{Image}
@@ -11,15 +11,16 @@ use Rattle.fv_codec.specs.declared.shape.Shape.{Shape}
 use Rattle.fv_codec.specs.declared.superblock.Super.{Super}
 use Rattle.fv_codec.specs.declared.root.Root.{Root}
 use Rattle.fv_codec.specs.declared.label.Label.{Label}
-use Rattle.fv_codec.specs.Blocks.{gate_open, label_at, root_at, super_at}
-use Rattle.fv_codec.specs.Fields.{Verdict}
+use Rattle.fv_codec.specs.Blocks.{IsLabel, gate_open, label_at, root_at, super_at}
+use Rattle.fv_codec.specs.Fields.{Verdict, up_to}
+use Rattle.fv_codec.proofs.Decoded.{label_in_range}
 use Rattle.fv_model.specs.Machines.{Machine}
 use Rattle.fv_model.specs.Space.{map_blocks}
 use Rattle.fv_image.specs.Layout.{block_bits, gate_place, root_place, superblock}
 use Rattle.fv_image.specs.NewerRoot.{Taken, behind, newer, root_of, taken_of}
 use Rattle.fv_image.specs.Maps.{area_bits, map_bit}
 use Rattle.fv_image.specs.Containers.{node_of, node_shape, shaped}
-use Rattle.fv_image.specs.Views.{Footing, View, block_in, head_of, map_vvbn, used_slots, volume_bit}
+use Rattle.fv_image.specs.Views.{View, block_in, head_of, map_vvbn, used_slots, volume_bit}
 use Rattle.fv_image.specs.Held.{is_held, label_in, label_place, layout_at, lying_at, node_from, view_at}
 use Rattle.fv_image.specs.SoundSlots.{IsSoundSlot, IsSoundVolume}
 use Rattle.fv_image.specs.Soundness.{IsSound}
@@ -148,20 +149,21 @@ module _ (i : Image) (found : Found) (m : Machine) (tells : Tells (layout_at (ro
   unfolding layout_at view_at
   built_label s l there = built_forms (view_at (root_found found) i) tells.built s (head_of l) (slot_inside (root_found found) i s l there) (ap (option_map head_of) there)
 
-  no_form : (l : Label) → has_form (head_of l) ≡ true → form_in l ≡ None
+  no_form : (l : Label) → IsLabel l → has_form (head_of l) ≡ true → form_in l ≡ None
   unfolding form_in head_of
-  no_form l form =
-      let c = and_parts _ (l.known == 1) form in
-      let parent : (l.parent == 0) ≡ true = base (l.parent == 0) c.0 in
-      let known : (l.known == 0) ≡ false = let one : (l.known == 1) ≡ true = c.1 in grind (arith, nat_tests, one) in
-      rw (parent, known) refl
+  no_form l range form =
+      let one : l.known ≡ 1 = (let is = (and_parts _ (l.known == 1) form).1 in grind (arith, nat_tests, is)) in
+      let few = range.known in
+      let splitting : (l.splitting == 0) ≡ true = by (l.splitting == 0) (omega (arith, one, few)) in
+      let known : (l.known == 0) ≡ false = grind (arith, nat_tests, one) in
+      rw (splitting, known) refl
     where
-      base : (none : Bool) → is_none {T = Footing} (if none then None else Some (record { parent = l.parent - 1; slot = l.base_slot; splitting = l.splitting == 1 })) ≡ true → none ≡ true
-      base true e = refl
-      base false e = absurd cc
+      by : (b : Bool) → 1 ≤ up_to b 1 → b ≡ true
+      by true e = refl
+      by false e = absurd (omega (arith, e))
 
-  pub no_label_fault : (at want number : ℕ) → IsLabelFault i found at want number → ⊥
-  no_label_fault at want number bad =
+  pub no_label_fault : ((b : ℕ) → length (i b) ≡ 4096) → (at want number : ℕ) → IsLabelFault i found at want number → ⊥
+  no_label_fault whole at want number bad =
       let s = bad.slot in
       let place : at ≡ label_place (root_found found) s = bad.place in
       let there : (l : Label) × (label_of found i s ≡ Some l) = label_there s (λ e. bad.some (place ∙ e)) in
@@ -170,7 +172,7 @@ module _ (i : Image) (found : Found) (m : Machine) (tells : Tells (layout_at (ro
       (λ (fault : label_at (i at) ≡ Err (record { want = want; found = number })). none_some there.0 (sym (ap shaped fault) ∙ spelled))
       (λ form.
       let same : form.0 ≡ there.0 = one form.0 there.0 (sym (ap shaped form.1.0) ∙ spelled) in
-      none_some (want, number) (sym (no_form form.0 (subst (λ (l : Label). has_form (head_of l) ≡ true) (sym same) (built_label s there.0 there.1))) ∙ form.1.1))
+      none_some (want, number) (sym (no_form form.0 (label_in_range (i at) (Ok form.0) (whole at) (sym form.1.0)) (subst (λ (l : Label). has_form (head_of l) ≡ true) (sym same) (built_label s there.0 there.1))) ∙ form.1.1))
       bad.fault.1
     where
       one : (a b : Label) → ◌≡◌ {A = Option Label} (Some a) (Some b) → a ≡ b
@@ -247,7 +249,7 @@ whole i m long is (Damaged at want number) (inr under) =
     absurd (⊎_elim
     (λ past. no_map_fault i under.root m tells at want number past)
     (λ load. ⊎_elim
-    (λ label. no_label_fault i under.root m tells at want number label)
+    (λ label. no_label_fault i under.root m tells long at want number label)
     (λ rest. ⊎_elim
     (λ tree. no_tree_fault i under.root m tells at want number tree)
     (λ map. no_slot_fault i under.root m tells long at want number map)

@@ -3,13 +3,14 @@ use Rattle.std.specs.Prelude.{◌≡◌, ◌≢◌, ◌<◌, ◌≤◌, ◌+◌,
 use Rattle.fv_disk.specs.Shown.{Shown, Rose}
 use Rattle.fv_disk.specs.Crash.{Leaves}
 use Rattle.fv_disk.specs.DiskCalls.{OnlyReads}
-use Rattle.fv_model.specs.declared.answers.Refusal.TheVariants.{NoSnapshot, NoVolume, Range, Syntax}
+use Rattle.fv_model.specs.declared.answers.Refusal.TheVariants.{NoSnapshot, NoVolume, Range, SnapshotInUse, Syntax}
 use Rattle.fv_model.specs.declared.answers.Reply.{Reply}
 use Rattle.fv_model.specs.declared.answers.Reply.TheVariants.{Names, Refused}
 use Rattle.fv_model.specs.declared.commands.Command.{Command}
-use Rattle.fv_model.specs.declared.commands.Command.TheVariants.{Cp, SnapList, VolDestroy, VolList}
+use Rattle.fv_model.specs.declared.commands.Command.TheVariants.{Cp, SnapDelete, SnapList, VolDestroy, VolList}
 use Rattle.fv_model.specs.Machines.{Machine}
 use Rattle.fv_container.specs.Chains.{TellsEntries, container_at, own_entry, slot_count}
+use Rattle.fv_snapshot.specs.Deleting.{is_used}
 use Rattle.fv_volume.specs.Asking.{snap_named, table_named}
 use Rattle.fv_volume.specs.declared.state.VolumeState.{VolumeState}
 use Rattle.fv_volume.specs.Slots.{HasName, NoneHasName}
@@ -189,12 +190,23 @@ pub record LacksKept (states : States) (name snapshot : List ℕ) : Type 0 where
   pub there : state_at states slot ≡ Some state
   pub none : snap_named state.snapshots snapshot ≡ None
 
--- A command that removes or restores a snapshot is refused for want of it exactly where its volume lacks that snapshot.
+-- the volume of a name is there, and a clone stands on its snapshot of this name
+pub record HasInUse (states : States) (name snapshot : List ℕ) : Type 0 where
+  pub slot : ℕ
+  pub within : slot < slot_count
+  pub named : HasName states slot name
+  pub used : is_used states slot snapshot ≡ true
+
+-- A command that removes or restores a snapshot is refused for want of it exactly where its volume lacks that snapshot, and one that removes a snapshot
+-- is refused as in use exactly where a clone stands on that.
 pub record NeedsSnapshot (states : States) (command : Command) (result : Result Reply Fault) : Type 0 where
   pub lost : (name snapshot : List ℕ) → snapshot_needed command ≡ Some (name, snapshot) → LacksKept states name snapshot → result ≡ Ok (Refused NoSnapshot)
   pub only : (name snapshot : List ℕ) → snapshot_needed command ≡ Some (name, snapshot) → result ≡ Ok (Refused NoSnapshot) → LacksKept states name snapshot
+  pub used : (name snapshot : List ℕ) → command ≡ SnapDelete name snapshot → HasInUse states name snapshot → result ≡ Ok (Refused SnapshotInUse)
+  pub only_used : (name snapshot : List ℕ) → command ≡ SnapDelete name snapshot → result ≡ Ok (Refused SnapshotInUse) → HasInUse states name snapshot
 
--- A command that makes, removes or restores a snapshot of the volume of a name is refused without the volume, and without the snapshot that it needs.
+-- A command that makes, removes or restores a snapshot of the volume of a name is refused without the volume, without the snapshot that it needs, and
+-- where it would remove one on which a clone stands.
 pub record FindsVolume (states : States) (command : Command) (name : List ℕ) (result : Result Reply Fault) : Type 0 where
   pub missing : NoneHasName states name → result ≡ Ok (Refused NoVolume)
   pub needs : NeedsSnapshot states command result
@@ -205,8 +217,8 @@ pub record FindsVolume (states : States) (command : Command) (name : List ℕ) (
 -- removal and for one that places files it takes no block then and gives none back. `vol list` answers the names of the session's volumes, and `snap list` those of a volume's snapshots, and both leave all as it was. A `cp`
 -- that is done leaves nothing pending and no file in memory; one that isn't, in a session that goes on, only read, and left all but leaves where no file
 -- was in memory. Damage comes for want of blocks or of a leaf alone. A command on a whole volume that stays is answered, without a fault, and a volume is
--- removed, or nothing changed. One on snapshots is refused without its volume, and one that removes or restores a snapshot exactly where that isn't
--- there.
+-- removed, or nothing changed. One on snapshots is refused without its volume, one that removes or restores a snapshot exactly where that isn't
+-- there, and one that removes a snapshot exactly where a clone stands on that, too.
 pub record IsPlain {D : Type 0} (command : Command) (shown : Shown) (before : D) (old : Session) (shown_after : Shown) (after : D) (new : Session) (result : Result Reply Fault) : Type 0 where
   pub refused : IfOk result (λ reply. IsTrue (is_refusal reply) → IsUntouched before old after new)
   pub calm : command ≢ Cp → reads_leaves command ≡ false → IsWithinLimit old command → after ≡ before

@@ -1,27 +1,31 @@
 -- Which commands are carried out so far, what a session answers to each, and how many blocks it may add.
-use Rattle.std.specs.Prelude.{◌≡◌, ℕ, ◌==◌, List, [], ◌∷◌, Option, Some, None, Bool, true, false, ◌||◌, if◌then◌else◌}
+use Rattle.std.specs.Prelude.{◌≡◌, ℕ, ◌==◌, List, [], ◌∷◌, Option, Some, None, Bool, true, false, ◌||◌, if◌then◌else◌, nat_le}
 use Rattle.std.specs.Option.{is_none, is_some, option_map_or}
 use Rattle.std.specs.FinMap as fin
+use Rattle.std.specs.FinSet as set
 use Rattle.fv_model.specs.declared.answers.Refusal.TheVariants.{Syntax}
 use Rattle.fv_model.specs.declared.answers.Reply.{Reply}
 use Rattle.fv_model.specs.declared.answers.Reply.TheVariants.{Refused}
 use Rattle.fv_model.specs.declared.commands.Command.{Command}
 use Rattle.fv_model.specs.declared.commands.Command.TheVariants.{VolCreate, VolDestroy, VolResize, VolGuarantee, VolStat, New, Put, Get, Len, Cut, Remove, Ls, SnapCreate, SnapDelete, SnapRestore, CloneCreate, SplitStart, SplitFinish, Mirror, Clean, Probe, Work, Cp}
 use Rattle.fv_model.specs.Machines.{Machine}
-use Rattle.fv_model.specs.Numbers.{is_index, is_reserve, is_size}
+use Rattle.fv_model.specs.Numbers.{greatest_span, is_index, is_reserve, is_size}
+use Rattle.fv_model.specs.Places.{ids_of}
 use Rattle.fv_model.specs.Refusals.{next}
 use Rattle.fv_model.specs.Replies.{Allows}
 use Rattle.fv_model.specs.Space.{map_blocks, overhead, span_of}
+use Rattle.fv_model.specs.Volumes.{Volume}
 use Rattle.fv_image.specs.Views.{slots}
 use Rattle.fv_container.specs.Chains.{slot_count}
 use Rattle.fv_volume.specs.declared.state.VolumeState.{VolumeState}
+use Rattle.fv_volume.specs.Asking.{snap_named}
+use Rattle.fv_volume.specs.Cloning.{count_in}
 use Rattle.fv_volume.specs.Slots.{is_named}
 use Rattle.fv_volume.specs.States.{States, state_at}
 
 -- the commands that are built; the others are refused as no command, until they are. A file with a reserve is one of those.
 unfoldable pub is_built : Command → Bool
 is_built (New volume file reserve) = reserve == 0
-is_built (CloneCreate volume from snapshot size kind) = false
 is_built (SplitStart volume) = false
 is_built (SplitFinish volume) = false
 is_built (Mirror volume snapshot from size kind) = false
@@ -160,23 +164,37 @@ abbrev pub snap_room : ℕ
 snap_room = 32
 
 -- The room of a command: so many blocks it may add, which the next consistency point writes. A snapshot that is made adds the blocks of its map, and
--- `maps` tells of each volume how many those are.
-unfoldable pub room_with : (List ℕ → ℕ) → Command → ℕ
-room_with maps (VolCreate volume size kind) = overhead (span_of size 0 0)
-room_with maps (New volume file reserve) = if reserve == 0 then file_room else 0
-room_with maps (Put volume file index block) = file_room
-room_with maps (Cut volume file length) = file_room
-room_with maps (Remove volume file) = file_room
-room_with maps (SnapCreate volume snapshot) = maps volume
-room_with maps command = 0
+-- `maps` tells of each volume how many those are. A volume that is made adds its overhead; a clone's comes of its span, and `spans` tells that of each
+-- volume, snapshot of it and size.
+unfoldable pub room_with : (List ℕ → ℕ) → (List ℕ → List ℕ → ℕ → ℕ) → Command → ℕ
+room_with maps spans (VolCreate volume size kind) = overhead (span_of size 0 0)
+room_with maps spans (New volume file reserve) = if reserve == 0 then file_room else 0
+room_with maps spans (Put volume file index block) = file_room
+room_with maps spans (Cut volume file length) = file_room
+room_with maps spans (Remove volume file) = file_room
+room_with maps spans (SnapCreate volume snapshot) = maps volume
+room_with maps spans (CloneCreate clone parent snapshot size kind) = overhead (spans parent snapshot size)
+room_with maps spans command = 0
 
 -- the blocks of the map of a snapshot of a machine's volume; none where no volume has the name
 abbrev pub map_in : Machine → List ℕ → ℕ
 map_in m volume = option_map_or (λ v. map_blocks v.span) (fin.get m.volumes volume) 0
 
+-- a span, no greater than a volume can have
+abbrev pub span_within : ℕ → ℕ
+span_within span = if nat_le span greatest_span then span else greatest_span
+
+-- the span of a clone of this size of a snapshot of a volume, as far as a volume can have it; none where the volume hasn't that snapshot
+abbrev pub span_on : Volume → List ℕ → ℕ → ℕ
+span_on v snapshot size = option_map_or (λ t. span_within (span_of size (set.len (ids_of t)) v.span)) (fin.get v.snapshots snapshot) 0
+
+-- that in a machine; none where no volume has the name
+abbrev pub span_in : Machine → List ℕ → List ℕ → ℕ → ℕ
+span_in m parent snapshot size = option_map_or (λ v. span_on v snapshot size) (fin.get m.volumes parent) 0
+
 -- the room of a command in a machine
 abbrev pub room_of : Machine → Command → ℕ
-room_of m command = room_with (map_in m) command
+room_of m command = room_with (map_in m) (span_in m) command
 
 -- the blocks of the map of a snapshot of a slot's volume; none of a free slot
 abbrev pub map_at : Option VolumeState → ℕ
@@ -188,13 +206,23 @@ unfoldable pub map_among : States → List ℕ → List ℕ → ℕ
 map_among states [] name = 0
 map_among states (slot ∷ rest) name = if is_named (state_at states slot) name then map_at (state_at states slot) else map_among states rest name
 
+-- the span of a clone of a snapshot of a slot's volume, by the numbers in the snapshot's map slot; none of a free slot
+abbrev pub span_at : Option VolumeState → List ℕ → ℕ → ℕ
+span_at None snapshot size = 0
+span_at (Some x) snapshot size = option_map_or (λ q. span_within (span_of size (count_in x q.slot) x.span)) (snap_named x.snapshots snapshot) 0
+
+-- that of the first volume of a name in these slots; none where no volume has it
+unfoldable pub span_among : States → List ℕ → List ℕ → List ℕ → ℕ → ℕ
+span_among states [] parent snapshot size = 0
+span_among states (slot ∷ rest) parent snapshot size = if is_named (state_at states slot) parent then span_at (state_at states slot) snapshot size else span_among states rest parent snapshot size
+
 -- the room of a command by a session's volumes
 abbrev pub room_by : States → Command → ℕ
-room_by states command = room_with (map_among states slots) command
+room_by states command = room_with (map_among states slots) (span_among states slots) command
 
--- the most room of a command, whatever the volume
+-- the most room of a command, whatever the volume and the snapshot
 abbrev pub most_room : Command → ℕ
-most_room command = room_with (λ volume. snap_room) command
+most_room command = room_with (λ volume. snap_room) (λ parent snapshot size. greatest_span) command
 
 -- so many blocks may be pending, with the room of the next command, before a consistency point makes room for it
 abbrev pub dirty_limit : ℕ

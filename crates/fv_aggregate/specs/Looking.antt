@@ -21,7 +21,7 @@ use Rattle.fv_pool.specs.Lending.{lent_for}
 use Rattle.fv_volume.specs.OneVolume.{home_in, standing_for, volume_for, IsReady, IsStanding}
 use Rattle.fv_volume.specs.Placing.{IsStoredWell}
 use Rattle.fv_volume.specs.Slots.{HasName}
-use Rattle.fv_volume.specs.States.{States, state_at}
+use Rattle.fv_volume.specs.States.{States, state_at, with_state}
 use Rattle.fv_pool.specs.declared.fault.VolumeFault.{VolumeFault}
 use Rattle.fv_pool.specs.declared.fault.VolumeFault.TheVariants as volume
 use Rattle.fv_cp.specs.Placing.{HaveNoFiles}
@@ -32,7 +32,7 @@ use Rattle.fv_aggregate.specs.Answers.{answer}
 use Rattle.fv_aggregate.specs.Calls.{Goes, GoesFor, IsForWant, IsUntouched, IsWithinLimit, KeepsAsking, KeepsEntries, WasRead}
 use Rattle.fv_aggregate.specs.Damages.{HasBadTable}
 use Rattle.fv_snapshot.specs.Creating.{Creates, TellsCreation}
-use Rattle.fv_snapshot.specs.Deleting.{Deletes}
+use Rattle.fv_snapshot.specs.Deleting.{Deletes, is_used}
 use Rattle.fv_snapshot.specs.Restoring.{Restores}
 use Rattle.fv_aggregate.specs.Commands.{asked_by, Asked, AsksTable, dirty_limit, has_range, is_refusal, places_files, room_by, snapped_by, snapshot_asked, volume_asked}
 use Rattle.fv_aggregate.specs.Known.{KeepsNumbersBut, MayLose}
@@ -98,12 +98,21 @@ pub record ChangesState (before : Shown) (pool : Pool) (x : VolumeState) (others
 
 -- ---- a volume whose snapshots change
 
--- A snapshot of a volume was made, removed or restored, beside volumes that commit so much. Leaves were read where files were placed.
-abbrev pub SnapsState : Shown → Pool → VolumeState → ℕ → Command → Shown → Pool → VolumeState → Result Unit VolumeFault → Type 0
-SnapsState disk pool x others (SnapCreate volume snapshot) after left y result = (volume ≡ x.name) × (Creates disk pool x others snapshot after left y result × TellsCreation pool x others snapshot y result)
-SnapsState disk pool x others (SnapDelete volume snapshot) after left y result = (volume ≡ x.name) × Deletes disk pool x snapshot after left y result
-SnapsState disk pool x others (SnapRestore volume snapshot) after left y result = (volume ≡ x.name) × ((left ≡ pool) × Restores disk pool x others snapshot y result)
-SnapsState disk pool x others command after left y result = ⊥
+-- A snapshot of the volume of a slot was made, removed or restored, beside volumes that commit so much. Leaves were read where files were placed.
+abbrev pub SnapsState : Shown → Pool → States → ℕ → VolumeState → ℕ → Command → Shown → Pool → VolumeState → Result Unit VolumeFault → Type 0
+SnapsState disk pool states slot x others (SnapCreate volume snapshot) after left y result = (volume ≡ x.name) × (Creates disk pool x others snapshot after left y result × TellsCreation pool x others snapshot y result)
+SnapsState disk pool states slot x others (SnapDelete volume snapshot) after left y result = (volume ≡ x.name) × Deletes disk pool x (is_used states slot snapshot) snapshot after left y result
+SnapsState disk pool states slot x others (SnapRestore volume snapshot) after left y result = (volume ≡ x.name) × ((left ≡ pool) × Restores disk pool x others snapshot y result)
+SnapsState disk pool states slot x others command after left y result = ⊥
+
+-- So it was, and the volumes of the other slots stay. Calls can be made on the volume still.
+pub record SnapsAt (disk : Shown) (pool : Pool) (states : States) (slot others : ℕ) (command : Command) (after : Shown) (left : Pool) (new : States) (result : Result Unit VolumeFault) : Type 0 where
+  pub state : VolumeState
+  pub there : state_at states slot ≡ Some state
+  pub now : VolumeState
+  pub row : new ≡ with_state states slot (Some now)
+  pub did : SnapsState disk pool states slot state others command after left now result
+  pub ready : IsReady after left now
 
 -- a command makes, removes or restores a snapshot of the volume of a slot, which is the first of its name
 pub record IsSnapAimed (states : States) (slot : ℕ) (command : Command) : Type 0 where

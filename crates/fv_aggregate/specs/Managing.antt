@@ -2,7 +2,7 @@
 -- carried out in memory, for a removal once the leaves of the volume's container are read; the next consistency point writes what changed.
 use Rattle.std.specs.Prelude.{◌≡◌, ◌≢◌, ◌<◌, ◌⊎◌, ℕ, true, false, List, Some, Result, Ok, Err, IsTrue}
 use Rattle.fv_model.specs.declared.answers.Refusal.{Refusal}
-use Rattle.fv_model.specs.declared.answers.Refusal.TheVariants.{NoVolume, Range, Syntax}
+use Rattle.fv_model.specs.declared.answers.Refusal.TheVariants.{NoVolume, Range, Syntax, VolumeInUse}
 use Rattle.fv_model.specs.declared.answers.Reply.{Reply}
 use Rattle.fv_model.specs.declared.answers.Reply.TheVariants.{Done, Refused, Stat as Numbers}
 use Rattle.fv_model.specs.declared.commands.Command.{Command}
@@ -10,6 +10,7 @@ use Rattle.fv_model.specs.declared.commands.Command.TheVariants.{VolDestroy, Vol
 use Rattle.fv_container.specs.Chains.{slot_count}
 use Rattle.fv_volume.specs.declared.state.VolumeState.{VolumeState}
 use Rattle.fv_volumes.specs.Destroying.{IsGone}
+use Rattle.fv_volumes.specs.Footing.{is_stood_on}
 use Rattle.fv_volume.specs.Promising.{told_by, IsPromised, PromisesOne}
 use Rattle.fv_volume.specs.Slots.{HasName, NoneHasName}
 use Rattle.fv_volume.specs.States.{state_at}
@@ -36,13 +37,14 @@ IsCarriedOut sure old (VolDestroy name) new = IsGone sure old.volumes old.pool n
 IsCarriedOut sure old command new = Unit {0}
 
 -- A command on the volume of a name as a whole was answered. Out of range it is refused as that, and without its volume for want of it. A volume that
--- is there is told, which changes nothing, and removed. What tells of no volume is done or refused. What the session has beside its volumes and what
+-- is there is told, which changes nothing, and removed, or refused as in use exactly where a clone stands on it. What tells of no volume is done or refused. What the session has beside its volumes and what
 -- they share stays.
 pub record IsManaged (sure : Type 0) (old : Session) (command : Command) (name : List ℕ) (new : Session) (reply : Reply) : Type 0 where
   pub far : has_range command ≡ false → reply ≡ Refused Range
   pub missing : has_range command ≡ true → NoneHasName old.volumes name → reply ≡ Refused NoVolume
   pub told : command ≡ VolStat name → (slot : ℕ) → slot < slot_count → HasName old.volumes slot name → IsTold old name reply
-  pub removed : command ≡ VolDestroy name → (slot : ℕ) → slot < slot_count → HasName old.volumes slot name → reply ≡ Done
+  pub removed : command ≡ VolDestroy name → (slot : ℕ) → slot < slot_count → HasName old.volumes slot name → is_stood_on old.volumes slot ≡ false → reply ≡ Done
+  pub in_use : command ≡ VolDestroy name → (slot : ℕ) → slot < slot_count → HasName old.volumes slot name → is_stood_on old.volumes slot ≡ true → reply ≡ Refused VolumeInUse
   pub answered : command ≢ VolStat name → (reply ≡ Done) ⊎ IsTrue (is_refusal reply)
   pub done : reply ≡ Done → IsCarriedOut sure old command new
   pub stays : command ≡ VolStat name → new ≡ old

@@ -8,6 +8,7 @@ use Rattle.fv_image.specs.WholeMachine.{Tells, machine_of}
 use Rattle.fv_root.specs.Finding.{IsFound, root_found}
 use Rattle.fv_container.specs.Chains.{slot_count}
 use Rattle.fv_aggmap.specs.Loading.{IsLoaded as IsMapLoaded}
+use Rattle.fv_volume.specs.KnownBase.{KnowBases}
 use Rattle.fv_volume.specs.Loading.{LoadedTo}
 use Rattle.fv_volume.specs.OneVolume.{IsStanding}
 use Rattle.fv_volume.specs.Placing.{IsLedTo, IsStoredWell}
@@ -29,7 +30,7 @@ pub record IsOpened (i : Image) (session : Session) : Type 0 where
   pub machine : (m : Machine) → Tells (layout_at (root_found session.pool.found) i) m → machine_in session.pool session.volumes no_trees i ≡ m
   pub states : (m : Machine) → Tells (layout_at (root_found session.pool.found) i) m → AreStates (view_over session.pool session.volumes i) no_trees session.volumes
 
--- Calls can be made on each volume, whatever was read, no file of one is in memory, and no map waits. Where what was read stands for a machine
+-- Calls can be made on each volume, whatever was read, no file of one is in memory, no map waits, and each knows what it stands on. Where what was read stands for a machine
 -- each stands for one of that, with what is in use led to and stored well.
 pub record AreOpened (disk : Shown) (i : Image) (session : Session) : Type 0 where
   pub fit : FitTogether session.pool session.volumes
@@ -37,6 +38,7 @@ pub record AreOpened (disk : Shown) (i : Image) (session : Session) : Type 0 whe
   pub none : HaveNoFiles session.volumes
   pub waiting : HaveNoneWaiting session.volumes
   pub maps : (s : ℕ) → HasWholeMap (state_at session.volumes s)
+  pub knows : KnowBases session.volumes
   pub standing : (m : Machine) → IsTrue disk.tells → machine_of i ≡ Some m → (s : ℕ) → IfSome (state_at session.volumes s) (IsStanding disk session.pool)
   pub led : (m : Machine) → IsTrue disk.tells → machine_of i ≡ Some m → (s : ℕ) → IfSome (state_at session.volumes s) (IsLedTo disk session.pool)
   pub well : (m : Machine) → IsTrue disk.tells → machine_of i ≡ Some m → (s : ℕ) → IfSome (state_at session.volumes s) (IsStoredWell disk session.pool)

@@ -10,7 +10,7 @@ ghost use Rattle.fv_model.specs.declared.answers.Reply.TheVariants.{Done};
 ghost use Rattle.fv_model.specs.declared.commands.Command.TheVariants.{VolCreate};
 ghost use Rattle.fv_volumes.specs.Creating.{Admits};
 ghost use Rattle.fv_aggregate.specs.declared.fault.Fault.TheVariants.{Memory};
-ghost use Rattle.fv_aggregate.specs.Adding.{IsAdded};
+ghost use Rattle.fv_aggregate.specs.Adding.{IsCreated};
 ghost use Rattle.fv_aggregate.specs.Answers.{answer};
 ghost use Rattle.fv_aggregate.specs.Calls.{KeepsHolding, MakesNoHoles, Runs};
 ghost use Rattle.fv_aggregate.specs.Commands.{AsksNothing, dirty_limit, is_refusal, most_overhead};
@@ -106,7 +106,7 @@ impl Session {
         requires least { room ≤ most_overhead }
         requires room { room ≡ overhead admitted.span }
         requires admitted { Admits self.old.volumes self.old.pool.found.blocks name.now size kind admitted.slot admitted.span }
-        ensures added { OnOk result (IsAdded self.old name.now size kind room self.new) }
+        ensures added { OnOk result (IsCreated self.old name.now size kind room self.new) }
         ensures pending { OnOk result (self.new.pending ≡ self.old.pending + room) }
         ensures same { OnErr result (self.new ≡ self.old) }
     {

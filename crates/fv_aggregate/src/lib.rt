@@ -3,6 +3,7 @@
 
 mod adding;
 mod aiming;
+mod cloning;
 mod delays;
 mod fault;
 mod files;

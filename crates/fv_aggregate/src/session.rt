@@ -107,8 +107,8 @@ impl Session {
     /// Applies a command, and answers the machine's reply, refusals included. A command whose room, in blocks, would pass the dirty
     /// limit of 256 together with the blocks pending is preceded by a consistency point, and contracts say that no other one is. One that is
     /// refused changes nothing but the cache and the numbers of files in memory: so no point comes before it. Of a command on files whose room
-    /// passes the limit contracts say this where the session stands for a machine. So far the commands that begin with `vol` or `snap`, `cp`, `new`
-    /// without a reserve, `put`, `get`, `len`, `cut`, `rm` and `ls` are built, and every other command is refused as none.
+    /// passes the limit contracts say this where the session stands for a machine. So far the commands that begin with `vol` or `snap`, `clone create`,
+    /// `cp`, `new` without a reserve, `put`, `get`, `len`, `cut`, `rm` and `ls` are built, and every other command is refused as none.
     ///
     /// `steps` counts the unknown pointers that a `get` passes; there are none in what a session stands for yet.
     ///
@@ -127,7 +127,8 @@ impl Session {
     /// then holds each name with its number, and each free number below the greatest that is taken; a later one finds its file by
     /// these, and costs nothing for the others, unless a file was made or removed since, for whose number memory can lack.
     /// Where room has to be made the command is judged first, which costs its reads twice, from the cache where they fit there. `vol create`
-    /// costs a step for each VVBN of the new volume, and holds a bit for each. `vol stat`, `vol resize` and `vol guarantee` take no memory
+    /// costs a step for each VVBN of the new volume, and holds a bit for each. `clone create` costs a step for each word of 64 VVBNs of the clone,
+    /// and for each region of its container, however many files its table has; it reads nothing, and holds two bits for each VVBN. `vol stat`, `vol resize` and `vol guarantee` take no memory
     /// and walk nothing but the slots; `vol destroy` costs a read for each leaf of the volume's container that isn't in memory, a step for each
     /// entry and each node of it, and memory for a bit for each block that an aggregate can have. `snap create`, `snap delete` and
     /// `snap restore` cost what the calls of `fv_snapshot` do, where the first two read the leaves of what they place, and `snap list` memory for
@@ -169,6 +170,15 @@ impl Session {
         match command {
             Command::VolCreate { volume, size, kind } => {
                 return self.create(disk, volume, *size, *kind, into);
+            }
+            Command::CloneCreate {
+                clone,
+                parent,
+                snapshot,
+                size,
+                kind,
+            } => {
+                return self.clone_volume(disk, clone, parent, snapshot, *size, *kind, into);
             }
             Command::VolList => {
                 list(into, names_of(self.alloc, &self.volumes)?);

@@ -1,7 +1,7 @@
 //! The commands on snapshots: one is made of a volume's active table, one is removed, the active table becomes that of one, and their
 //! names are told.
 
-ghost use Rattle.std.specs.Prelude.{◌≡◌, ◌≢◌, ◌≤◌, ◌+◌, ◌-◌, ◌^◌, ◌⊎◌, false, None, Some, Ok, IsNone, IfErr, IfOk};
+ghost use Rattle.std.specs.Prelude.{◌≡◌, ◌≢◌, ◌≤◌, ◌+◌, ◌-◌, ◌^◌, ◌⊎◌, false, None, Some, Ok, IsNone, IfErr, IfOk, IfSome};
 ghost use Rattle.fv_cp.specs.Placing.{HaveNoFiles};
 ghost use Rattle.fv_disk.specs.DiskCalls.{OnlyReads};
 ghost use Rattle.fv_model.specs.declared.answers.Refusal.{Refusal};
@@ -16,8 +16,8 @@ ghost use Rattle.fv_volume.specs.States.{state_at};
 ghost use Rattle.fv_aggregate.specs.declared.fault.Fault.TheVariants.{Memory};
 ghost use Rattle.fv_aggregate.specs.Answers.{answer};
 ghost use Rattle.fv_aggregate.specs.Calls.{NeedsSnapshot, TellsSnapshots};
-ghost use Rattle.fv_aggregate.specs.Commands.{dirty_limit, is_refusal, places_files, room_by, snapped_by};
-ghost use Rattle.fv_aggregate.specs.Looking.{HasSnapped, IsSnapAimed, SnapsState};
+ghost use Rattle.fv_aggregate.specs.Commands.{dirty_limit, is_refusal, places_files, room_by};
+ghost use Rattle.fv_aggregate.specs.Looking.{HasSnapped, IsSnapAimed, SnapsAt};
 ghost use Rattle.fv_aggregate.specs.Reclaiming.{MakesRoom};
 ghost use Rattle.fv_aggregate.specs.Snapping.{HasGrant, JudgesSnap};
 ghost use Rattle.fv_aggregate.specs.Standing.{StandsReady};
@@ -30,6 +30,7 @@ use fv_disk::Disk;
 use fv_model::{Command, Name, Refusal, Reply};
 use fv_snapshot::{Granted, judge_create};
 use fv_volume::{Pool, VolumeFault, VolumeState};
+use fv_volumes::Volumes;
 use std::alloc::AllocError;
 
 /// What is granted to a command that makes no snapshot.
@@ -113,9 +114,16 @@ impl Session {
         ensures accepted { granted.room ≢ 0 → IfOk (answer into.new result) (λ reply. is_refusal reply ≡ false) }
         ensures needs { NeedsSnapshot self.old.volumes command.now (answer into.new result) }
     {
-        let state = volume_at(&mut self.volumes, slot);
-        let made = change_snaps(state, &mut self.pool, disk, others, granted, command);
-        self.commits = others + state.ledger.commit();
+        let made = change_snaps(
+            &mut self.volumes,
+            slot,
+            &mut self.pool,
+            disk,
+            others,
+            granted,
+            command,
+        );
+        self.commits = others + volume_in(&self.volumes, slot).ledger.commit();
         if made.is_ok() {
             self.pending += granted.room;
         }
@@ -158,32 +166,34 @@ fn judge_snap(
     }
 }
 
-/// Makes the change of a command on snapshots of a volume, to which this was granted.
+/// Makes the change of a command on snapshots of the volume of a slot, to which this was granted.
 fn change_snaps<D: Disk>(
-    state: &mut VolumeState,
+    volumes: &mut Volumes,
+    slot: u8,
     pool: &mut Pool,
     disk: &mut D,
     others: u64,
     granted: Granted,
     command: &Command,
 ) -> Result<(), VolumeFault>
-    requires snaps { snapped_by command.now ≡ Some state.old.name }
-    requires ready { IsReady (D.shown disk.old) pool.old state.old }
+    requires aimed { IsSnapAimed volumes.old slot command.now }
+    requires ready { IfSome (state_at volumes.old slot) (IsReady (D.shown disk.old) pool.old) }
     requires others { others ≤ 2 ^ 62 }
-    requires granted { HasGrant (Some state.old) pool.old.found.blocks others command.now granted }
-    ensures snaps { SnapsState (D.shown disk.old) pool.old state.old others command.now (D.shown disk.new) pool.new state.new result }
+    requires granted { HasGrant (state_at volumes.old slot) pool.old.found.blocks others command.now granted }
+    ensures snaps { SnapsAt (D.shown disk.old) pool.old volumes.old slot others command.now (D.shown disk.new) pool.new volumes.new result }
     ensures refused { IfErr result (λ e. (r : Refusal) → e ≡ of_volume.Refused r → disk.new ≡ disk.old) }
     ensures kept { places_files command.now ≡ false → disk.new ≡ disk.old }
-    ensures idle { state.old.files ≡ None → disk.new ≡ disk.old }
-    ensures ready { IsReady (D.shown disk.new) pool.new state.new }
+    ensures idle { IfSome (state_at volumes.old slot) (λ x. x.files ≡ None) → disk.new ≡ disk.old }
 {
     match command {
         Command::SnapCreate { snapshot, .. } => {
-            fv_snapshot::make(state, pool, disk, granted, snapshot)
+            fv_snapshot::make(volume_at(volumes, slot), pool, disk, granted, snapshot)
         }
-        Command::SnapDelete { snapshot, .. } => fv_snapshot::delete(state, pool, disk, snapshot),
+        Command::SnapDelete { snapshot, .. } => {
+            fv_snapshot::delete(volumes, slot, pool, disk, snapshot)
+        }
         Command::SnapRestore { snapshot, .. } => {
-            fv_snapshot::restore(state, pool, disk, others, snapshot)
+            fv_snapshot::restore(volume_at(volumes, slot), pool, disk, others, snapshot)
         }
         _ => Err(VolumeFault::Refused(Refusal::Syntax)),
     }

@@ -42,6 +42,7 @@ use Rattle.fv_volume.specs.Stored.{AreApartIn, AreSpacedIn}
 use Rattle.fv_volume.specs.Writing.{IsTaken, on_disk}
 use Rattle.fv_volumes.specs.Housed.{AreHoused}
 use Rattle.fv_volumes.specs.UnderRoot.{IsLentAt, IsLentSlot, IsMapOf, StandMaps}
+use Rattle.fv_volumes.proofs.Footed.{footed_over}
 use Rattle.fv_volumes.proofs.Others.{beside_loads}
 use Rattle.fv_volumes.proofs.PlacedIn.{found_read, keeps_read}
 use Rattle.fv_model.specs.Machines.{first_block}
@@ -55,6 +56,8 @@ use Rattle.fv_cp.specs.Planning.{AreCounted, IsPlan, Plans}
 use Rattle.fv_cp.specs.Held.{IsHeld, IsHeldIn, machine_held, named_held}
 use Rattle.fv_cp.specs.Lent.{FitTogether}
 use Rattle.fv_cp.specs.Placing.{ArePlaced, AreReady, HaveSpent, IsReadyIn, IsSpareEntry, KeepShapes}
+use Rattle.std.specs.FinSet as set
+use Rattle.fv_model.specs.Space.{base_ids}
 
 module _ (disk after : Shown) (pool left : Pool) (states : States) (loads : LoadsPool disk pool left) (reads : OnlyReads disk after) (stands : StandsOn after left.store.pairs) (fit : FitTogether pool states) where
   map_at : (s : ℕ) → container_at left.containers s ≡ container_at pool.containers s
@@ -108,7 +111,7 @@ module _ (disk after : Shown) (pool left : Pool) (states : States) (loads : Load
         stands = b.standing;
         led = b.led is.led;
         well = b.well is.well;
-        wide = is.wide;
+        wide = subst (λ (v : Volume). v.most + (set.len (base_ids v.base) + 256) ≤ v.span) (sym b.volume) is.wide;
         within = is.within;
       }
 
@@ -170,6 +173,7 @@ module _ (disk after : Shown) (pool left : Pool) (states : States) (loads : Load
       names = held.names;
       each = λ s. held_in s (state_at states s) (held.each s);
       commits = subst (λ (f : Found). sum_of states ≤ capacity f.blocks) (sym loads.found) held.commits;
+      footed = footed_over states pool.containers left.containers (λ s v. ap (λ (c : Option Mapped). own_entry c v) (map_at s)) held.footed;
     }
 
     -- They stand for the machine that they stood for.

@@ -23,7 +23,7 @@ use Rattle.fv_image.proofs.SameLayout.{held_with_bits, same_view}
 use Rattle.fv_image.proofs.SameSeen.{same_seen, same_told}
 use Rattle.fv_image.proofs.SoundSlots.{held_lies}
 use Rattle.fv_image.proofs.SoundTests.{machine_under, tells_from}
-use Rattle.fv_container.specs.Mapped.{Mapped, entry_under}
+use Rattle.fv_container.specs.Mapped.{Mapped}
 use Rattle.fv_container.specs.Paged.{Paged}
 use Rattle.fv_container.specs.Clean.{IsCleanOn}
 use Rattle.fv_container.specs.Spelled.{is_at}
@@ -43,11 +43,14 @@ use Rattle.fv_pool.specs.Keeping.{Blocks, seen as block_seen, seen}
 use Rattle.fv_volume.specs.Loading.{IsLoaded, label_of}
 use Rattle.fv_volume.specs.States.{States, label_in_state, placed_in, state_at, view_over}
 use Rattle.fv_volume.specs.Trees.{active_in, no_trees}
-use Rattle.fv_volume.specs.Stored.{AreApartIn, AreSpacedIn, has_block, is_of, leads, stays}
+use Rattle.fv_volume.specs.Stored.{AreApartIn, AreSpacedIn, has_block, is_of, leads}
 use Rattle.fv_volume.specs.Writing.{on_disk}
 use Rattle.fv_volumes.proofs.HeldAlone.{of_each}
+use Rattle.fv_volumes.specs.Footing.{AreFooted}
 use Rattle.fv_volumes.proofs.LentSlots.{lent_apart, lent_from_loaded, loaded_from_lent, lent_slot}
+use Rattle.fv_volumes.proofs.LoadedBase.{loaded_all}
 use Rattle.fv_volumes.proofs.Settled.{heads_stay, housed_after, same_stay, settled_same, settled_slots, settled_span, unchanged_stay, settled_written}
+use Rattle.fv_volumes.proofs.SettledFooted.{knows_settled}
 use Rattle.fv_volumes.proofs.StandingMaps.{loaded_maps}
 use Rattle.fv_volumes.proofs.Spacing.{spaced_same}
 use Rattle.fv_volumes.proofs.StaysStates.{active_same, reach_stays, states_stay}
@@ -57,7 +60,7 @@ use Rattle.fv_volumes.proofs.StoredTold.{stays_now as stays_now_told}
 use Rattle.fv_volumes.proofs.Told.{head_at, is_inside}
 use Rattle.fv_volumes.proofs.Viewed.{entry_of}
 use Rattle.fv_volumes.proofs.Waiting.{none_waits}
-use Rattle.fv_cp.specs.Course.{HasCome, IsOnCourse, as_lent, found_with, root_with, label_lent, renewed, IsCourse, StaysFrom}
+use Rattle.fv_cp.specs.Course.{HasCome, IsOnCourse, as_lent, found_with, root_with, label_lent, renewed, IsCourse}
 use Rattle.fv_cp.specs.Lent.{FitTogether, IsLent, IsLentAt}
 use Rattle.fv_cp.specs.Points.{GoesOn, IsNew, IsNextRoot, IsOld, IsPoint, IsSwitched, LeavesEntries, OldOrLent, is_due, machine_lent}
 use Rattle.fv_cp.specs.Choosing.{CountsMissing, LeavesRoom, has_slot, holding_with, holdings, lacking, marked_as, marked_at, regions_chosen}
@@ -75,10 +78,10 @@ use Rattle.fv_image.specs.Reclaimed.{IsAllocatable}
 use Rattle.fv_volume.specs.Files.{HasOwnSlots, IsLabelled}
 use Rattle.fv_volumes.specs.UnderRoot.{AllStandUnder, StandsUnder}
 use Rattle.fv_volumes.proofs.Emptied.{none_stands}
-use Rattle.fv_volumes.proofs.Staying.{entry_kept, place_is}
+use Rattle.fv_volumes.proofs.Staying.{place_is}
 use Rattle.fv_volumes.proofs.StoredSlot.{stored_stands}
-use Rattle.fv_volumes.proofs.Reclaiming.{maps_left, stays_left}
-use Rattle.fv_volume.proofs.StayingMaps.{stays_unwritten}
+use Rattle.fv_volumes.proofs.Reclaiming.{maps_left}
+use Rattle.fv_cp.proofs.CourseEntries.{block_kept, hole_kept}
 use Rattle.fv_cp.proofs.Crashing.{old_stays, switching}
 
 -- ---- what a point ends with
@@ -155,6 +158,10 @@ module _ (disk : Shown) (pool : Pool) (states : States) (before : Machine) (lent
   told : IsTrue mid.tells
   told = subst IsTrue (sym come.spares.counted.tells) tells
 
+  -- each clone stands on a snapshot of another volume
+  footed : AreFooted states pool.containers
+  footed = loaded_all disk pool states fit.housed.long lent.tables lent.knows fit.housed.volumes lent.reach
+
   -- ---- all slots are passed
 
   pub is : IsCourse regions pool states (seen pool.kept disk.reads) 64 labels left.map.next left.containers mid.reads
@@ -190,39 +197,16 @@ module _ (disk : Shown) (pool : Pool) (states : States) (before : Machine) (lent
           subst (λ (o : Option VolumeState). StandsUnder mid.reads f s o (paged_at left.containers s)) (sym now) (subst (λ (c : Option Paged). StandsUnder mid.reads f s (Some (as_written x (get_or labels s 0))) c) (sym r.now)
           (stored_stands f mid.reads s x r.mid.map (get_or labels s 0) r.new r.stored r.memory (place_is f s inside) (labelled s x there) r.valid disk.reads pool.found
           (maps_left s x (labelled s x there) (regions s) r.old r.mid r.reclaimed disk.reads pool.found (lent_slot disk.reads pool.found s (state_at states s) (paged_at pool.containers s) x r.old there r.was (lent.slots s inside)).maps) agrees
-          (past_clear pool states disk.reads fit.housed lent.tables lent.reach s x inside there) lies))
+          (past_clear pool states disk.reads fit.housed lent.tables lent.reach footed s x inside there) lies))
       by (as_lent waits at) =
           subst (λ (o : Option VolumeState). StandsUnder mid.reads f s o (paged_at left.containers s)) (sym at.state) (subst (λ (c : Option Paged). StandsUnder mid.reads f s (state_at states s) c) (sym at.lies)
           (as_it_was (state_at states s) (paged_at pool.containers s) at.named (lent.slots s inside) (none_waits (state_at states s) s inside waits)))
 
-  -- an entry that stays has its block
-  block_kept : (s v : ℕ) (x : VolumeState) → s < 64 → state_at states s ≡ Some x → stays x v ≡ true → placed_in fin.empty mid.reads (own_entry (container_at left.containers s) v) ≡ placed_in pool.kept disk.reads (own_entry (container_at pool.containers s) v)
-  block_kept s v x inside there on = by (is.each s inside)
-    where
-      of_map : (map : Mapped) → container_at pool.containers s ≡ Some map → StaysFrom x map (seen pool.kept disk.reads) mid.reads → placed_in fin.empty mid.reads (entry_under map v) ≡ placed_in pool.kept disk.reads (entry_under map v)
-      of_map map lies stay =
-          let apart : AreApartIn x map = subst (λ (c : Option Mapped). IfSome c (AreApartIn x)) lies
-          (subst (λ (o : Option VolumeState). IfSome o (λ y. IfSome (container_at pool.containers s) (AreApartIn y))) there (lent_apart disk.reads pool.found s (state_at states s) (paged_at pool.containers s) (lent.slots s inside))) in
-          entry_kept map pool.kept disk.reads mid.reads v (apart.some v) (stay v on)
-
-      of_container : (c : Option Mapped) → container_at pool.containers s ≡ c → ((map : Mapped) → container_at pool.containers s ≡ Some map → StaysFrom x map (seen pool.kept disk.reads) mid.reads) → placed_in fin.empty mid.reads (own_entry c v) ≡ placed_in pool.kept disk.reads (own_entry c v)
-      of_container None lies stay = refl
-      of_container (Some map) lies stay = of_map map lies (stay map lies)
-
-      by : IsOnCourse regions pool states (seen pool.kept disk.reads) 64 s (is.now s) (get_or labels s 0) (paged_at left.containers s) mid.reads → placed_in fin.empty mid.reads (own_entry (container_at left.containers s) v) ≡ placed_in pool.kept disk.reads (own_entry (container_at pool.containers s) v)
-      by (renewed y low here changed now r) =
-          let same : y ≡ x = same_Some y x (sym here ∙ there) in
-          let stay : stays y v ≡ true = ap (λ (z : VolumeState). stays z v) same ∙ on in
-          let stayed : entry_under r.new.map v ≡ entry_under r.old.map v = r.stored.kept v (stays_unwritten y v stay) ∙ stays_left s y (labelled s y here) (regions s) r.old r.mid r.reclaimed v stay in
-          ap (λ (c : Option Mapped). placed_in fin.empty mid.reads (own_entry c v)) (ap map_in r.now) ∙ ap (placed_in fin.empty mid.reads) stayed
-          ∙ of_map r.old.map (ap map_in r.was) (subst (λ (z : VolumeState). StaysFrom z r.old.map (seen pool.kept disk.reads) mid.reads) same r.stay)
-          ∙ sym (ap (λ (c : Option Mapped). placed_in pool.kept disk.reads (own_entry c v)) (ap map_in r.was))
-      by (as_lent waits at) = ap (λ (c : Option Mapped). placed_in fin.empty mid.reads (own_entry c v)) (ap map_in at.lies) ∙ of_container (container_at pool.containers s) refl (λ map lies. at.stay x map there lies)
-
   pub all_stand : AllStandUnder pool states disk.reads f labels left.map.next (paged_at left.containers) mid.reads
   all_stand = record {
     each = stands;
-    kept = block_kept;
+    kept = block_kept regions disk pool states before lent fit labels left.map.next left.containers mid.reads is;
+    holes = hole_kept regions disk pool states before lent fit labels left.map.next left.containers mid.reads is;
     spaced = spaced_same pool.found.blocks left.map.next is.now (settled_at labels states) (container_at left.containers) (container_at left.containers) settled_is (λ s inside. refl) is.spaced;
   }
 
@@ -242,14 +226,14 @@ module _ (disk : Shown) (pool : Pool) (states : States) (before : Machine) (lent
   left_delayed = delayed_left regions pool states fit.housed (chosen_marked list given states marked) (seen pool.kept disk.reads) mid.reads labels left.map.next left.containers is
 
   stays_written : StaysHeld w (view_at u mid.reads)
-  stays_written = stays_now_told pool states disk.reads fit.housed lent.tables lent.reach f labels left.map.next (paged_at left.containers) mid.reads refl refl all_stand
+  stays_written = stays_now_told pool states disk.reads fit.housed lent.tables lent.reach footed f labels left.map.next (paged_at left.containers) mid.reads refl refl all_stand
 
   -- it holds once the chosen regions were reclaimed
   room_left : LeavesRoom (view_at u mid.reads) want
   unfolding layout_at view_at
   room_left = leaves pool states disk.reads fit.housed fit.range.size lent.states (view_at u mid.reads) stays_written.heads (same_seen w (view_at u mid.reads) stays_written lent.tables.bases lent.tables.rests) refl
-      (tables_now pool states disk.reads fit.housed lent.tables lent.reach f labels left.map.next (paged_at left.containers) mid.reads refl refl all_stand)
-      (uses_there pool states disk.reads fit.housed lent.tables lent.reach f labels left.map.next (paged_at left.containers) mid.reads refl refl all_stand)
+      (tables_now pool states disk.reads fit.housed lent.tables lent.reach footed f labels left.map.next (paged_at left.containers) mid.reads refl refl all_stand)
+      (uses_there pool states disk.reads fit.housed lent.tables lent.reach footed f labels left.map.next (paged_at left.containers) mid.reads refl refl all_stand)
       list want (sym (chosen_still pool given states (has_slot list) marked housed fit.housed.long want)) now_held left_delayed shown_now
 
   -- and they were chosen for just what it lacked
@@ -258,13 +242,13 @@ module _ (disk : Shown) (pool : Pool) (states : States) (before : Machine) (lent
   missing_left maps fits =
       sym (missing_still pool given states (has_slot list) marked housed fit.housed.long want)
       ∙ counts_missing pool states disk.reads fit.housed fit.range.size lent.states (view_at u mid.reads) stays_written.heads (same_seen w (view_at u mid.reads) stays_written lent.tables.bases lent.tables.rests) refl
-      (tables_now pool states disk.reads fit.housed lent.tables lent.reach f labels left.map.next (paged_at left.containers) mid.reads refl refl all_stand) maps want fits
+      (tables_now pool states disk.reads fit.housed lent.tables lent.reach footed f labels left.map.next (paged_at left.containers) mid.reads refl refl all_stand) maps want fits
       ∙ ap (λ (h : ℕ → Option Holding). lacking (view_at u mid.reads) (all_delayed h) want) (holdings_marked pool.containers given states (has_slot list) marked)
 
   -- What lies on the disk is ready for the commit.
   pub ready : machine_from (with_bits (is_member left.map.next) (layout_at u mid.reads)) ≡ Some (machine_lent disk pool states)
   unfolding layout_at
-  ready = stands_for pool states disk.reads fit.housed lent.tables lent.reach f labels left.map.next (paged_at left.containers) mid.reads refl refl all_stand lent.states.names room_left.rule lent.built
+  ready = stands_for pool states disk.reads fit.housed lent.tables lent.reach footed f labels left.map.next (paged_at left.containers) mid.reads refl refl all_stand lent.states.names room_left.rule lent.built
 
   -- ---- the new root
 
@@ -316,10 +300,15 @@ module _ (disk : Shown) (pool : Pool) (states : States) (before : Machine) (lent
     unfolding view_over
     view_stays = (ap (λ (x : Found). x.blocks) found, (switched.version ∙ come.version, heads_stay states stay labels settled))
 
+    hole_now : (s v : ℕ) → own_entry (container_at left.containers s) v ≡ None → (view_over last stay new.reads).entry s v ≡ None
+    unfolding view_over
+    hole_now s v none = ap (λ (c : Slots). placed_in last.kept new.reads (own_entry (container_at c s) v)) containers ∙ ap (placed_in last.kept new.reads) none
+
     stays_now : StaysHeld w (view_over last stay new.reads)
-    stays_now = stays_in pool states disk.reads fit.housed lent.tables lent.reach (view_over last stay new.reads) view_stays.0 view_stays.1.0 view_stays.1.1 (λ s v x inside there on.
+    stays_now = stays_in pool states disk.reads fit.housed lent.tables lent.reach footed (view_over last stay new.reads) view_stays.0 view_stays.1.0 view_stays.1.1 (λ s v x inside there on.
         entry_now s v inside ∙ ap (λ (z : View). z.entry s v) same_now
-        ∙ entry_stays pool states disk.reads fit.housed lent.tables lent.reach f labels left.map.next (paged_at left.containers) mid.reads refl refl all_stand s v x inside there on)
+        ∙ entry_stays pool states disk.reads fit.housed lent.tables lent.reach footed f labels left.map.next (paged_at left.containers) mid.reads refl refl all_stand s v x inside there on)
+        (λ s v x inside there low none. hole_now s v (hole_kept regions disk pool states before lent fit labels left.map.next left.containers mid.reads is s v x inside there low none))
 
     -- ---- the slots
 
@@ -370,6 +359,7 @@ module _ (disk : Shown) (pool : Pool) (states : States) (before : Machine) (lent
       built = built_stays w (view_over last stay new.reads) stays_now lent.tables.bases lent.tables.rests ∙ lent.built;
       tables = subst AreTables (sym (same_seen w (view_over last stay new.reads) stays_now lent.tables.bases lent.tables.rests)) lent.tables;
       reach = reach_stays w (view_over last stay new.reads) states fit.housed.long (head_at pool states disk.reads) stays_now lent.tables stay labels settled lent.reach;
+      knows = knows_settled states stay (λ s. (get_or labels s 0, settled s)) lent.knows;
     }
 
     -- the label of a volume without a change stays where it was

@@ -36,6 +36,7 @@ use Rattle.fv_volume.specs.Slots.{sum_of}
 use Rattle.fv_volume.specs.States.{States, state_at, with_state}
 use Rattle.fv_volume.specs.Stored.{AreSpacedIn}
 use Rattle.fv_volume.specs.Writing.{asked, map_wait}
+use Rattle.fv_volumes.proofs.PlacedFooted.{placed_footed}
 use Rattle.fv_volumes.proofs.PlacedIn as one
 use Rattle.fv_volumes.proofs.Told.{is_inside}
 use Rattle.fv_volume.proofs.Spending.{spent_one}
@@ -141,7 +142,7 @@ module _ (disk after : Shown) (pool left : Pool) (states stay : States) (x y : V
         let was : pending_by (state_at states x.slot) ≡ pending_of x.files = ap pending_by there in
         let all : pending_files stay ≡ pending_files (with_state states x.slot (Some y)) = ap pending_files now in
         let blocks = room.blocks in
-        let spent = spent_one disk after pool left x y placed (one.mine disk after pool left states stay x y there now fit.housed placed fit.size held.slots held.spaced held.each).stands (subst HasNumbers there (room.numbers x.slot)) (omega (arith, part, was, blocks)) in
+        let spent = spent_one disk after pool left x y placed (one.mine disk after pool left states stay x y there now fit.housed placed fit.size held.slots held.spaced held.each held.footed).stands (subst HasNumbers there (room.numbers x.slot)) (omega (arith, part, was, blocks)) in
         record {
           fewer = omega (arith, sum, was, all, spent.0.fewer);
           blocks = omega (arith, sum, was, all, spent.0.blocks);
@@ -160,11 +161,12 @@ module _ (disk after : Shown) (pool left : Pool) (states stay : States) (x y : V
           tells = subst (λ (f : Found). Tells (layout_at (root_found f) after.reads) before) (sym found_same) (subst (λ (i : Image). Tells (layout_at (root_found pool.found) i) before) (sym reads.stays.reads) held.tells);
           keeps = subst (λ (f : Found). AllKeep (root_found f) after.reads after) (sym found_same) (one.keeps_read disk after (root_found pool.found) reads held.keeps);
           map = one.map_still disk after pool left states stay x y there now fit.housed placed held.map;
-          slots = one.slots_still disk after pool left states stay x y there now fit.housed placed fit.size held.slots held.spaced held.each;
-          spaced = subst (λ (f : Found). AreSpacedIn f.blocks left.map.next (state_at stay) (container_at left.containers)) (sym found_same) (one.spaced_still disk after pool left states stay x y there now fit.housed placed fit.size held.slots held.spaced held.each);
+          slots = one.slots_still disk after pool left states stay x y there now fit.housed placed fit.size held.slots held.spaced held.each held.footed;
+          spaced = subst (λ (f : Found). AreSpacedIn f.blocks left.map.next (state_at stay) (container_at left.containers)) (sym found_same) (one.spaced_still disk after pool left states stay x y there now fit.housed placed fit.size held.slots held.spaced held.each held.footed);
           names = one.names_still disk after pool left states stay x y there now fit.housed placed held.names;
-          each = one.each_still disk after pool left states stay x y there now fit.housed placed fit.size held.slots held.spaced held.each;
+          each = one.each_still disk after pool left states stay x y there now fit.housed placed fit.size held.slots held.spaced held.each held.footed;
           commits = (let same = one.commits_still disk after pool left states stay x y there now fit.housed placed in subst (λ (f : Found). sum_of stay ≤ capacity f.blocks) (sym found_same) (let fits = held.commits in omega (arith, same, fits)));
+          footed = placed_footed disk after pool left states stay x y there now fit.housed placed held.footed;
         }
 
     -- They stand for the machine that they stood for.
@@ -174,7 +176,7 @@ module _ (disk after : Shown) (pool left : Pool) (states stay : States) (x y : V
       blocks = (found_same j).blocks;
       version = version_same j;
       volumes = fin.from_entries {R = name_cmp} (same_parts (λ k. named_held after left (state_at stay k)) (λ k. named_held disk pool (state_at states k)) 0 64
-          (λ k low high. one.named_still disk after pool left states stay x y there now fit.housed placed fit.size held.slots held.spaced held.each k) j);
+          (λ k low high. one.named_still disk after pool left states stay x y there now fit.housed placed fit.size held.slots held.spaced held.each held.footed k) j);
     }
 
 -- entries are placed one time after the other, under the same root on the disk

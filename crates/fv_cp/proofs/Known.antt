@@ -5,7 +5,7 @@ use Rattle.std.proofs.lemmas.Bool.{true≢false}
 use Rattle.std.proofs.lemmas.Option.{none-some, same_Some}
 use Rattle.fv_disk.specs.Shown.{Image, Shown}
 use Rattle.fv_model.specs.Machines.{Machine}
-use Rattle.fv_image.specs.Views.{Head, View, entry_count, is_held_in}
+use Rattle.fv_image.specs.Views.{Head, View, entry_count}
 use Rattle.fv_image.specs.Views as views
 use Rattle.fv_image.specs.Held.{view_at}
 use Rattle.fv_container.specs.Chains.{map_in, paged_at}

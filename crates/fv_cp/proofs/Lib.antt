@@ -1,5 +1,6 @@
 pub mod Stepping
 pub mod Crashing
+mod CourseEntries
 pub mod Ending
 pub mod Flushing
 pub mod CameIn

@@ -28,6 +28,7 @@ use Rattle.fv_volume.specs.Files.{AreNamed, AreStates, IsLabelled, IsState}
 use Rattle.fv_volume.specs.Held.{core_of, HasNoFiles, HasWholeMap, IsReadyIn}
 use Rattle.fv_volume.specs.Numbering.{AreNumbersSeen}
 use Rattle.fv_volumes.specs.Housed.{AreHoused, HaveReaches, ReachesAll}
+use Rattle.fv_volume.specs.KnownBase.{KnowBases}
 use Rattle.fv_volume.specs.Loading.{Houses}
 use Rattle.fv_volume.specs.States.{States, head_in, parent_in, state_at, view_over, with_state}
 use Rattle.fv_volume.specs.Stored.{AreSpacedIn, has_block}
@@ -35,6 +36,7 @@ use Rattle.fv_volume.specs.Trees.{no_trees}
 use Rattle.fv_volumes.specs.UnderRoot.{IsLentAt, IsLentSlot}
 use Rattle.fv_volume.specs.Writing.{asked}
 use Rattle.fv_volumes.proofs.Settled.{relabelled}
+use Rattle.fv_volumes.proofs.SettledFooted.{knows_alike, left_of}
 use Rattle.fv_volumes.proofs.Settling.{turned_all, turned_more}
 use Rattle.fv_cp.specs.Choosing.{AreMarkedTo, ReclaimsChanged, asked_marked, asked_with, greatest_number, has_slot, holding_with, holdings, marked, marked_as, marked_at, claimed, claimed_by, missing_for, regions_chosen}
 use Rattle.fv_cp.specs.Lent.{FitTogether, IsLent, asked_all, asked_by, asked_of, blocks_asked}
@@ -223,6 +225,9 @@ module _ (states now : States) (marks : ℕ → Bool) (marks_are : (s : ℕ) →
   reach_marked : (w : View) → HaveReaches w states → HaveReaches w now
   reach_marked w reach s inside = subst (λ (o : Option VolumeState). IfSome o (ReachesAll w s)) (sym (marks_are s)) (marked_keeps (ReachesAll w s) (λ x is. is) (marks s) (state_at states s) (reach s inside))
 
+  knows_marked : KnowBases states → KnowBases now
+  knows_marked = knows_alike states now (λ s. ap (option_map left_of) (marks_are s) ∙ marked_same (option_map left_of) (λ x. refl) (marks s) (state_at states s))
+
   -- They are lent as they were.
   pub lent_marked : (disk : Shown) (pool : Pool) (before : Machine) → IsLent disk pool states before → IsLent disk pool now before
   lent_marked disk pool before lent =
@@ -238,6 +243,7 @@ module _ (states now : States) (marks : ℕ → Bool) (marks_are : (s : ℕ) →
         built = subst (λ (w : View). is_built w ≡ true) same lent.built;
         tables = subst (λ (w : View). AreTables (seen w)) same lent.tables;
         reach = subst (λ (w : View). HaveReaches w now) same (reach_marked (view_over pool states disk.reads) lent.reach);
+        knows = knows_marked lent.knows;
       }
 
 -- What is in memory for the writing of volumes is there for them as they are marked.

@@ -9,14 +9,12 @@ use Rattle.fv_disk.specs.Shown.{Image}
 use Rattle.fv_model.specs.Machines.{capacity, first_block}
 use Rattle.fv_model.specs.Space.{need, overhead}
 use Rattle.fv_image.specs.Containers.{most_entries}
-use Rattle.fv_image.specs.HintRules.{is_splitting}
 use Rattle.fv_image.specs.Views.{Head, View, slots, overheads}
 use Rattle.fv_image.specs.Volumes.{volume_told}
 use Rattle.fv_image.specs.Seen.{Seen, VolumeSeen, seen, volume_seen}
 use Rattle.fv_image.specs.Soundness.{AreMaps, AreTables}
 use Rattle.fv_image.specs.VolumeRules.{commits_seen, has_commits_in_capacity, uses_seen}
 use Rattle.fv_image.proofs.LabelNumbers.{label_numbers}
-use Rattle.fv_image.proofs.LoneTables.{form_base}
 use Rattle.fv_image.proofs.OwnUses.{HasLabelNumbers}
 use Rattle.fv_image.proofs.Points.{UsesOwn}
 use Rattle.fv_image.proofs.SameSeen.{seen_at}
@@ -41,6 +39,7 @@ use Rattle.fv_volumes.proofs.Told.{head_at, head_there}
 use Rattle.fv_cp.specs.Choosing.{CountsMissing, LeavesRoom, greatest_number, holding_with, holdings, lacking, claimed, missing_for, regions_chosen}
 use Rattle.fv_cp.proofs.Missing.{few_delayed, lacks_missing, missing_is, none_needed, uses_claimed, uses_promised}
 use Rattle.fv_cp.proofs.OwnCharged.{IsLone, owns_used}
+use Rattle.fv_volume.proofs.TablesOf.{head_whole}
 
 -- the entries of a volume's container are few
 few_entries : (pool : Pool) (states : States) → AreHoused pool.containers states → (s : ℕ) (x : Holding) → holdings pool.containers states s ≡ Some x → length x.container.entries ≤ most_entries
@@ -107,7 +106,7 @@ module _ (pool : Pool) (states : States) (i : Image) (housed : AreHoused pool.co
     numbers = label_has s (head_in x) there;
     order = state.labelled.snapshots.slots;
     parents = λ b g based parent. label_has b.parent g parent;
-    whole = ap is_splitting (form_base (head_in x) state.labelled.form);
+    whole = head_whole s x state.labelled;
     need = ap need (told_same s x inside is) ∙ none_needed pool states i housed.long are s x is state;
   }) s h there inside there
 

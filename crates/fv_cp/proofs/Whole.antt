@@ -188,7 +188,7 @@ module _ (disk : Shown) (pool : Pool) (states : States) (mid : Shown) (held : Po
           let point = did before (lent_mid before was) (can_choose before was want first known enough) in
           let told_mid : IsTrue mid.tells = subst IsTrue (sym placed.only_reads.stays.tells) told in
           let same = machine_mid before was in
-          let now : IsHeld new left stay (machine_lent mid held between) = past_held new left stay (machine_lent mid held between) point.lent goes.fit point.unchanged goes.free goes.unkept few (goes.loaded told_mid) (subst IsTrue (sym tells) told_mid) long none_now
+          let now : IsHeld new left stay (machine_lent mid held between) = past_held new left stay (machine_lent mid held between) point.lent goes.fit point.unchanged goes.free goes.unkept few (goes.loaded told_mid) (subst IsTrue (sym tells) told_mid) long none_now whole_now
           (λ s. ready_of new left s (state_at stay s) (ready_now s)) (numbered_now before was want delays point) in
           record {
             settled = point.settled;

@@ -16,6 +16,7 @@ pub use Rattle.fv_volume.specs.Held.{named_held, IsHeldIn}
 use Rattle.fv_volume.specs.Slots.{sum_of}
 use Rattle.fv_volume.specs.States.{States, state_at}
 use Rattle.fv_volume.specs.Stored.{AreSpacedIn}
+use Rattle.fv_volumes.specs.Footing.{AreFooted}
 use Rattle.fv_volumes.specs.UnderRoot.{IsLentAt, IsMapOf}
 
 -- The volumes of a session between points. `before` is the machine that the image of the root on the disk stands for, and each image that a
@@ -31,6 +32,8 @@ pub record IsHeld (disk : Shown) (pool : Pool) (states : States) (before : Machi
   pub names : AreNamed states
   pub each : (s : ℕ) → IfSome (state_at states s) (IsHeldIn disk pool s)
   pub commits : sum_of states ≤ capacity pool.found.blocks
+  -- each clone stands on a snapshot of another volume
+  pub footed : AreFooted states pool.containers
 
 -- The machine that a session stands for between points: each volume by its own table, in memory and in its blocks.
 unfoldable pub machine_held : Shown → Pool → States → Machine

@@ -15,6 +15,7 @@ use Rattle.fv_volmap.specs.Slots.{stored_count}
 use Rattle.fv_pool.specs.declared.pool.Pool.{Pool}
 use Rattle.fv_volume.specs.declared.state.VolumeState.{VolumeState}
 use Rattle.fv_pool.specs.Keeping.{IsUnkept}
+use Rattle.fv_volume.specs.KnownBase.{KnowBases}
 use Rattle.fv_volume.specs.States.{States, state_at, view_over}
 use Rattle.fv_volume.specs.Trees.{no_trees}
 use Rattle.fv_volume.specs.Files.{AreStates}
@@ -54,6 +55,8 @@ pub record IsLent (disk : Shown) (pool : Pool) (lent : States) (before : Machine
   pub built : is_built (view_over pool lent disk.reads) ≡ true
   pub tables : AreTables (seen (view_over pool lent disk.reads))
   pub reach : HaveReaches (view_over pool lent disk.reads) lent
+  -- each clone knows what it stands on
+  pub knows : KnowBases lent
 
 -- ---- room
 

@@ -1,8 +1,8 @@
 -- Volumes of the forms that there are. A volume without a base finds each VVBN at its own entry, and no file has a reserve.
 use Rattle.std.proofs.Common.{◌≡◌, ℕ, suc, ◌<◌, Bool, true, false, refl, sym, ap, subst, ◌∙◌, arith}
-use Rattle.std.specs.Prelude.{◌⊎◌, ◌+◌, min, Option, Some, None, ◌==◌, nat_lt, if◌then◌else◌}
+use Rattle.std.specs.Prelude.{◌⊎◌, ◌+◌, min, not, Option, Some, None, ◌==◌, nat_lt, if◌then◌else◌}
 use Rattle.std.specs.List.{list_all}
-use Rattle.std.specs.Option.{is_none, option_map, option_map_or, option_and_then, option_or}
+use Rattle.std.specs.Option.{option_map, option_map_or, option_and_then, option_or}
 use Rattle.std.proofs.lemmas.Bool.{and_parts}
 use Rattle.std.proofs.lemmas.Bool.Decides.{nat_tests}
 use Rattle.fv_codec.specs.declared.pointer.Pointer.{Pointer}
@@ -13,6 +13,7 @@ use Rattle.fv_laws.specs.Positions.{HasNoReserve}
 use Rattle.fv_tables.specs.Told.{Standing, file_at, tree_of, file_told, file_in, records}
 use Rattle.fv_tables.proofs.Tables.{files_told}
 use Rattle.fv_image.specs.Chains.{along, parent_in, span_at, place}
+use Rattle.fv_image.specs.HintRules.{is_splitting}
 use Rattle.fv_image.specs.Views.{Placed, Footing, Head, View, slots}
 use Rattle.fv_image.specs.Volumes.{standing_of, table_at}
 use Rattle.fv_image.specs.Seen.{root_seen, volume_seen, seen}
@@ -45,17 +46,17 @@ no_parent w s h there base = ap parent_in there ∙ ap (option_map (λ (b : Foot
 
 -- ---- forms
 
-no_base_of : (b : Option Footing) → is_none b ≡ true → b ≡ None
-no_base_of None e = refl
-no_base_of (Some b) e = absurd cc
+not_split : (b : Bool) → not b ≡ true → b ≡ false
+not_split true e = absurd cc
+not_split false e = refl
 
--- a head of a form that there is has no base,
-pub form_base : (h : Head) → has_form h ≡ true → h.base ≡ None
-form_base h form = no_base_of h.base (and_parts (is_none h.base) h.known form).0
+-- a head of a form that there is isn't being split,
+pub form_whole : (h : Head) → has_form h ≡ true → is_splitting h.base ≡ false
+form_whole h form = not_split (is_splitting h.base) (and_parts (not (is_splitting h.base)) h.known form).0
 
 -- and no unknown place
 pub form_known : (h : Head) → has_form h ≡ true → h.known ≡ true
-form_known h form = (and_parts (is_none h.base) h.known form).1
+form_known h form = (and_parts (not (is_splitting h.base)) h.known form).1
 
 -- ---- the entries that a table leads to
 

@@ -1,7 +1,7 @@
 -- The machine that an image stands for, with volumes of every form.
-use Rattle.std.specs.Prelude.{◌≡◌, ℕ, Bool, true, ◌&&◌, Option, Some, None, ◌==◌, if◌then◌else◌}
+use Rattle.std.specs.Prelude.{◌≡◌, ℕ, Bool, true, ◌&&◌, not, Option, Some, None, ◌==◌, if◌then◌else◌}
 use Rattle.std.specs.List.{list_all}
-use Rattle.std.specs.Option.{is_none, option_map_or, option_and_then}
+use Rattle.std.specs.Option.{option_map_or, option_and_then}
 use Rattle.fv_disk.specs.Shown.{Image, Shown}
 use Rattle.fv_codec.specs.declared.inode.InodeRecord.{InodeRecord}
 use Rattle.fv_model.specs.Machines.{Machine}
@@ -10,12 +10,13 @@ use Rattle.fv_image.specs.Views.{Head, View, slots}
 use Rattle.fv_image.specs.Held.{Layout, layout_at}
 use Rattle.fv_image.specs.Volumes.{told}
 use Rattle.fv_image.specs.Seen.{Seen, seen}
+use Rattle.fv_image.specs.HintRules.{is_splitting}
 use Rattle.fv_image.specs.ReachRules.{all_roots}
 use Rattle.fv_image.specs.Soundness.{IsSound, is_sound}
 
--- The forms of volumes by what a label says of them: any snapshots, no base and no unknown place.
+-- The forms of volumes by what a label says of them: any snapshots, any base from which it isn't being split, and no unknown place.
 abbrev pub has_form : Head → Bool
-has_form h = is_none h.base && h.known
+has_form h = not (is_splitting h.base) && h.known
 
 -- no file has a reserve
 unfoldable pub has_no_reserves : Seen → Bool

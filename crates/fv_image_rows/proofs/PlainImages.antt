@@ -28,6 +28,7 @@ use Rattle.fv_image_rows.specs.EmptyMachine.{EmptyTells, EmptyStandsFor}
 use Rattle.fv_image.specs.Volumes.{standing_of, told}
 use Rattle.fv_image.specs.Seen.{Root, roots_of, seen}
 use Rattle.fv_image.specs.BlockRules.{are_in_range}
+use Rattle.fv_image.specs.HintRules.{is_splitting}
 use Rattle.fv_image.specs.ReachRules.{is_reach, has_maps_of_reach, has_map_blocks, has_map_kinds}
 use Rattle.fv_image.specs.Soundness.{AreBlocks, AreMaps, IsSound}
 use Rattle.fv_image.specs.WholeMachine.{has_form, has_no_reserves, is_built, machine_of, Tells}
@@ -57,6 +58,11 @@ from_each {X} in_slot test each = all_of_range (λ s. option_map_or (test s) (in
 no_base : (base : Option Footing) → is_none base ≡ true → base ≡ None
 no_base None e = refl
 no_base (Some b) e = absurd cc
+
+-- a volume without a base isn't being split
+plain_form : (b : Option Footing) (known : Bool) → (is_none b && known) ≡ true → (not (is_splitting b) && known) ≡ true
+plain_form None known e = e
+plain_form (Some b) known e = absurd cc
 
 module _ (w : View) (empty : plain.is_all_plain w ≡ true) (levels : (s : ℕ) (h : Head) → s < 64 → w.head s ≡ Some h → h.active.root.stamp ≡ 0 → h.active.levels ≡ 0) where
   bare_root : (s : ℕ) (h : Head) → s < 64 → w.head s ≡ Some h → h.active.root.stamp ≡ 0
@@ -195,7 +201,7 @@ module _ (y : Layout) (heads : HasHeads y) (empty : plain.is_all_plain y.view �
     pub built_plain : is_built y.view ≡ true
     unfolding is_built has_no_reserves plain.is_all_plain plain.is_plain
     built_plain = and_from (list_all (λ s. option_map_or has_form (y.view.head s) true) slots) (has_no_reserves (seen y.view))
-        (from_each y.view.head (λ s h. has_form h) (λ s h inside e. (and_parts (plain.has_none h.snapshots) _ (and_parts (h.active.root.stamp == 0) _ (of_each y.view.head (λ s h. plain.is_plain h) s h empty inside e)).1).1))
+        (from_each y.view.head (λ s h. has_form h) (λ s h inside e. plain_form h.base h.known (and_parts (plain.has_none h.snapshots) _ (and_parts (h.active.root.stamp == 0) _ (of_each y.view.head (λ s h. plain.is_plain h) s h empty inside e)).1).1))
         (all_plain y.view heads_by (λ s x. list_all (λ (r : Root). list_all (λ (f : ℕ × InodeRecord). f.1.reserve == 0) r.files) x.roots) (λ s h inside e. refl))
 
 -- ---- the machine

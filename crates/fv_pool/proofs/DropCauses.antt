@@ -104,4 +104,4 @@ drops_reads p q m n d e s t h k r u a b v w drops stands = record {
 }
 
 pub drops_maps : (p q : Pool) (m n : Volume) (d e : Disk) (s t : ℕ) (h k : Home) (r u : ℕ) (a b : ℕ) (v w : Noted) → DropsOver (lent_by p m d s h r a v) (lent_by q n e t k u b w) → GivesUp m n
-drops_maps p q m n d e s t h k r u a b v w drops = record { span = drops.span; snapshots = drops.snapshots; numbers = drops.numbers }
+drops_maps p q m n d e s t h k r u a b v w drops = record { span = drops.span; snapshots = drops.snapshots; numbers = drops.numbers; active = drops.active }

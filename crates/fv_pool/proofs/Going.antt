@@ -29,7 +29,7 @@ use Rattle.fv_pool.specs.Lending.{GoesOver, IsNewEntry, IsOutOfRoom, IsOwn, Keep
 use Rattle.fv_pool.specs.LendingLaws.{goes_itself}
 use Rattle.fv_pool.specs.Putting.{PutsOver}
 use Rattle.fv_pool.proofs.Holding.{has_taken, held_kept, same_entry}
-use Rattle.fv_pool.proofs.Shows.{apart_gone, member_cleared, member_set, none_free, numbers_gone}
+use Rattle.fv_pool.proofs.Shows.{active_had, apart_gone, had_gone, member_cleared, member_set, none_free, numbers_gone, set_member}
 
 -- ---- faults
 
@@ -74,18 +74,6 @@ load_notes disk slots entry label Memory old new loose notes = inl notes
 load_notes disk slots entry label (Damaged at want found) old new (inl hole) notes =
     inr (inl (record { at_is = notes.2 ∙ hole.at_is; want_is = notes.3 ∙ hole.want_is; found_is = notes.4 ∙ hole.found_is }))
 load_notes disk slots entry label (Damaged at want found) old new (inr leaf) notes = inr (inr (leaf_noted disk slots at want found new leaf notes.2 notes.3 notes.4))
-
--- ---- the active map
-
--- what a new active map has is a member of it
-set_member : (slots : List Slot) (m : List Bool) (w : ℕ) → has w (slice_index_or (slice_set slots 0 (Some m)) 0 None) ≡ true → is_member m w ≡ true
-set_member [] m w is = absurd cc
-set_member (s ∷ ss) m w is = is
-
--- what is a member of the active map, the active slot has
-active_had : (span : ℕ) (o : Slot) (w : ℕ) → is_member (map_or_empty span o) w ≡ true → has w o ≡ true
-active_had span None w is = absurd (true≢false (sym is ∙ is_member-replicate span w))
-active_had span (Some m) w is = is
 
 -- ---- of the pool nothing changed
 
@@ -138,14 +126,8 @@ goes_dropped pool map after disk steps home room strays less noted v is released
       entries = λ k w other here. same_entry map after pool.containers home.slot k w (slots k other) here;
       blocks = λ k w other here i. ap (block_of pool.kept i) (same_entry map after pool.containers home.slot k w (slots k other) here);
     })
-    (λ w is. had w (set_member map.slots (slice_set (active_of map) v false) w (sym (ap (λ (m : Volume). has w (slot_at m 0)) released) ∙ is)))
+    (had_gone map after v is released)
   where
-    had : (w : ℕ) → is_member (slice_set (active_of map) v false) w ≡ true → has w (slot_at map 0) ≡ true
-    had w is = elim (cases_eq w v) [
-      | inl same ↦ let wrong : true ≡ false = sym is ∙ ap (is_member (slice_set (active_of map) v false)) same ∙ member_cleared (active_of map) v in cc
-      | inr other ↦ active_had map.span (slot_at map 0) w (sym (member_set (active_of map) v w false other) ∙ is)
-    ]
-
     slots : (s : ℕ) → s ≢ 0 → slot_at after s ≡ slot_at map s
     slots s other = ap (λ (m : Volume). slot_at m s) released ∙ get_or-set_other map.slots 0 s (Some (slice_set (active_of map) v false)) None other
 

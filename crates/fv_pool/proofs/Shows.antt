@@ -1,5 +1,5 @@
 -- What the blocks of a volume show after calls.
-use Rattle.std.proofs.Common.{◌≡◌, ◌≢◌, ◌<◌, ◌≤◌, ◌+◌, ◌⊎◌, ℕ, zero, suc, Bool, true, false, ◌||◌, ◌&&◌, ◌==◌, not, cond, List, [], ◌∷◌, length, Option, Some, None, refl, sym, ap, ap₂, subst, ◌∙◌, inl, inr, ⊎_elim, arith, get_or-set_same, get_or-set_other}
+use Rattle.std.proofs.Common.{◌≡◌, ◌≢◌, ◌<◌, ◌≤◌, ◌+◌, ◌⊎◌, ℕ, zero, suc, Bool, true, false, true≢false, ◌||◌, ◌&&◌, ◌==◌, not, cond, List, [], ◌∷◌, length, Option, Some, None, refl, sym, ap, ap₂, subst, ◌∙◌, inl, inr, ⊎_elim, arith, get_or-set_same, get_or-set_other}
 use Rattle.std.specs.Prelude.{IfSome, nat_eq, nat_le, is_some, slice_index_or, slice_set}
 use Rattle.std.specs.List.{list_any}
 use Rattle.std.specs.Ordering.{nat_cmp, eq_by_cmp}
@@ -14,7 +14,7 @@ use Rattle.fv_disk.specs.declared.fault.BlockFault.{BlockFault}
 use Rattle.fv_disk.specs.declared.fault.BlockFault.TheVariants.{DiskFault, Damaged, Memory}
 use Rattle.fv_bits.specs.Members.{is_member}
 use Rattle.fv_bits.proofs.Counts.{passing}
-use Rattle.fv_bits.proofs.Laws.{is_member_past}
+use Rattle.fv_bits.proofs.Laws.{is_member-replicate, is_member_past}
 use Rattle.fv_image.proofs.Counts.{listed_within, none_between, within_two}
 use Rattle.fv_container.specs.declared.entry.Entry.{Entry}
 use Rattle.fv_container.specs.Chains.{Slots, chain_entry}
@@ -236,6 +236,18 @@ none_free map taken = none_between (λ v. not (taken_in map.slots v)) 0 map.span
 
 -- ---- a number is taken out of the active map
 
+-- ---- the active map
+
+-- what a new active map has is a member of it
+pub set_member : (slots : List Slot) (m : List Bool) (w : ℕ) → has w (slice_index_or (slice_set slots 0 (Some m)) 0 None) ≡ true → is_member m w ≡ true
+set_member [] m w is = absurd cc
+set_member (s ∷ ss) m w is = is
+
+-- what is a member of the active map, the active slot has
+pub active_had : (span : ℕ) (o : Slot) (w : ℕ) → is_member (map_or_empty span o) w ≡ true → has w o ≡ true
+active_had span None w is = absurd (true≢false (sym is ∙ is_member-replicate span w))
+active_had span (Some m) w is = is
+
 module _ (map after : Volume) (v : ℕ) (is : IsVolume map) (released : after ≡ with_slot map 0 (Some (slice_set (active_of map) v false))) where
   abbrev fewer : List Bool
   fewer = slice_set (active_of map) v false
@@ -322,6 +334,16 @@ module _ (map after : Volume) (v : ℕ) (is : IsVolume map) (released : after �
     own_apart = apart.own_apart;
     held_apart = λ w u other d is e there. apart.held_apart w u other d is e (entry_fewer pool.containers slot u e there);
   }
+
+  -- the active slot has no number that it hadn't
+  pub had_gone : (w : ℕ) → has w (slot_at after 0) ≡ true → has w (slot_at map 0) ≡ true
+  had_gone w does = elim (cases_eq w v) [
+    | inl same ↦ let wrong : true ≡ false = sym in_map ∙ ap (is_member (slice_set (active_of map) v false)) same ∙ member_cleared (active_of map) v in cc
+    | inr other ↦ active_had map.span (slot_at map 0) w (sym (member_set (active_of map) v w false other) ∙ in_map)
+  ]
+    where
+      in_map : is_member (slice_set (active_of map) v false) w ≡ true
+      in_map = set_member map.slots (slice_set (active_of map) v false) w (sym (ap (λ (m : Volume). has w (slot_at m 0)) released) ∙ does)
 
   -- as many numbers are free as before, at least
   pub numbers_gone : free_numbers map ≤ free_numbers after

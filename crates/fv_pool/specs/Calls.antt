@@ -1,5 +1,5 @@
 -- What the calls of a table over what a session lends leave, and why they fail.
-use Rattle.std.specs.Prelude.{◌≡◌, ◌≢◌, ◌≤◌, ◌+◌, ◌⊎◌, ℕ, Result, Ok, Err, OnOk, OnErr, IfOk}
+use Rattle.std.specs.Prelude.{◌≡◌, ◌≢◌, ◌≤◌, ◌+◌, ◌⊎◌, ℕ, true, Result, Ok, Err, OnOk, OnErr, IfOk}
 use Rattle.fv_disk.specs.Shown.{Shown as Disk}
 use Rattle.fv_disk.specs.DiskCalls.{OnlyReads}
 use Rattle.fv_disk.specs.declared.fault.BlockFault.{BlockFault}
@@ -24,7 +24,7 @@ use Rattle.fv_pool.specs.declared.fault.VolumeFault.{VolumeFault}
 use Rattle.fv_pool.specs.declared.fault.VolumeFault.TheVariants.{Refused, DiskFault, Damaged, Memory}
 use Rattle.fv_pool.specs.declared.blocks.Home.{Home}
 use Rattle.fv_pool.specs.declared.pool.Pool.{Pool}
-use Rattle.fv_volmap.specs.Slots.{Volume as Maps, slot_at}
+use Rattle.fv_volmap.specs.Slots.{Volume as Maps, has, slot_at}
 use Rattle.fv_pool.specs.BlocksOver.{free_numbers, LeavesPool}
 use Rattle.fv_pool.specs.Lending.{Lent, ReadFails, IsTold, sees, shown_over}
 
@@ -65,11 +65,12 @@ pub record CutsTold (told : Type 0) (old new : Shown) (f g : Files) (number leng
   pub cut : told → OnOk result (AreStanding old f → CutsFile (table_in old f) (table_in new g) number length stamp)
   pub counted : told → IfOk result (λ count. AreStanding old f → TakesByCut (table_in old f) number length stamp count)
 
--- Of a volume's maps only the active one changed, which has as many free numbers at least.
+-- Of a volume's maps only the active one changed, which has as many free numbers at least and no number that it hadn't.
 pub record GivesUp (old new : Maps) : Type 0 where
   pub span : new.span ≡ old.span
   pub snapshots : (s : ℕ) → s ≢ 0 → slot_at new s ≡ slot_at old s
   pub numbers : free_numbers old ≤ free_numbers new
+  pub active : (v : ℕ) → has v (slot_at new 0) ≡ true → has v (slot_at old 0) ≡ true
 
 -- ---- why a call failed
 

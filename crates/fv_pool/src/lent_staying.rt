@@ -8,7 +8,7 @@ ghost use Rattle.fv_inode.specs.Files.{rooted, IsInfo};
 ghost use Rattle.fv_files.specs.Sharing.{staying_by_new, staying_by_put};
 ghost use Rattle.fv_files.specs.Tables.{loaded_trees, table_in, IsInfoOf};
 ghost use Rattle.fv_files.specs.Taking.{CutTakes, RemovalTakes};
-ghost use Rattle.fv_volmap.specs.Slots.{is_in_snapshot};
+ghost use Rattle.fv_volmap.specs.Slots.{is_elsewhere};
 ghost use Rattle.fv_pool.specs.Calls.{BlockCause, Reads};
 ghost use Rattle.fv_pool.specs.Lending.{CanLend, IsLedger, IsTold, lent_for, sees};
 
@@ -43,7 +43,7 @@ pub fn staying_told<K: Guard, D: Disk, L: Ledger>(
     requires right { K.told → HasRightTrees (sees pool.old map.old (D.shown disk.old) home.now) files.old }
     requires range { IsInfo info.now }
     requires there { K.told → IsInfoOf (rooted (sees pool.old map.old (D.shown disk.old) home.now) files.old.inode) info.now }
-    ensures staying { K.told → IfOk result (λ count. count ≡ staying_by_put (loaded_trees (under (sees pool.old map.old (D.shown disk.old) home.now)) files.old) (is_in_snapshot map.old) info.now.number index) }
+    ensures staying { K.told → IfOk result (λ count. count ≡ staying_by_put (loaded_trees (under (sees pool.old map.old (D.shown disk.old) home.now)) files.old) (is_elsewhere map.old) info.now.number index) }
     ensures few { IfOk result (λ count. count ≤ 8) }
     ensures files { files.new ≡ files.old }
     ensures map { map.new ≡ map.old }
@@ -74,7 +74,7 @@ pub fn staying_new_told<K: Guard, D: Disk, L: Ledger>(
     requires lent { CanLend pool.old map.old (D.shown disk.old) home.now.slot }
     requires told { K.told → IsTold (D.shown disk.old) pool.old map.old home.now.slot }
     requires right { K.told → HasRightTrees (sees pool.old map.old (D.shown disk.old) home.now) files.old }
-    ensures staying { K.told → IfOk result (λ count. count ≡ staying_by_new (loaded_trees (under (sees pool.old map.old (D.shown disk.old) home.now)) files.old) (is_in_snapshot map.old) number) }
+    ensures staying { K.told → IfOk result (λ count. count ≡ staying_by_new (loaded_trees (under (sees pool.old map.old (D.shown disk.old) home.now)) files.old) (is_elsewhere map.old) number) }
     ensures few { IfOk result (λ count. count ≤ 4) }
     ensures files { files.new ≡ files.old }
     ensures map { map.new ≡ map.old }
@@ -108,7 +108,7 @@ pub fn taken_cut_told<K: Guard, D: Disk, L: Ledger>(
     requires right { K.told → HasRightTrees (sees pool.old map.old (D.shown disk.old) home.now) files.old }
     requires range { IsInfo info.now }
     requires there { K.told → IsInfoOf (rooted (sees pool.old map.old (D.shown disk.old) home.now) files.old.inode) info.now }
-    ensures taken { K.told → IfOk result (CutTakes (table_in (sees pool.old map.old (D.shown disk.old) home.now) files.old) (loaded_trees (under (sees pool.old map.old (D.shown disk.old) home.now)) files.old) (is_in_snapshot map.old) info.now.number length) }
+    ensures taken { K.told → IfOk result (CutTakes (table_in (sees pool.old map.old (D.shown disk.old) home.now) files.old) (loaded_trees (under (sees pool.old map.old (D.shown disk.old) home.now)) files.old) (is_elsewhere map.old) info.now.number length) }
     ensures few { IfOk result (AreBelow 8388608) }
     ensures files { files.new ≡ files.old }
     ensures map { map.new ≡ map.old }
@@ -141,7 +141,7 @@ pub fn taken_removal_told<K: Guard, D: Disk, L: Ledger>(
     requires right { K.told → HasRightTrees (sees pool.old map.old (D.shown disk.old) home.now) files.old }
     requires range { IsInfo info.now }
     requires there { K.told → IsInfoOf (rooted (sees pool.old map.old (D.shown disk.old) home.now) files.old.inode) info.now }
-    ensures taken { K.told → IfOk result (RemovalTakes (table_in (sees pool.old map.old (D.shown disk.old) home.now) files.old) (loaded_trees (under (sees pool.old map.old (D.shown disk.old) home.now)) files.old) (is_in_snapshot map.old) info.now.number) }
+    ensures taken { K.told → IfOk result (RemovalTakes (table_in (sees pool.old map.old (D.shown disk.old) home.now) files.old) (loaded_trees (under (sees pool.old map.old (D.shown disk.old) home.now)) files.old) (is_elsewhere map.old) info.now.number) }
     ensures few { IfOk result (AreBelow 8388608) }
     ensures files { files.new ≡ files.old }
     ensures map { map.new ≡ map.old }

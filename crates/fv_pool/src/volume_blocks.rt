@@ -172,13 +172,13 @@ impl<'p, 'd, 'v, 's, K: Guard, D: Disk, L: Ledger> Blocks
 impl<'p, 'd, 'v, 's, K: Guard, D: Disk, L: Ledger> Sharing
     for VolumeBlocks<'p, 'd, 'v, 's, K, D, L> {
     ghost use Rattle.std.proofs.Common.{ap};
-    ghost use Rattle.fv_volmap.specs.Slots.{is_in_snapshot};
+    ghost use Rattle.fv_volmap.specs.Slots.{is_elsewhere};
 
-    ghost shared = { λ b. is_in_snapshot b.map.now };
+    ghost shared = { λ b. is_elsewhere b.map.now };
 
-    ghost reads_share = { λ a b reads v. ap (λ m. is_in_snapshot m v) reads.4.map };
+    ghost reads_share = { λ a b reads v. ap (λ m. is_elsewhere m v) reads.4.map };
 
     fn is_shared(&self, vvbn: u64) -> bool {
-        self.map.in_snapshot(vvbn)
+        self.map.is_elsewhere(vvbn)
     }
 }

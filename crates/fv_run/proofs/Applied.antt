@@ -94,15 +94,16 @@ unfolding machine_after is_built conditions change_of
 after_cp m = refl
 
 -- what isn't built adds no block and changes no volume
-unbuilt_room : (maps : List ℕ → ℕ) (c : Command) → is_built c ≡ false → room_with maps c ≡ 0
+unbuilt_room : (maps : List ℕ → ℕ) (spans : List ℕ → List ℕ → ℕ → ℕ) (c : Command) → is_built c ≡ false → room_with maps spans c ≡ 0
 unfolding is_built room_with
-unbuilt_room maps (VolCreate v size kind) e = absurd cc
-unbuilt_room maps (New v f reserve) e = rw e refl
-unbuilt_room maps (Put v f i block) e = absurd cc
-unbuilt_room maps (Cut v f length) e = absurd cc
-unbuilt_room maps (Remove v f) e = absurd cc
-unbuilt_room maps (SnapCreate v s) e = absurd cc
-unbuilt_room maps c e = refl
+unbuilt_room maps spans (VolCreate v size kind) e = absurd cc
+unbuilt_room maps spans (New v f reserve) e = rw e refl
+unbuilt_room maps spans (Put v f i block) e = absurd cc
+unbuilt_room maps spans (Cut v f length) e = absurd cc
+unbuilt_room maps spans (Remove v f) e = absurd cc
+unbuilt_room maps spans (SnapCreate v s) e = absurd cc
+unbuilt_room maps spans (CloneCreate v p s size kind) e = absurd cc
+unbuilt_room maps spans c e = refl
 
 unbuilt_change : (c : Command) → is_built c ≡ false → changes_volume c ≡ false
 unfolding is_built
@@ -143,7 +144,11 @@ room_said c = so (is_built c) refl
   where
     so : (is : Bool) → is_built c ≡ is → IsRoomIn (cond is (Says c) NoCommand ∷ []) (most_room c)
     so true e = inr (c, (0, omega arith, refl), refl)
-    so false e = inl (unbuilt_room _ c e)
+    so false e = inl (unbuilt_room _ _ c e)
+
+-- a point of a session that may ask within one room asks within a wider one
+asks_wider : (disk : Shown) (session : Session) (room : ℕ) {a b : ℕ} → a ≤ b → AsksWithin disk session (max room a) → AsksWithin disk session (max room b)
+asks_wider disk session room less asks = record { asked = asks.asked; pending = (let few = asks.pending in omega (arith, less, few)) }
 
 -- a line has the room of its command
 room_built : (session : Session) (c : Command) → room_in (room_by session.volumes) (built (Says c)) ≡ room_by session.volumes c
@@ -151,7 +156,7 @@ room_built session c = so (is_built c) refl
   where
     so : (is : Bool) → is_built c ≡ is → room_in (room_by session.volumes) (cond is (Says c) NoCommand) ≡ room_by session.volumes c
     so true e = refl
-    so false e = sym (unbuilt_room _ c e)
+    so false e = sym (unbuilt_room _ _ c e)
 
 -- so it asks for what its command asks for
 unbuilt_asks : (session : Session) (c : Command) → is_built c ≡ false → asked_by session.volumes c ≡ AsksNothing
@@ -207,7 +212,7 @@ quiet session c pending none = so (is_built c) refl none
     so true e none =
         let parts = neither (is_cp (Says c)) (nat_lt 0 (room_by session.volumes c) && nat_lt dirty_limit (pending + room_by session.volumes c)) none in
         (λ is. both_ways _ parts.0 (is_point is), nothing (room_by session.volumes c) parts.1)
-    so false e none = (λ is. both_ways _ e (built_point is), inl (unbuilt_room _ c e))
+    so false e none = (λ is. both_ways _ e (built_point is), inl (unbuilt_room _ _ c e))
 
 -- a line reads files where its command does, and changes a volume that stays where its command does
 reads_said : (c : Command) → reads_files c ≡ true → reads_blocks (built (Says c)) ≡ true
@@ -395,7 +400,7 @@ module _ (session new_session : Session) (line : Line) (command : Command) (old 
     asks = λ tells same room asks. (
       most_room command,
       subst (λ (l : Line). IsRoomIn (built l ∷ []) (most_room command)) (sym says) (room_said command),
-      subst (λ (k : ℕ). AsksWithin new new_session (max room k)) (fixed_room session command (same_by same)) (keeps (same_by same) tells room asks goes.done.goes_on),
+      asks_wider new new_session room (fixed_room session command (same_by same)) (keeps (same_by same) tells room asks goes.done.goes_on),
     );
     given = goes.ends.given;
     left = ap (λ (e : Ends). e.left) goes.ends.ends;

@@ -19,7 +19,7 @@ pub bound_most : (disk : Shown) (session : Session) → StandsReady disk session
 bound_most disk session stands c = room_most disk session stands c
 
 pub bound_for : (disk : Shown) (session : Session) (last m : Machine) → StandsFor disk session last m → (c : Command) → room_by session.volumes c ≤ room_of m c
-bound_for disk session last m stands c = let same = room_stands disk session last m stands c in omega (arith, same)
+bound_for disk session last m stands c = room_stands disk session last m stands c
 
 -- ---- line by line
 

@@ -76,6 +76,7 @@ managed_over sure told session command name next reply gives is = record {
   missing = is.missing;
   told = is.told;
   removed = is.removed;
+  in_use = is.in_use;
   answered = is.answered;
   done = λ done. carried_over sure told session command next gives (is.done done);
   stays = is.stays;

@@ -32,6 +32,7 @@ module _ (d e : Shown) (stays : Stays d e) (pool : Pool) (states : States) where
     names = held.names;
     each = λ s. held_rests d e stays pool s (state_at states s) (held.each s);
     commits = held.commits;
+    footed = held.footed;
   }
 
   pub machine_rests : machine_held e pool states ≡ machine_held d pool states

@@ -1,5 +1,5 @@
 -- A snapshot is removed, or not.
-use Rattle.std.proofs.Common.{◌≡◌, ℕ, zero, suc, ◌+◌, ◌<◌, ◌≤◌, Bool, true, false, cond, List, [], ◌∷◌, ◌++◌, length, take, drop, Option, Some, None, Ok, Err, is_some, is_none, refl, sym, ap, ap₂, subst, ◌∙◌, arith}
+use Rattle.std.proofs.Common.{◌≡◌, ℕ, zero, suc, ◌+◌, ◌<◌, ◌≤◌, Bool, true, false, cond, List, [], ◌∷◌, ◌++◌, length, take, drop, Option, Some, None, Ok, Err, inl, inr, is_some, is_none, refl, sym, ap, ap₂, subst, ◌∙◌, arith}
 use Rattle.std.specs.Prelude.{slice_index_or}
 use Rattle.std.specs.FinMap as fin
 use Rattle.fv_disk.specs.Shown.{Shown as Disk}
@@ -8,7 +8,8 @@ use Rattle.fv_model.specs.declared.answers.Refusal.{Refusal}
 use Rattle.fv_model.specs.declared.answers.Refusal.TheVariants.{NoSnapshot, SnapshotInUse}
 use Rattle.fv_model.specs.declared.commands.Command.TheVariants.{SnapDelete}
 use Rattle.fv_model.specs.Effects.{Becomes}
-use Rattle.fv_model.specs.Refusals.{is_base}
+use Rattle.fv_model.specs.Machines.{Machine}
+use Rattle.fv_model.specs.Refusals.{is_base, refusal}
 use Rattle.fv_model.specs.Space.{use_of}
 use Rattle.fv_model.specs.Tables.{Table}
 use Rattle.fv_model.specs.Volumes.{Volume}
@@ -24,11 +25,11 @@ use Rattle.fv_volume.specs.declared.state.VolumeState.{VolumeState}
 use Rattle.fv_volume.specs.Asking.{snap_named}
 use Rattle.fv_volume.specs.Files.{IsLabelled}
 use Rattle.fv_volume.specs.Held.{IsHeldIn, IsPlaceFault, IsPlacedAs, MayFail}
-use Rattle.fv_volume.specs.Loading.{HasCounted}
+use Rattle.fv_volume.specs.Loading.{IsCountOf}
 use Rattle.fv_volume.specs.OneVolume.{volume_for, IsBooked, IsReady}
 use Rattle.fv_volume.specs.Snaps.{without_snapshot}
 use Rattle.fv_volume.specs.Snapshots.{FindsSnap}
-use Rattle.fv_snapshot.specs.Deleting.{Deletes}
+use Rattle.fv_snapshot.specs.Deleting.{Deletes, HasStood}
 use Rattle.fv_snapshot.proofs.Finding.{found_nowhere, found_there, found_within}
 use Rattle.fv_volume.specs.States.{head_in}
 use Rattle.fv_snapshot.proofs.Full.{few_snaps}
@@ -68,9 +69,9 @@ index_slot d e p x name left mid placed at finds snaps same some =
     let bounds = slot_there mid.snapshots at some placed.ready.labelled.snapshots.slots.within (found_within name mid.snapshots at its) in
     subst (λ (l : List Snap). (0 < (slice_index_or l at some).slot) × ((slice_index_or l at some).slot < 25)) (sym same) (bounds.0, bounds.1)
 
-module _ (d : Disk) (p : Pool) (x : VolumeState) (name : List ℕ) (ready : IsReady d p x) where
+module _ (d : Disk) (p : Pool) (x : VolumeState) (stood : Bool) (name : List ℕ) (ready : IsReady d p x) where
   -- no snapshot has the name,
-  pub refused_deletes : FindsSnap x.snapshots name None → Deletes d p x name d p x (Err (Refused NoSnapshot))
+  pub refused_deletes : FindsSnap x.snapshots name None → Deletes d p x stood name d p x (Err (Refused NoSnapshot))
   refused_deletes nowhere = record {
     changes = λ held. record {
       agrees = λ m has. delete_by m x.name (volume_for d p x) has.there name
@@ -79,12 +80,17 @@ module _ (d : Disk) (p : Pool) (x : VolumeState) (name : List ℕ) (ready : IsRe
       stays = refl;
     };
     done = tt;
+    unused = tt;
     failed = none_placed d p x ready;
     refused = λ s e. (refl, refl);
     held = λ held. held;
     cause = refl;
     calm = tt;
-    lost = record { lost = λ none. refl; only = λ r e. (refused_as r e, found_nowhere name x.snapshots nowhere) };
+    lost = record {
+      lost = λ none. refl;
+      used = λ some used. absurd (true≢false (sym some ∙ ap (λ (o : Option Snap). is_some o) (found_nowhere name x.snapshots nowhere)));
+      only = λ r e. inl (refused_as r e, found_nowhere name x.snapshots nowhere);
+    };
   }
     where
       refused_as : (r : Refusal) → ◌≡◌ {A = VolumeFault} (Refused NoSnapshot) (Refused r) → r ≡ NoSnapshot
@@ -94,18 +100,56 @@ module _ (d : Disk) (p : Pool) (x : VolumeState) (name : List ℕ) (ready : IsRe
   never_lost : (at : ℕ) → FindsSnap x.snapshots name (Some at) → snap_named x.snapshots name ≡ None → ⊥
   never_lost at finds gone = true≢false (sym (found_there name x.snapshots at finds) ∙ ap (λ (o : Option Snap). is_some o) gone)
 
-  module _ (e : Disk) (left : Pool) (mid : VolumeState) (placed : IsPlacedAs d p x e left mid) where
+  isnt_none : (o : Option Table) → is_some o ≡ true → is_none o ≡ false
+  isnt_none None is = absurd cc
+  isnt_none (Some t) is = refl
+
+  found_some : (at : ℕ) → FindsSnap x.snapshots name (Some at) → IsHeldIn d p x.slot x → is_some (fin.get (volume_for d p x).snapshots name) ≡ true
+  found_some at finds held = by (snap_named x.snapshots name) refl (found_there name x.snapshots at finds)
+    where
+      by : (o : Option Snap) → snap_named x.snapshots name ≡ o → is_some o ≡ true → is_some (fin.get (volume_for d p x).snapshots name) ≡ true
+      by None e is = absurd cc
+      by (Some q) e is = some_found x name d p held.stands q e
+
+  -- what each machine says where it is there
+  said : (at : ℕ) → FindsSnap x.snapshots name (Some at) → IsHeldIn d p x.slot x → (m : Machine) → HasStood x.name (volume_for d p x) stood name m → refusal m (SnapDelete x.name name) ≡ cond stood (Some SnapshotInUse) None
+  said at finds held m has =
+      delete_by m x.name (volume_for d p x) has.there name
+      ∙ ap₂ (λ (a b : Bool). cond a (Some NoSnapshot) (cond b (Some SnapshotInUse) None)) (isnt_none _ (found_some at finds held)) has.stands
+
+  -- or a clone stands on it,
+  pub used_deletes : stood ≡ true → (at : ℕ) → FindsSnap x.snapshots name (Some at) → Deletes d p x stood name d p x (Err (Refused SnapshotInUse))
+  used_deletes used at finds = record {
+    changes = λ held. record { agrees = λ m has. said at finds held m has ∙ ap (λ (b : Bool). cond b (Some SnapshotInUse) None) used; becomes = tt; stays = refl };
+    done = tt;
+    unused = tt;
+    failed = none_placed d p x ready;
+    refused = λ s e. (refl, refl);
+    held = λ held. held;
+    cause = refl;
+    calm = tt;
+    lost = record { lost = λ gone. absurd (never_lost at finds gone); used = λ some is. refl; only = λ r e. inr (refused_as r e, (found_there name x.snapshots at finds, used)) };
+  }
+    where
+      refused_as : (r : Refusal) → ◌≡◌ {A = VolumeFault} (Refused SnapshotInUse) (Refused r) → r ≡ SnapshotInUse
+      refused_as r e = cc
+
+  module _ (free : stood ≡ false) (e : Disk) (left : Pool) (mid : VolumeState) (placed : IsPlacedAs d p x e left mid) where
+    never_used : stood ≡ true → ⊥
+    never_used used = true≢false (sym used ∙ free)
+
     -- or what changed of the files isn't placed,
-    pub failed_deletes : (at : ℕ) → FindsSnap x.snapshots name (Some at) → (why : VolumeFault) → IsPlaceFault d e why → MayFail d p (Some x) why → Deletes d p x name e left mid (Err why)
+    pub failed_deletes : (at : ℕ) → FindsSnap x.snapshots name (Some at) → (why : VolumeFault) → IsPlaceFault d e why → MayFail d p (Some x) why → Deletes d p x stood name e left mid (Err why)
     failed_deletes at finds why cause may = record {
       changes = λ held. place_changes _ (SnapDelete x.name name) x.name _ _ d e why cause (placed.volume held.stands);
       done = tt;
+      unused = tt;
       failed = placed;
       refused = λ r is. absurd (never_refused d e why cause r is);
       held = placed_held d e p left x mid placed;
       cause = place_fails d e p x why cause may;
       calm = tt;
-      lost = record { lost = λ gone. absurd (never_lost at finds gone); only = λ r is. absurd (never_refused d e why cause r is) };
+      lost = record { lost = λ gone. absurd (never_lost at finds gone); used = λ some used. absurd (never_used used); only = λ r is. absurd (never_refused d e why cause r is) };
     }
 
     module _ (none : mid.files ≡ None) (whole : IsVolume mid.map) (at : ℕ) (finds : FindsSnap x.snapshots name (Some at)) (some : Snap) (ledger : Ledger) where
@@ -134,9 +178,9 @@ module _ (d : Disk) (p : Pool) (x : VolumeState) (name : List ℕ) (ready : IsRe
       same : left_volume ≡ done
       same = ap (λ (n : ℕ). record mid { snapshots = take at mid.snapshots ++ drop n mid.snapshots; map = done.map; ledger = ledger; fresh = done.fresh; changed = true }) (let next : suc at ≡ at + 1 = omega arith in next)
 
-      module _ (valid : IsVolume done.map) (counted : HasCounted done.map None (length done.snapshots) done.span done.size done.kind ledger) where
-        counted_left : HasCounted left_volume.map None (length left_volume.snapshots) left_volume.span left_volume.size left_volume.kind ledger
-        counted_left = subst (λ (z : VolumeState). HasCounted done.map None (length z.snapshots) done.span done.size done.kind ledger) (sym same) counted
+      module _ (valid : IsVolume done.map) (counted : IsCountOf done ledger) where
+        counted_left : IsCountOf left_volume ledger
+        counted_left = subst (λ (z : VolumeState). IsCountOf z ledger) (sym same) counted
 
         few : length left_volume.snapshots ≤ 24
         few = few_snaps (head_in left_volume) left_volume.snapshots refl
@@ -182,43 +226,31 @@ module _ (d : Disk) (p : Pool) (x : VolumeState) (name : List ℕ) (ready : IsRe
           held_now = without.unsnapped_held mid whole labelled at some within ledger e left there none name its booked right fits
 
         -- or it is removed.
-        pub done_deletes : e.faults ≡ d.faults → Deletes d p x name e left done (Ok tt)
-        done_deletes calm = subst (λ (z : VolumeState). Deletes d p x name e left z (Ok tt)) same (record {
+        pub done_deletes : e.faults ≡ d.faults → Deletes d p x stood name e left done (Ok tt)
+        done_deletes calm = subst (λ (z : VolumeState). Deletes d p x stood name e left z (Ok tt)) same (record {
           changes = λ held. record {
-            agrees = λ m has.
-                delete_by m x.name (volume_for d p x) has.there name
-                ∙ ap₂ (λ (a b : Bool). cond a (Some NoSnapshot) (cond b (Some SnapshotInUse) None)) (isnt_none _ (found_some held)) has.unused;
+            agrees = λ m has. said at finds held m has ∙ ap (λ (b : Bool). cond b (Some SnapshotInUse) None) free;
             becomes = λ m has. delete_change m x.name (volume_for d p x) has name ∙ ap (λ (v : Volume). Becomes x.name v) (sym (after held));
             stays = tt;
           };
           done = record { mid = mid; placed = placed; none = none; at = at; finds = finds; within = subst (λ (snaps : List Snap). at < length snaps) same_snaps within; snap = slice_index_or mid.snapshots at some; there = λ other. ap (λ (snaps : List Snap). slice_index_or snaps at other) (sym same_snaps) ∙ same_at mid.snapshots at other some within; ledger = ledger; counted = counted_left; now = same };
+          unused = free;
           failed = tt;
           refused = tt;
           held = λ held. subst (λ (s : ℕ). IsHeldIn e left s left_volume) (slot_is held) (held_now held);
           cause = tt;
           calm = calm;
-          lost = record { lost = λ gone. absurd (never_lost at finds gone); only = tt };
+          lost = record { lost = λ gone. absurd (never_lost at finds gone); used = λ some used. absurd (never_used used); only = tt };
         })
-          where
-            isnt_none : (o : Option Table) → is_some o ≡ true → is_none o ≡ false
-            isnt_none None is = absurd cc
-            isnt_none (Some t) is = refl
-
-            found_some : IsHeldIn d p x.slot x → is_some (fin.get (volume_for d p x).snapshots name) ≡ true
-            found_some held = by (snap_named x.snapshots name) refl (found_there name x.snapshots at finds)
-              where
-                by : (o : Option Snap) → snap_named x.snapshots name ≡ o → is_some o ≡ true → is_some (fin.get (volume_for d p x).snapshots name) ≡ true
-                by None e is = absurd cc
-                by (Some q) e is = some_found x name d p held.stands q e
 
     -- So the calls leave it.
     pub removed_deletes : e.faults ≡ d.faults → (none : mid.files ≡ None) (whole : IsVolume mid.map) (at : ℕ) (finds : FindsSnap x.snapshots name (Some at)) (some : Snap) (n : ℕ) → n ≡ (slice_index_or mid.snapshots at some).slot
-        → (a new : VolumeState) → a ≡ without_snapshot mid at n → IsVolume a.map → HasCounted a.map None (length a.snapshots) a.span a.size a.kind new.ledger → new ≡ record a { ledger = new.ledger }
-        → Deletes d p x name e left new (Ok tt) × IsReady e left new
+        → (a new : VolumeState) → a ≡ without_snapshot mid at n → IsVolume a.map → IsCountOf a new.ledger → new ≡ record a { ledger = new.ledger }
+        → Deletes d p x stood name e left new (Ok tt) × IsReady e left new
     removed_deletes calm none whole at finds some n there a new gone valid counted now =
         let ledger : Ledger = new.ledger in
         let left_is : a ≡ without_snapshot mid at (slice_index_or mid.snapshots at some).slot = gone ∙ ap (without_snapshot mid at) there in
         let same : new ≡ done none whole at finds some ledger = now ∙ ap (λ (z : VolumeState). record z { ledger = ledger }) left_is in
-        let right = subst (λ (z : VolumeState). HasCounted z.map None (length z.snapshots) z.span z.size z.kind ledger) left_is counted in
+        let right = subst (λ (z : VolumeState). IsCountOf z ledger) left_is counted in
         let is = subst (λ (z : VolumeState). IsVolume z.map) left_is valid in
-        subst (λ (z : VolumeState). Deletes d p x name e left z (Ok tt) × IsReady e left z) (sym same) (done_deletes none whole at finds some ledger is right calm, done_ready none whole at finds some ledger is right)
+        subst (λ (z : VolumeState). Deletes d p x stood name e left z (Ok tt) × IsReady e left z) (sym same) (done_deletes none whole at finds some ledger is right calm, done_ready none whole at finds some ledger is right)

@@ -1,6 +1,6 @@
 -- The snapshot of a name, by its place in the list and by itself.
 use Rattle.std.proofs.Common.{Bor, option_copied, ◌≡◌, ℕ, suc, ◌+◌, ◌<◌, ◌≤◌, Bool, true, false, cond, not, ◌&&◌, List, [], ◌∷◌, length, Option, Some, None, is_some, refl, sym, ap, subst, ◌∙◌, arith}
-use Rattle.std.specs.Prelude.{◌==◌, find, nat_le, nat_lt, if◌then◌else◌}
+use Rattle.std.specs.Prelude.{◌==◌, find, nat_le, nat_lt, slice_index_or, if◌then◌else◌}
 use Rattle.std.specs.List.{list_all, position_or_len}
 use Rattle.std.proofs.lemmas.Bool.{and_parts, true≢false}
 use Rattle.std.proofs.lemmas.Bool.Decides.{nat_tests}
@@ -49,6 +49,18 @@ module _ (name : List ℕ) where
       by true c same low rest = ap (λ (c : Bool). is_some (if c then Some q else snap_named qs name)) same
       by false c same low rest = ap (λ (c : Bool). is_some (if c then Some q else snap_named qs name)) same ∙ rest (omega (arith, low))
 
+  -- and is the one there,
+  here_named : (snaps : List Snap) → place snaps < length snaps → (some : Snap) → snap_named snaps name ≡ Some (slice_index_or snaps (place snaps) some)
+  here_named [] low some = absurd (omega (arith, low))
+  here_named (q ∷ qs) low some = by (is_same_name q.name name) (is_same_name name q.name) (turned q) low (here_named qs)
+    where
+      by : (b c : Bool) → c ≡ b → cond (not b) (1 + place qs) 0 < suc (length qs) → (place qs < length qs → (some : Snap) → snap_named qs name ≡ Some (slice_index_or qs (place qs) some))
+          → (if c then Some q else snap_named qs name) ≡ Some (slice_index_or (q ∷ qs) (cond (not b) (1 + place qs) 0) some)
+      by true c same low rest = ap (λ (c : Bool). if c then Some q else snap_named qs name) same
+      by false c same low rest =
+          let next : suc (place qs) ≡ 1 + place qs = omega arith in
+          ap (λ (c : Bool). if c then Some q else snap_named qs name) same ∙ rest (omega (arith, low)) some ∙ ap (λ (n : ℕ). Some (slice_index_or (q ∷ qs) n some)) next
+
   -- and none is where none is at a place
   none_named : (snaps : List Snap) → length snaps ≡ place snaps → snap_named snaps name ≡ None
   none_named [] same = refl
@@ -64,6 +76,14 @@ module _ (name : List ℕ) where
       let same = first_of (λ (p : Snap). is_same_name p.name name) snaps at finds in
       let low = first_within (λ (p : Snap). is_same_name p.name name) snaps at finds in
       some_named snaps (omega (arith, same, low))
+
+  -- as the one at that place,
+  pub found_here : (snaps : List Snap) (at : ℕ) → FindsSnap snaps name (Some at) → (some : Snap) → snap_named snaps name ≡ Some (slice_index_or snaps at some)
+  found_here snaps at finds some =
+      let same = first_of (λ (p : Snap). is_same_name p.name name) snaps at finds in
+      let low = first_within (λ (p : Snap). is_same_name p.name name) snaps at finds in
+      let lies : place snaps ≡ at = omega (arith, same) in
+      here_named snaps (omega (arith, same, low)) some ∙ ap (λ (n : ℕ). Some (slice_index_or snaps n some)) lies
 
   -- its place lies in the list
   pub found_within : (snaps : List Snap) (at : ℕ) → FindsSnap snaps name (Some at) → at < length snaps

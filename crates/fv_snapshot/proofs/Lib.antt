@@ -1,7 +1,5 @@
 pub mod Told
-pub mod AllRoots
 pub mod Changed
-pub mod OwnIds
 pub mod Snapped
 pub mod Removing
 pub mod Unsnapped
@@ -15,3 +13,4 @@ pub mod Created
 pub mod Finding
 pub mod Deleted
 pub mod Restored
+pub mod InUse

@@ -8,6 +8,8 @@ use Rattle.fv_files.specs.declared.files.Files.{Files}
 use Rattle.fv_model.specs.declared.answers.Refusal.{Refusal}
 use Rattle.fv_model.specs.declared.commands.Command.{Command}
 use Rattle.fv_model.specs.Machines.{Machine}
+use Rattle.std.specs.FinSet as set
+use Rattle.fv_model.specs.Space.{base_ids}
 use Rattle.fv_model.specs.Volumes.{Volume}
 use Rattle.fv_pool.specs.declared.fault.VolumeFault.{VolumeFault}
 use Rattle.fv_pool.specs.declared.fault.VolumeFault.TheVariants.{Refused, DiskFault, Damaged, Memory}
@@ -23,9 +25,6 @@ use Rattle.fv_snapshot.specs.Creating.{SnapFails}
 -- A volume between points is one still where what changed of its files was placed.
 pub placed_held : (d e : Disk) (p q : Pool) (x y : VolumeState) → IsPlacedAs d p x e q y → IsHeldIn d p x.slot x → IsHeldIn e q x.slot y
 placed_held d e p q x y placed held =
-    let wide : x.most + 256 ≤ x.span = held.wide in
-    let most : y.most ≡ x.most = ap (λ (z : VolumeState). z.most) placed.keeps in
-    let span : y.span ≡ x.span = ap (λ (z : VolumeState). z.span) placed.keeps in
     let ledger : y.ledger ≡ x.ledger = ap (λ (z : VolumeState). z.ledger) placed.keeps in
     let size : y.size ≡ x.size = ap (λ (z : VolumeState). z.size) placed.keeps in
     let charge : y.ledger.charge ≡ x.ledger.charge = ap (λ (l : Ledger). l.charge) ledger in
@@ -36,7 +35,7 @@ placed_held d e p q x y placed held =
       stands = placed.standing held.stands;
       led = placed.led held.stands held.led;
       well = placed.well held.stands held.led held.well;
-      wide = omega (arith, wide, most, span);
+      wide = subst (λ (v : Volume). v.most + (set.len (base_ids v.base) + 256) ≤ v.span) (sym (placed.volume held.stands)) held.wide;
       within = omega (arith, charge, size, fits);
     }
 

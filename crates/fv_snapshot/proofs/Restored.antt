@@ -27,12 +27,13 @@ use Rattle.fv_volume.specs.declared.tables.TableAsked.TheVariants.{Kept}
 use Rattle.fv_volume.specs.Asking.{snap_named, standing_of}
 use Rattle.fv_volume.specs.Files.{IsLabelled}
 use Rattle.fv_volume.specs.Held.{IsHeldIn}
-use Rattle.fv_volume.specs.Loading.{HasCounted}
+use Rattle.fv_volume.specs.Loading.{IsCountOf}
 use Rattle.fv_volume.specs.OneVolume.{blocks_in, standing_kept, volume_for, IsBooked, IsKeptTable, IsReady}
 use Rattle.fv_volume.specs.Snaps.{turned_to}
 use Rattle.fv_volume.specs.States.{head_in}
 use Rattle.fv_volume.proofs.JudgedCut.{has_room}
 use Rattle.fv_volume.proofs.SnapReads.{found_among, kept_told}
+use Rattle.fv_volume.proofs.TablesOf.{snaps_all}
 use Rattle.fv_model.specs.Spelling.{is_same_name}
 use Rattle.fv_snapshot.specs.Restoring.{Restores}
 use Rattle.fv_snapshot.proofs.Full.{few_snaps}
@@ -67,7 +68,7 @@ module _ (d : Disk) (p : Pool) (x : VolumeState) (others : ℕ) (name : List ℕ
     abbrev pub done : VolumeState
     done = turned.y x whole labelled name q found ledger
 
-    module _ (valid : IsVolume done.map) (counted : HasCounted done.map None (length done.snapshots) done.span done.size done.kind ledger) where
+    module _ (valid : IsVolume done.map) (counted : IsCountOf done ledger) where
       booked : IsBooked done
       booked = counted_booked done counted labelled.map labelled.span (few_snaps (head_in x) x.snapshots refl labelled.snapshots.slots)
 
@@ -82,7 +83,7 @@ module _ (d : Disk) (p : Pool) (x : VolumeState) (others : ℕ) (name : List ℕ
         its =
             found_is x name d p held.stands
             ∙ ap (λ (o : Option Snap). option_map table_told (option_map (standing_of d p x) (option_map (λ (q : Snap). Kept q.table) o))) found
-            ∙ ap (λ (t : Table). Some t) (kept_told d p x q (found_among (IsKeptTable d p x) (λ (q : Snap). is_same_name name q.name) x.snapshots held.stands.kept q found))
+            ∙ ap (λ (t : Table). Some t) (kept_told d p x q (found_among (IsKeptTable d p x) (λ (q : Snap). is_same_name name q.name) x.snapshots (snaps_all (IsKeptTable d p x) x held.stands.kept) q found))
 
         after : volume_for d p done ≡ record (volume_for d p x) { active = table }
         after = turned.turned_volume x whole labelled name q found ledger d p held.stands
@@ -127,13 +128,12 @@ module _ (d : Disk) (p : Pool) (x : VolumeState) (others : ℕ) (name : List ℕ
 
   -- So the calls leave it.
   pub turned_restores : (ready : IsReady d p x) (whole : IsVolume x.map) (q : Snap) (found : snap_named x.snapshots name ≡ Some q) (a : VolumeState) (m : Maps) (new : VolumeState) → a ≡ turned_to x q.table
-      → m ≡ with_slot a.map 0 (slot_at a.map q.slot) → IsVolume m → HasCounted m None (length a.snapshots) a.span a.size a.kind new.ledger → new ≡ record a { map = m; ledger = new.ledger }
+      → m ≡ with_slot a.map 0 (slot_at a.map q.slot) → IsVolume m → IsCountOf (record a { map = m }) new.ledger → new ≡ record a { map = m; ledger = new.ledger }
       → Restores d p x others name new (Ok tt) × IsReady d p new
   turned_restores ready whole q found a m new turn moved valid counted now =
       let ledger : Ledger = new.ledger in
       let map_is : m ≡ with_slot x.map 0 (slot_at x.map q.slot) = moved ∙ ap (λ (z : VolumeState). with_slot z.map 0 (slot_at z.map q.slot)) turn in
       let same : new ≡ done ready whole q found ledger = now ∙ ap₂ (λ (z : VolumeState) (n : Maps). record z { map = n; ledger = ledger }) turn map_is in
-      let right : HasCounted (with_slot x.map 0 (slot_at x.map q.slot)) None (length x.snapshots) x.span x.size x.kind ledger =
-      subst (λ (n : Maps). HasCounted n None (length x.snapshots) x.span x.size x.kind ledger) map_is (subst (λ (z : VolumeState). HasCounted m None (length z.snapshots) z.span z.size z.kind ledger) turn counted) in
+      let right : IsCountOf (done ready whole q found ledger) ledger = subst (λ (z : VolumeState). IsCountOf z ledger) (ap₂ (λ (z : VolumeState) (n : Maps). record z { map = n; ledger = ledger }) turn map_is) counted in
       let is : IsVolume (with_slot x.map 0 (slot_at x.map q.slot)) = subst IsVolume map_is valid in
       subst (λ (z : VolumeState). Restores d p x others name z (Ok tt) × IsReady d p z) (sym same) (done_restores ready whole q found ledger is right, done_ready ready whole q found ledger is right)

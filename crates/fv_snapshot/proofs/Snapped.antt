@@ -10,10 +10,11 @@ use Rattle.std.proofs.lemmas.List.Elements.{All-append, All-cons, All-drop, All-
 use Rattle.fv_disk.specs.Shown.{Shown as Disk}
 use Rattle.fv_codec.specs.Blocks.{IsLabel}
 use Rattle.fv_model.specs.Spelling.{is_name, name_cmp}
-use Rattle.fv_model.specs.Space.{map_blocks}
+use Rattle.std.specs.FinSet as set
+use Rattle.fv_model.specs.Space.{base_ids, map_blocks}
 use Rattle.fv_model.specs.Tables.{Table}
 use Rattle.fv_model.specs.Volumes.{Volume}
-use Rattle.fv_laws.proofs.Lists.{In}
+use Rattle.fv_laws.proofs.Lists.{In, in_left, in_right}
 use Rattle.fv_laws.proofs.PathCharges.{no_need}
 use Rattle.fv_laws.proofs.Snapshots.{create_charge}
 use Rattle.fv_tables.specs.Spelled.{Under}
@@ -26,7 +27,7 @@ use Rattle.fv_image.specs.Turned.{turned}
 use Rattle.fv_image.specs.Views.{Snap as HeadSnap}
 use Rattle.fv_image.specs.Volumes.{snap_at}
 use Rattle.fv_image.proofs.SnapLists.{distinct_added, slots_added}
-use Rattle.fv_volmap.specs.Slots.{IsVolume, has, active_of, slot_at, taken_in}
+use Rattle.fv_volmap.specs.Slots.{IsVolume, has, active_of, slot_at, slot_of_base, taken_in}
 use Rattle.fv_pool.specs.declared.pool.Pool.{Pool}
 use Rattle.fv_volume.specs.declared.state.Snap.{Snap}
 use Rattle.fv_volume.specs.declared.state.VolumeState.{VolumeState}
@@ -35,7 +36,7 @@ use Rattle.fv_volume.specs.Asking.{snap_named, standing_of}
 use Rattle.fv_volume.specs.Files.{HasSlotsOf, IsLabelled}
 use Rattle.fv_volume.specs.Held.{IsHeldIn}
 use Rattle.fv_volume.specs.Labels.{label_said}
-use Rattle.fv_volume.specs.OneVolume.{IsBooked, blocks_in, snap_by, snaps_by, table_for, trees_for, volume_as, volume_for, IsKeptTable, IsReady, IsStanding, RootStands}
+use Rattle.fv_volume.specs.OneVolume.{IsBooked, base_table, tables_of, blocks_in, snap_by, snaps_by, table_for, trees_for, volume_as, volume_for, IsKeptTable, IsReady, IsStanding, RootStands}
 use Rattle.fv_volume.specs.Sharing.{AreShared}
 use Rattle.fv_volume.specs.SnapRecords.{AreSayable, IsSayableSnap}
 use Rattle.fv_volume.specs.Snaps.{with_snapshot}
@@ -48,10 +49,11 @@ use Rattle.fv_volume.proofs.Labels.{label_turned}
 use Rattle.fv_volume.proofs.ActiveStands.{active_stands}
 use Rattle.fv_volume.proofs.SlotMoves.{blocks_move, less_told, root_moves, taken_set}
 use Rattle.fv_volume.proofs.SnapReads.{asked_table}
+use Rattle.fv_volume.proofs.TablesOf.{snaps_all}
 use Rattle.fv_volume.proofs.SnapRecords.{all_said}
 use Rattle.fv_volume.proofs.SnapSlots.{added_in, least_is_free, slots_more}
 use Rattle.fv_volume.proofs.SnapNames.{names_in}
-use Rattle.fv_snapshot.proofs.AllRoots.{active_root, are_shared, each_shares, root_moved, roots, roots_moved, shares_again, table_moves, WasRoot}
+use Rattle.fv_volume.proofs.AllRoots.{active_root, are_shared, base_kept, base_told, base_was, each_shares, root_moved, roots, roots_moved, shares_again, table_moves, WasRoot}
 use Rattle.fv_snapshot.proofs.Changed.{ready_again, relabelled}
 use Rattle.fv_snapshot.proofs.Told.{distinct_told, none_named, snaps_more}
 
@@ -115,7 +117,11 @@ module _ (x : VolumeState) (whole : IsVolume x.map) (slot : ℕ) (free : IsLeast
   at_other : (k : ℕ) → k ≢ slot → slot_at y.map k ≡ slot_at x.map k
   at_other k other = get_or-set_other x.map.slots slot k (Some (active_of x.map)) None other
 
-  -- the active slot isn't the new one
+  -- that of the base isn't the new one,
+  at_base : slot_at y.map slot_of_base ≡ slot_at x.map slot_of_base
+  at_base = at_other slot_of_base (let low = free.stored in λ same. absurd (omega (arith, low, same)))
+
+  -- and neither is the active slot
   not_active : 0 ≢ slot
   not_active = let above = free.above in λ same. absurd (omega (arith, above, same))
 
@@ -187,10 +193,10 @@ module _ (x : VolumeState) (whole : IsVolume x.map) (slot : ℕ) (free : IsLeast
     table_is : table_for d p y ≡ table_for d p x
     table_is = table_moves d p x y refl refl none none root root_now (at_other 0 not_active)
 
-    kept_now : All (IsKeptTable d p y) y.snapshots
-    kept_now = all_inserted (IsKeptTable d p y) x.snapshots (position_or_len (λ q. nat_lt slot q.slot) x.snapshots) new
-        (all_apart slot (IsKeptTable d p x) (IsKeptTable d p y) (λ q differs is. (is.0, root_moves d p x y refl q.slot q.slot (at_other q.slot differs) refl q.table is.1)) x.snapshots free.free held.stands.kept)
-        (not_first, root_moves d p x y refl slot 0 at_new refl x.active root)
+    kept_now : All (IsKeptTable d p y) (tables_of y)
+    kept_now = All-append (IsKeptTable d p y) (base_table x.base) y.snapshots (base_kept d p x y refl refl at_base held.stands.kept) (all_inserted (IsKeptTable d p y) x.snapshots (position_or_len (λ q. nat_lt slot q.slot) x.snapshots) new
+        (all_apart slot (IsKeptTable d p x) (IsKeptTable d p y) (λ q differs is. (is.0, root_moves d p x y refl q.slot q.slot (at_other q.slot differs) refl q.table is.1)) x.snapshots free.free (snaps_all (IsKeptTable d p x) x held.stands.kept))
+        (not_first, root_moves d p x y refl slot 0 at_new refl x.active root))
       where
         not_first : slot ≢ 0
         not_first = let above = free.above in λ same. absurd (omega (arith, above, same))
@@ -204,7 +210,7 @@ module _ (x : VolumeState) (whole : IsVolume x.map) (slot : ℕ) (free : IsLeast
 
     -- It stands for the volume with the snapshot,
     pub snapped_volume : volume_for d p y ≡ record (volume_for d p x) { snapshots = fin.insert (volume_for d p x).snapshots name (volume_for d p x).active }
-    snapped_volume = λ i. volume_as x (record { active = table_is i; snapshots = snaps_are i })
+    snapped_volume = λ i. volume_as x (record { active = table_is i; snapshots = snaps_are i; base = base_told d p x y refl refl at_base i })
 
     new_name : fin.get (volume_for d p x).snapshots name ≡ None
     new_name =
@@ -228,12 +234,12 @@ module _ (x : VolumeState) (whole : IsVolume x.map) (slot : ℕ) (free : IsLeast
     -- each root was one
     was_root : (q : Snap) → In q (roots y) → WasRoot d p x y (roots x) q
     was_root = roots_moved d p x y refl (roots x) (root_moved d p x y refl (roots x) (active_root y) (active_root x) refl (inl refl) (at_other 0 not_active))
-        (all_inserted (WasRoot d p x y (roots x)) x.snapshots (position_or_len (λ q. nat_lt slot q.slot) x.snapshots) new
+        (All-append (WasRoot d p x y (roots x)) (base_table x.base) y.snapshots (base_was d p x y refl refl at_base (roots x) (λ q one. inr (in_left q (base_table x.base) x.snapshots one))) (all_inserted (WasRoot d p x y (roots x)) x.snapshots (position_or_len (λ q. nat_lt slot q.slot) x.snapshots) new
         (all_apart slot (λ (r : Snap). In r (roots x)) (WasRoot d p x y (roots x)) (λ r differs one. root_moved d p x y refl (roots x) r r refl one (at_other r.slot differs))
-        x.snapshots free.free (all_among (λ (r : Snap). In r (roots x)) x.snapshots (λ r one. inr one)))
-        (root_moved d p x y refl (roots x) new (active_root x) refl (inl refl) at_new))
+        x.snapshots free.free (all_among (λ (r : Snap). In r (roots x)) x.snapshots (λ r one. inr (in_right r (base_table x.base) x.snapshots one))))
+        (root_moved d p x y refl (roots x) new (active_root x) refl (inl refl) at_new)))
 
-    shared_now : AreShared (trees_for d p y) (blocks_in d p y) y.snapshots
+    shared_now : AreShared (trees_for d p y) (blocks_in d p y) (tables_of y)
     shared_now = are_shared d p y none root_now (shares_again d p x y (roots x) was_root (each_shares d p x none root held.stands.shared))
 
     pub snapped_standing : IsStanding d p y
@@ -247,6 +253,6 @@ module _ (x : VolumeState) (whole : IsVolume x.map) (slot : ℕ) (free : IsLeast
       stands = snapped_standing;
       led = root_leads d p y root_now none;
       well = root_well d p y root_now none;
-      wide = held.wide;
+      wide = subst (λ (v : Volume). v.most + (set.len (base_ids v.base) + 256) ≤ v.span) (sym snapped_volume) held.wide;
       within = fits;
     }

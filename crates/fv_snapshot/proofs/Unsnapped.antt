@@ -5,11 +5,14 @@ use Rattle.std.specs.List.{list_any}
 use Rattle.std.specs.FinMap as fin
 use Rattle.std.proofs.lemmas.Bool.{cases_eq, true≢false}
 use Rattle.std.proofs.lemmas.Bool.Decides.{nat_tests}
-use Rattle.std.proofs.lemmas.List.Elements.{All-cons, All-head, All-tail}
+use Rattle.std.proofs.lemmas.List.Elements.{All-append, All-cons, All-head, All-tail}
 use Rattle.fv_disk.specs.Shown.{Shown as Disk}
+use Rattle.std.specs.FinSet as set
+use Rattle.fv_model.specs.Space.{base_ids}
 use Rattle.fv_model.specs.Spelling.{name_cmp}
+use Rattle.fv_model.specs.Volumes.{Volume}
 use Rattle.fv_model.specs.Tables.{Table}
-use Rattle.fv_laws.proofs.Lists.{In}
+use Rattle.fv_laws.proofs.Lists.{In, in_left, in_right}
 use Rattle.fv_files.specs.Numbering.{AreNumbersIf}
 use Rattle.fv_charge.specs.declared.ledger.Ledger.{Ledger}
 use Rattle.fv_charge.specs.Ledgers.{IsLedgerOf}
@@ -25,7 +28,7 @@ use Rattle.fv_volume.specs.Files.{HasSlotsOf, IsLabelled}
 use Rattle.fv_volume.specs.Held.{IsHeldIn}
 use Rattle.fv_volume.specs.Labels.{label_said}
 use Rattle.fv_pool.specs.Lending.{IsTold}
-use Rattle.fv_volume.specs.OneVolume.{blocks_in, snaps_by, table_for, volume_as, volume_for, IsBooked, IsKeptTable, IsReady, IsStanding, RootStands}
+use Rattle.fv_volume.specs.OneVolume.{base_table, tables_of, blocks_in, snaps_by, table_for, volume_as, volume_for, IsBooked, IsKeptTable, IsReady, IsStanding, RootStands}
 use Rattle.fv_volume.specs.SnapRecords.{AreSayable, IsSayableSnap}
 use Rattle.fv_volume.specs.Snapshots.{FindsSnap}
 use Rattle.fv_volume.specs.States.{head_in, snap_in, snaps_in}
@@ -37,8 +40,9 @@ use Rattle.fv_volume.proofs.ActiveStands.{active_stands}
 use Rattle.fv_volume.proofs.SlotMoves.{blocks_move, less_told, root_moves, taken_set}
 use Rattle.fv_volume.proofs.SnapRecords.{all_said}
 use Rattle.fv_volume.proofs.SnapSlots.{removed_in}
+use Rattle.fv_volume.proofs.TablesOf.{snaps_all}
 use Rattle.fv_volume.proofs.SnapNames.{names_in}
-use Rattle.fv_snapshot.proofs.AllRoots.{active_root, are_shared, each_shares, root_moved, roots, roots_moved, shares_again, table_moves, EachShares, WasRoot}
+use Rattle.fv_volume.proofs.AllRoots.{active_root, are_shared, base_kept, base_told, base_was, each_shares, root_moved, roots, roots_moved, shares_again, table_moves, EachShares, WasRoot}
 use Rattle.fv_snapshot.proofs.Changed.{ready_again, relabelled}
 use Rattle.fv_snapshot.proofs.Removing.{find_left, left_apart, left_of, slot_there, slots_left, told_left}
 use Rattle.fv_snapshot.proofs.Told.{distinct_told, snaps_fewer}
@@ -94,7 +98,11 @@ module _ (x : VolumeState) (whole : IsVolume x.map) (labelled : IsLabelled x.slo
   at_other : (k : ℕ) → k ≢ gone.slot → slot_at y.map k ≡ slot_at x.map k
   at_other k other = get_or-set_other x.map.slots gone.slot k None None other
 
-  -- the active slot isn't that of the one that goes
+  -- that of the base isn't the one that goes,
+  at_base : slot_at y.map slot_of_base ≡ slot_at x.map slot_of_base
+  at_base = at_other slot_of_base (let low = bounds.1 in λ same. absurd (omega (arith, low, same)))
+
+  -- and neither is the active slot
   not_active : 0 ≢ gone.slot
   not_active = let above = bounds.0 in λ same. absurd (omega (arith, above, same))
 
@@ -117,7 +125,7 @@ module _ (x : VolumeState) (whole : IsVolume x.map) (labelled : IsLabelled x.slo
   slots_now : HasSlotsOf (head_in y) y.map
   slots_now = record {
     each = λ k other not_base. ap (λ (s : Option (List Bool)). is_some s) (slot_with x.map gone.slot None long k) ∙ by k (k == gone.slot) (labelled.slots.each k other not_base) ∙ sym (ap (λ (o : Option HeadSnap). is_some o) (found_now k));
-    base = at_other slot_of_base (let low = bounds.1 in λ same. absurd (omega (arith, low, same))) ∙ labelled.slots.base;
+    base = ap (λ (s : Option (List Bool)). is_some s) at_base ∙ labelled.slots.base;
   }
     where
       by : (k : ℕ) (b : Bool) → is_some (slot_at x.map k) ≡ is_some (snap_at (head_in x) k) → is_some {T = List Bool} (if b then None else slot_at x.map k) ≡ is_some {T = HeadSnap} (if b then None else snap_at (head_in x) k)
@@ -157,9 +165,9 @@ module _ (x : VolumeState) (whole : IsVolume x.map) (labelled : IsLabelled x.slo
     table_is : table_for disk p y ≡ table_for disk p x
     table_is = table_moves disk p x y refl refl none none root root_now (at_other 0 not_active)
 
-    pub kept_now : All (IsKeptTable disk p y) y.snapshots
-    kept_now = left_apart (IsKeptTable disk p x) (IsKeptTable disk p y) x.snapshots at d labelled.snapshots.slots.rising within
-        (λ q differs is. (is.0, root_moves disk p x y refl q.slot q.slot (at_other q.slot differs) refl q.table is.1)) held.stands.kept
+    pub kept_now : All (IsKeptTable disk p y) (tables_of y)
+    kept_now = All-append (IsKeptTable disk p y) (base_table x.base) y.snapshots (base_kept disk p x y refl refl at_base held.stands.kept) (left_apart (IsKeptTable disk p x) (IsKeptTable disk p y) x.snapshots at d labelled.snapshots.slots.rising within
+        (λ q differs is. (is.0, root_moves disk p x y refl q.slot q.slot (at_other q.slot differs) refl q.table is.1)) (snaps_all (IsKeptTable disk p x) x held.stands.kept))
 
     pub numbers_now : AreNumbersIf y.numbers (table_for disk p y)
     numbers_now = subst (AreNumbersIf x.numbers) (sym table_is) held.stands.numbers
@@ -170,8 +178,8 @@ module _ (x : VolumeState) (whole : IsVolume x.map) (labelled : IsLabelled x.slo
     -- each root was one
     was_root : (q : Snap) → In q (roots y) → WasRoot disk p x y (roots x) q
     was_root = roots_moved disk p x y refl (roots x) (root_moved disk p x y refl (roots x) (active_root y) (active_root x) refl (inl refl) (at_other 0 not_active))
-        (left_apart (λ (r : Snap). In r (roots x)) (WasRoot disk p x y (roots x)) x.snapshots at d labelled.snapshots.slots.rising within
-        (λ r differs one. root_moved disk p x y refl (roots x) r r refl one (at_other r.slot differs)) (all_among (λ (r : Snap). In r (roots x)) x.snapshots (λ r one. inr one)))
+        (All-append (WasRoot disk p x y (roots x)) (base_table x.base) y.snapshots (base_was disk p x y refl refl at_base (roots x) (λ q one. inr (in_left q (base_table x.base) x.snapshots one))) (left_apart (λ (r : Snap). In r (roots x)) (WasRoot disk p x y (roots x)) x.snapshots at d labelled.snapshots.slots.rising within
+        (λ r differs one. root_moved disk p x y refl (roots x) r r refl one (at_other r.slot differs)) (all_among (λ (r : Snap). In r (roots x)) x.snapshots (λ r one. inr (in_right r (base_table x.base) x.snapshots one)))))
 
     pub each_now : EachShares disk p y (roots y)
     each_now = shares_again disk p x y (roots x) was_root (each_shares disk p x none root held.stands.shared)
@@ -192,7 +200,7 @@ module _ (x : VolumeState) (whole : IsVolume x.map) (labelled : IsLabelled x.slo
 
       -- It stands for the volume without the snapshot,
       pub unsnapped_volume : volume_for disk p y ≡ record (volume_for disk p x) { snapshots = fin.remove (volume_for disk p x).snapshots name }
-      unsnapped_volume = λ i. volume_as x (record { active = table_is i; snapshots = snaps_are i })
+      unsnapped_volume = λ i. volume_as x (record { active = table_is i; snapshots = snaps_are i; base = base_told disk p x y refl refl at_base i })
 
       pub names_now : are_distinct (map (λ q. q.name) y.snapshots) ≡ true
       names_now =
@@ -206,4 +214,4 @@ module _ (x : VolumeState) (whole : IsVolume x.map) (labelled : IsLabelled x.slo
 
       -- and is what it is between points.
       pub unsnapped_held : IsBooked y → IsLedgerOf (volume_for disk p y) ledger → ledger.charge ≤ x.size → IsHeldIn disk p x.slot y
-      unsnapped_held booked right fits = record { slot = held.slot; ready = unsnapped_ready disk p booked held.ready; stands = unsnapped_standing right; led = root_leads disk p y root_now none; well = root_well disk p y root_now none; wide = held.wide; within = fits }
+      unsnapped_held booked right fits = record { slot = held.slot; ready = unsnapped_ready disk p booked held.ready; stands = unsnapped_standing right; led = root_leads disk p y root_now none; well = root_well disk p y root_now none; wide = subst (λ (v : Volume). v.most + (set.len (base_ids v.base) + 256) ≤ v.span) (sym unsnapped_volume) held.wide; within = fits }

@@ -21,7 +21,7 @@ use Rattle.fv_volume.specs.declared.state.VolumeState.{VolumeState}
 use Rattle.fv_volume.specs.Asking.{snap_named}
 use Rattle.fv_volume.specs.Calls.{Changes, HasBeside}
 use Rattle.fv_volume.specs.Held.{IsHeldIn, IsPlacedAs, MayFail}
-use Rattle.fv_volume.specs.OneVolume.{snaps_by, volume_as, volume_for, Content}
+use Rattle.fv_volume.specs.OneVolume.{base_told_by, snaps_by, volume_as, volume_for, Content}
 use Rattle.fv_volume.specs.Promising.{CanHave}
 use Rattle.fv_volume.specs.Snaps.{with_snapshot}
 use Rattle.fv_volume.specs.Snapshots.{IsLeastFree, has_slot}
@@ -43,9 +43,9 @@ creation_refusal snaps ledger blocks others name =
     cond (is_some (snap_named snaps name)) (Some SnapshotExists)
     (cond (are_full snaps) (Some TooMany) (refusal_in (admission (record ledger { charge = ledger.charge + map_blocks ledger.span }) others (capacity blocks))))
 
--- what a volume holds with this active table, and with the tables of its snapshots over these blocks
+-- what a volume holds with this active table, and with the tables of its snapshots and of its base over these blocks
 abbrev pub content_by : Table → (ℕ → Under) → VolumeState → Content
-content_by active blocks x = record { active = active; snapshots = snaps_by blocks x.snapshots }
+content_by active blocks x = record { active = active; snapshots = snaps_by blocks x.snapshots; base = base_told_by blocks x.base }
 
 -- A snapshot of a name is refused as in each machine that has the volume, whatever it holds, in an aggregate of so many blocks of which the others
 -- commit so many. So it is where the snapshots have different names. The refusal rests on what the volume has in memory alone. Where it isn't

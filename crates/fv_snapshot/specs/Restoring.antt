@@ -13,7 +13,7 @@ use Rattle.fv_volume.specs.declared.state.VolumeState.{VolumeState}
 use Rattle.fv_volume.specs.Asking.{snap_named}
 use Rattle.fv_volume.specs.Calls.{Changes, HasWithin}
 use Rattle.fv_volume.specs.Held.{IsHeldIn}
-use Rattle.fv_volume.specs.Loading.{HasCounted}
+use Rattle.fv_volume.specs.Loading.{IsCountOf}
 use Rattle.fv_volume.specs.OneVolume.{volume_for}
 use Rattle.fv_volume.specs.Snaps.{turned_to}
 use Rattle.fv_snapshot.specs.Deleting.{RefusesNoSnapshot}
@@ -23,7 +23,7 @@ pub record IsTurned (x : VolumeState) (name : List ℕ) (y : VolumeState) : Type
   pub snap : Snap
   pub there : snap_named x.snapshots name ≡ Some snap
   pub ledger : Ledger
-  pub counted : HasCounted y.map None (length y.snapshots) y.span y.size y.kind ledger
+  pub counted : IsCountOf y ledger
   pub now : y ≡ record (turned_to x snap.table) { map = with_slot x.map 0 (slot_at x.map snap.slot); ledger = ledger }
 
 -- The table of the snapshot of a name was made the active one, or not. It is answered as in each machine in which the volume is within its size and

@@ -1,6 +1,7 @@
 -- Slots in a row.
 use Rattle.std.proofs.Common.{◌≡◌, ℕ, zero, suc, ◌+◌, ◌-◌, ◌<◌, ◌≤◌, Bool, true, false, ◌||◌, ◌&&◌, not, List, [], ◌∷◌, ◌++◌, length, take, drop, get_or, set, Some, None, All, ⊎_elim, refl, sym, ap, ap₂, subst, ◌∙◌, ◌==◌, cond, arith, length-set, true≢false}
 use Rattle.std.specs.Prelude.{count_by, is_some}
+use Rattle.std.specs.List.{list_any}
 use Rattle.std.proofs.lemmas.Bool.Decides.{nat_tests}
 use Rattle.std.proofs.lemmas.List.Folds.{list_any_more, list_any_at, list_any-append}
 use Rattle.std.proofs.lemmas.List.{length-take, length-take-le, get_or_past, set_split, take-take, take_all, get_or-take, get_or-set_other}
@@ -10,7 +11,7 @@ use Rattle.std.proofs.lemmas.List.Elements.{All-set, All-take}
 use Rattle.fv_bits.specs.Members.{is_member}
 use Rattle.fv_bits.proofs.Laws.{is_member-set, is_member_past}
 use Rattle.fv_volmap.specs.Slots.{Slot, Volume, stored_count, has, taken_in, has_alone, IsVolume, AreUnited}
-use Rattle.fv_volmap.specs.Kept.{IsBare, IsLong, AreUsedTo, IsKept, Unites, union_or, with_number}
+use Rattle.fv_volmap.specs.Kept.{IsBare, IsLong, AreFreeTo, AreUsedTo, IsKept, Unites, union_or, with_number}
 
 or_none : (t : Bool) → (t || false) ≡ t
 or_none true = refl
@@ -167,7 +168,7 @@ module _ (span : ℕ) (active : List Bool) (others : List Slot) (used : ℕ) (un
       still (Some map) bare u was = was ∙ stayed (u == v) (is_member active u) (taken_in others u) (same_taken others u v true some) ∙ ap (λ t. t || taken_in others u) (sym (put_in active v u false (omega (arith, within, kept.active_long))))
 
 -- a free slot before those that are free
-pub used_before : (others : List Slot) (count : ℕ) → 0 < count → AreUsedTo count others → get_or others (count - 1) None ≡ None → AreUsedTo (count - 1) others
+pub used_before : (others : List Slot) (count : ℕ) → 0 < count → AreFreeTo count others → get_or others (count - 1) None ≡ None → AreFreeTo (count - 1) others
 used_before others count above used here = record {
   within = omega (arith, used.within);
   free = λ at le lt. ⊎_elim
@@ -180,7 +181,7 @@ used_before others count above used here = record {
 abbrev IsFreeFrom : ℕ → List Slot → Type 0
 IsFreeFrom from slots = (at : ℕ) → from ≤ at → get_or slots at None ≡ None
 
-free_from : (others : List Slot) (used : ℕ) → AreUsedTo used others → IsFreeFrom used (take 24 others)
+free_from : (others : List Slot) (used : ℕ) → AreFreeTo used others → IsFreeFrom used (take 24 others)
 free_from others used is at le = ⊎_elim
     (λ lt. get_or-take 24 others at None lt ∙ is.free at le lt)
     (λ past. get_or_past (take 24 others) at None (omega (arith, length-take 24 others, past)))
@@ -195,19 +196,34 @@ taken_front (suc from) (s ∷ ss) v free = ap (λ t. has v s || t) (taken_front 
 
 -- the slots of snapshots up to the last that is used
 pub used_slots : (used : ℕ) (slots items : List Slot) → slots ≡ items → length items ≡ 25 → AreUsedTo used items → used ≡ length (take used slots)
-used_slots used slots items same count is = sym (length-take-le used slots (omega (arith, ap length same, count, is.within)))
+used_slots used slots items same count is = sym (length-take-le used slots (omega (arith, ap length same, count, is.rest.within)))
 
 -- what the slots of snapshots have, those of them up to the last that is used have
 pub taken_stored : (slots others : List Slot) (used v : ℕ) → slots ≡ others → AreUsedTo used others → taken_in (take used slots) v ≡ taken_in (take 24 others) v
 taken_stored slots others used v same is =
     ap (λ (s : List Slot). taken_in (take used s) v) same
-    ∙ ap (λ (s : List Slot). taken_in s v) (sym (take-take used 24 others is.within))
-    ∙ taken_front used (take 24 others) v (free_from others used is)
+    ∙ ap (λ (s : List Slot). taken_in s v) (sym (take-take used 24 others is.rest.within))
+    ∙ taken_front used (take 24 others) v (free_from others used is.rest)
 
 -- where no snapshot uses a slot, the stored slots have what the active one has
 pub active_alone : (active : List Bool) (others : List Slot) (used : ℕ) → AreUsedTo used others → used ≡ 0 → (v : ℕ) → taken_in (take 25 (Some active ∷ others)) v ≡ has v (Some active)
 active_alone active others used is none v =
     ap (λ (t : Bool). has v (Some active) || t) (sym (taken_stored others others 0 v refl (subst (λ (n : ℕ). AreUsedTo n others) none is))) ∙ or_none (has v (Some active))
+
+-- whether a snapshot uses a slot
+none_used : (slots : List Slot) → IsFreeFrom 0 slots → list_any is_some slots ≡ false
+none_used [] free = refl
+none_used (s ∷ ss) free = ap (λ (t : Slot). is_some t || list_any is_some ss) (free 0 (omega arith)) ∙ none_used ss (λ at le. free (suc at) (omega arith))
+
+pub used_some : (others : List Slot) (used : ℕ) → length others ≡ 25 → AreUsedTo used others → list_any is_some (take 24 others) ≡ not (used == 0)
+used_some others zero count is = none_used (take 24 others) (free_from others 0 is.rest)
+used_some others (suc used) count is =
+    let inside : used < 24 = omega (arith, is.rest.within) in
+    let low : suc used - 1 ≡ used = omega arith in
+    let some : (suc used == 0) ≡ false = grind (arith, nat_tests) in
+    list_any_at is_some (take 24 others) used None (omega (arith, inside, length-take-le 24 others (omega (arith, count))))
+    (ap is_some (get_or-take 24 others used None inside) ∙ ap (λ (i : ℕ). is_some (get_or others i None)) (sym low) ∙ is.last (omega arith))
+    ∙ sym (ap not some)
 
 -- and the slot of the base is the last of all
 pub taken_with_base : (others : List Slot) (used v : ℕ) (base : Slot) → length others ≡ 25 → AreUsedTo used others → (taken_in (take used others) v || has v (get_or others 24 base)) ≡ taken_in others v
@@ -224,8 +240,8 @@ alone_front active rows used at v inside free =
 
 pub alone_stored : (active : Slot) (others : List Slot) (used at : ℕ) (numbers : List ℕ) → at < used → AreUsedTo used others → count_by (has_alone (active ∷ take used others) (suc at)) numbers ≡ count_by (has_alone (active ∷ take 24 others) (suc at)) numbers
 alone_stored active others used at numbers inside is =
-    ap (λ (rows : List Slot). count_by (has_alone (active ∷ rows) (suc at)) numbers) (sym (take-take used 24 others is.within))
-    ∙ ap (λ (p : ℕ → Bool). count_by p numbers) (λ j v. alone_front active (take 24 others) used at v inside (free_from others used is) j)
+    ap (λ (rows : List Slot). count_by (has_alone (active ∷ rows) (suc at)) numbers) (sym (take-take used 24 others is.rest.within))
+    ∙ ap (λ (p : ℕ → Bool). count_by p numbers) (λ j v. alone_front active (take 24 others) used at v inside (free_from others used is.rest) j)
 
 count_none : (numbers : List ℕ) → count_by (λ v. false) numbers ≡ 0
 count_none [] = refl
@@ -234,7 +250,7 @@ count_none (v ∷ vs) = count_none vs
 -- a slot after the last that is used has none
 pub alone_past : (active : Slot) (others : List Slot) (used at : ℕ) (numbers : List ℕ) → used ≤ at → AreUsedTo used others → count_by (has_alone (active ∷ take 24 others) (suc at)) numbers ≡ 0
 alone_past active others used at numbers past is =
-    ap (λ (p : ℕ → Bool). count_by p numbers) (λ j v. has v (free_from others used is at past j) && not (taken_in (active ∷ set (take 24 others) at None) v)) ∙ count_none numbers
+    ap (λ (p : ℕ → Bool). count_by p numbers) (λ j v. has v (free_from others used is.rest at past j) && not (taken_in (active ∷ set (take 24 others) at None) v)) ∙ count_none numbers
 
 -- some of the slots have no number that all of them lack
 none_front : (n : ℕ) (slots : List Slot) (v : ℕ) → taken_in slots v ≡ false → taken_in (take n slots) v ≡ false
@@ -247,9 +263,9 @@ none_less [] at v none = refl
 none_less (s ∷ ss) zero v none = (or_parts (has v s) (taken_in ss v) none).1
 none_less (s ∷ ss) (suc at) v none = ap₂ (λ a b. a || b) (or_parts (has v s) (taken_in ss v) none).0 (none_less ss at v (or_parts (has v s) (taken_in ss v) none).1)
 
-pub front_bare : (slots others : List Slot) (used : ℕ) (union : Slot) → slots ≡ others → IsBare union others → IsBare union (take used slots)
-front_bare slots others used None same bare = λ v. none_front used slots v (ap (λ (s : List Slot). taken_in s v) same ∙ bare v)
-front_bare slots others used (Some map) same bare = tt
+pub front_bare : (slots : List Slot) (used : ℕ) (union : Slot) → IsBare union slots → IsBare union (take used slots)
+front_bare slots used None bare = λ v. none_front used slots v (bare v)
+front_bare slots used (Some map) bare = tt
 
 pub same_bare : (others : List Slot) (old new : Slot) → is_some new ≡ is_some old → IsBare old others → IsBare new others
 same_bare others old (Some map) there bare = tt
@@ -265,8 +281,14 @@ pub unites_bare : (active : List Bool) (others : List Slot) (union : Slot) → u
 unites_bare active others None is bare = record { len = refl; members = λ v. sym (ap (λ t. is_member active v || t) (bare v) ∙ or_none (is_member active v)) }
 unites_bare active others (Some map) is bare = cc
 
-pub stored_long : (span used : ℕ) (slots items : List Slot) (active : List Bool) → slots ≡ items → All (IsLong span) items → length active ≡ span → All (IsLong (length active)) (take used slots)
-stored_long span used slots items active same long whole = subst (λ n. All (IsLong n) (take used slots)) (sym whole) (All-take (IsLong span) used slots (subst (All (IsLong span)) (sym same) long))
+pub front_long : (n used : ℕ) (slots : List Slot) → All (IsLong n) slots → All (IsLong n) (take used slots)
+front_long n used slots long = All-take (IsLong n) used slots long
+
+pub stored_unites : (active : List Bool) (others : List Slot) (used : ℕ) (map : List Bool) → AreUsedTo used others → Unites active (take used others) map → Unites active (take 24 others) map
+stored_unites active others used map is unites = record {
+  len = unites.len;
+  members = λ v. unites.members v ∙ ap (λ t. is_member active v || t) (taken_stored others others used v refl is);
+}
 
 -- a slot is made free
 pub kept_less : (span : ℕ) (active : List Bool) (others : List Slot) (used : ℕ) (union : Slot) (united : Bool) (next at less : ℕ) → IsKept span active others used union united next → AreUsedTo less (set others at None) → IsKept span active (set others at None) less union false next
@@ -281,13 +303,13 @@ kept_less span active others used union united next at less kept now = record {
   exact = λ fresh. absurd (true≢false (sym fresh));
 }
 
--- the active slot and the snapshots' slots up to the last that is used make the union of all that stand on the disk
-pub is_united : (volume : Volume) (span : ℕ) (active : List Bool) (others slots : List Slot) (used : ℕ) (map : List Bool) → record { span = span; slots = Some active ∷ others } ≡ volume → slots ≡ others → length active ≡ span → AreUsedTo used others → Unites active (take used slots) map → AreUnited volume map
-is_united volume span active others slots used map seen same long is unites = record {
+-- the active slot and the snapshots' slots make the union of all that stand on the disk
+pub is_united : (volume : Volume) (span : ℕ) (active : List Bool) (others slots : List Slot) (map : List Bool) → record { span = span; slots = Some active ∷ others } ≡ volume → slots ≡ others → length active ≡ span → Unites active (take 24 slots) map → AreUnited volume map
+is_united volume span active others slots map seen same long unites = record {
   len = unites.len ∙ long ∙ ap (λ (volume : Volume). volume.span) seen;
   members = λ v.
       unites.members v
-      ∙ ap (λ t. is_member active v || t) (taken_stored slots others used v same is)
+      ∙ ap (λ (s : List Slot). is_member active v || taken_in (take 24 s) v) same
       ∙ ap (λ (volume : Volume). taken_in (take stored_count volume.slots) v) seen;
 }
 

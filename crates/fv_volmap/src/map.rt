@@ -1,10 +1,10 @@
 //! The slots of a volume.
 
-ghost use Rattle.std.specs.Prelude.{◌≡◌, ℕ, ◌*◌, ◌<◌, ◌≤◌, false, true, count_by, length, min, not, take, slice_set, Some, None, IsSome, IfSome, IfNone, IfOk, OnOk, OnErr, OnSome, option_copied};
-ghost use Rattle.std.specs.List.{range_with_len};
+ghost use Rattle.std.specs.Prelude.{◌≡◌, ℕ, ◌*◌, ◌<◌, ◌≤◌, false, true, count_by, drop, is_some, length, min, not, take, slice_set, Some, None, IsSome, IfSome, IfNone, IfOk, OnOk, OnErr, OnSome, option_copied};
+ghost use Rattle.std.specs.List.{list_any, range_with_len};
 ghost use Rattle.fv_bits.specs.Bits.{block_bits};
 ghost use Rattle.fv_bits.specs.Members.{IsFirstPast};
-ghost use Rattle.fv_volmap.specs.Slots.{HoldsActive, Volume, slot_count, stored_count, slot_of_base, slot_at, active_of, taken_in, with_slot, empty_volume, IsVolume, Loads, TakesBase, CountsBeside, Allocates, alone_in, is_in_snapshot, is_elsewhere};
+ghost use Rattle.fv_volmap.specs.Slots.{HoldsActive, Volume, slot_count, stored_count, snapshot_count, slot_of_base, slot_at, active_of, taken_in, with_slot, empty_volume, IsVolume, Loads, TakesBase, CountsBeside, Allocates, alone_in, is_in_snapshot, is_elsewhere};
 
 use crate::{slots, union};
 use fv_bits::BitMap;
@@ -115,7 +115,8 @@ impl VolMap {
     /// The set of a slot, and `None` exactly for a free one. Costs one step.
     pub fn snapshot(&self, slot: u8) -> Option<&BitMap>
         requires { slot < slot_count }
-        ensures { option_copied result ≡ slot_at self.now slot }
+        ensures set { option_copied result ≡ slot_at self.now slot }
+        ensures valid { IsVolume self.now }
     {
         if slot == 0 {
             return Some(&self.active);
@@ -152,8 +153,6 @@ impl VolMap {
         ensures failed { OnErr result (self.new ≡ self.old) }
         ensures valid { IsVolume self.new }
     {
-        // What the parent's maps are known to be is how long each of them is.
-        let _ = parent.active();
         let Some(map) = parent.snapshot(slot) else {
             return Ok(());
         };
@@ -194,14 +193,13 @@ impl VolMap {
     /// How many numbers the slots from 0 to 24 have together; what the base reaches counts where one of them has it. It takes no memory.
     /// Costs a step for each word of each used slot and of the union, and one for each slot up to the last that a snapshot uses; the next
     /// `allocate` unites the used slots anew.
-    #[tactic(auto, using(crate::proofs::Rows::used_slots))]
     pub fn count_united(&mut self) -> u32
         ensures same { self.new ≡ self.old }
         ensures united { CountsBeside self.old None result }
         ensures most { result ≤ self.old.span }
         ensures valid { IsVolume self.old }
     {
-        union::unite(&mut self.union, &self.active, &self.others[..self.used]);
+        union::unite_stored(&mut self.union, &self.active, &self.others, self.used);
         self.united = false;
         union::union_or(&self.union, &self.active).count()
     }
@@ -209,14 +207,13 @@ impl VolMap {
     /// How many numbers the slots from 0 to 24 have together that the base's slot lacks; all that they have, where that is free. A clone
     /// that isn't being split is charged for so many blocks, where each of its blocks has its number, as after a flush, and for the maps of
     /// its snapshots. It takes no memory. Costs what `count_united` costs.
-    #[tactic(auto, using(crate::proofs::Rows::used_slots))]
     pub fn count_charged(&mut self) -> u32
         ensures same { self.new ≡ self.old }
         ensures charged { CountsBeside self.old (slot_at self.old slot_of_base) result }
         ensures most { result ≤ self.old.span }
         ensures valid { IsVolume self.old }
     {
-        union::unite(&mut self.union, &self.active, &self.others[..self.used]);
+        union::unite_stored(&mut self.union, &self.active, &self.others, self.used);
         self.united = false;
         slots::count_beside(union::union_or(&self.union, &self.active), &self.others[24])
     }
@@ -314,10 +311,10 @@ impl VolMap {
         slots::any_used_has(&self.others, self.used, vvbn as u32)
     }
 
-    /// Whether it is sure that no slot from 1 to 24 has a number that the active one lacks, as where no snapshot uses one. `false` says
-    /// nothing. Costs one step.
+    /// Whether no snapshot uses a slot: then none from 1 to 24 has a number that the active one lacks. Costs one step.
     pub fn is_alone(&self) -> bool
-        ensures { result ≡ true → HoldsActive self.now }
+        ensures exact { result ≡ not (list_any is_some (take snapshot_count (drop 1 self.now.slots))) }
+        ensures alone { result ≡ true → HoldsActive self.now }
     {
         self.used == 0
     }

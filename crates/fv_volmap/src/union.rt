@@ -1,9 +1,9 @@
 //! The union of the slots. There is one only since a slot beside the active one was used: before, the active map is the union.
 
-ghost use Rattle.std.specs.Prelude.{◌≡◌, ℕ, ◌<◌, ◌||◌, true, is_some, length, All, Some, IfSome, OnOk, OnErr};
+ghost use Rattle.std.specs.Prelude.{◌≡◌, ℕ, ◌<◌, ◌||◌, true, is_some, length, take, All, Some, IfSome, OnOk, OnErr};
 ghost use Rattle.fv_bits.specs.Members.{is_member};
 ghost use Rattle.fv_volmap.specs.Slots.{has, taken_in};
-ghost use Rattle.fv_volmap.specs.Kept.{IsBare, IsLong, Unites, union_or, with_number};
+ghost use Rattle.fv_volmap.specs.Kept.{AreUsedTo, IsBare, IsLong, Unites, union_or, with_number};
 
 use crate::slots::copy;
 use fv_bits::BitMap;
@@ -83,6 +83,26 @@ pub(crate) fn unite(union: &mut Option<BitMap>, active: &BitMap, others: &[Optio
         map.copy_from(active);
         add_all(map, others);
     }
+}
+
+/// Makes it the union of the active map and the snapshots' maps; snapshots use the others up to `used`.
+#[tactic(auto, using(crate::proofs::Rows::used_slots))]
+pub(crate) fn unite_stored(
+    union: &mut Option<BitMap>,
+    active: &BitMap,
+    others: &[Option<BitMap>],
+    used: usize,
+)
+    requires count { length others.now ≡ 25 }
+    requires used { AreUsedTo used others.now }
+    requires long { IsLong (length active.now) union.old }
+    requires others { All (IsLong (length active.now)) others.now }
+    requires bare { IsBare union.old others.now }
+    ensures there { is_some union.new ≡ is_some union.old }
+    ensures long { IsLong (length active.now) union.new }
+    ensures unites { Unites active.now (take 24 others.now) (union_or active.now union.new) }
+{
+    unite(union, active, &others[..used]);
 }
 
 /// Makes it the union of all slots, which it is already where `united`.

@@ -31,7 +31,7 @@ use Rattle.fv_pool.specs.declared.pool.Pool.{Pool}
 use Rattle.fv_volume.specs.declared.state.VolumeState.{VolumeState}
 use Rattle.fv_pool.specs.Lending.{IsTold}
 use Rattle.fv_pool.specs.Tables.{standing_by, AreLaidBy, AreSoundBy, AreLedBy, AreStoredBy}
-use Rattle.fv_volume.specs.OneVolume.{blocks_in, shows, table_for, trees_for, volume_for, IsKeptTable, IsStanding, RootStands}
+use Rattle.fv_volume.specs.OneVolume.{blocks_in, shows, table_for, trees_for, volume_for, IsKeptTable, IsStanding, RootStands, tables_of}
 use Rattle.fv_volume.specs.Sharing.{AreShared}
 use Rattle.fv_volume.specs.Placing.{IsLedTo, IsStoredWell}
 use Rattle.fv_pool.proofs.OverBlocks.{over_keeps, over_reached, over_stored}
@@ -112,8 +112,8 @@ module _ (disk : Disk) (pool : Pool) (x : VolumeState) (active : RootStands disk
     root_well = subst (AreStoredBy whole x.active) (sym none) (over_stored blocks whole x.active.levels x.active.root agrees active.well)
 
     -- So it stands for a volume of the machine, where the names of its snapshots differ, its tables share as they have to, and its ledger is right.
-    pub root_standing : IsTold disk pool x.map x.slot → All (IsKeptTable disk pool x) x.snapshots → are_distinct (map (λ q. q.name) x.snapshots) ≡ true
-        → AreShared (trees_for disk pool x) (blocks_in disk pool x) x.snapshots → IsLedgerOf (volume_for disk pool x) x.ledger → AreNumbersIf x.numbers (table_for disk pool x) → IsStanding disk pool x
+    pub root_standing : IsTold disk pool x.map x.slot → All (IsKeptTable disk pool x) (tables_of x) → are_distinct (map (λ q. q.name) x.snapshots) ≡ true
+        → AreShared (trees_for disk pool x) (blocks_in disk pool x) (tables_of x) → IsLedgerOf (volume_for disk pool x) x.ledger → AreNumbersIf x.numbers (table_for disk pool x) → IsStanding disk pool x
     root_standing told kept names shared ledger numbered = record {
       told = told;
       table = subst (IsWellTable x.now) (sym root_table) active.table;

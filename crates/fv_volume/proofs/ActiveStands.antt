@@ -33,9 +33,10 @@ use Rattle.fv_pool.specs.declared.pool.Pool.{Pool}
 use Rattle.fv_volume.specs.declared.state.VolumeState.{VolumeState}
 use Rattle.fv_pool.specs.BlocksOver.{held_block}
 use Rattle.fv_pool.specs.Tables.{standing_by, AreSoundBy, AreLedBy, AreStoredBy}
-use Rattle.fv_volume.specs.OneVolume.{blocks_in, shows, uses_in, IsStanding, RootStands}
+use Rattle.fv_volume.specs.OneVolume.{blocks_in, shows, uses_in, IsKeptTable, IsStanding, RootStands}
 use Rattle.fv_volume.specs.Placing.{IsLedTo, IsStoredWell}
 use Rattle.fv_volume.specs.States.{head_in, rooted_as}
+use Rattle.fv_volume.proofs.TablesOf.{snaps_all}
 use Rattle.fv_volume.proofs.EachRoot.{each_root}
 use Rattle.fv_pool.proofs.OverBlocks.{over_reached, over_stored}
 use Rattle.fv_volume.proofs.ActiveSlot.{active_has, active_uses}
@@ -134,4 +135,4 @@ module _ (disk : Disk) (pool : Pool) (x : VolumeState) (is : IsStanding disk poo
 
       -- So the table of each root lies whole in its slot.
       pub roots_stand : (k : ℕ) (r : Table) → In {X = ℕ × Table} (k, r) (roots_of (head_in x)) → RootStands disk pool x k (rooted_as r)
-      roots_stand = each_root x (RootStands disk pool x) active_stands (λ n q lt. (is.kept n q lt).1)
+      roots_stand = each_root x (RootStands disk pool x) active_stands (λ n q lt. (snaps_all (IsKeptTable disk pool x) x is.kept n q lt).1)

@@ -65,7 +65,7 @@ onerr_so P (Err e) is = is
 
 -- a map that stays
 pub same_maps : (m n : Maps) → n ≡ m → GivesUp m n
-same_maps m n same = subst (GivesUp m) (sym same) (record { span = refl; snapshots = λ s other. refl; numbers = omega arith })
+same_maps m n same = subst (GivesUp m) (sym same) (record { span = refl; snapshots = λ s other. refl; numbers = omega arith; active = λ v does. does })
 
 -- ---- where nothing was changed
 

@@ -36,13 +36,14 @@ use Rattle.fv_pool.specs.Calls.{Reads}
 use Rattle.fv_volume.specs.Calls.{HasBeside}
 use Rattle.fv_pool.specs.Lending.{IsTold}
 use Rattle.fv_pool.specs.Tables.{standing_by, AreLaidBy, AreSoundBy, trees_by}
-use Rattle.fv_volume.specs.OneVolume.{blocks_in, shows, table_for, trees_for, volume_as, volume_for, IsStanding}
+use Rattle.fv_volume.specs.OneVolume.{blocks_in, shows, table_for, trees_for, volume_as, volume_for, IsStanding, IsKeptTable, base_as, tables_of}
 use Rattle.fv_volume.specs.Sharing.{AreShared}
 use Rattle.fv_volume.proofs.Charging.{left_by}
 use Rattle.fv_pool.proofs.Holding.{same_entry}
-use Rattle.fv_volume.proofs.KeptTables.{kept_shared, kept_snaps, kept_tables}
+use Rattle.fv_volume.proofs.KeptTables.{kept_shared, kept_snaps, kept_tables, kept_base}
 use Rattle.fv_volume.proofs.SharedChanges.{shared_altered, PlacesAltered}
 use Rattle.fv_volume.proofs.OneVolumes.{still_table, still_under, still_used}
+use Rattle.fv_volume.proofs.TablesOf.{snaps_all}
 
 -- ---- what is said of the space
 
@@ -109,10 +110,10 @@ module _ (d e f : Disk) (p q r : Pool) (first : Reads d p e q) (second : Reads e
 
   module _ (told : IsTold f r map x.slot) (trees : AreSoundBy (under (shows e q with_map)) (shows e q with_map).used x.active files) where
     -- what it shares with its snapshots
-    shared_now : AltersTrees (x.now + 1) (trees_for e q x) its_trees → AreShared (trees_by (under (shows f r with_map)) x.active files) (blocks_in d p x) x.snapshots
-    shared_now alters = subst (λ (u : Under). AreShared (trees_by u x.active files) (blocks_in d p x) x.snapshots) (sym (still_under e f q r second with_map))
-        (shared_altered x.now (x.now + 1) (trees_for e q x) its_trees (blocks_in d p x) x.snapshots (omega arith) (λ n s lt. (is.kept n s lt).1.table) alters
-        (subst (λ (u : Under). AreShared (trees_by u x.active x.files) (blocks_in d p x) x.snapshots) (sym (still_under d e p q first x)) is.shared))
+    shared_now : AltersTrees (x.now + 1) (trees_for e q x) its_trees → AreShared (trees_by (under (shows f r with_map)) x.active files) (blocks_in d p x) (tables_of x)
+    shared_now alters = subst (λ (u : Under). AreShared (trees_by u x.active files) (blocks_in d p x) (tables_of x)) (sym (still_under e f q r second with_map))
+        (shared_altered x.now (x.now + 1) (trees_for e q x) its_trees (blocks_in d p x) (tables_of x) (omega arith) (λ n s lt. (is.kept n s lt).1.table) alters
+        (subst (λ (u : Under). AreShared (trees_by u x.active x.files) (blocks_in d p x) (tables_of x)) (sym (still_under d e p q first x)) is.shared))
 
     laid_now : AreLaidBy (under (shows e q with_map)) files → AreLaidBy (under (shows f r with_map)) files
     laid_now laid = subst (λ (u : Under). AreLaidBy u files) (sym (still_under e f q r second with_map)) laid
@@ -128,7 +129,7 @@ module _ (d e f : Disk) (p q r : Pool) (first : Reads d p e q) (second : Reads e
     -- a change that failed
     module _ (same : its_table ≡ table_for e q x) where
       pub failed_volume : volume_for f r with_files ≡ volume_for d p x
-      failed_volume = λ i. volume_as x (record { active = (table_now ∙ same ∙ ap table_told (still_table d e p q first x)) i; snapshots = kept_snaps d f p r x with_files (omega arith) slots kept_entries kept_blocks x.snapshots is.kept i })
+      failed_volume = λ i. volume_as x (record { active = (table_now ∙ same ∙ ap table_told (still_table d e p q first x)) i; snapshots = kept_snaps d f p r x with_files (omega arith) slots kept_entries kept_blocks x.snapshots (snaps_all (IsKeptTable d p x) x is.kept) i; base = kept_base d f p r x with_files (omega arith) slots kept_entries kept_blocks x.base i })
 
       pub failed_standing : PlacesAltered e q x map files → IsStanding f r with_files
       failed_standing places =
@@ -137,9 +138,9 @@ module _ (d e f : Disk) (p q r : Pool) (first : Reads d p e q) (second : Reads e
             told = told;
             table = subst (IsWellTable x.now) (sym table) is.table;
             reserves = subst HasNoReserve (sym table) is.reserves;
-            kept = kept_tables d f p r x with_files (omega arith) slots kept_entries kept_blocks x.snapshots is.kept;
+            kept = kept_tables d f p r x with_files (omega arith) slots kept_entries kept_blocks (tables_of x) is.kept;
             names = is.names;
-            shared = kept_shared d f p r x with_files (omega arith) slots kept_entries kept_blocks (trees_by (under (shows f r with_map)) x.active files) x.snapshots is.kept (shared_now places.alters);
+            shared = kept_shared d f p r x with_files (omega arith) slots kept_entries kept_blocks (trees_by (under (shows f r with_map)) x.active files) (tables_of x) is.kept (shared_now places.alters);
             ledger = subst (λ v. IsLedgerOf v x.ledger) (sym failed_volume) is.ledger;
             trees = sound_now;
             laid = laid_now places.laid;
@@ -155,16 +156,16 @@ module _ (d e f : Disk) (p q r : Pool) (first : Reads d p e q) (second : Reads e
       later = omega (arith, next)
 
       pub made_volume : volume_for f r counted ≡ stamped (volume_for d p x) table
-      made_volume = λ j. record (volume_for d p x) { now = next j; active = (table_now ∙ made) j; snapshots = kept_snaps d f p r x counted later slots kept_entries kept_blocks x.snapshots is.kept j }
+      made_volume = λ j. record (volume_for d p x) { now = next j; active = (table_now ∙ made) j; snapshots = kept_snaps d f p r x counted later slots kept_entries kept_blocks x.snapshots (snaps_all (IsKeptTable d p x) x is.kept) j; base = base_as x.base (kept_base d f p r x counted later slots kept_entries kept_blocks x.base j) }
 
       pub made_standing : PlacesAltered e q x map files → IsWellTable (x.now + 1) (table (x.now + 1)) → HasNoReserve (table (x.now + 1)) → IsLedgerOf (stamped (volume_for d p x) table) ledger → AreNumbersIf numbers (table (x.now + 1)) → IsStanding f r counted
       made_standing places well unreserved is_ledger numbered = record {
         told = told;
         table = subst (λ n. IsWellTable n (table_for f r counted)) (sym next) (subst (IsWellTable (x.now + 1)) (sym (table_now ∙ made)) well);
         reserves = subst HasNoReserve (sym (table_now ∙ made)) unreserved;
-        kept = kept_tables d f p r x counted later slots kept_entries kept_blocks x.snapshots is.kept;
+        kept = kept_tables d f p r x counted later slots kept_entries kept_blocks (tables_of x) is.kept;
         names = is.names;
-        shared = kept_shared d f p r x counted later slots kept_entries kept_blocks (trees_by (under (shows f r with_map)) x.active files) x.snapshots is.kept (shared_now places.alters);
+        shared = kept_shared d f p r x counted later slots kept_entries kept_blocks (trees_by (under (shows f r with_map)) x.active files) (tables_of x) is.kept (shared_now places.alters);
         ledger = subst (λ v. IsLedgerOf v ledger) (sym made_volume) is_ledger;
         trees = sound_now;
         laid = laid_now places.laid;

@@ -26,7 +26,7 @@ use Rattle.fv_files.proofs.Settled.{new_stays, put_stays, rm_stays}
 use Rattle.fv_files.proofs.TakenCells.{cut_stays}
 use Rattle.fv_files.proofs.Alike.{settles_alike}
 use Rattle.fv_files.specs.Apart.{AreAlike}
-use Rattle.fv_volmap.specs.Slots.{has, is_in_snapshot}
+use Rattle.fv_volmap.specs.Slots.{has, is_elsewhere}
 use Rattle.fv_pool.specs.declared.pool.Pool.{Pool}
 use Rattle.fv_volume.specs.declared.state.VolumeState.{VolumeState}
 use Rattle.fv_charge.specs.declared.delta.Delta.{Delta}
@@ -42,7 +42,7 @@ use Rattle.fv_volume.specs.Changing.{AcceptsCut, AcceptsRemoval, IsDeltaBy, Move
 use Rattle.fv_volume.specs.Charging.{CutMoves, MovesBlocks, RemovalMoves, StaysByNew, StaysByPut}
 use Rattle.fv_pool.specs.Lending.{lent_for}
 use Rattle.fv_pool.specs.Tables.{standing_by, trees_by}
-use Rattle.fv_volume.specs.OneVolume.{home_in, shows, standing_for, table_for, trees_for, volume_for, IsReady, IsStanding}
+use Rattle.fv_volume.specs.OneVolume.{home_in, shows, standing_for, table_for, tables_of, trees_for, volume_for, IsReady, IsStanding}
 use Rattle.fv_volume.specs.Asking.{TellsActive}
 use Rattle.fv_volume.proofs.CallCauses.{fails_later}
 use Rattle.fv_volume.proofs.FileCounts.{least_is}
@@ -50,13 +50,9 @@ use Rattle.fv_volume.proofs.OneVolumes.{still_standing, still_table, still_volum
 use Rattle.fv_volume.proofs.KeptTables.{is_alone}
 use Rattle.fv_volume.proofs.SettledTables.{settled_for}
 
--- ---- without snapshots
+-- ---- where no table is kept beside the active one
 
-pub no_length : {X : Type 0} (xs : List X) → length xs ≡ 0 → xs ≡ []
-no_length [] none = refl
-no_length (x ∷ xs) none = absurd cc
-
-module _ (d : Disk) (p : Pool) (x : VolumeState) (none : x.snapshots ≡ []) where
+module _ (d : Disk) (p : Pool) (x : VolumeState) (none : tables_of x ≡ []) where
   pub none_by_put : (n i : ℕ) → StaysByPut d p x n i 0
   none_by_put n i f there = sym (none_stay (volume_for d p x) (is_alone d p x none) (put_path (table_for d p x) n f i))
 
@@ -67,8 +63,8 @@ module _ (d : Disk) (p : Pool) (x : VolumeState) (none : x.snapshots ≡ []) whe
 
 -- The ids that stay charged are those whose blocks are shared.
 settles : (d : Disk) (p : Pool) (x : VolumeState) → IsReady d p x → IsStanding d p x → (f : Files) → AreAlike (loaded_trees (under (shows d p x)) f) (trees_for d p x)
-    → SettlesShared (volume_for d p x) (loaded_trees (under (shows d p x)) f) (is_in_snapshot x.map)
-settles d p x ready is f alike = settles_alike (volume_for d p x) (loaded_trees (under (shows d p x)) f) (trees_for d p x) (is_in_snapshot x.map) alike (settled_for d p x is ready.labelled)
+    → SettlesShared (volume_for d p x) (loaded_trees (under (shows d p x)) f) (is_elsewhere x.map)
+settles d p x ready is f alike = settles_alike (volume_for d p x) (loaded_trees (under (shows d p x)) f) (trees_for d p x) (is_elsewhere x.map) alike (settled_for d p x is ready.labelled)
 
 -- ---- by the calls of the table
 
@@ -77,7 +73,7 @@ module _ (d : Disk) (p : Pool) (x : VolumeState) (ready : IsReady d p x) (is : I
   table : table_in (shows d p x) f ≡ standing_for d p x
   table = takes (under (shows d p x))
 
-  are : SettlesShared (volume_for d p x) (loaded_trees (under (shows d p x)) f) (is_in_snapshot x.map)
+  are : SettlesShared (volume_for d p x) (loaded_trees (under (shows d p x)) f) (is_elsewhere x.map)
   are = settles d p x ready is f (alike (under (shows d p x)))
 
   told : table_for d p x ≡ table_told (standing_in (under (shows d p x)) (changed f))
@@ -90,38 +86,38 @@ module _ (d : Disk) (p : Pool) (x : VolumeState) (ready : IsReady d p x) (is : I
     at : file_at (table_in (shows d p x) f).inode info.number ≡ Some known.file
     at = ap (λ (s : Standing). file_at s.inode info.number) table ∙ known.there
 
-    pub counts_put : (i count : ℕ) → count ≡ staying_by_put (loaded_trees (under (shows d p x)) f) (is_in_snapshot x.map) info.number i → StaysByPut d p x info.number i count
+    pub counts_put : (i count : ℕ) → count ≡ staying_by_put (loaded_trees (under (shows d p x)) f) (is_elsewhere x.map) info.number i → StaysByPut d p x info.number i count
     counts_put i count counted file there = counted
-        ∙ put_stays (volume_for d p x) (under (shows d p x)) f (is_in_snapshot x.map) told are info.number known.file at file (in_table info.number file there) x.now is.table i
+        ∙ put_stays (volume_for d p x) (under (shows d p x)) f (is_elsewhere x.map) told are info.number known.file at file (in_table info.number file there) x.now is.table i
 
-    pub counts_cut : (length : ℕ) (taken : Taken) → CutTakes (table_in (shows d p x) f) (loaded_trees (under (shows d p x)) f) (is_in_snapshot x.map) info.number length taken → CutMoves d p x info.number length taken
+    pub counts_cut : (length : ℕ) (taken : Taken) → CutTakes (table_in (shows d p x) f) (loaded_trees (under (shows d p x)) f) (is_elsewhere x.map) info.number length taken → CutMoves d p x info.number length taken
     counts_cut length taken takes = record {
       gone = λ file there. takes.gone x.now file (subst (λ (s : Standing). IsWellTable x.now (table_told s)) (sym table) is.table) (ap (λ (s : Standing). file_in s info.number) table ∙ there);
       stays = λ file there. takes.staying x.now (subst (λ (s : Standing). IsWellTable x.now (table_told s)) (sym table) is.table)
-          ∙ cut_stays (volume_for d p x) (under (shows d p x)) f (is_in_snapshot x.map) told are info.number known.file at file (in_table info.number file there) x.now is.table length;
+          ∙ cut_stays (volume_for d p x) (under (shows d p x)) f (is_elsewhere x.map) told are info.number known.file at file (in_table info.number file there) x.now is.table length;
     }
 
-    pub counts_removal : (taken : Taken) → RemovalTakes (table_in (shows d p x) f) (loaded_trees (under (shows d p x)) f) (is_in_snapshot x.map) info.number taken → RemovalMoves d p x info.number taken
+    pub counts_removal : (taken : Taken) → RemovalTakes (table_in (shows d p x) f) (loaded_trees (under (shows d p x)) f) (is_elsewhere x.map) info.number taken → RemovalMoves d p x info.number taken
     counts_removal taken takes = record {
       gone = λ file there. takes.gone x.now file (subst (λ (s : Standing). IsWellTable x.now (table_told s)) (sym table) is.table) (ap (λ (s : Standing). file_in s info.number) table ∙ there)
           ∙ ap (λ (s : Standing). taken_by_rm (table_told s) info.number file) table;
       stays = λ file there. takes.staying x.now (subst (λ (s : Standing). IsWellTable x.now (table_told s)) (sym table) is.table)
-          ∙ rm_stays (volume_for d p x) (under (shows d p x)) f (is_in_snapshot x.map) told are info.number known.file at file (in_table info.number file there) x.now is.table;
+          ∙ rm_stays (volume_for d p x) (under (shows d p x)) f (is_elsewhere x.map) told are info.number known.file at file (in_table info.number file there) x.now is.table;
     }
 
-  pub counts_new : (n count : ℕ) → count ≡ staying_by_new (loaded_trees (under (shows d p x)) f) (is_in_snapshot x.map) n → StaysByNew d p x n count
+  pub counts_new : (n count : ℕ) → count ≡ staying_by_new (loaded_trees (under (shows d p x)) f) (is_elsewhere x.map) n → StaysByNew d p x n count
   counts_new n count counted free = counted
-      ∙ ap (staying_by_new (loaded_trees (under (shows d p x)) f) (is_in_snapshot x.map)) (sym (least_is (standing_for d p x) n free.free free.least))
-      ∙ new_stays (volume_for d p x) (under (shows d p x)) f (is_in_snapshot x.map) told are x.now is.table
+      ∙ ap (staying_by_new (loaded_trees (under (shows d p x)) f) (is_elsewhere x.map)) (sym (least_is (standing_for d p x) n free.free free.least))
+      ∙ new_stays (volume_for d p x) (under (shows d p x)) f (is_elsewhere x.map) told are x.now is.table
 
 -- ---- what a removal that was made charges
 
 moved_none : (count taken stays : ℕ) (z : ℤ) → count ≡ taken → stays ≡ 0 → (z +ℤ pos count) ≡ pos 0 → (z +ℤ pos taken) ≡ pos (0 + stays)
 moved_none count taken stays z same none is = omega (arith, ints, same, none, is)
 
--- By what was told before it was made, and in a volume without snapshots by how many positions went.
+-- By what was told before it was made, and in a volume without a table that is kept by how many positions went.
 pub made_moves : (d : Disk) (p : Pool) (x : VolumeState) → IsReady d p x → (known : Option Delta) (count stays taken : ℕ) (by : Delta) → MovesIn x (volume_for d p x) stays taken known → IsDeltaBy x.ledger known count by
-    → (x.snapshots ≡ [] → stays ≡ 0) → count ≡ taken → (x.snapshots ≡ [] → count ≤ x.ledger.charge) → MovesBlocks (volume_for d p x) 0 stays taken by
+    → (tables_of x ≡ [] → stays ≡ 0) → count ≡ taken → (tables_of x ≡ [] → count ≤ x.ledger.charge) → MovesBlocks (volume_for d p x) 0 stays taken by
 made_moves d p x ready None count stays taken by none is nothing same low = record {
   charge = moved_none count taken stays by.charge same (nothing none) (is.charge (low none));
   need = is.need;

@@ -1,13 +1,14 @@
 -- What a volume's maps have together, and what is counted of them.
-use Rattle.std.proofs.Common.{◌≡◌, ℕ, zero, suc, ◌+◌, ◌-◌, ◌*◌, ◌<◌, Bool, true, false, not, List, [], ◌∷◌, length, refl, sym, ap, ap₂, ◌∙◌, arith, ⊎_elim, get_or-set_same, get_or-set_other}
+use Rattle.std.proofs.Common.{◌≡◌, ℕ, zero, suc, ◌+◌, ◌-◌, ◌*◌, ◌<◌, ◌≤◌, Bool, true, false, not, List, [], ◌∷◌, length, refl, sym, ap, ap₂, subst, ◌∙◌, arith, ⊎_elim, get_or-set_same, get_or-set_other}
 use Rattle.std.specs.Prelude.{Option, Some, None, ◌&&◌, ◌||◌, ◌==◌, take, get_or, if◌then◌else◌}
 use Rattle.std.specs.List.{list_any, range_with_len}
 use Rattle.std.proofs.lemmas.Bool.{cases_eq}
 use Rattle.std.proofs.lemmas.Bool.Decides.{nat_tests}
 use Rattle.fv_bits.specs.Members.{is_member, count_between, count_of}
 use Rattle.fv_bits.proofs.Counts.{passing, passing_same}
+use Rattle.fv_model.specs.declared.commands.Kind.{Kind}
 use Rattle.fv_model.specs.Space.{map_blocks, charge}
-use Rattle.fv_charge.specs.Counted.{is_apart, count_apart, charge_counted}
+use Rattle.fv_charge.specs.Counted.{is_apart, count_apart, count_held, charge_counted}
 use Rattle.fv_tables.specs.Reached.{is_listed}
 use Rattle.fv_image.specs.Views.{Head, View}
 use Rattle.fv_image.specs.Volumes.{volume_told}
@@ -20,7 +21,9 @@ use Rattle.fv_image.specs.Mapped.{MapSlot, AreInSlots}
 use Rattle.fv_image.proofs.OwnUses.{HasLabelNumbers}
 use Rattle.fv_image.proofs.CountedCharge.{HasParentNumbers, charge_by_sets}
 use Rattle.fv_image.proofs.MapSteps.{has_in, taken_is, with_map}
-use Rattle.fv_volmap.specs.Slots.{Volume as Maps, slot_at, stored_count, taken_in, with_slot}
+use Rattle.fv_volmap.specs.Slots.{CountsBeside, Volume as Maps, count_beside, slot_at, slot_of_base, stored_count, taken_in, with_slot}
+use Rattle.fv_volume.specs.declared.state.Base.{Base}
+use Rattle.fv_volume.specs.Loading.{HasCounted, base_counted}
 use Rattle.fv_volume.specs.Mapped.{AreMapped, IsBaseMap}
 
 -- ---- slots in a row
@@ -51,6 +54,29 @@ slot_with m j x within k = ⊎_elim
     (cases_eq k j)
 
 -- ---- the ledger's count
+
+-- What is held beside a slot is what is held without its set.
+pub beside_held : (held : List Bool) (slot : MapSlot) → count_beside held slot ≡ count_held held slot
+unfolding count_apart
+beside_held held None = refl
+beside_held held (Some base) = refl
+
+-- so much is counted of a clone that is being split,
+pub counted_alone : (m : Maps) (o : Option Base) (b : Base) (count : ℕ) → o ≡ Some b → b.splitting ≡ true → CountsBeside m None count → CountsBeside m (base_counted o m) count
+counted_alone m o b count some splits = subst (λ (s : MapSlot). CountsBeside m s count) (sym (ap (λ (o : Option Base). base_counted o m) some ∙ ap (λ (t : Bool). if t then None else slot_at m slot_of_base) splits))
+
+-- of one that isn't,
+pub counted_beside : (m : Maps) (o : Option Base) (b : Base) (count : ℕ) → o ≡ Some b → b.splitting ≡ false → CountsBeside m (slot_at m slot_of_base) count → CountsBeside m (base_counted o m) count
+counted_beside m o b count some whole = subst (λ (s : MapSlot). CountsBeside m s count) (sym (ap (λ (o : Option Base). base_counted o m) some ∙ ap (λ (t : Bool). if t then None else slot_at m slot_of_base) whole))
+
+-- and so a ledger is
+pub counted_ledger : (m : Maps) (base : MapSlot) (snapshots span size : ℕ) (kind : Kind) (count : ℕ) → CountsBeside m base count
+    → HasCounted m base snapshots span size kind (record { charge = count + map_blocks span * snapshots; need = 0; size = size; kind = kind; span = span })
+counted_ledger m base snapshots span size kind count counts = record {
+  union = counts.union;
+  united = counts.united;
+  ledger_is = ap (λ (n : ℕ). record { charge = n + map_blocks span * snapshots; need = 0; size = size; kind = kind; span = span }) (counts.count_is ∙ beside_held counts.union base);
+}
 
 and_true : (b : Bool) → b ≡ (b && not false)
 and_true true = refl

@@ -34,7 +34,7 @@ use Rattle.fv_volume.specs.declared.state.VolumeState.{VolumeState}
 use Rattle.fv_volume.specs.Calls.{Has, HasBeside, HasWithin}
 use Rattle.fv_volume.specs.Changing.{AcceptsCut, AcceptsRemoval, FitsLedger, IsDeltaBy, RefusedIn, SpaceSays}
 use Rattle.fv_volume.specs.Charging.{CutMoves, MovesBlocks, RemovalMoves}
-use Rattle.fv_volume.specs.OneVolume.{greatest_charge, standing_for, volume_for, IsReady, IsStanding}
+use Rattle.fv_volume.specs.OneVolume.{tables_of, greatest_charge, standing_for, volume_for, IsReady, IsStanding}
 use Rattle.fv_volume.proofs.Answered.{cut_changes, cut_far, cut_none, cut_past, cut_space, rm_changes, rm_none, rm_space}
 use Rattle.fv_volume.proofs.Asked.{file, file_there, found, long, in_table}
 use Rattle.fv_volume.proofs.Changed.{leaves_ledger}
@@ -104,8 +104,8 @@ module _ (d : Disk) (p : Pool) (x : VolumeState) where
     pub rm_counted : most_changes ≤ x.now → RefusedIn (Has x.name (volume_for d p x)) (Remove x.name f) (Refused TooMany)
     rm_counted all m has = rm_changes m x.name (volume_for d p x) has f info.number its its_name all
 
-    -- In a volume without snapshots a removal is never refused for space.
-    pub cut_alone : x.snapshots ≡ [] → (most : ℕ) → is_reserve most ≡ true → most ≤ info.length → x.now < most_changes → (others : ℕ) → AcceptsCut d p x others f most info None
+    -- In a volume with neither snapshots nor a base a removal is never refused for space.
+    pub cut_alone : tables_of x ≡ [] → (most : ℕ) → is_reserve most ≡ true → most ≤ info.length → x.now < most_changes → (others : ℕ) → AcceptsCut d p x others f most info None
     cut_alone none most near low more others = record {
       near = near;
       first = first;
@@ -117,7 +117,7 @@ module _ (d : Disk) (p : Pool) (x : VolumeState) where
           (cut_uses_less (volume_for d p x) (is_alone d p x none) is.table is.reserves info.number its most (in_table d p x is f info first));
     }
 
-    pub rm_alone : x.snapshots ≡ [] → x.now < most_changes → (others : ℕ) → AcceptsRemoval d p x others f info None
+    pub rm_alone : tables_of x ≡ [] → x.now < most_changes → (others : ℕ) → AcceptsRemoval d p x others f info None
     rm_alone none more others = record {
       first = first;
       moves = λ g there. none;
@@ -128,7 +128,7 @@ module _ (d : Disk) (p : Pool) (x : VolumeState) where
           (rm_uses_less (volume_for d p x) (is_alone d p x none) is.table is.reserves info.number its (in_table d p x is f info first));
     }
 
-    -- In one with snapshots it is where the ledger has no room.
+    -- In one with either it is where the ledger has no room.
     module _ (others : ℕ) (ready : IsReady d p x) (by : Delta) (taken : Taken) (charge_is : taken.gone ≤ x.ledger.charge + taken.staying → (by.charge +ℤ pos taken.gone) ≡ pos (0 + taken.staying))
         (need : by.need ≡ pos 0) (size : by.size ≡ x.ledger.size) (kind : by.kind ≡ x.ledger.kind) where
       abbrev beside : Machine → Type 0

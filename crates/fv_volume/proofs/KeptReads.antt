@@ -43,6 +43,7 @@ use Rattle.fv_volume.specs.States.{snap_in}
 use Rattle.fv_volume.proofs.OneVolumes.{levels_fit, root_fits, still_standing, still_table, still_under}
 use Rattle.fv_volume.proofs.SnapReads.{found_among, slot_held}
 use Rattle.fv_volume.proofs.Undamaged.{active_holds, HoldsWell, TableHolds}
+use Rattle.fv_volume.proofs.TablesOf.{snaps_all}
 
 -- ---- the table of a snapshot
 
@@ -156,7 +157,7 @@ known_holds blocks uses t holds info known =
 module _ (d : Disk) (p : Pool) (x : VolumeState) (is : IsStanding d p x) where
   module _ (root : Rooted) (of : IsTableOf x (Kept root)) where
     abbrev pub kept : IsOfSnap (IsKeptTable d p x) root
-    kept = of_snap x (IsKeptTable d p x) is.kept root of
+    kept = of_snap x (IsKeptTable d p x) (snaps_all (IsKeptTable d p x) x is.kept) root of
 
     abbrev table : Standing
     table = standing_of d p x (Kept root)

@@ -17,7 +17,7 @@ use Rattle.fv_volume.specs.Files.{HasSlotsOf}
 use Rattle.fv_delay.specs.Delay.{is_used, is_used_slot}
 use Rattle.fv_delay.specs.Holding.{AreMapsOf}
 use Rattle.fv_volume.specs.Loading.{HaveBits, is_slot_with}
-use Rattle.fv_volume.specs.SlotReads.{AreUsedTo}
+use Rattle.fv_volume.specs.SlotReads.{AreUsedBeside}
 use Rattle.fv_volume.specs.Snapshots.{has_slot}
 use Rattle.fv_volume.specs.States.{snaps_in}
 use Rattle.fv_volume.proofs.CountedMaps.{any_taken}
@@ -70,19 +70,15 @@ slots_with h ps said k =
     ap (λ (b : Bool). b || has_slot ps k) (turned k 0)
     ∙ ap (λ (b : Bool). (0 == k) || b) (any_slot ps k ∙ ap (λ (qs : List Snap). list_any (λ slot. slot == k) (map (λ (p : Snap). p.slot) qs)) said)
 
-is_free : (o : Slot) → is_some o ≡ false → o ≡ None
-is_free None e = refl
-is_free (Some map) e = absurd cc
-
 -- Where the slots of its snapshots were read, and the active one, they are those of a head.
-pub slots_read : (h : Head) (ps : List StateSnap) (m : Maps) → snaps_in ps ≡ h.snapshots → AreInSlots h → AreUsedTo ps stored_count m → HasSlotsOf h m
+pub slots_read : (h : Head) (ps : List StateSnap) (m : Maps) → snaps_in ps ≡ h.snapshots → AreInSlots h → AreUsedBeside ps h.base m → HasSlotsOf h m
 unfolding snap_at
 slots_read h ps m said order used = record {
   each = λ k other not_base.
       let later : (k == 0) ≡ false = grind (arith, nat_tests, other) in
       let here : is_slot_with ps k ≡ list_any (λ slot. slot == k) (map (λ (p : Snap). p.slot) h.snapshots) = ap (λ (b : Bool). b || has_slot ps k) later ∙ any_slot ps k ∙ ap (λ (qs : List Snap). list_any (λ slot. slot == k) (map (λ (p : Snap). p.slot) qs)) said in
-      used.each k ∙ ap (λ (b : Bool). nat_lt k stored_count && b) here ∙ within k (list_any (λ slot. slot == k) (map (λ (p : Snap). p.slot) h.snapshots)) refl ∙ sym (found_any h.snapshots k);
-  base = is_free (slot_at m slot_of_base) (used.each slot_of_base);
+      used.each k not_base ∙ ap (λ (b : Bool). nat_lt k stored_count && b) here ∙ within k (list_any (λ slot. slot == k) (map (λ (p : Snap). p.slot) h.snapshots)) refl ∙ sym (found_any h.snapshots k);
+  base = used.base;
 }
   where
     within : (k : ℕ) (b : Bool) → list_any (λ slot. slot == k) (map (λ (p : Snap). p.slot) h.snapshots) ≡ b → (nat_lt k stored_count && b) ≡ b

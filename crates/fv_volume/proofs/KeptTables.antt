@@ -1,6 +1,6 @@
 -- The tables of a volume's snapshots stay where its active table changes: what lies under the VVBNs that another slot than the active one has is
 -- left as it is.
-use Rattle.std.proofs.Common.{◌≡◌, ◌≢◌, ◌≤◌, ℕ, Bool, true, false, cond, List, [], ◌∷◌, Option, Some, None, refl, sym, ap, ap₂, subst, ◌∙◌}
+use Rattle.std.proofs.Common.{◌≡◌, ◌≢◌, ◌≤◌, ℕ, Bool, true, false, cond, List, [], ◌∷◌, ◌++◌, Option, Some, None, refl, sym, ap, ap₂, subst, ◌∙◌, arith}
 use Rattle.std.specs.Prelude.{map, slice_index_or, All}
 use Rattle.std.specs.FinMap as fin
 use Rattle.std.proofs.lemmas.List.Elements.{All-head, All-tail, All-nil}
@@ -13,13 +13,14 @@ use Rattle.fv_tables.specs.Spelled.{Under}
 use Rattle.fv_tree.specs.Sources.{Use}
 use Rattle.fv_files.specs.Apart.{Trees, stored_trees}
 use Rattle.fv_container.specs.declared.entry.Entry.{Entry}
-use Rattle.fv_volmap.specs.Slots.{Slot, has, slot_at}
+use Rattle.fv_volmap.specs.Slots.{Slot, has, slot_at, slot_of_base}
 use Rattle.fv_pool.specs.declared.pool.Pool.{Pool}
+use Rattle.fv_volume.specs.declared.state.Base.{Base as StateBase}
 use Rattle.fv_volume.specs.declared.state.Snap.{Snap}
 use Rattle.fv_volume.specs.declared.state.VolumeState.{VolumeState}
 use Rattle.fv_pool.specs.BlocksOver.{held_block, held_entry}
 use Rattle.fv_pool.specs.Lending.{use_of}
-use Rattle.fv_volume.specs.OneVolume.{blocks_in, snap_by, snaps_by, uses_in, volume_for, IsKeptTable, IsTableIn}
+use Rattle.fv_volume.specs.OneVolume.{base_by, base_table, base_told_by, blocks_in, snap_by, snaps_by, tables_of, uses_in, volume_for, IsKeptTable, IsTableIn}
 use Rattle.fv_volume.specs.Sharing.{trees_kept, AreShared, SharesWith}
 use Rattle.fv_volume.specs.States.{snap_in}
 
@@ -37,9 +38,13 @@ none_kept P snaps none = subst (All P) (sym none) (All-nil P)
 pub none_told : (blocks : ℕ → Under) (snaps : List Snap) → snaps ≡ [] → snaps_by blocks snaps ≡ fin.empty
 none_told blocks snaps none = ap (snaps_by blocks) none
 
--- So it stands for a volume with neither snapshots nor a base.
-pub is_alone : (disk : Disk) (pool : Pool) (x : VolumeState) → x.snapshots ≡ [] → IsAlone (volume_for disk pool x)
-is_alone disk pool x none = record { snapshots = none_told (blocks_in disk pool x) x.snapshots none; base = refl }
+-- So one that keeps no table beside the active one stands for a volume with neither snapshots nor a base.
+pub is_alone : (disk : Disk) (pool : Pool) (x : VolumeState) → tables_of x ≡ [] → IsAlone (volume_for disk pool x)
+is_alone disk pool x none = by x.base none
+  where
+    by : (o : Option StateBase) → base_table o ++ x.snapshots ≡ [] → IsAlone (record (volume_for disk pool x) { base = base_by (blocks_in disk pool x) o })
+    by None none = record { snapshots = none_told (blocks_in disk pool x) x.snapshots none; base = refl }
+    by (Some b) none = absurd cc
 
 -- ---- what a slot has
 
@@ -56,6 +61,13 @@ module _ (d e : Disk) (p q : Pool) (x y : VolumeState) (later : x.now ≤ y.now)
     (blocks : (k v : ℕ) → k ≢ 0 → has v (slot_at x.map k) ≡ true → held_block y.map q y.slot e.reads v ≡ held_block x.map p x.slot d.reads v) where
   same_blocks : (k : ℕ) → k ≢ 0 → blocks_in e q y k ≡ blocks_in d p x k
   same_blocks k other = λ i v. by_test (has v (slot_at y.map k)) (has v (slot_at x.map k)) (held_block y.map q y.slot e.reads v) (held_block x.map p x.slot d.reads v) (ap (has v) (slots k other)) (blocks k v other) i
+
+  -- So the base that it is told by stays.
+  pub kept_base : (o : Option StateBase) → base_told_by (blocks_in e q y) o ≡ base_told_by (blocks_in d p x) o
+  kept_base o = ap (λ (u : Under). base_told_by (λ k. u) o) (same_blocks slot_of_base (λ is. above is))
+    where
+      above : slot_of_base ≡ 0 → ⊥
+      above is = omega (arith, is)
 
   same_uses : (k : ℕ) → k ≢ 0 → uses_in q y k ≡ uses_in p x k
   same_uses k other = λ i v. by_test (has v (slot_at y.map k)) (has v (slot_at x.map k)) (Some (use_of (held_entry y.map q.containers y.slot v))) (Some (use_of (held_entry x.map p.containers x.slot v))) (ap (has v) (slots k other))

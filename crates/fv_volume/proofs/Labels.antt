@@ -1,14 +1,18 @@
--- The label of a volume without a base: its fields are in range, and it says what the volume is.
-use Rattle.std.proofs.Common.{◌≡◌, ◌≢◌, ℕ, ◌-◌, ◌≤◌, true, List, ◌++◌, length, take, replicate, Option, Some, None, refl, sym, ◌∙◌, arith}
-use Rattle.std.specs.Prelude.{All, ◌%◌, min}
-use Rattle.std.specs.Option.{is_none}
+-- The label of a volume: its fields are in range, and it says what the volume is.
+use Rattle.std.proofs.Common.{◌≡◌, ◌≢◌, ℕ, ◌+◌, ◌-◌, ◌<◌, ◌≤◌, Bool, true, false, not, cond, List, ◌++◌, length, take, replicate, Option, Some, None, refl, sym, ap, subst, ◌∙◌, arith}
+use Rattle.std.specs.Prelude.{All, IfSome, ◌%◌, ◌==◌, if◌then◌else◌, min}
+use Rattle.std.specs.Option.{option_map}
 use Rattle.std.proofs.Math.Seq.{take-append_seam}
-use Rattle.std.proofs.lemmas.Bool.{and_parts, true≢false}
-use Rattle.fv_codec.specs.Blocks.{IsLabel, IsPointer, IsSnapRecord, last_place, most_stamps}
+use Rattle.std.proofs.lemmas.Bool.{and_parts}
+use Rattle.std.proofs.lemmas.Bool.Decides.{nat_tests}
+use Rattle.fv_codec.specs.Blocks.{IsLabel, IsPointer, IsSnapRecord, is_used, last_place, most_stamps}
+use Rattle.fv_codec.specs.Fields.{up_to}
 use Rattle.fv_model.specs.declared.commands.Kind.{Kind}
 use Rattle.fv_model.specs.declared.commands.Kind.TheVariants.{Volume as Whole, File as ByFile, Thin}
 use Rattle.fv_model.specs.Spelling.{is_name}
+use Rattle.fv_image.specs.HintRules.{is_splitting}
 use Rattle.fv_image.specs.Views.{Footing, head_of, kind_named}
+use Rattle.fv_container.specs.Chains.{slot_count}
 use Rattle.fv_files.specs.declared.files.Files.{Files}
 use Rattle.fv_files.specs.declared.numbers.FileNumbers.{FileNumbers}
 use Rattle.fv_charge.specs.declared.ledger.Ledger.{Ledger}
@@ -16,10 +20,10 @@ use Rattle.fv_volmap.specs.Slots.{Volume as MapSlots, slot_at}
 use Rattle.fv_pool.specs.declared.rooted.Rooted.{Rooted}
 use Rattle.fv_volume.specs.declared.state.Snap.{Snap}
 use Rattle.fv_volume.specs.declared.state.VolumeState.{VolumeState}
-use Rattle.fv_volume.specs.Labels.{kind_number, label_said}
+use Rattle.fv_volume.specs.Labels.{base_slot_said, kind_number, label_said, parent_said, splitting_said}
 use Rattle.fv_volume.specs.SnapRecords.{records_said, AreSayable}
 use Rattle.fv_volume.specs.Files.{IsLabelled, has_form}
-use Rattle.fv_volume.specs.States.{head_in, snaps_in}
+use Rattle.fv_volume.specs.States.{footing_in, head_in, snaps_in}
 use Rattle.fv_volume.proofs.MapSlots.{same_sayable, same_slots, slots_kept}
 use Rattle.fv_volume.proofs.Naming.{filled, parts}
 use Rattle.fv_volume.proofs.SnapRecords.{all_said, snaps_again}
@@ -30,6 +34,34 @@ pub kind_least : (k : Kind) → kind_number k ≤ 2
 kind_least Whole = omega arith
 kind_least ByFile = omega arith
 kind_least Thin = omega arith
+
+-- what a label can say that a volume stands on, which isn't being split
+pub record IsSayableBase (b : Footing) : Type 0 where
+  pub inside : b.parent < slot_count
+  pub least : 1 ≤ b.slot
+  pub greatest : b.slot ≤ 24
+  pub whole : b.splitting ≡ false
+
+-- as a label has it, it is in range
+pub record IsBaseSaid (p slot s known : ℕ) : Type 0 where
+  pub parent : p ≤ 64
+  pub base_least : up_to (is_used p) 1 ≤ slot
+  pub base_greatest : slot ≤ up_to (is_used p) 24
+  pub splitting : s ≤ up_to (is_used p) 1
+  pub all_known : known ≤ up_to (s == 0) 1
+
+base_said : (o : Option Footing) → IfSome o IsSayableBase → IsBaseSaid (parent_said o) (base_slot_said o) (splitting_said o) 1
+base_said None is = record { parent = omega arith; base_least = omega arith; base_greatest = omega arith; splitting = omega arith; all_known = omega arith }
+base_said (Some b) is =
+    let used : is_used (b.parent + 1) ≡ true = (let some : ((b.parent + 1) == 0) ≡ false = grind (arith, nat_tests) in ap not some) in
+    let inside = is.inside in
+    record {
+      parent = omega (arith, inside);
+      base_least = subst (λ (t : Bool). up_to t 1 ≤ b.slot) (sym used) is.least;
+      base_greatest = subst (λ (t : Bool). b.slot ≤ up_to t 24) (sym used) is.greatest;
+      splitting = subst (λ (s : Bool). cond s 1 0 ≤ up_to (is_used (b.parent + 1)) 1) (sym is.whole) (omega arith);
+      all_known = subst (λ (s : Bool). 1 ≤ up_to (cond s 1 0 == 0) 1) (sym is.whole) (omega arith);
+    }
 
 -- a volume whose numbers are such as a label can say
 pub record IsSayable (x : VolumeState) : Type 0 where
@@ -44,6 +76,7 @@ pub record IsSayable (x : VolumeState) : Type 0 where
   pub now : x.now ≤ most_stamps
   pub levels : x.active.levels ≤ 2
   pub root : IsPointer x.active.root
+  pub base : IfSome (head_in x).base IsSayableBase
   pub snapshots : AreSayable (head_in x)
 
 pub label_range : (x : VolumeState) → IsSayable x → (container height : ℕ) → container ≤ last_place → 1 ≤ height → height ≤ 2 → IsLabel (label_said x container height)
@@ -54,11 +87,9 @@ label_range x is container height placed least greatest =
     let name_greatest = sizes.1.0 in
     let name = filled x.name is.name in
     let kind = kind_least x.kind in
-    let parent : 0 ≤ 64 = omega arith in
-    let none : 0 ≤ 0 = omega arith in
-    let known : 1 ≤ 1 = omega arith in
+    let base = base_said (head_in x).base is.base in
     let snapshots = all_said (head_in x) is.snapshots in
-    search (is, name_least, name_greatest, name, kind, parent, none, known, placed, least, greatest, snapshots)
+    search (is, name_least, name_greatest, name, kind, base, placed, least, greatest, snapshots)
 
 -- ---- what the label says
 
@@ -67,16 +98,28 @@ kind_again Whole = refl
 kind_again ByFile = refl
 kind_again Thin = refl
 
-no_base : (o : Option Footing) → is_none o ≡ true → o ≡ None
-no_base None is = refl
-no_base (Some b) is = absurd (true≢false (sym is))
+-- what a label says that a volume stands on, by these numbers
+abbrev footing_said : ℕ → ℕ → ℕ → Option Footing
+footing_said parent slot splitting = if parent == 0 then None else Some (record { parent = parent - 1; slot = slot; splitting = splitting == 1 })
 
--- a label says its volume's head, where that has no base
+base_again : (o : Option Footing) → footing_said (parent_said o) (base_slot_said o) (splitting_said o) ≡ o
+base_again None = refl
+base_again (Some b) =
+    let some : ((b.parent + 1) == 0) ≡ false = grind (arith, nat_tests) in
+    let parent : b.parent + 1 - 1 ≡ b.parent = omega arith in
+    ap (λ (t : Bool). if t then None else Some (record { parent = b.parent + 1 - 1; slot = b.slot; splitting = cond b.splitting 1 0 == 1 })) some
+    ∙ (λ i. Some (record { parent = parent i; slot = b.slot; splitting = same b.splitting i }))
+  where
+    same : (t : Bool) → (cond t 1 0 == 1) ≡ t
+    same true = refl
+    same false = refl
+
+-- a label says its volume's head
 pub label_head : (x : VolumeState) → has_form (head_in x) ≡ true → is_name x.name ≡ true → AreSayable (head_in x) → (container height : ℕ) → head_of (label_said x container height) ≡ head_in x
 unfolding head_of label_said
 label_head x form named said container height =
     let name : take (length x.name) (x.name ++ replicate (64 - length x.name) 0) ≡ x.name = take-append_seam x.name (replicate (64 - length x.name) 0) in
-    let last = and_parts (is_none (head_in x).base) x.known form in
+    let known : x.known ≡ true = (and_parts x.known (not (is_splitting (head_in x).base)) form).0 in
     (λ i. record {
       name = name i;
       kind = kind_again x.kind i;
@@ -84,8 +127,8 @@ label_head x form named said container height =
       most = x.most;
       span = x.span;
       now = x.now;
-      base = sym (no_base (head_in x).base last.0) i;
-      known = sym last.1 i;
+      base = base_again (head_in x).base i;
+      known = sym known i;
       active = record { levels = x.active.levels; root = x.active.root };
       snapshots = snaps_again (head_in x) said i;
     })
@@ -103,9 +146,9 @@ same_label x y head container height = (λ i. record {
   most = (head i).most;
   span = (head i).span;
   now = (head i).now;
-  parent = 0;
-  base_slot = 0;
-  splitting = 0;
+  parent = parent_said (head i).base;
+  base_slot = base_slot_said (head i).base;
+  splitting = splitting_said (head i).base;
   known = 1;
   container = container;
   height = height;
@@ -133,7 +176,7 @@ module _ (x : VolumeState) (now size : ℕ) (kind : Kind) (active : Rooted) (map
     span = is.span;
     map = span ∙ is.map;
     snapshots = same_sayable (head_in as_changed) (head_in x) refl is.snapshots;
-    slots = same_slots (head_in as_changed) (head_in x) map refl (slots_kept (head_in x) x.map map slots is.slots);
+    slots = same_slots (head_in as_changed) (head_in x) map refl refl (slots_kept (head_in x) x.map map slots is.slots);
     waits = is.waits;
     counts = counts ∙ is.counts;
     levels = few;

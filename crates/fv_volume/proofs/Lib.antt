@@ -11,6 +11,7 @@ pub mod MapCounts
 pub mod Lookups
 pub mod Answered
 pub mod KeptTables
+pub mod TablesOf
 pub mod Shared
 pub mod SharedRoots
 pub mod KeptStamps
@@ -58,3 +59,13 @@ pub mod KeptSlots
 pub mod ActiveSlot
 pub mod ActiveStands
 pub mod Committed
+pub mod Based
+pub mod BasedRules
+pub mod IdsCounted
+pub mod AllRoots
+pub mod NewClone
+pub mod KnownBases
+pub mod SlotCounts
+pub mod OwnIds
+pub mod SnapFinds
+pub mod Cloned

@@ -1,50 +1,77 @@
 -- What is loaded from a label, as a volume.
-use Rattle.std.proofs.Common.{◌≡◌, ℕ, Bool, nat_eq, map, subst, true, false, List, [], ◌∷◌, length, suc, ◌≤◌, Option, Some, None, refl, sym, ap, ◌∙◌, arith}
-use Rattle.std.specs.Prelude.{not, ◌==◌, ◌+◌, ◌-◌, ◌&&◌, take, replicate, if◌then◌else◌}
-use Rattle.std.specs.Option.{is_none}
+use Rattle.std.proofs.Common.{◌≡◌, ℕ, Bool, nat_eq, map, subst, true, false, List, [], ◌∷◌, length, suc, ◌≢◌, ◌≤◌, Option, Some, None, refl, sym, ap, ◌∙◌, arith}
+use Rattle.std.specs.Prelude.{IfSome, not, ◌==◌, ◌+◌, ◌-◌, ◌&&◌, take, replicate, if◌then◌else◌}
+use Rattle.std.specs.Option.{option_map}
 use Rattle.fv_model.specs.declared.commands.Kind.{Kind}
 use Rattle.fv_model.specs.Spelling.{is_name}
 use Rattle.fv_codec.proofs.Numbers.{up_to-le}
+use Rattle.fv_volume.specs.declared.state.Base.{Base}
 use Rattle.fv_volume.specs.declared.state.Snap.{Snap as StateSnap}
 use Rattle.fv_volume.specs.declared.state.VolumeState.{VolumeState}
 use Rattle.fv_volmap.specs.Slots.{Volume as Maps, stored_count}
 use Rattle.fv_volume.specs.Files.{HasSlotsOf, IsLabelled, has_form}
 use Rattle.fv_volume.proofs.StayingMaps.{no_waits}
-use Rattle.fv_volume.specs.States.{head_in, snap_in, snaps_in}
+use Rattle.fv_volume.specs.States.{footing_in, head_in, snap_in, snaps_in}
 use Rattle.std.proofs.lemmas.List.{length-map}
 use Rattle.std.proofs.lemmas.Bool.Decides.{nat_tests}
 use Rattle.fv_codec.specs.declared.label.Label.{Label}
 use Rattle.fv_codec.specs.declared.label.SnapRecord.{SnapRecord}
-use Rattle.fv_codec.specs.Blocks.{IsLabel, IsPointer}
-use Rattle.fv_image.specs.Views.{Head, Snap, footing_of, head_of, kind_named, snaps_from}
+use Rattle.fv_codec.specs.Blocks.{IsLabel, IsPointer, is_used}
+use Rattle.fv_codec.specs.Fields.{up_to}
+use Rattle.fv_image.specs.HintRules.{is_splitting}
+use Rattle.fv_image.specs.Views.{Footing, Head, Snap, footing_of, head_of, kind_named, snaps_from}
 use Rattle.fv_volume.specs.SnapRecords.{AreSayable}
-use Rattle.fv_volume.proofs.Labels.{IsSayable, label_range}
+use Rattle.fv_volume.proofs.Labels.{IsSayable, IsSayableBase, label_range}
 use Rattle.fv_volume.proofs.SnapRecords.{label_sayable}
 use Rattle.fv_volume.proofs.KeptSlots.{slots_read}
-use Rattle.fv_volume.specs.SlotReads.{AreUsedTo}
+use Rattle.fv_volume.specs.SlotReads.{AreUsedBeside}
 use Rattle.fv_image.proofs.LabelSlots.{label_slots}
 use Rattle.fv_volume.specs.Loading.{form_in}
 
 -- a label without the forms that can't be loaded
 pub record IsBare (l : Label) : Type 0 where
-  pub parent : (l.parent == 0) ≡ true
+  pub whole : (l.splitting == 0) ≡ true
   pub known : (l.known == 0) ≡ false
 
 pub bare : (l : Label) → form_in l ≡ None → IsBare l
 unfolding form_in
-bare l none = either (l.parent == 0) refl none
+bare l none = either (l.splitting == 0) refl none
   where
-    mid : (b : Bool) → (l.known == 0) ≡ b → (l.parent == 0) ≡ true → if◌then◌else◌ {A = Option (ℕ × ℕ)} b (Some (1, 0)) None ≡ None → IsBare l
+    mid : (b : Bool) → (l.known == 0) ≡ b → (l.splitting == 0) ≡ true → if◌then◌else◌ {A = Option (ℕ × ℕ)} b (Some (1, 0)) None ≡ None → IsBare l
     mid true is p e = cc
-    mid false is p e = record { parent = p; known = is }
+    mid false is p e = record { whole = p; known = is }
 
-    either : (b : Bool) → (l.parent == 0) ≡ b → if◌then◌else◌ {A = Option (ℕ × ℕ)} (not b) (Some (0, l.parent)) (if◌then◌else◌ {A = Option (ℕ × ℕ)} (l.known == 0) (Some (1, 0)) None) ≡ None → IsBare l
+    either : (b : Bool) → (l.splitting == 0) ≡ b → if◌then◌else◌ {A = Option (ℕ × ℕ)} (not b) (Some (0, l.splitting)) (if◌then◌else◌ {A = Option (ℕ × ℕ)} (l.known == 0) (Some (1, 0)) None) ≡ None → IsBare l
     either true is e = mid (l.known == 0) refl is e
     either false is e = cc
 
--- the parts of its head that forms would set
-pub no_footing : (l : Label) → IsBare l → footing_of l ≡ None
-no_footing l is = ap (λ t. if t then None else Some (record { parent = l.parent - 1; slot = l.base_slot; splitting = l.splitting == 1 })) is.parent
+-- it says no volume that is being split
+is_whole : (l : Label) → IsBare l → is_splitting (footing_of l) ≡ false
+is_whole l is = by (l.parent == 0)
+  where
+    by : (b : Bool) → is_splitting (if b then None else Some (record { parent = l.parent - 1; slot = l.base_slot; splitting = l.splitting == 1 })) ≡ false
+    by true = refl
+    by false = (let zero_is = is.whole in let same : (l.splitting == 1) ≡ false = grind (arith, nat_tests, zero_is) in same)
+
+-- what it says that its volume stands on can be said again
+base_sayable : (l : Label) → IsLabel l → IsBare l → IfSome (footing_of l) IsSayableBase
+base_sayable l range is = by (l.parent == 0) refl
+  where
+    by : (b : Bool) → (l.parent == 0) ≡ b → IfSome (if b then None else Some (record { parent = l.parent - 1; slot = l.base_slot; splitting = l.splitting == 1 })) IsSayableBase
+    by true e = tt
+    by false e =
+        let some : l.parent ≢ 0 = λ none. (let same : (l.parent == 0) ≡ true = grind (arith, nat_tests, none) in absurd (wrong (sym same ∙ e))) in
+        let most = range.parent in
+        let used : is_used l.parent ≡ true = ap not e in
+        record {
+          inside = omega (arith, some, most);
+          least = subst (λ (t : Bool). up_to t 1 ≤ l.base_slot) used range.base_least;
+          greatest = subst (λ (t : Bool). l.base_slot ≤ up_to t 24) used range.base_greatest;
+          whole = (let zero_is = is.whole in let same : (l.splitting == 1) ≡ false = grind (arith, nat_tests, zero_is) in same);
+        }
+      where
+        wrong : true ≡ false → ⊥
+        wrong e = cc
 
 is_known : (l : Label) → IsLabel l → IsBare l → (l.known == 1) ≡ true
 is_known l range is =
@@ -54,32 +81,32 @@ is_known l range is =
 -- such a label's head has a form that there is
 pub head_bare : (l : Label) → IsLabel l → IsBare l → has_form (head_of l) ≡ true
 unfolding head_of
-head_bare l range is = (λ i. is_none (no_footing l is i) && is_known l range is i)
+head_bare l range is = (λ i. is_known l range is i && not (is_whole l is i))
 
 -- the head of a volume that is made of such a label
-abbrev pub head_with : Label → List ℕ → Kind → List StateSnap → Head
-head_with l name kind snaps = record { name = name; kind = kind; size = l.size; most = l.most; span = l.span; now = l.now; base = None; known = nat_eq l.known 1; active = record { levels = l.levels; root = l.root }; snapshots = map snap_in snaps }
+abbrev pub head_with : Label → List ℕ → Kind → Option Base → List StateSnap → Head
+head_with l name kind base snaps = record { name = name; kind = kind; size = l.size; most = l.most; span = l.span; now = l.now; base = option_map footing_in base; known = nat_eq l.known 1; active = record { levels = l.levels; root = l.root }; snapshots = map snap_in snaps }
 
-pub head_from : (l : Label) → IsBare l → (name : List ℕ) (kind : Kind) (snaps : List StateSnap) → name ≡ take l.name_length l.name → kind ≡ kind_named l.kind → map snap_in snaps ≡ snaps_from 1 l.snapshots
-    → head_with l name kind snaps ≡ head_of l
+pub head_from : (l : Label) (name : List ℕ) (kind : Kind) (base : Option Base) (snaps : List StateSnap) → name ≡ take l.name_length l.name → kind ≡ kind_named l.kind
+    → option_map footing_in base ≡ footing_of l → map snap_in snaps ≡ snaps_from 1 l.snapshots → head_with l name kind base snaps ≡ head_of l
 unfolding head_of
-head_from l is name kind snaps called sort said = λ i. record {
+head_from l name kind base snaps called sort based said = λ i. record {
   name = called i;
   kind = sort i;
   size = l.size;
   most = l.most;
   span = l.span;
   now = l.now;
-  base = sym (no_footing l is) i;
+  base = based i;
   known = nat_eq l.known 1;
   active = record { levels = l.levels; root = l.root };
   snapshots = said i;
 }
 
 -- it can be said by a label again
-sayable : (l : Label) → IsLabel l → length l.snapshots ≡ 24 → (y : VolumeState) → head_in y ≡ head_of l → is_name y.name ≡ true → IsSayable y
+sayable : (l : Label) → IsLabel l → IsBare l → length l.snapshots ≡ 24 → (y : VolumeState) → head_in y ≡ head_of l → is_name y.name ≡ true → IsSayable y
 unfolding head_of
-sayable l range long y head named =
+sayable l range is long y head named =
     let size : y.size ≡ l.size = ap (λ h. h.size) head in
     let most : y.most ≡ l.most = ap (λ h. h.most) head in
     let span : y.span ≡ l.span = ap (λ h. h.span) head in
@@ -98,6 +125,7 @@ sayable l range long y head named =
       now = rw now range.now;
       levels = omega (arith, levels, range.levels);
       root = subst IsPointer (sym root) range.root;
+      base = subst (λ (h : Head). IfSome h.base IsSayableBase) (sym head) (base_sayable l range is);
       snapshots = subst AreSayable (sym head) (label_sayable l range long);
     }
 
@@ -118,7 +146,7 @@ labelled_from l range long none y slot at head ledger named map slots settled =
       counts = ledger ∙ sym same;
       levels = omega (arith, levels, range.levels);
       named = named;
-      label = label_range y (sayable l range long y head named);
+      label = label_range y (sayable l range (bare l none) long y head named);
     }
 
 -- records say at most as many snapshots as they are
@@ -139,8 +167,9 @@ few_snaps l snaps long said =
     let few = few_said l.snapshots 1 in
     omega (arith, same, equal, few, long)
 
--- the slots that were read are those of the label's snapshots
-pub slots_loaded : (l : Label) (y : VolumeState) (snaps : List StateSnap) (m : Maps) → length l.snapshots ≡ 24 → snaps_in snaps ≡ snaps_from 1 l.snapshots → head_in y ≡ head_of l → y.map ≡ m → AreUsedTo snaps stored_count m → HasSlotsOf (head_in y) y.map
+-- the slots that were read are those of the label's snapshots, and that of its base is used where it has one
+pub slots_loaded : (l : Label) (y : VolumeState) (snaps : List StateSnap) (m : Maps) → length l.snapshots ≡ 24 → snaps_in snaps ≡ snaps_from 1 l.snapshots → head_in y ≡ head_of l → y.map ≡ m
+    → AreUsedBeside snaps (footing_of l) m → HasSlotsOf (head_in y) y.map
 unfolding head_of
 slots_loaded l y snaps m long said head same used =
     subst (λ (h : Head). HasSlotsOf h y.map) (sym head) (subst (HasSlotsOf (head_of l)) (sym same) (slots_read (head_of l) snaps m said (label_slots l long) used))

@@ -28,7 +28,7 @@ use Rattle.fv_volume.specs.declared.state.VolumeState.{VolumeState}
 use Rattle.fv_pool.specs.Calls.{Reads}
 use Rattle.fv_volume.specs.Calls.{Changes, HasWithin}
 use Rattle.fv_volume.specs.Changing.{AcceptsCut, IsDeltaBy}
-use Rattle.fv_volume.specs.OneVolume.{shows, standing_for, volume_for, IsReady, IsStanding}
+use Rattle.fv_volume.specs.OneVolume.{tables_of, shows, standing_for, volume_for, IsReady, IsStanding}
 use Rattle.fv_pool.specs.Tables.{standing_by}
 use Rattle.fv_volume.proofs.FoundFiles.{file_found, FoundFile}
 use Rattle.fv_volume.proofs.Calling.{done_leaves, done_moves, done_next, done_places, done_says, is_done, left_numbers, LeavesTrees, Parts}
@@ -57,7 +57,7 @@ module _ (d e f : Disk) (p q r : Pool) (first : Reads d p e q) (second : Reads e
   taken_is : count ≡ taken_by_cut seen.its most
   taken_is = takes x.now seen.its (omega arith) seen.well seen.later
 
-  low : x.snapshots ≡ [] → count ≤ x.ledger.charge
+  low : tables_of x ≡ [] → count ≤ x.ledger.charge
   low none =
       let left = cut_charge (volume_for d p x) (is_alone d p x none) is.table info.number seen.its most seen.in_table in
       let same = is.ledger.charged in

@@ -28,7 +28,7 @@ use Rattle.fv_pool.specs.Calls.{Reads}
 use Rattle.fv_volume.specs.Calls.{Changes, HasWithin}
 use Rattle.fv_volume.specs.Changing.{AcceptsRemoval, IsDeltaBy}
 use Rattle.fv_volume.specs.Numbering.{LacksFile}
-use Rattle.fv_volume.specs.OneVolume.{shows, standing_for, volume_for, IsReady, IsStanding}
+use Rattle.fv_volume.specs.OneVolume.{tables_of, shows, standing_for, volume_for, IsReady, IsStanding}
 use Rattle.fv_pool.specs.Tables.{standing_by}
 use Rattle.fv_volume.proofs.FoundFiles.{file_found, FoundFile}
 use Rattle.fv_volume.proofs.Calling.{done_leaves, done_moves, done_next, done_places, done_says, is_done, left_numbers, LeavesTrees, Parts}
@@ -57,7 +57,7 @@ module _ (d e f : Disk) (p q r : Pool) (first : Reads d p e q) (second : Reads e
   taken_is : count ≡ taken_by_rm (table_told (standing_for d p x)) info.number seen.its
   taken_is = takes x.now seen.its (omega arith) seen.well seen.later ∙ ap (λ (s : Standing). taken_by_rm (table_told s) info.number seen.its) (still_table d e p q first x)
 
-  low : x.snapshots ≡ [] → count ≤ x.ledger.charge
+  low : tables_of x ≡ [] → count ≤ x.ledger.charge
   low none =
       let left = rm_charge (volume_for d p x) (is_alone d p x none) is.table info.number seen.its seen.in_table in
       let same = is.ledger.charged in

@@ -28,7 +28,7 @@ use Rattle.fv_volume.specs.Labels.{label_said}
 use Rattle.fv_pool.specs.Lending.{IsTold, use_of, use_under}
 use Rattle.fv_pool.specs.LendingLaws.{apart_by}
 use Rattle.fv_pool.specs.Tables.{standing_by, AreLaidBy, AreSoundBy, AreLedBy, AreStoredBy, trees_by}
-use Rattle.fv_volume.specs.OneVolume.{blocks_in, shows, snaps_by, standing_for, trees_for, uses_in, volume_as, volume_for, IsKeptTable, IsReady, IsStanding, IsTableIn}
+use Rattle.fv_volume.specs.OneVolume.{blocks_in, shows, snaps_by, standing_for, trees_for, uses_in, volume_as, volume_for, IsKeptTable, IsReady, IsStanding, IsTableIn, base_told_by, tables_of}
 use Rattle.fv_volume.specs.Placing.{IsLedTo, IsStoredWell}
 use Rattle.fv_volume.specs.Sharing.{AreShared}
 use Rattle.fv_pool.proofs.Failing.{blocks_of}
@@ -78,17 +78,17 @@ module _ (d e : Disk) (p q : Pool) (x : VolumeState) (spaces : q.map ≡ p.map) 
   same_uses : uses_in q x ≡ uses_in p x
   same_uses = λ i k v. cond (has v (slot_at x.map k)) (Some (use_of (held_entry x.map (slots i) x.slot v))) None
 
-  same_kept : All (IsKeptTable d p x) x.snapshots → All (IsKeptTable e q x) x.snapshots
-  same_kept all = subst (λ (u : ℕ → Under). All (λ (s : Snap). (s.slot ≢ 0) × IsTableIn (u s.slot) (uses_in q x s.slot) (slot_at x.map s.slot) x.now s.table) x.snapshots) (sym same_slots)
-      (subst (λ (u : ℕ → ℕ → Option Use). All (λ (s : Snap). (s.slot ≢ 0) × IsTableIn (blocks_in d p x s.slot) (u s.slot) (slot_at x.map s.slot) x.now s.table) x.snapshots) (sym same_uses) all)
+  same_kept : All (IsKeptTable d p x) (tables_of x) → All (IsKeptTable e q x) (tables_of x)
+  same_kept all = subst (λ (u : ℕ → Under). All (λ (s : Snap). (s.slot ≢ 0) × IsTableIn (u s.slot) (uses_in q x s.slot) (slot_at x.map s.slot) x.now s.table) (tables_of x)) (sym same_slots)
+      (subst (λ (u : ℕ → ℕ → Option Use). All (λ (s : Snap). (s.slot ≢ 0) × IsTableIn (blocks_in d p x s.slot) (u s.slot) (slot_at x.map s.slot) x.now s.table) (tables_of x)) (sym same_uses) all)
 
-  same_shared : AreShared (trees_for d p x) (blocks_in d p x) x.snapshots → AreShared (trees_for e q x) (blocks_in e q x) x.snapshots
-  same_shared is = subst (λ (u : Under). AreShared (trees_by u x.active x.files) (blocks_in e q x) x.snapshots) (sym same_under)
-      (subst (λ (u : ℕ → Under). AreShared (trees_for d p x) u x.snapshots) (sym same_slots) is)
+  same_shared : AreShared (trees_for d p x) (blocks_in d p x) (tables_of x) → AreShared (trees_for e q x) (blocks_in e q x) (tables_of x)
+  same_shared is = subst (λ (u : Under). AreShared (trees_by u x.active x.files) (blocks_in e q x) (tables_of x)) (sym same_under)
+      (subst (λ (u : ℕ → Under). AreShared (trees_for d p x) u (tables_of x)) (sym same_slots) is)
 
   -- the volume that it stands for
   same_volume : volume_for e q x ≡ volume_for d p x
-  same_volume = λ i. volume_as x (record { active = table_told (same_standing_for i); snapshots = snaps_by (same_slots i) x.snapshots })
+  same_volume = λ i. volume_as x (record { active = table_told (same_standing_for i); snapshots = snaps_by (same_slots i) x.snapshots; base = base_told_by (same_slots i) x.base })
 
   same_told : IsTold d p x.map x.slot → IsTold e q x.map x.slot
   same_told told =

@@ -34,14 +34,15 @@ use Rattle.fv_volume.proofs.Labels.{label_turned, labelled_as}
 use Rattle.fv_volume.specs.Labels.{label_said}
 use Rattle.fv_pool.specs.Lending.{IsTold, KeepsSlots, lent_by, lent_for, sees}
 use Rattle.fv_pool.specs.Tables.{standing_by, AreLaidBy, AreSoundBy, AreLedBy, AreStoredBy, pending_of, trees_by}
-use Rattle.fv_volume.specs.OneVolume.{blocks_in, home_in, shows, snaps_by, standing_for, table_for, volume_for, IsKeptTable, IsReady, IsStanding}
+use Rattle.fv_volume.specs.OneVolume.{blocks_in, home_in, shows, snaps_by, standing_for, table_for, volume_for, IsKeptTable, IsReady, IsStanding, base_as, base_by, base_told_by, tables_of}
 use Rattle.fv_pool.specs.Placing.{Goes, IsInNoSnap, PlacesTable}
 use Rattle.fv_volume.specs.Placing.{IsLedTo, IsStoredWell, TellsSound}
 use Rattle.fv_volume.specs.Sharing.{AreShared}
-use Rattle.fv_volume.proofs.KeptTables.{kept_shared, kept_snaps, kept_tables}
+use Rattle.fv_volume.proofs.KeptTables.{kept_shared, kept_snaps, kept_tables, kept_base}
 use Rattle.fv_volume.proofs.SnapRecords.{all_said}
 use Rattle.fv_volume.proofs.PlacedShared.{placed_shared, was_laid}
 use Rattle.fv_pool.proofs.TakenTrees.{stored_now}
+use Rattle.fv_volume.proofs.TablesOf.{snaps_all}
 
 -- ---- calls can be made on it
 
@@ -123,23 +124,26 @@ module _ (d : Disk) (p : Pool) (x : VolumeState) (f : Files) (held : x.files ≡
       blocks k v other here = ap (λ (i : Image). held_block map q x.slot i v) goes.goes.goes.only_reads.stays.reads ∙ keeps.blocks k v other here d.reads
 
       left_snaps : snaps_by (blocks_in e q left) x.snapshots ≡ snaps_by (blocks_in d p x) x.snapshots
-      left_snaps = kept_snaps d e p q x left (omega arith) slots keeps.entries blocks x.snapshots is.kept
+      left_snaps = kept_snaps d e p q x left (omega arith) slots keeps.entries blocks x.snapshots (snaps_all (IsKeptTable d p x) x is.kept)
 
-      left_kept : All (IsKeptTable e q left) x.snapshots
-      left_kept = kept_tables d e p q x left (omega arith) slots keeps.entries blocks x.snapshots is.kept
+      left_base : base_told_by (blocks_in e q left) x.base ≡ base_told_by (blocks_in d p x) x.base
+      left_base = kept_base d e p q x left (omega arith) slots keeps.entries blocks x.base
+
+      left_kept : All (IsKeptTable e q left) (tables_of x)
+      left_kept = kept_tables d e p q x left (omega arith) slots keeps.entries blocks (tables_of x) is.kept
 
     pub left_volume : IsStanding d p x → volume_for e q left ≡ volume_for d p x
-    left_volume is = λ i. record (volume_for d p x) { active = left_table i; snapshots = left_snaps is i }
+    left_volume is = λ i. record (volume_for d p x) { active = left_table i; snapshots = left_snaps is i; base = base_as x.base (left_base is i) }
 
     pub left_standing : IsStanding d p x → IsTold e q map x.slot → AreSoundBy (under (sees q map e (home_in x))) (sees q map e (home_in x)).used active files
-        → AreShared (trees_by (under (sees q map e (home_in x))) active files) (blocks_in d p x) x.snapshots → AreLaidBy (under (sees q map e (home_in x))) files → IsStanding e q left
+        → AreShared (trees_by (under (sees q map e (home_in x))) active files) (blocks_in d p x) (tables_of x) → AreLaidBy (under (sees q map e (home_in x))) files → IsStanding e q left
     left_standing is told trees shared laid = record {
       told = told;
       table = subst (IsWellTable x.now) (sym left_table) is.table;
       reserves = subst HasNoReserve (sym left_table) is.reserves;
       kept = left_kept is;
       names = is.names;
-      shared = kept_shared d e p q x left (omega arith) slots (keeps is).entries (blocks is) (trees_by (under (sees q map e (home_in x))) active files) x.snapshots is.kept shared;
+      shared = kept_shared d e p q x left (omega arith) slots (keeps is).entries (blocks is) (trees_by (under (sees q map e (home_in x))) active files) (tables_of x) is.kept shared;
       ledger = subst (λ v. IsLedgerOf v x.ledger) (sym (left_volume is)) is.ledger;
       trees = trees;
       laid = laid;
@@ -208,8 +212,8 @@ module _ (d e : Disk) (p q : Pool) (x : VolumeState) (f : Files) (held : x.files
         ∙ ap (λ (n : ℕ). stored_trees (under after) n root) (sym few)
         ∙ (λ i. trees_by (under after) (sym rooted i) (sym none i))
 
-    shared_now : AreShared (trees_by (under after) active files) (blocks_in d p x) x.snapshots
-    shared_now = subst (λ (t : Trees). AreShared t (blocks_in d p x) x.snapshots) trees_now (placed_shared d p x f held is (loaded_trees (under after) g) (table.anew told told.1 (was_laid d p x f held is)))
+    shared_now : AreShared (trees_by (under after) active files) (blocks_in d p x) (tables_of x)
+    shared_now = subst (λ (t : Trees). AreShared t (blocks_in d p x) (tables_of x)) trees_now (placed_shared d p x f held is (loaded_trees (under after) g) (table.anew told told.1 (was_laid d p x f held is)))
 
     pub done_volume : volume_for e q (record x { active = active; map = map; files = files; changed = true }) ≡ volume_for d p x
     done_volume = left_volume d p x f held e q map g (table.placed told told.1) active files tells room less goes is

@@ -19,7 +19,7 @@ use Rattle.fv_volume.specs.declared.state.Snap.{Snap}
 use Rattle.fv_volume.specs.declared.state.VolumeState.{VolumeState}
 use Rattle.fv_pool.specs.BlocksOver.{held_block}
 use Rattle.fv_pool.specs.Tables.{AreLaidBy, trees_by}
-use Rattle.fv_volume.specs.OneVolume.{blocks_in, shows, IsKeptTable, IsStanding}
+use Rattle.fv_volume.specs.OneVolume.{blocks_in, shows, IsKeptTable, IsStanding, tables_of}
 use Rattle.fv_pool.specs.Placing.{IsInNoSnap}
 use Rattle.fv_volume.specs.Sharing.{trees_kept, AreShared, StandsInBlock}
 use Rattle.fv_volume.proofs.SharedChanges.{shared_placed}
@@ -43,9 +43,9 @@ module _ (d : Disk) (p : Pool) (x : VolumeState) (f : Files) (held : x.files ≡
       by true member some = let none : is_some (held_block x.map p x.slot d.reads v) ≡ false = ap is_some (free q.slot kept.0 member) in cc
       by false member some = cc
 
-  pub placed_shared : (c : Trees) → PlacesTrees (IsInNoSnap d p x.map x.slot) (loaded_trees (under (shows d p x)) f) c → AreShared c (blocks_in d p x) x.snapshots
-  placed_shared c places = shared_placed (IsInNoSnap d p x.map x.slot) (loaded_trees (under (shows d p x)) f) c (blocks_in d p x) x.snapshots (λ n q lt. stands_apart (slice_index_or x.snapshots n q) (is.kept n q lt)) places
-      (subst (λ (o : Option Files). AreShared (trees_by (under (shows d p x)) x.active o) (blocks_in d p x) x.snapshots) held is.shared)
+  pub placed_shared : (c : Trees) → PlacesTrees (IsInNoSnap d p x.map x.slot) (loaded_trees (under (shows d p x)) f) c → AreShared c (blocks_in d p x) (tables_of x)
+  placed_shared c places = shared_placed (IsInNoSnap d p x.map x.slot) (loaded_trees (under (shows d p x)) f) c (blocks_in d p x) (tables_of x) (λ n q lt. stands_apart (slice_index_or (tables_of x) n q) (is.kept n q lt)) places
+      (subst (λ (o : Option Files). AreShared (trees_by (under (shows d p x)) x.active o) (blocks_in d p x) (tables_of x)) held is.shared)
 
   pub was_laid : AreLaid (under (shows d p x)) f
   was_laid = subst (AreLaidBy (under (shows d p x))) held is.laid

@@ -129,7 +129,7 @@ module _ (w : View) (s : ℕ) (h : Head) (one other : Option ℕ → ℕ → ℕ
       ap (λ (p : Pointer). p.stamp) (sym stands) ∙ sym (meant a.pointer.stamp b.pointer.stamp parts.1) ∙ ap (λ (p : Pointer). p.stamp) k.stands in
       ap (λ (p : Pointer). p.vvbn) k.stands ∙ sym (alike.vvbn k.from a.level a.place first stamp) ∙ ap (λ (p : Pointer). p.vvbn) (sym stands)
 
-  same_id : agree (has_same_id a b) (a.pointer.vvbn == b.pointer.vvbn) ≡ true
+  pub same_id : agree (has_same_id a b) (a.pointer.vvbn == b.pointer.vvbn) ≡ true
   same_id = ⊎_elim
       (λ (is : has_same_id a b ≡ true). ap (λ (t : Bool). agree t (a.pointer.vvbn == b.pointer.vvbn)) is ∙ equals a.pointer.vvbn b.pointer.vvbn (of_one_id is))
       (λ (isnt : has_same_id a b ≡ false). ap (λ (t : Bool). agree t (a.pointer.vvbn == b.pointer.vvbn)) isnt ∙ differs (a.pointer.vvbn == b.pointer.vvbn) refl isnt)

@@ -1,25 +1,25 @@
--- The ids of a volume's active table that stay charged when a change replaces them are those whose blocks a snapshot has, too: those at places
--- that stand in a block of some snapshot's map.
-use Rattle.std.proofs.Common.{◌+◌, zero, suc, ◌≡◌, ◌≢◌, ◌<◌, ◌≤◌, ℕ, Bool, true, false, not, ◌&&◌, ◌||◌, List, [], ◌∷◌, map, Option, Some, None, is_some, inl, inr, refl, sym, ap, subst, ◌∙◌, arith}
-use Rattle.std.specs.Prelude.{drop, find, if◌then◌else◌, nat_le, nat_lt, slice_index_or, take, ◌==◌}
+-- The ids of a volume's active table that stay charged when a change replaces them are those whose blocks a snapshot or the base has, too: those at
+-- places that stand in a block of the map of another slot.
+use Rattle.std.proofs.Common.{◌+◌, zero, suc, ◌≡◌, ◌≢◌, ◌≤◌, ℕ, Bool, true, false, not, ◌&&◌, ◌||◌, List, [], ◌∷◌, map, ◌++◌, Option, Some, None, is_some, inl, inr, ⊎_elim, ◌⊎◌, cond, refl, sym, ap, subst, ◌∙◌, arith}
+use Rattle.std.specs.Prelude.{IfSome, drop, find, if◌then◌else◌, slice_index_or, ◌==◌}
 use Rattle.std.specs.List.{list_all}
-use Rattle.std.specs.Option.{option_map_or}
+use Rattle.std.specs.Option.{option_map, option_map_or}
 use Rattle.std.specs.FinSet as set
-use Rattle.std.proofs.lemmas.Bool.{and_parts, or_cases, or_left, or_right}
+use Rattle.std.proofs.lemmas.Bool.{and_parts, cases_eq, or_cases, or_left, or_right}
 use Rattle.std.proofs.lemmas.Bool.Decides.{nat_tests}
 use Rattle.fv_disk.specs.Shown.{Shown as Disk}
 use Rattle.fv_codec.specs.declared.inode.InodeRecord.{InodeRecord}
 use Rattle.fv_codec.specs.declared.pointer.Pointer.{Pointer}
-use Rattle.fv_model.specs.Places.{Id, InodeFile, OfFile, Owner, id_cmp, placed}
-use Rattle.fv_model.specs.Space.{kept_ids}
+use Rattle.fv_model.specs.Places.{Id, InodeFile, OfFile, Owner, id_cmp, ids_of, placed}
+use Rattle.fv_model.specs.Space.{ids_left_out, kept_ids}
 use Rattle.fv_model.specs.Volumes.{Volume}
 use Rattle.fv_laws.specs.Positions.{settled_ids, IsNextNew}
 use Rattle.fv_laws.specs.Settled.{is_settled}
 use Rattle.fv_laws.specs.WellFormed.{IsWellTable}
-use Rattle.fv_laws.proofs.Lists.{In, in_map}
+use Rattle.fv_laws.proofs.Lists.{In, in_either, in_right}
 use Rattle.fv_laws.proofs.Orders.{id_total}
 use Rattle.fv_laws.proofs.Stamps.{get-stamps_of, stands}
-use Rattle.fv_laws.proofs.Tests.{from_all, iff}
+use Rattle.fv_laws.proofs.Tests.{iff}
 use Rattle.fv_tables.specs.Ids.{owner_of}
 use Rattle.fv_tables.specs.Reached.{Item, is_listed, items}
 use Rattle.fv_tables.specs.Spelled.{Under, hole, pointer_at, stamp_in}
@@ -33,36 +33,28 @@ use Rattle.fv_files.specs.Apart.{Trees, stored_trees}
 use Rattle.fv_files.specs.Sharing.{SettlesShared, owner_in}
 use Rattle.fv_image.specs.Views.{Snap as HeadSnap}
 use Rattle.fv_image.specs.Volumes.{snap_at}
-use Rattle.fv_volmap.specs.Slots.{Slot, has, is_in_snapshot, slot_at, snapshot_count, taken_in}
+use Rattle.fv_volmap.specs.Slots.{Slot, has, is_elsewhere, slot_at, slot_of_base, taken_in}
 use Rattle.fv_pool.specs.declared.pool.Pool.{Pool}
+use Rattle.fv_volume.specs.declared.state.Base.{Base as StateBase}
 use Rattle.fv_volume.specs.declared.state.Snap.{Snap}
 use Rattle.fv_volume.specs.declared.state.VolumeState.{VolumeState}
 use Rattle.fv_volume.specs.Files.{IsLabelled}
-use Rattle.fv_volume.specs.OneVolume.{blocks_in, shows, standing_kept, trees_for, volume_for, IsKeptTable, IsStanding}
+use Rattle.fv_volume.specs.OneVolume.{blocks_in, shows, standing_kept, trees_for, volume_for, base_by, base_table, tables_of, IsKeptTable, IsStanding}
 use Rattle.fv_volume.specs.Sharing.{differs_in, pointer_in, trees_kept, SharesWith}
-use Rattle.fv_volume.specs.States.{head_in, snap_in}
+use Rattle.fv_volume.specs.States.{footing_in, head_in, snap_in}
 use Rattle.fv_volume.proofs.EachRoot.{all_in}
 use Rattle.fv_volume.proofs.KeptStamps.{past_stamp, stamp_some}
 use Rattle.fv_volume.proofs.SharedRoots.{stored_place, stored_same}
 use Rattle.fv_volume.proofs.SnapIds.{by_stamp, has_id, in_kept, of_id, of_kept}
+use Rattle.fv_volume.proofs.TablesOf.{is_whole}
 
 -- ---- lists
 
--- a number that one of the first slots has is taken by them
-in_first : (n : ℕ) (slots : List Slot) (v k : ℕ) → k < n → has v (slice_index_or slots k None) ≡ true → taken_in (take n slots) v ≡ true
-in_first zero slots v k low is = absurd (omega (arith, low))
-in_first (suc n) [] v k low is = absurd cc
-in_first (suc n) (s ∷ ss) v zero low is = or_left (has v s) (taken_in (take n ss) v) is
-in_first (suc n) (s ∷ ss) v (suc k) low is = or_right (has v s) (taken_in (take n ss) v) (in_first n ss v k (omega (arith, low)) is)
-
--- and one that they took one of them has
-of_first : (n : ℕ) (slots : List Slot) (v : ℕ) → taken_in (take n slots) v ≡ true → (k : ℕ) × ((k < n) × (has v (slice_index_or slots k None) ≡ true))
-of_first zero slots v is = absurd cc
-of_first (suc n) [] v is = absurd cc
-of_first (suc n) (s ∷ ss) v is = elim (or_cases (has v s) (taken_in (take n ss) v) is) [
-  | inl here ↦ (zero, (omega arith, here))
-  | inr later ↦ (let k = of_first n ss v later in (suc k.0, (let low = k.1.0 in omega (arith, low), k.1.1)))
-]
+-- a number that one of the slots has is taken
+pub taken_by : (slots : List Slot) (v k : ℕ) → has v (slice_index_or slots k None) ≡ true → taken_in slots v ≡ true
+taken_by [] v k is = absurd cc
+taken_by (s ∷ ss) v zero is = or_left (has v s) (taken_in ss v) is
+taken_by (s ∷ ss) v (suc k) is = or_right (has v s) (taken_in ss v) (taken_by ss v k is)
 
 -- A number that is taken one of the slots has.
 pub taken_some : (slots : List Slot) (v : ℕ) → taken_in slots v ≡ true → (k : ℕ) × (has v (slice_index_or slots k None) ≡ true)
@@ -173,22 +165,61 @@ module _ (d : Disk) (p : Pool) (x : VolumeState) (is : IsStanding d p x) (labell
   abbrev blocks : ℕ → Under
   blocks = blocks_in d p x
 
-  settled_kept : (i : Id) → set.contains (settled_ids v) i ≡ set.contains (kept_ids v) i
-  settled_kept i = set.contains-union id_total (kept_ids v) set.empty i ∙ ap (λ b. set.contains (kept_ids v) i || b) (set.contains-empty id_cmp i) ∙ last (set.contains (kept_ids v) i)
+  none_in : (i : Id) → set.contains (set.empty {K = Id} {R = id_cmp}) i ≡ true → ⊥
+  none_in i has_it = wrong (sym (set.contains-empty id_cmp i) ∙ has_it)
     where
-      last : (b : Bool) → (b || false) ≡ b
-      last true = refl
-      last false = refl
+      wrong : false ≡ true → ⊥
+      wrong e = cc
+
+  -- a settled id is one of a table that is kept, that of a snapshot or that of the base
+  of_settled : (i : Id) → set.contains (settled_ids v) i ≡ true → (q : Snap) × (In q (tables_of x) × (set.contains (ids_of (table_told (standing_kept blocks q))) i ≡ true))
+  of_settled i has_it = ⊎_elim
+      (λ kept. let q = of_kept blocks x.snapshots i kept in (q.0, (in_right q.0 (base_table x.base) x.snapshots q.1.0, q.1.1)))
+      (λ out. of_base x.base out)
+      (or_cases (set.contains (kept_ids v) i) (set.contains (ids_left_out v.base) i) (sym (set.contains-union id_total (kept_ids v) (ids_left_out v.base) i) ∙ has_it))
+    where
+      of_base : (o : Option StateBase) → set.contains (ids_left_out (base_by blocks o)) i ≡ true → (q : Snap) × (In q (base_table o ++ x.snapshots) × (set.contains (ids_of (table_told (standing_kept blocks q))) i ≡ true))
+      of_base None out = absurd (none_in i out)
+      of_base (Some b) out = by b.splitting out
+        where
+          by : (t : Bool) → set.contains (cond t set.empty (ids_of (table_told (standing_at (blocks slot_of_base) b.table.levels b.table.root)))) i ≡ true
+              → (q : Snap) × (In q (base_table (Some b) ++ x.snapshots) × (set.contains (ids_of (table_told (standing_kept blocks q))) i ≡ true))
+          by true out = absurd (none_in i out)
+          by false out = (record { slot = slot_of_base; name = b.snapshot; table = b.table }, (inl refl, out))
+
+  in_settled : (q : Snap) → In q (tables_of x) → (i : Id) → set.contains (ids_of (table_told (standing_kept blocks q))) i ≡ true → set.contains (settled_ids v) i ≡ true
+  in_settled q there i has_it = set.contains-union id_total (kept_ids v) (ids_left_out v.base) i ∙ ⊎_elim
+      (λ based. or_right (set.contains (kept_ids v) i) (set.contains (ids_left_out v.base) i) (in_base x.base (is_whole x.slot x labelled) based))
+      (λ kept. or_left (set.contains (kept_ids v) i) (set.contains (ids_left_out v.base) i) (in_kept blocks x.snapshots is.names q kept i has_it))
+      (in_either q (base_table x.base) x.snapshots there)
+    where
+      in_base : (o : Option StateBase) → IfSome o (λ b. b.splitting ≡ false) → In q (base_table o) → set.contains (ids_left_out (base_by blocks o)) i ≡ true
+      in_base None w none = absurd none
+      in_base (Some b) w (inr none) = absurd none
+      in_base (Some b) w (inl same) =
+          ap (λ (t : Bool). set.contains (cond t set.empty (ids_of (table_told (standing_at (blocks slot_of_base) b.table.levels b.table.root)))) i) w
+          ∙ ap (λ (r : Snap). set.contains (ids_of (table_told (standing_kept blocks r))) i) same ∙ has_it
+
+  -- a slot in use beside the active one has a table that is kept
+  pub kept_found : (k : ℕ) → k ≢ 0 → is_some (slot_at x.map k) ≡ true → (q : Snap) × (In q (tables_of x) × (q.slot ≡ k))
+  kept_found k other used = ⊎_elim
+      (λ (e : k ≡ slot_of_base). by x.base (sym labelled.slots.base ∙ ap (λ (n : ℕ). is_some (slot_at x.map n)) (sym e) ∙ used) (sym e))
+      (λ differ. let q = slot_found x k (sym (labelled.slots.each k other differ) ∙ used) in (q.0, (in_right q.0 (base_table x.base) x.snapshots q.1.0, q.1.1)))
+      (cases_eq k slot_of_base)
+    where
+      by : (o : Option StateBase) → is_some (option_map footing_in o) ≡ true → slot_of_base ≡ k → (q : Snap) × (In q (base_table o ++ x.snapshots) × (q.slot ≡ k))
+      by None is e = absurd cc
+      by (Some b) is e = (record { slot = slot_of_base; name = b.snapshot; table = b.table }, (inl refl, e))
 
   -- No settled id has the stamp of the next change.
   pub next_is_new : IsNextNew v
-  next_is_new q = settled_kept (q, x.now + 1) ∙ isnt (set.contains (kept_ids v) (q, x.now + 1)) refl
+  next_is_new q = isnt (set.contains (settled_ids v) (q, x.now + 1)) refl
     where
-      isnt : (b : Bool) → set.contains (kept_ids v) (q, x.now + 1) ≡ b → b ≡ false
+      isnt : (b : Bool) → set.contains (settled_ids v) (q, x.now + 1) ≡ b → b ≡ false
       isnt false has = refl
       isnt true has =
-          let s = of_kept blocks x.snapshots (q, x.now + 1) has in
-          let its = all_in (IsKeptTable d p x) x.snapshots is.kept s.0 s.1.0 in
+          let s = of_settled (q, x.now + 1) has in
+          let its = all_in (IsKeptTable d p x) (tables_of x) is.kept s.0 s.1.0 in
           let old : x.now + 1 ≤ x.now = past_stamp x.now (table_told (standing_kept blocks s.0)) its.1.table q.owner (q.level, q.index) (x.now + 1) (of_id (table_told (standing_kept blocks s.0)) q.owner q.level q.index (x.now + 1) s.1.1) in
           let late : x.now + 1 ≤ x.now → ⊥ = omega arith in
           absurd (late old)
@@ -210,45 +241,39 @@ module _ (d : Disk) (p : Pool) (x : VolumeState) (is : IsStanding d p x) (labell
         so true e = absurd cc
         so false e = cc
 
-    of_snap : here.stamp ≢ 0 → set.contains (kept_ids v) its_id ≡ true → (differs_in (trees_for d p x o) level index ≡ false) × (is_in_snapshot x.map here.vvbn ≡ true)
+    of_snap : here.stamp ≢ 0 → set.contains (settled_ids v) its_id ≡ true → (differs_in (trees_for d p x o) level index ≡ false) × (is_elsewhere x.map here.vvbn ≡ true)
     of_snap some has_it =
-        let q = of_kept blocks x.snapshots its_id has_it in
+        let q = of_settled its_id has_it in
         let stamp : (there q.0).stamp ≡ here.stamp = stamp_said (there q.0) here.stamp (sym (by_stamp (blocks q.0.slot) q.0.table None o level index) ∙ of_id (table_told (standing_kept blocks q.0)) (owner_in o) level index here.stamp q.1.1) in
-        let one = (all_in (λ (q : Snap). SharesWith (trees_for d p x) (trees_kept blocks q)) x.snapshots is.shared.active q.0 q.1.0).same o level index some stamp in
-        let kept = all_in (IsKeptTable d p x) x.snapshots is.kept q.0 q.1.0 in
+        let one = (all_in (λ (q : Snap). SharesWith (trees_for d p x) (trees_kept blocks q)) (tables_of x) is.shared.active q.0 q.1.0).same o level index some stamp in
+        let kept = all_in (IsKeptTable d p x) (tables_of x) is.kept q.0 q.1.0 in
         let member : has (there q.0).vvbn (slot_at x.map q.0.slot) ≡ true = kept.1.reach (there q.0).vvbn ∙ place_listed (blocks q.0.slot) q.0.table.levels q.0.table.root (few_levels x.now (blocks q.0.slot) q.0.table.levels q.0.table.root kept.1.table) o level index one.second.some in
         let vvbn : (there q.0).vvbn ≡ here.vvbn = one.second.vvbn ∙ sym one.first.vvbn in
-        (one.first.same, in_slot q.0.slot here.vvbn kept.0 (within q.0 q.1.0) (subst (λ (n : ℕ). has n (slot_at x.map q.0.slot) ≡ true) vvbn member))
+        (one.first.same, in_slot q.0.slot here.vvbn kept.0 (subst (λ (n : ℕ). has n (slot_at x.map q.0.slot) ≡ true) vvbn member))
       where
-        within : (q : Snap) → In q x.snapshots → q.slot < 25
-        within q one =
-            let bounds = and_parts (nat_le 1 q.slot) _ (from_all (λ (p : HeadSnap). nat_le 1 p.slot && nat_lt p.slot 25) (head_in x).snapshots labelled.snapshots.slots.within (snap_in q) (in_map snap_in q x.snapshots one)) in
-            grind (arith, nat_tests, bounds.1)
+        in_slot : (k n : ℕ) → k ≢ 0 → has n (slot_at x.map k) ≡ true → is_elsewhere x.map n ≡ true
+        in_slot zero n other is = absurd (other refl)
+        in_slot (suc k) n other is = taken_by (drop 1 x.map.slots) n k (ap (has n) (after_first x.map.slots k) ∙ is)
 
-        in_slot : (k n : ℕ) → k ≢ 0 → k < 25 → has n (slot_at x.map k) ≡ true → is_in_snapshot x.map n ≡ true
-        in_slot zero n other low is = absurd (other refl)
-        in_slot (suc k) n other low is = in_first snapshot_count (drop 1 x.map.slots) n k (omega (arith, low)) (ap (has n) (after_first x.map.slots k) ∙ is)
-
-    to_snap : here.stamp ≢ 0 → differs_in (trees_for d p x o) level index ≡ false → is_in_snapshot x.map here.vvbn ≡ true → set.contains (kept_ids v) its_id ≡ true
+    to_snap : here.stamp ≢ 0 → differs_in (trees_for d p x o) level index ≡ false → is_elsewhere x.map here.vvbn ≡ true → set.contains (settled_ids v) its_id ≡ true
     to_snap some same shared =
-        let k = of_first snapshot_count (drop 1 x.map.slots) here.vvbn shared in
-        let member : has here.vvbn (slot_at x.map (suc k.0)) ≡ true = ap (has here.vvbn) (sym (after_first x.map.slots k.0)) ∙ k.1.1 in
-        let low = k.1.0 in
-        let q = slot_found x (suc k.0) (sym (labelled.slots.each (suc k.0) (omega arith) (omega (arith, low))) ∙ has_used (slot_at x.map (suc k.0)) here.vvbn member) in
-        let kept = all_in (IsKeptTable d p x) x.snapshots is.kept q.0 q.1.0 in
+        let k = taken_some (drop 1 x.map.slots) here.vvbn shared in
+        let member : has here.vvbn (slot_at x.map (suc k.0)) ≡ true = ap (has here.vvbn) (sym (after_first x.map.slots k.0)) ∙ k.1 in
+        let q = kept_found (suc k.0) (omega arith) (has_used (slot_at x.map (suc k.0)) here.vvbn member) in
+        let kept = all_in (IsKeptTable d p x) (tables_of x) is.kept q.0 q.1.0 in
         let listed : is_listed (items (standing_kept blocks q.0)) here.vvbn ≡ true = sym (kept.1.reach here.vvbn) ∙ ap (λ (n : ℕ). has here.vvbn (slot_at x.map n)) q.1.1 ∙ member in
         let leads = listed_at (blocks q.0.slot) q.0.table.levels q.0.table.root (few_levels x.now (blocks q.0.slot) q.0.table.levels q.0.table.root kept.1.table) here.vvbn listed in
-        let one = (all_in (λ (q : Snap). SharesWith (trees_for d p x) (trees_kept blocks q)) x.snapshots is.shared.active q.0 q.1.0).back o leads.owner level index leads.level leads.index here.vvbn
+        let one = (all_in (λ (q : Snap). SharesWith (trees_for d p x) (trees_kept blocks q)) (tables_of x) is.shared.active q.0 q.1.0).back o leads.owner level index leads.level leads.index here.vvbn
         (record { some = some; same = same; vvbn = refl })
         (record { some = leads.some; same = stored_same (blocks q.0.slot) q.0.table.levels q.0.table.root leads.owner leads.level leads.index; vvbn = leads.vvbn }) in
         let at : pointer_in (trees_kept blocks q.0 leads.owner) leads.level leads.index ≡ there q.0 = λ i. pointer_in (trees_kept blocks q.0 (sym one.tree i)) (sym one.level_is i) (sym one.place_is i) in
         let stamp : (there q.0).stamp ≡ here.stamp = ap (λ (r : Pointer). r.stamp) (sym at) ∙ sym one.stamp in
         let standing : stands (table_told (standing_kept blocks q.0)) (owner_in o) (level, index) ≡ Some here.stamp =
         by_stamp (blocks q.0.slot) q.0.table None o level index ∙ stamp_some (there q.0) (λ none. some (sym stamp ∙ none)) ∙ ap (λ (s : ℕ). Some s) stamp in
-        in_kept blocks x.snapshots is.names q.0 q.1.0 its_id (has_id (table_told (standing_kept blocks q.0)) (owner_in o) level index here.stamp standing)
+        in_settled q.0 q.1.0 its_id (has_id (table_told (standing_kept blocks q.0)) (owner_in o) level index here.stamp standing)
 
-    -- An id of the active table is settled exactly where its place stands in a block that a snapshot has.
-    settled_here : (b : Bool) → differs_in (trees_for d p x o) level index ≡ b → is_settled v (placed (owner_in o) (level, index)) ≡ (not (here.stamp == 0) && (not b && is_in_snapshot x.map here.vvbn))
+    -- An id of the active table is settled exactly where its place stands in a block that another slot has.
+    settled_here : (b : Bool) → differs_in (trees_for d p x o) level index ≡ b → is_settled v (placed (owner_in o) (level, index)) ≡ (not (here.stamp == 0) && (not b && is_elsewhere x.map here.vvbn))
     settled_here b differs =
         ap (λ (at : Option ℕ). option_map_or (λ s. set.contains (settled_ids v) (placed (owner_in o) (level, index), s)) at false)
         (get-stamps_of v.active (owner_in o) (level, index) ∙ by_stamp (under (shows d p x)) x.active x.files o level index)
@@ -261,21 +286,21 @@ module _ (d : Disk) (p : Pool) (x : VolumeState) (is : IsStanding d p x) (labell
             by true is = absurd cc
             by false is = (refl, is)
 
-        so : (z : Bool) → (here.stamp == 0) ≡ z → option_map_or (λ s. set.contains (settled_ids v) (placed (owner_in o) (level, index), s)) (if z then None else Some here.stamp) false ≡ (not z && (not b && is_in_snapshot x.map here.vvbn))
+        so : (z : Bool) → (here.stamp == 0) ≡ z → option_map_or (λ s. set.contains (settled_ids v) (placed (owner_in o) (level, index), s)) (if z then None else Some here.stamp) false ≡ (not z && (not b && is_elsewhere x.map here.vvbn))
         so true zero_is = refl
         so false other =
             let some : here.stamp ≢ 0 = λ none. (let is : (here.stamp == 0) ≡ true = grind (arith, nat_tests, none) in apart (sym is ∙ other)) in
-            settled_kept its_id ∙ iff (set.contains (kept_ids v) its_id) (not b && is_in_snapshot x.map here.vvbn)
+            iff (set.contains (settled_ids v) its_id) (not b && is_elsewhere x.map here.vvbn)
             (λ has_it. let both = of_snap some has_it in λ i. not ((sym differs ∙ both.0) i) && both.1 i)
-            (λ test. let both = meant (is_in_snapshot x.map here.vvbn) test in to_snap some (differs ∙ both.0) both.1)
+            (λ test. let both = meant (is_elsewhere x.map here.vvbn) test in to_snap some (differs ∙ both.0) both.1)
           where
             apart : true ≡ false → ⊥
             apart e = cc
 
   -- So its ids stay charged where its blocks are shared.
-  pub settled_for : SettlesShared (volume_for d p x) (trees_for d p x) (is_in_snapshot x.map)
+  pub settled_for : SettlesShared (volume_for d p x) (trees_for d p x) (is_elsewhere x.map)
   settled_for = record {
     each = λ o s at level index.
         settled_here o level index (s.changed level index) (ap (λ (t : Option Loaded). differs_in t level index) at)
-        ∙ ap (λ (t : Option Loaded). not ((pointer_in t level index).stamp == 0) && (not (s.changed level index) && is_in_snapshot x.map (pointer_in t level index).vvbn)) at;
+        ∙ ap (λ (t : Option Loaded). not ((pointer_in t level index).stamp == 0) && (not (s.changed level index) && is_elsewhere x.map (pointer_in t level index).vvbn)) at;
   }

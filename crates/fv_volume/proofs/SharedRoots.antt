@@ -1,5 +1,5 @@
--- The tables of two roots of a volume lead to one VVBN exactly where they have one id, where the rule of soundness on ids is kept.
-use Rattle.std.proofs.Common.{◌≡◌, ◌≢◌, ℕ, ◌<◌, ◌≤◌, Bool, true, false, List, Option, Some, None, refl, sym, ap, subst, ◌∙◌}
+-- Two tables of a volume, of its roots or of its base, lead to one VVBN exactly where they have one id, where the rule of soundness on ids is kept.
+use Rattle.std.proofs.Common.{◌≡◌, ◌≢◌, ℕ, ◌<◌, ◌≤◌, Bool, true, false, List, [], Option, Some, None, refl, sym, ap, subst, ◌∙◌}
 use Rattle.std.specs.Prelude.{◌==◌, flat_map, map}
 use Rattle.std.specs.List.{list_all}
 use Rattle.std.specs.Option.{option_map, option_map_or}
@@ -20,10 +20,10 @@ use Rattle.fv_tree.specs.Beside.{unread}
 use Rattle.fv_files.specs.Apart.{Trees, stored_trees}
 use Rattle.fv_files.specs.Sharing.{owner_in}
 use Rattle.fv_image.specs.Chains.{under}
-use Rattle.fv_image.specs.Seen.{Based, Reached, Root, base_seen, reached_at, root_seen, roots_of, seen, volume_seen}
+use Rattle.fv_image.specs.Seen.{Based, Reached, Root, base_root, base_seen, based_at, based_on, reached_at, root_seen, roots_of, seen, volume_seen}
 use Rattle.fv_image.specs.BlockRules.{agree}
 use Rattle.fv_image.specs.TableRules.{all_items, has_one_to_one, has_same_id}
-use Rattle.fv_image.specs.Views.{Head, Rooted, View}
+use Rattle.fv_image.specs.Views.{Footing, Head, Rooted, View}
 use Rattle.fv_image.specs.Volumes.{standing_of}
 use Rattle.fv_image.proofs.OwnIds.{one_id, one_vvbn}
 use Rattle.fv_image.proofs.SameSeen.{of_volume}
@@ -105,36 +105,51 @@ module _ (a b : Trees) (one other : Places) (first : (o : Option ℕ) (level ind
         (at.tree, (at.level_is, (at.place_is, ap (λ (p : Pointer). p.stamp) (sym (first o level index)) ∙ at.stamp ∙ ap (λ (p : Pointer). p.stamp) (second u k q))));
   }
 
--- ---- two roots of a volume in a view
+-- ---- two tables of a volume in a view
 
-module _ (w : View) (s : ℕ) (h : Head) (small : s < 64) (there : w.head s ≡ Some h) (ids : has_one_to_one (seen w) ≡ true) (k : ℕ) (r : Rooted) (one : In {X = ℕ × Rooted} (k, r) (roots_of h)) (j : ℕ) (q : Rooted) (two : In {X = ℕ × Rooted} (j, q) (roots_of h))
+-- What holds of all pointers that a volume's roots and its base table reach holds of those of a table, which lies in a slot.
+abbrev pub AreAmong : View → ℕ → Head → ℕ → Rooted → Type 0
+AreAmong w s h n t = (test : Item → Bool) → list_all test (all_items (volume_seen w s h)) ≡ true → list_all test (items (standing_of w n t)) ≡ true
+
+module _ (w : View) (s : ℕ) (h : Head) where
+  abbrev listed : Root → List Item
+  listed x = map (λ (e : Reached). e.item) x.reached
+
+  abbrev rooted : ℕ × Rooted → Root
+  rooted p = root_seen w s p.0 p.1
+
+  -- So it is with the table of each root,
+  pub roots_among : (k : ℕ) (r : Rooted) → In {X = ℕ × Rooted} (k, r) (roots_of h) → AreAmong w s h s r
+  unfolding volume_seen root_seen
+  roots_among k r one test all =
+      let roots = (and_parts _ _ (sym (list_all-append test (flat_map listed (map rooted (roots_of h))) (map (λ (b : Based). b.item) (base_seen w s h.base))) ∙ all)).0 in
+      let mine = all_one (λ (x : Root). list_all test (listed x)) rooted (roots_of h) (k, r) (sym (all_flat test listed (map rooted (roots_of h))) ∙ roots) one in
+      sym (list_all-map (λ (e : Reached). test e.item) (reached_at w s) (items (standing_of w s r))) ∙ sym (list_all-map test (λ (e : Reached). e.item) (map (reached_at w s) (items (standing_of w s r)))) ∙ mine
+
+  -- and with the table that the volume stands on, which is one of another slot.
+  pub base_among : (b : Footing) (r : Rooted) → h.base ≡ Some b → base_root w b ≡ Some r → AreAmong w s h b.parent r
+  unfolding volume_seen base_seen
+  base_among b r based found test all =
+      let last = (and_parts _ _ (sym (list_all-append test (flat_map listed (map rooted (roots_of h))) (map (λ (c : Based). c.item) (base_seen w s h.base))) ∙ all)).1 in
+      let items_are : base_seen w s h.base ≡ map (based_at w s b.splitting) (items (standing_of w b.parent r)) =
+      ap (λ (o : Option Footing). option_map_or (λ (c : Footing). option_map_or (based_on w s c) (base_root w c) []) o []) based ∙ ap (λ (o : Option Rooted). option_map_or (based_on w s b) o []) found in
+      sym (list_all-map (λ (c : Based). test c.item) (based_at w s b.splitting) (items (standing_of w b.parent r)))
+      ∙ ap (list_all (λ (c : Based). test c.item)) (sym items_are) ∙ sym (list_all-map test (λ (c : Based). c.item) (base_seen w s h.base)) ∙ last
+
+module _ (w : View) (s : ℕ) (h : Head) (small : s < 64) (there : w.head s ≡ Some h) (ids : has_one_to_one (seen w) ≡ true) (n : ℕ) (r : Rooted) (one : AreAmong w s h n r) (m : ℕ) (q : Rooted) (two : AreAmong w s h m q)
     (few : r.levels ≤ 2) (few_too : q.levels ≤ 2) where
   abbrev agrees : Item → Item → Bool
   agrees a b = agree (has_same_id a b) (a.pointer.vvbn == b.pointer.vvbn)
 
-  -- what holds of all pointers holds of those that a root reaches
-  of_all : (test : Item → Bool) → list_all test (all_items (volume_seen w s h)) ≡ true → (n : ℕ) (t : Rooted) → In {X = ℕ × Rooted} (n, t) (roots_of h) → list_all test (items (standing_of w s t)) ≡ true
-  unfolding volume_seen root_seen
-  of_all test all n t is =
-      let roots = (and_parts _ _ (sym (list_all-append test (flat_map listed (map rooted (roots_of h))) (map (λ (b : Based). b.item) (base_seen w s h.base))) ∙ all)).0 in
-      let mine = all_one (λ (x : Root). list_all test (listed x)) rooted (roots_of h) (n, t) (sym (all_flat test listed (map rooted (roots_of h))) ∙ roots) is in
-      sym (list_all-map (λ (e : Reached). test e.item) (reached_at w s) (items (standing_of w s t))) ∙ sym (list_all-map test (λ (e : Reached). e.item) (map (reached_at w s) (items (standing_of w s t)))) ∙ mine
-    where
-      listed : Root → List Item
-      listed x = map (λ (e : Reached). e.item) x.reached
-
-      rooted : ℕ × Rooted → Root
-      rooted p = root_seen w s p.0 p.1
-
-  pairs : list_all (λ a. list_all (agrees a) (all_items (volume_seen w s h))) (items (standing_of w s r)) ≡ true
+  pairs : list_all (λ a. list_all (agrees a) (all_items (volume_seen w s h))) (items (standing_of w n r)) ≡ true
   unfolding has_one_to_one
-  pairs = of_all (λ a. list_all (agrees a) (all_items (volume_seen w s h))) (of_volume w (λ s x. list_all (λ a. list_all (agrees a) (all_items x)) (all_items x)) s h ids small there) k r one
+  pairs = one (λ a. list_all (agrees a) (all_items (volume_seen w s h))) (of_volume w (λ s x. list_all (λ a. list_all (agrees a) (all_items x)) (all_items x)) s h ids small there)
 
   abbrev at : Owner → ℕ → ℕ → Pointer
-  at = place.pointer_in (under w s) r.levels r.root
+  at = place.pointer_in (under w n) r.levels r.root
 
   abbrev at_too : Owner → ℕ → ℕ → Pointer
-  at_too = place.pointer_in (under w s) q.levels q.root
+  at_too = place.pointer_in (under w m) q.levels q.root
 
   -- the items at two places agree
   record Agreed (o u : Option ℕ) (level index l i : ℕ) : Type 0 where
@@ -143,8 +158,8 @@ module _ (w : View) (s : ℕ) (h : Head) (small : s < 64) (there : w.head s ≡ 
     agree_is : agrees a b ≡ true
     pointer : a.pointer ≡ at (owner_in o) level index
     pointer_too : b.pointer ≡ at_too (owner_in u) l i
-    owner : a.owner ≡ place.number (under w s) r.levels r.root (owner_in o)
-    owner_too : b.owner ≡ place.number (under w s) q.levels q.root (owner_in u)
+    owner : a.owner ≡ place.number (under w n) r.levels r.root (owner_in o)
+    owner_too : b.owner ≡ place.number (under w m) q.levels q.root (owner_in u)
     level_is : a.level ≡ level
     level_too : b.level ≡ l
     place_is : a.place ≡ index
@@ -152,8 +167,8 @@ module _ (w : View) (s : ℕ) (h : Head) (small : s < 64) (there : w.head s ≡ 
 
   agreed : (o u : Option ℕ) (level index l i : ℕ) → (at (owner_in o) level index).stamp ≢ 0 → (at_too (owner_in u) l i).stamp ≢ 0 → Agreed o u level index l i
   agreed o u level index l i some some_too =
-      let first = place.at_place (under w s) r.levels r.root (λ a. list_all (agrees a) (all_items (volume_seen w s h))) pairs (owner_in o) level index some in
-      let second = place.at_place (under w s) q.levels q.root (agrees first.item) (of_all (agrees first.item) first.passes j q two) (owner_in u) l i some_too in
+      let first = place.at_place (under w n) r.levels r.root (λ a. list_all (agrees a) (all_items (volume_seen w s h))) pairs (owner_in o) level index some in
+      let second = place.at_place (under w m) q.levels q.root (agrees first.item) (two (agrees first.item) first.passes) (owner_in u) l i some_too in
       record {
         a = first.item;
         b = second.item;
@@ -169,17 +184,17 @@ module _ (w : View) (s : ℕ) (h : Head) (small : s < 64) (there : w.head s ≡ 
       }
 
   -- the number of a place's tree stands for its owner
-  own : (o : Option ℕ) (level index : ℕ) → (at (owner_in o) level index).stamp ≢ 0 → owner_of (place.number (under w s) r.levels r.root (owner_in o)) ≡ owner_in o
+  own : (o : Option ℕ) (level index : ℕ) → (at (owner_in o) level index).stamp ≢ 0 → owner_of (place.number (under w n) r.levels r.root (owner_in o)) ≡ owner_in o
   own None level index some = refl
-  own (Some n) level index some = place.owner_is (under w s) r.levels r.root few n level index some
+  own (Some k) level index some = place.owner_is (under w n) r.levels r.root few k level index some
 
-  own_too : (o : Option ℕ) (level index : ℕ) → (at_too (owner_in o) level index).stamp ≢ 0 → owner_of (place.number (under w s) q.levels q.root (owner_in o)) ≡ owner_in o
+  own_too : (o : Option ℕ) (level index : ℕ) → (at_too (owner_in o) level index).stamp ≢ 0 → owner_of (place.number (under w m) q.levels q.root (owner_in o)) ≡ owner_in o
   own_too None level index some = refl
-  own_too (Some n) level index some = place.owner_is (under w s) q.levels q.root few_too n level index some
+  own_too (Some k) level index some = place.owner_is (under w m) q.levels q.root few_too k level index some
 
   -- Their pointers are one to one.
-  pub roots_one : AreOneToOne (λ o. at (owner_in o)) (λ o. at_too (owner_in o))
-  roots_one = record { vvbn = vvbn; place = position }
+  pub tables_one : AreOneToOne (λ o. at (owner_in o)) (λ o. at_too (owner_in o))
+  tables_one = record { vvbn = vvbn; place = position }
     where
       vvbn : (o : Option ℕ) (level index : ℕ) → (at (owner_in o) level index).stamp ≢ 0 → (at_too (owner_in o) level index).stamp ≡ (at (owner_in o) level index).stamp → (at_too (owner_in o) level index).vvbn ≡ (at (owner_in o) level index).vvbn
       vvbn o level index some stamp =

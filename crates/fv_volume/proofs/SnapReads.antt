@@ -24,6 +24,7 @@ use Rattle.fv_volume.specs.Asking.{snap_named, standing_asked, standing_of}
 use Rattle.fv_pool.specs.BlocksOver.{held_block}
 use Rattle.fv_volume.specs.OneVolume.{blocks_in, shows, snap_by, standing_for, standing_kept, volume_for, IsKeptTable, IsStanding}
 use Rattle.fv_pool.proofs.Shows.{get_held}
+use Rattle.fv_volume.proofs.TablesOf.{snaps_all}
 
 -- what holds of each snapshot holds of the one that is found
 pub found_among : (P : Snap → Type 0) (test : Snap → Bool) (snaps : List Snap) → All P snaps → (q : Snap) → find test snaps ≡ Some q → P q
@@ -82,7 +83,7 @@ module _ (d : Disk) (p : Pool) (x : VolumeState) where
     -- The machine finds the table that is asked, and none where there is none.
     pub asked_table : (s : Option (List ℕ)) → table_asked (volume_for d p x) s ≡ option_map table_told (standing_asked d p x s)
     asked_table None = refl
-    asked_table (Some name) = fin.get-from_entries name_total (map (snap_by (blocks_in d p x)) x.snapshots) name ∙ found_table name x.snapshots is.kept ∙ twice (snap_named x.snapshots name)
+    asked_table (Some name) = fin.get-from_entries name_total (map (snap_by (blocks_in d p x)) x.snapshots) name ∙ found_table name x.snapshots (snaps_all (IsKeptTable d p x) x is.kept) ∙ twice (snap_named x.snapshots name)
       where
         twice : (o : Option Snap) → option_map told_of o ≡ option_map table_told (option_map (standing_of d p x) (option_map (λ (q : Snap). Kept q.table) o))
         twice None = refl
@@ -102,4 +103,4 @@ module _ (d : Disk) (p : Pool) (x : VolumeState) where
         by : (o : Option Snap) → snap_named x.snapshots name ≡ o → option_map (standing_of d p x) (option_map (λ (q : Snap). Kept q.table) o) ≡ Some t → IsWellTable x.now (table_told t)
         by None e at = absurd cc
         by (Some q) e at = subst (λ (u : Standing). IsWellTable x.now (table_told u)) (same (standing_at blocks q.table.levels q.table.root) t at)
-            (kept_well q (found_among (IsKeptTable d p x) (λ (q : Snap). is_same_name name q.name) x.snapshots is.kept q e))
+            (kept_well q (found_among (IsKeptTable d p x) (λ (q : Snap). is_same_name name q.name) x.snapshots (snaps_all (IsKeptTable d p x) x is.kept) q e))

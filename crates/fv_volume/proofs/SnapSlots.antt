@@ -109,8 +109,8 @@ module _ (h : Head) (a : Rooted) (m : Maps) (long : stored_count < length m.slot
         ∙ sym (ap (λ (b : Bool). is_some (if b then Some p else find (λ q. q.slot == k) h.snapshots)) (other_test p.slot k (λ f. e (sym f)))))
         (cases_eq k p.slot)
         ∙ ap (λ (o : Option Snap). is_some o) (sym (find_added p h.snapshots k free));
-    base = slot_with m p.slot (Some map) (omega (arith, low, long)) slot_of_base
-        ∙ ap (λ (b : Bool). if b then Some map else slot_at m slot_of_base) (other_test slot_of_base p.slot (λ e. absurd (omega (arith, low, e)))) ∙ is.base;
+    base = ap (λ (s : Slot). is_some s) (slot_with m p.slot (Some map) (omega (arith, low, long)) slot_of_base)
+        ∙ ap (λ (b : Bool). is_some (if b then Some map else slot_at m slot_of_base)) (other_test slot_of_base p.slot (λ e. absurd (omega (arith, low, e)))) ∙ is.base;
   }
 
   -- another active map changes nothing of the others

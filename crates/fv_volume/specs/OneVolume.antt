@@ -1,11 +1,11 @@
 -- What one volume is seen as, in its pool, over what the disk reads and with the trees that are in memory.
-use Rattle.std.specs.Prelude.{◌≡◌, ◌≢◌, ◌≤◌, ◌+◌, ℕ, true, false, cond, List, map, Option, Some, None, All, replicate}
+use Rattle.std.specs.Prelude.{◌≡◌, ◌≢◌, ◌≤◌, ◌+◌, ℕ, true, false, cond, List, [], ◌∷◌, ◌++◌, map, Option, Some, None, All, replicate}
 use Rattle.std.specs.Option.{option_map, option_and_then}
 use Rattle.std.specs.FinMap as fin
 use Rattle.fv_disk.specs.Shown.{Shown as Disk}
 use Rattle.fv_model.specs.Spelling.{name_cmp}
-use Rattle.fv_model.specs.Tables.{Table}
-use Rattle.fv_model.specs.Volumes.{Volume}
+use Rattle.fv_model.specs.Tables.{Table, empty_table}
+use Rattle.fv_model.specs.Volumes.{Base, Volume}
 use Rattle.fv_model.specs.Machines.{capacity}
 use Rattle.fv_laws.specs.WellFormed.{IsWellTable}
 use Rattle.fv_laws.specs.Positions.{HasNoReserve}
@@ -21,10 +21,11 @@ use Rattle.fv_files.specs.Numbering.{AreNumbersIf}
 use Rattle.fv_files.specs.Tables.{changed, AreReached, IsStoredUnder}
 use Rattle.fv_charge.specs.Ledgers.{IsLedgerOf, committed}
 use Rattle.fv_image.specs.ReachRules.{are_distinct}
-use Rattle.fv_volmap.specs.Slots.{Slot, has, slot_at, stored_count}
+use Rattle.fv_volmap.specs.Slots.{Slot, has, slot_at, slot_of_base, stored_count}
 use Rattle.fv_pool.specs.declared.blocks.Home.{Home}
 use Rattle.fv_pool.specs.declared.pool.Pool.{Pool}
 use Rattle.fv_pool.specs.declared.rooted.Rooted.{Rooted}
+use Rattle.fv_volume.specs.declared.state.Base.{Base as StateBase}
 use Rattle.fv_volume.specs.declared.state.Snap.{Snap}
 use Rattle.fv_volume.specs.declared.state.VolumeState.{VolumeState}
 use Rattle.fv_pool.specs.BlocksOver.{held_block, held_entry}
@@ -63,7 +64,7 @@ files_in state = option_and_then (λ x. x.files) state
 abbrev pub trees_of : States → Trees
 trees_of states s = option_map changed (files_in (state_at states s))
 
--- ---- the tables of its snapshots
+-- ---- the tables that it keeps
 
 -- The blocks under the VVBNs that a slot of its maps has. The table of a snapshot is told by those of its own slot, so that whatever is done
 -- to other blocks leaves it as it is.
@@ -101,14 +102,37 @@ RootStands disk pool x k root = IsTableIn (blocks_in disk pool x k) (uses_in poo
 abbrev pub IsKeptTable : Disk → Pool → VolumeState → Snap → Type 0
 IsKeptTable disk pool x q = (q.slot ≢ 0) × RootStands disk pool x q.slot q.table
 
+-- The table that a clone stands on lies in the slot of its base as that of a snapshot does in its own. So the tables that are kept are that one and
+-- those of the snapshots.
+abbrev pub base_table : Option StateBase → List Snap
+base_table None = []
+base_table (Some b) = record { slot = slot_of_base; name = b.snapshot; table = b.table } ∷ []
+
+abbrev pub tables_of : VolumeState → List Snap
+tables_of x = base_table x.base ++ x.snapshots
+
+-- what the slot of its base tells, an empty table where there is none
+abbrev pub base_told_by : (ℕ → Under) → Option StateBase → Table
+base_told_by blocks None = empty_table
+base_told_by blocks (Some b) = table_told (standing_at (blocks slot_of_base) b.table.levels b.table.root)
+
 -- ---- the volume
 
--- What a volume of the machine holds beside its numbers: its active table, and the tables of its snapshots by name.
+-- What a volume of the machine holds beside its numbers: its active table, the tables of its snapshots by name, and that of its base, if it has one.
 pub record Content : Type 0 where
   pub active : Table
   pub snapshots : fin.FinMap name_cmp Table
+  pub base : Table
 
--- a volume of the machine with the numbers of this one and what it holds; it has no base
+-- what a volume stands on, with the names that it knows and a table
+abbrev pub base_as : Option StateBase → Table → Option Base
+base_as base table = option_map (λ b. record { parent = b.name; snapshot = b.snapshot; table = table; splitting = b.splitting }) base
+
+-- and with the table that the slot of its base tells
+abbrev pub base_by : (ℕ → Under) → Option StateBase → Option Base
+base_by blocks base = base_as base (base_told_by blocks base)
+
+-- a volume of the machine with the numbers of this one and what it holds
 abbrev pub volume_as : VolumeState → Content → Volume
 volume_as x content = record {
   kind = x.kind;
@@ -118,13 +142,17 @@ volume_as x content = record {
   now = x.now;
   active = content.active;
   snapshots = content.snapshots;
-  base = None;
+  base = base_as x.base content.base;
   known = x.known;
 }
 
 -- what this volume holds
 abbrev pub content_for : Disk → Pool → VolumeState → Content
-content_for disk pool x = record { active = table_for disk pool x; snapshots = snaps_by (blocks_in disk pool x) x.snapshots }
+content_for disk pool x = record {
+  active = table_for disk pool x;
+  snapshots = snaps_by (blocks_in disk pool x) x.snapshots;
+  base = base_told_by (blocks_in disk pool x) x.base;
+}
 
 -- the volume that this one stands for
 abbrev pub volume_for : Disk → Pool → VolumeState → Volume
@@ -152,17 +180,17 @@ pub record IsReady (disk : Disk) (pool : Pool) (x : VolumeState) : Type 0 where
   pub changed : x.changed ≡ false → x.files ≡ None
   pub fresh : x.changed ≡ false → x.fresh ≡ replicate stored_count false
 
--- Where content is told, the volume stands for one of the machine: its active table is well-formed after the changes that it counts, no file
--- of it has a reserve, the tables of its snapshots lie whole in their slots, under names that differ, and these tables share a block exactly where
--- it is one place with one stamp. Its ledger is right, each tree of the active table stands on its blocks, those in memory are as their files'
--- records say or their inode blocks have changed, and the numbers of its files in memory are those of that table.
+-- Where content is told, the volume stands for one of the machine: its active table is well-formed after the changes that it counts, no file of it
+-- has a reserve, the tables of its base and of its snapshots lie whole in their slots, the snapshots have names that differ, and these tables share a
+-- block exactly where it is one place with one stamp. Its ledger is right, each tree of the active table stands on its blocks, those in memory are as
+-- their files' records say or their inode blocks have changed, and the numbers of its files in memory are those of that table.
 pub record IsStanding (disk : Disk) (pool : Pool) (x : VolumeState) : Type 0 where
   pub told : IsTold disk pool x.map x.slot
   pub table : IsWellTable x.now (table_for disk pool x)
   pub reserves : HasNoReserve (table_for disk pool x)
-  pub kept : All (IsKeptTable disk pool x) x.snapshots
+  pub kept : All (IsKeptTable disk pool x) (tables_of x)
   pub names : are_distinct (map (λ q. q.name) x.snapshots) ≡ true
-  pub shared : AreShared (trees_for disk pool x) (blocks_in disk pool x) x.snapshots
+  pub shared : AreShared (trees_for disk pool x) (blocks_in disk pool x) (tables_of x)
   pub ledger : IsLedgerOf (volume_for disk pool x) x.ledger
   pub trees : AreSoundBy (under (shows disk pool x)) (shows disk pool x).used x.active x.files
   pub laid : AreLaidBy (under (shows disk pool x)) x.files

@@ -39,7 +39,8 @@ pub(crate) struct Making {
 }
 
 /// A removal that was admitted: the file that it changes, and how the ledger of the volume changes by it, where that is told before. It is
-/// told in a volume with snapshots. In one without nothing stays charged and no removal needs blocks, so nothing is read to tell it.
+/// told in a volume with snapshots or a base. In one with neither nothing stays charged and no removal needs blocks, so nothing is read to
+/// tell it.
 #[derive(Clone, Copy, Debug, PartialEq, Eq)]
 pub(crate) struct Removing {
     /// The file.

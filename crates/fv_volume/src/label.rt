@@ -1,19 +1,21 @@
 //! Labels as volumes.
 
-ghost use Rattle.std.specs.Prelude.{Ok, ◌≡◌, ◌≤◌, ◌-◌, ◌++◌, replicate, ◌==◌, true, length, take, find, Some, None, IfOk, IfErr, IsTrue, ℕ, option_copied};
+ghost use Rattle.std.specs.Option.{option_map};
+ghost use Rattle.std.specs.Prelude.{Ok, ◌≡◌, ◌<◌, ◌≤◌, ◌-◌, ◌++◌, replicate, ◌==◌, true, length, take, find, Some, None, IfOk, IfErr, IfSome, IsTrue, ℕ, option_copied};
 ghost use Rattle.fv_codec.specs.Blocks.{IsLabel, IsSnapRecord, label_at};
 ghost use Rattle.fv_codec.specs.Fields.{name_filled};
 ghost use Rattle.fv_disk.specs.DiskCalls.{OnlyReads};
 ghost use Rattle.fv_disk.specs.Faults.{HasBlockCause};
-ghost use Rattle.fv_image.specs.Views.{kind_named};
+ghost use Rattle.fv_container.specs.Chains.{slot_count};
+ghost use Rattle.fv_image.specs.Views.{footing_of, kind_named};
 ghost use Rattle.fv_model.specs.Spelling.{is_name};
 ghost use Rattle.fv_store.specs.Held.{StandsOn};
-ghost use Rattle.fv_volume.specs.Labels.{kind_number};
+ghost use Rattle.fv_volume.specs.Labels.{base_slot_said, kind_number, parent_said, splitting_said};
 ghost use Rattle.fv_volume.specs.Loading.{IsBadLabel, form_in};
 ghost use Rattle.fv_volume.specs.SnapRecords.{record_said, records_said, snap_said};
-ghost use Rattle.fv_volume.specs.States.{snap_in, snaps_in};
+ghost use Rattle.fv_volume.specs.States.{footing_in, snap_in, snaps_in};
 
-use crate::state::Snap;
+use crate::state::{Base, Snap};
 use fv_codec::{Label, Pointer, SnapRecord};
 use fv_disk::{Block, BlockFault, Disk, ZERO};
 use fv_model::{Kind, Name};
@@ -36,8 +38,8 @@ pub(crate) const FREE: SnapRecord = SnapRecord {
 fn form_in(label: &Label) -> Option<(u64, u64)>
     ensures { result ≡ form_in label.entry.now }
 {
-    if label.parent != 0 {
-        return Some((0, u64::from(label.parent)));
+    if label.splitting != 0 {
+        return Some((0, u64::from(label.splitting)));
     }
     if label.known == 0 {
         return Some((1, 0));
@@ -147,6 +149,44 @@ pub(crate) fn records_of(snaps: &[Snap]) -> [SnapRecord; 24]
     records
 }
 
+/// What a label says that its volume stands on. It says where that is, the slots of its parent and of the parent's snapshot; the volume's
+/// own name stands for the names, and a hole for the root, until the parent has said them.
+pub(crate) fn base_of(label: &Label) -> Option<Base>
+    requires { IsLabel label.now }
+    ensures said { option_map footing_in result ≡ footing_of label.entry.now }
+    ensures inside { IfSome result (λ base. base.parent < slot_count) }
+{
+    if label.parent == 0 {
+        return None;
+    }
+    let name = name_of(label);
+    Some(Base {
+        parent: label.parent - 1,
+        slot: label.base_slot,
+        splitting: label.splitting == 1,
+        name,
+        snapshot: name,
+        table: Rooted {
+            levels: 0,
+            root: HOLE,
+        },
+    })
+}
+
+/// What a volume stands on, as a label has it: the slot of its parent and one, the map slot of the parent's snapshot, and 1 while it is
+/// being split; zeros without a base.
+pub(crate) fn base_fields(base: Option<Base>) -> (u8, u8, u8)
+    requires { IfSome base (λ base. base.parent < slot_count) }
+    ensures parent { result.0 ≡ parent_said (option_map footing_in base) }
+    ensures slot { result.1 ≡ base_slot_said (option_map footing_in base) }
+    ensures splitting { result.2 ≡ splitting_said (option_map footing_in base) }
+{
+    match base {
+        None => (0, 0, 0),
+        Some(base) => (base.parent + 1, base.slot, u8::from(base.splitting)),
+    }
+}
+
 /// The kind that a label says.
 pub(crate) fn kind_of(label: &Label) -> Kind
     ensures { result ≡ kind_named label.entry.now.kind }
@@ -188,11 +228,11 @@ fn filled(bytes: &[u8]) -> [u8; 64]
     field
 }
 
-/// Reads the label at a PVBN. It is in range, and says a volume without a base whose places are all known.
+/// Reads the label at a PVBN. It is in range, and says a volume that isn't being split and whose places are all known.
 ///
 /// # Errors
-/// `Damaged` comes only where the block that was read there isn't such a label: it lacks the shape of one, or says a base or unknown
-/// places, which can't be loaded. `DiskFault` comes only where the read failed.
+/// `Damaged` comes only where the block that was read there isn't such a label: it lacks the shape of one, or says that the volume is being
+/// split, or unknown places, which can't be loaded. `DiskFault` comes only where the read failed.
 ///
 /// Costs at most one block, and takes no memory. `docs/FORMAT.md` has the label.
 pub fn read_label<D: Disk>(store: &mut Store, disk: &mut D, place: u32) -> Result<Label, BlockFault>

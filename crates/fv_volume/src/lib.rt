@@ -6,6 +6,7 @@ mod active;
 mod admitting;
 mod asking;
 mod changing;
+mod cloning;
 mod judging;
 mod known;
 mod label;
@@ -17,6 +18,7 @@ mod removing;
 mod room;
 mod sizes;
 mod snaps;
+mod standing;
 mod state;
 mod tables;
 

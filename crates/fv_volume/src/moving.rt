@@ -1,5 +1,5 @@
-//! What changes of the files of a volume take, and what of that stays charged because a snapshot has it, before they are made. Of a volume
-//! without snapshots nothing is read for that, since nothing stays.
+//! What changes of the files of a volume take, and what of that stays charged because a snapshot or its base has it, before they are made.
+//! Of a volume with neither nothing is read for that, since nothing stays.
 
 ghost use Rattle.std.specs.Prelude.{◌≡◌, ◌≤◌, ◌<◌, ◌+◌, IfOk};
 ghost use Rattle.fv_tree.specs.Taking.{AreBelow};
@@ -42,7 +42,7 @@ pub(crate) fn count_staying<D: Disk>(
     ensures cause { BlockCause (TellsActive (D.shown disk.old) pool.old volume.old) (standing_for (D.shown disk.old) pool.old volume.old)
         (lent_for pool.old volume.old.map (D.shown disk.old) 0 (home_in volume.old) 0) (D.shown disk.new).faults result }
 {
-    if volume.snapshots.len() == 0 {
+    if volume.has_one_table() {
         return Ok(0);
     }
     over_table!(volume, |alloc, pool, disk| staying_told(info, index))
@@ -65,7 +65,7 @@ pub(crate) fn count_staying_new<D: Disk>(
     ensures cause { BlockCause (TellsActive (D.shown disk.old) pool.old volume.old) (standing_for (D.shown disk.old) pool.old volume.old)
         (lent_for pool.old volume.old.map (D.shown disk.old) 0 (home_in volume.old) 0) (D.shown disk.new).faults result }
 {
-    if volume.snapshots.len() == 0 {
+    if volume.has_one_table() {
         return Ok(0);
     }
     over_table!(volume, |alloc, pool, disk| staying_new_told(number))

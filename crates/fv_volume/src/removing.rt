@@ -40,13 +40,14 @@ impl VolumeState {
     /// # Errors
     ///
     /// `Refused` as the machine refuses `cut`, in this order: the length passes 2,097,152; no file has the name; the length passes the
-    /// file's; the volume has counted 2^62 changes; in a volume with snapshots that it would use more than its size, and that all volumes
-    /// would commit more than the aggregate's capacity, since what a snapshot has stays charged. A volume without snapshots never refuses
-    /// it for space: nor does the machine where no volume uses more than its size and all of them commit no more than there is. The other
-    /// errors as `put`. After each of them the volume stands for what it stood for.
+    /// file's; the volume has counted 2^62 changes; in a volume with snapshots or a base that it would use more than its size, and that all
+    /// volumes would commit more than the aggregate's capacity: what a snapshot has stays charged, and what gets another stamp in place of
+    /// a block of the base is charged from then on. A volume with neither never refuses it for space: nor does the machine where no volume
+    /// uses more than its size and all of them commit no more than there is. The other errors as `put`. After each of them the volume stands
+    /// for what it stood for.
     ///
     /// Costs what `length` does, then a block for each node and cell that goes and for the file's inode block with the nodes over
-    /// it, as far as they aren't in memory; in a volume with snapshots the nodes once more. `docs/MACHINE.md` has the command.
+    /// it, as far as they aren't in memory; in a volume with snapshots or a base the nodes once more. `docs/MACHINE.md` has the command.
     #[tactic(auto, using(crate::proofs::OneVolumes::reads_then, crate::proofs::Calling::refused_ready, crate::proofs::Calling::left_table))]
     pub fn cut<D: Disk>(
         &mut self,
@@ -93,7 +94,7 @@ impl VolumeState {
     /// The other errors as `cut`.
     ///
     /// Costs what `length` does, then a block for each node and cell of the file and for its inode block with the nodes over it, as
-    /// far as they aren't in memory; in a volume with snapshots the nodes once more. `docs/MACHINE.md` has the command.
+    /// far as they aren't in memory; in a volume with snapshots or a base the nodes once more. `docs/MACHINE.md` has the command.
     #[tactic(auto, using(crate::proofs::OneVolumes::reads_then, crate::proofs::Calling::refused_ready, crate::proofs::Calling::left_table))]
     pub fn remove<D: Disk>(
         &mut self,
@@ -204,7 +205,8 @@ pub(crate) fn judge_removal<D: Disk>(
     Ok(Removing { info, delta })
 }
 
-/// Whether there is room for a cut of a file to a length, and how the ledger changes by it, where that is told before: in a volume with snapshots.
+/// Whether there is room for a cut of a file to a length, and how the ledger changes by it, where that is told before: in a volume with
+/// snapshots or a base.
 fn admit_cut<D: Disk>(
     volume: &mut VolumeState,
     alloc: Global,
@@ -230,7 +232,7 @@ fn admit_cut<D: Disk>(
     ensures cause { CallCause (TellsActive (D.shown disk.old) pool.old volume.old) (standing_for (D.shown disk.old) pool.old volume.old)
         (lent_for pool.old volume.old.map (D.shown disk.old) 0 (home_in volume.old) 0) (D.shown disk.new).faults result }
 {
-    if volume.snapshots.len() == 0 {
+    if volume.has_one_table() {
         return Ok(None);
     }
     let taken = count_cut(volume, alloc, pool, disk, info, length)?;
@@ -239,7 +241,8 @@ fn admit_cut<D: Disk>(
     Ok(Some(delta))
 }
 
-/// Whether there is room for the removal of a file, and how the ledger changes by it, where that is told before: in a volume with snapshots.
+/// Whether there is room for the removal of a file, and how the ledger changes by it, where that is told before: in a volume with
+/// snapshots or a base.
 fn admit_removal<D: Disk>(
     volume: &mut VolumeState,
     alloc: Global,
@@ -263,7 +266,7 @@ fn admit_removal<D: Disk>(
     ensures cause { CallCause (TellsActive (D.shown disk.old) pool.old volume.old) (standing_for (D.shown disk.old) pool.old volume.old)
         (lent_for pool.old volume.old.map (D.shown disk.old) 0 (home_in volume.old) 0) (D.shown disk.new).faults result }
 {
-    if volume.snapshots.len() == 0 {
+    if volume.has_one_table() {
         return Ok(None);
     }
     let taken = count_removal(volume, alloc, pool, disk, info)?;

@@ -8,15 +8,17 @@ ghost use Rattle.fv_model.specs.Numbers.{greatest_span, most_snapshots};
 ghost use Rattle.std.specs.BTreeSet.{insert_key};
 ghost use Rattle.fv_model.specs.Spelling.{is_name, name_cmp};
 ghost use Rattle.fv_tables.specs.Spelled.{Under};
-ghost use Rattle.fv_volmap.specs.Slots.{IsVolume, slot_at, stored_count};
-ghost use Rattle.fv_volume.specs.Loading.{HasCounted};
+ghost use Rattle.fv_volmap.specs.Slots.{CountsBeside, IsVolume, slot_at, stored_count};
+ghost use Rattle.fv_volume.specs.Loading.{HasCounted, IsCountOf, base_counted};
 ghost use Rattle.fv_volume.specs.OneVolume.{greatest_charge, snaps_by};
 ghost use Rattle.fv_volume.specs.Snaps.{names_kept, turned_to, with_snapshot, without_snapshot};
 
 use crate::known::known_name;
-use crate::state::{Snap, VolumeState, count_ledger};
-use fv_model::{Name, Names, map_blocks};
+use crate::state::{Base, Snap, VolumeState};
+use fv_charge::Ledger;
+use fv_model::{Kind, Name, Names, map_blocks};
 use fv_pool::Rooted;
+use fv_volmap::VolMap;
 use std::alloc::{AllocError, Global};
 use std::collections::BTreeSet;
 
@@ -90,20 +92,72 @@ impl VolumeState {
         self.changed = true;
     }
 
-    /// Counts the ledger anew: what the slots of the maps on the disk have together, and the blocks of each snapshot's map. It is right where
-    /// each block of the volume has its number, as after a flush, no file has a reserve, and the volume has no base or is being split from it.
-    /// Costs a step for each word of 64 numbers of each
-    /// used slot, and takes no memory.
+    /// Counts the ledger anew: what the slots of the maps on the disk have together, of a clone that isn't being split without what the
+    /// slot of its base has, and the blocks of each snapshot's map. It is right where each block of the volume has its number, as after a
+    /// flush, and no file has a reserve. Costs a step for each word of 64 numbers of each used slot, and takes no memory.
     pub fn recount(&mut self)
         requires map { self.old.map.span ≡ self.old.span }
         requires span { self.old.span ≤ greatest_span }
         requires few { length self.old.snapshots ≤ most_snapshots }
-        ensures counted { HasCounted self.old.map None (length self.old.snapshots) self.old.span self.old.size self.old.kind self.new.ledger }
+        ensures counted { IsCountOf self.old self.new.ledger }
         ensures valid { IsVolume self.old.map }
         ensures others { self.new ≡ record self.old { ledger = self.new.ledger } }
     {
         let count = self.snapshots.len() as u32;
-        self.ledger = count_ledger(&mut self.map, count, self.span, self.size, self.kind);
+        self.ledger = count_ledger(
+            &mut self.map,
+            self.base,
+            count,
+            self.span,
+            self.size,
+            self.kind,
+        );
+    }
+}
+
+/// How many numbers a volume is charged for, by its maps: all that the slots on the disk have, and of a clone that isn't being split those
+/// alone that the slot of its base lacks. The maps stay.
+#[tactic(auto, using(crate::proofs::CountedMaps::counted_alone, crate::proofs::CountedMaps::counted_beside))]
+fn count_numbers(map: &mut VolMap, base: Option<Base>) -> u32
+    ensures same { map.new ≡ map.old }
+    ensures valid { IsVolume map.old }
+    ensures counted { CountsBeside map.old (base_counted base map.old) result }
+    ensures most { result ≤ map.old.span }
+{
+    let Some(base) = base else {
+        return map.count_united();
+    };
+    if base.splitting {
+        map.count_united()
+    } else {
+        map.count_charged()
+    }
+}
+
+/// The ledger of a volume without reserves, counted from what the slots of its maps on the disk have together, and of a clone that isn't
+/// being split without what the slot of its base has; they stay.
+#[tactic(auto, using(crate::proofs::CountedMaps::counted_ledger))]
+fn count_ledger(
+    map: &mut VolMap,
+    base: Option<Base>,
+    snapshots: u32,
+    span: u32,
+    size: u32,
+    kind: Kind,
+) -> Ledger
+    requires map { map.old.span ≡ span }
+    requires span { span ≤ greatest_span }
+    requires few { snapshots ≤ most_snapshots }
+    ensures same { map.new ≡ map.old }
+    ensures valid { IsVolume map.old }
+    ensures counted { HasCounted map.old (base_counted base map.old) snapshots span size kind result }
+{
+    Ledger {
+        charge: count_numbers(map, base) + map_blocks(span) * snapshots,
+        need: 0,
+        size,
+        kind,
+        span,
     }
 }
 

@@ -6,19 +6,23 @@ ghost use Rattle.fv_model.specs.Numbers.{greatest_span, most_snapshots, most_ask
 ghost use Rattle.fv_codec.specs.Blocks.{IsLabel, IsSnapRecord};
 ghost use Rattle.fv_image.specs.Views.{head_of, snaps_from};
 ghost use Rattle.fv_model.specs.Spelling.{is_name};
-ghost use Rattle.fv_volmap.specs.Slots.{IsVolume, empty_volume, stored_count};
+ghost use Rattle.fv_volmap.specs.Slots.{empty_volume, stored_count};
 ghost use Rattle.fv_volume.specs.Asking.{snap_named};
 ghost use Rattle.fv_volume.specs.Labels.{label_said};
 ghost use Rattle.fv_volume.specs.Files.{has_form};
 ghost use Rattle.fv_volume.specs.Snapshots.{FindsSnap, IsLeastFree, AreSlotsFull, has_slot, added};
-ghost use Rattle.fv_volume.specs.Loading.{HasCounted, IsRead, form_in};
+ghost use Rattle.fv_container.specs.Chains.{slot_count};
+ghost use Rattle.fv_volume.specs.Loading.{IsRead, form_in};
+ghost use Rattle.fv_volume.specs.OneVolume.{tables_of};
 ghost use Rattle.fv_volume.specs.SnapRecords.{snaps_recorded};
 ghost use Rattle.fv_volume.specs.States.{empty_head, head_in, ledger_of_empty, snaps_in, IsAtFirst, IsLaid};
 ghost use Rattle.fv_volume.specs.Stored.{is_rewritten};
 ghost use Rattle.fv_volume.specs.Writing.{asked, map_count};
 
 use crate::known::known_name;
-use crate::label::{HOLE, kind_number, kind_of, name_field, name_of, records_of, snap_of};
+use crate::label::{
+    HOLE, base_fields, base_of, kind_number, kind_of, name_field, name_of, records_of, snap_of,
+};
 use fv_charge::{Ledger, overhead};
 use fv_codec::{Label, SnapRecord};
 use fv_files::{FileNumbers, Files};
@@ -28,8 +32,8 @@ use fv_volmap::VolMap;
 use std::alloc::{AllocError, Global};
 use std::marker::Model;
 
-/// What a clone stands on.
-#[derive(Clone, Copy, Debug, PartialEq, Eq)]
+/// What a clone stands on: a snapshot of another volume, its parent.
+#[derive(Clone, Copy, Debug)]
 pub struct Base {
     /// The slot of its parent, below 64.
     pub parent: u8,
@@ -37,6 +41,12 @@ pub struct Base {
     pub slot: u8,
     /// Whether it is being split from it.
     pub splitting: bool,
+    /// The name of its parent.
+    pub name: Name,
+    /// The name of the parent's snapshot.
+    pub snapshot: Name,
+    /// The table of the parent's snapshot.
+    pub table: Rooted,
 }
 
 /// A snapshot.
@@ -264,6 +274,7 @@ impl VolumeState {
         ensures map { IfOk result (λ state. state.map ≡ empty_volume span) }
         ensures label { IfOk result (λ state. state.label ≡ 0) }
         ensures changed { IfOk result (λ state. state.changed ≡ true) }
+        ensures base { IfOk result (λ state. state.base ≡ None) }
         ensures rests { IfOk result IsAtFirst }
         ensures named { is_name name.now ≡ true }
     {
@@ -293,9 +304,9 @@ impl VolumeState {
         })
     }
 
-    /// The volume that a label at this PVBN says, for a slot below 64, with its snapshots and the maps of its tables. It hasn't changed, and
-    /// no file is in memory. The label has no form that can't be loaded. Its ledger isn't counted yet (`recount`): it says that nothing is
-    /// charged and nothing needed.
+    /// The volume that a label at this PVBN says, for a slot below 64, with its snapshots and the maps of its tables. It hasn't changed,
+    /// and no file is in memory. The label has no form that can't be loaded. Of what it stands on the label says where that is alone: names
+    /// and root are its parent's to say. Its ledger isn't counted yet (`recount`): it says that nothing is charged and nothing needed.
     ///
     /// Costs a step for each byte of the name, and takes no memory.
     pub fn of_label(
@@ -312,6 +323,7 @@ impl VolumeState {
         ensures laid { IsLaid result slot place map }
         ensures head { head_in result ≡ head_of label.entry.now }
         ensures span { result.span ≡ label.entry.now.span }
+        ensures base { IfSome result.base (λ base. base.parent < slot_count) }
         ensures rests { IsAtFirst result }
         ensures named { is_name result.name ≡ true }
         ensures read { IsRead result }
@@ -327,7 +339,7 @@ impl VolumeState {
             span: label.span,
             now: label.now,
             known: label.known == 1,
-            base: None,
+            base: base_of(label),
             active: Rooted {
                 levels: label.levels,
                 root: label.root,
@@ -341,6 +353,14 @@ impl VolumeState {
             changed: false,
             fresh: [false; 25],
         }
+    }
+
+    /// Whether it keeps no table beside the active one, neither that of a snapshot nor that of a base. Costs one step.
+    #[tactic(auto, using(crate::proofs::TablesOf::no_tables))]
+    pub(crate) fn has_one_table(&self) -> bool
+        ensures { result ≡ true → tables_of self.entry.now ≡ [] }
+    {
+        self.base.is_none() && self.snapshots.len() == 0
     }
 
     /// Where the label lies that the root on the disk names, a PVBN; 0 where there is none yet.
@@ -393,13 +413,15 @@ impl VolumeState {
     }
 
     /// The label that says this volume, with the place of its container's root, 0 where that is all holes, and
-    /// with the container's height. The volume has no base, and knows all places. It takes no memory.
+    /// with the container's height. The volume isn't being split, and knows all places. It takes no memory.
     #[tactic(auto, unfolding(crate::specs::Labels::label_said))]
     pub fn label(&self, container: u32, height: u8) -> Label
-        requires { has_form (head_in self.now) ≡ true }
+        requires form { has_form (head_in self.now) ≡ true }
+        requires base { IfSome self.now.base (λ base. base.parent < slot_count) }
         ensures { result ≡ label_said self.entry.now container height }
     {
         let (name_length, name) = name_field(&self.name);
+        let (parent, base_slot, splitting) = base_fields(self.base);
         Label {
             name_length,
             name,
@@ -408,9 +430,9 @@ impl VolumeState {
             most: self.most,
             span: self.span,
             now: self.now,
-            parent: 0,
-            base_slot: 0,
-            splitting: 0,
+            parent,
+            base_slot,
+            splitting,
             known: 1,
             container,
             height,
@@ -441,31 +463,6 @@ impl VolumeState {
         self.label = label;
         self.changed = false;
         self.fresh = [false; 25];
-    }
-}
-
-/// The ledger of a volume without reserves that has no base or is being split from it, counted from what the slots of its maps on the disk
-/// have together; they stay.
-pub(crate) fn count_ledger(
-    map: &mut VolMap,
-    snapshots: u32,
-    span: u32,
-    size: u32,
-    kind: Kind,
-) -> Ledger
-    requires map { map.old.span ≡ span }
-    requires span { span ≤ greatest_span }
-    requires few { snapshots ≤ most_snapshots }
-    ensures same { map.new ≡ map.old }
-    ensures valid { IsVolume map.old }
-    ensures counted { HasCounted map.old None snapshots span size kind result }
-{
-    Ledger {
-        charge: map.count_united() + map_blocks(span) * snapshots,
-        need: 0,
-        size,
-        kind,
-        span,
     }
 }
 

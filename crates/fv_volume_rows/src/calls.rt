@@ -52,13 +52,34 @@ fn answer<D: Disk>(
             create(volumes, pool, disk, volume, *size, *kind)
         }
         Command::SnapCreate { volume, .. } => on_snapshots(volumes, pool, disk, volume, command),
-        Command::SnapDelete { volume, .. } => on_snapshots(volumes, pool, disk, volume, command),
+        Command::SnapDelete { volume, snapshot } => {
+            delete_snapshot(volumes, pool, disk, volume, snapshot)
+        }
         Command::SnapRestore { volume, .. } => on_snapshots(volumes, pool, disk, volume, command),
         _ => ask(volumes, alloc, pool, disk, command),
     }
 }
 
-/// What the volume of a name answers to a command that changes its snapshots.
+/// Removes a snapshot from the volume of a name.
+fn delete_snapshot<D: Disk>(
+    volumes: &mut Volumes,
+    pool: &mut Pool,
+    disk: &mut D,
+    name: &Name,
+    snapshot: &Name,
+) -> Result<Reply, VolumeFault>
+    requires held { AreHeld (D.shown disk.old) pool.old volumes.old }
+    requires fit { AreFit (D.shown disk.old) pool.old volumes.old }
+    ensures held { AreHeld (D.shown disk.new) pool.new volumes.new }
+    ensures fit { AreFit (D.shown disk.new) pool.new volumes.new }
+{
+    let Some(slot) = volumes.find(name) else {
+        return Err(VolumeFault::Refused(Refusal::NoVolume));
+    };
+    done(delete(volumes, slot, pool, disk, snapshot))
+}
+
+/// What the volume of a name answers to a command that makes or restores a snapshot of it.
 fn on_snapshots<D: Disk>(
     volumes: &mut Volumes,
     pool: &mut Pool,
@@ -81,7 +102,7 @@ fn on_snapshots<D: Disk>(
     }
 }
 
-/// Makes, removes or restores a snapshot of a volume.
+/// Makes or restores a snapshot of a volume.
 fn change_snapshots<D: Disk>(
     volume: &mut VolumeState,
     pool: &mut Pool,
@@ -98,7 +119,6 @@ fn change_snapshots<D: Disk>(
         Command::SnapCreate { snapshot, .. } => create_snapshot(
             volume, pool, disk, others, snapshot,
         ),
-        Command::SnapDelete { snapshot, .. } => delete(volume, pool, disk, snapshot),
         Command::SnapRestore { snapshot, .. } => restore(volume, pool, disk, others, snapshot),
         _ => Err(VolumeFault::Refused(Refusal::Syntax)),
     }

@@ -2,7 +2,6 @@
 use Rattle.std.proofs.Common.{◌≡◌, ◌≢◌, ℕ, Bool, true, false, ◌&&◌, cond, Option, Some, None, refl, sym, ap, subst, ◌∙◌}
 use Rattle.std.specs.Prelude.{IfSome, nat_le}
 use Rattle.std.specs.Option.{ForSome, option_map}
-use Rattle.fv_image.proofs.LoneTables.{form_base}
 use Rattle.fv_container.specs.declared.entry.Entry.{Entry}
 use Rattle.fv_container.specs.Chains.{Slots, along, chain_entry, container_at, or_else, own_entry, parent_at}
 use Rattle.fv_volmap.specs.Slots.{Volume as Maps, taken_in}
@@ -10,13 +9,8 @@ use Rattle.fv_pool.specs.declared.pool.Pool.{Pool}
 use Rattle.fv_pool.specs.BlocksOver.{AreApart, IsKeptBack, OtherPlace, held_entry}
 use Rattle.fv_volume.specs.declared.state.Base.{Base}
 use Rattle.fv_volume.specs.declared.state.VolumeState.{VolumeState}
-use Rattle.fv_volume.specs.Files.{IsLabelled}
-use Rattle.fv_volume.specs.States.{States, footing_in, head_in, parent_in, state_at}
+use Rattle.fv_volume.specs.States.{States, parent_in, state_at}
 use Rattle.fv_volumes.specs.Housed.{AreHoused}
-
-pub alone_by : (o : Option Base) → option_map footing_in o ≡ None → option_map (λ (b : Base). b.parent) o ≡ None
-alone_by None e = refl
-alone_by (Some b) e = absurd cc
 
 -- the first entry along its chain is its own
 chain_own : (slots : Slots) (slot v : ℕ) → parent_at slots slot ≡ None → chain_entry slots slot v ≡ own_entry (container_at slots slot) v
@@ -47,8 +41,6 @@ apart_alone pool map slot alone kept apart = record {
   held_apart = λ v w other e is f held. apart v w other e is f (held_own map pool.containers slot alone w f held);
 }
 
--- none of those that are in order has one
-pub housed_alone : (containers : Slots) (states : States) → AreHoused containers states → (s : ℕ) (x : VolumeState) → state_at states s ≡ Some x → parent_at containers s ≡ None
-housed_alone containers states housed s x there =
-    let labelled = subst (λ (o : Option VolumeState). IfSome o (IsLabelled s)) there (housed.volumes s) in
-    housed.parents s ∙ ap parent_in there ∙ alone_by x.base (form_base (head_in x) labelled.form)
+-- so does one of those that are in order, where it has no base
+pub housed_alone : (containers : Slots) (states : States) → AreHoused containers states → (s : ℕ) (x : VolumeState) → state_at states s ≡ Some x → x.base ≡ None → parent_at containers s ≡ None
+housed_alone containers states housed s x there bare = housed.parents s ∙ ap parent_in there ∙ ap (option_map (λ (b : Base). b.parent)) bare

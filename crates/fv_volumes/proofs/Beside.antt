@@ -1,6 +1,7 @@
 -- What calls over the blocks of one volume leave of each other one, which may stand on it, or on one that does.
 use Rattle.std.proofs.Common.{◌≡◌, ◌≢◌, ◌≤◌, ℕ, Bool, true, false, true≢false, ◌||◌, List, Option, Some, None, is_some, ⊎_elim, refl, sym, ap, subst, ◌∙◌}
 use Rattle.std.specs.Prelude.{IfSome, slice_index_or}
+use Rattle.std.specs.Option.{option_map}
 use Rattle.std.specs.FinMap as fin
 use Rattle.std.proofs.lemmas.Bool.{cases_Bool, cases_eq}
 use Rattle.std.proofs.lemmas.Option.{none-some, same_Some}
@@ -17,12 +18,18 @@ use Rattle.fv_pool.specs.Lending.{GoesOver, Lent, MayTake, lent_by, lent_for}
 use Rattle.fv_pool.specs.Placing.{Goes}
 use Rattle.fv_pool.proofs.AlongChains.{FoundAt, held_found, held_stays}
 use Rattle.fv_pool.proofs.Holding.{has_taken, held_some}
+use Rattle.fv_volume.specs.declared.state.Base.{Base}
 use Rattle.fv_volume.specs.declared.state.VolumeState.{VolumeState}
 use Rattle.fv_volume.specs.Held.{IsHeldIn}
 use Rattle.fv_volume.specs.OneVolume.{home_in, IsStanding}
 use Rattle.fv_volume.specs.Placing.{LeavesOthers, LiesApart, StandTogether, StaysBeside}
-use Rattle.fv_volume.specs.States.{States, state_at}
+use Rattle.fv_volume.specs.States.{States, parent_in, state_at}
 use Rattle.fv_volume.proofs.SettledTables.{taken_some}
+use Rattle.fv_volume.specs.Files.{IsLabelled}
+use Rattle.fv_volumes.specs.Footing.{AreFooted}
+use Rattle.fv_volumes.specs.Housed.{AreHoused}
+use Rattle.fv_volumes.proofs.Footed.{each_stands}
+use Rattle.fv_volumes.proofs.OnChains.{rests_above, some_slot}
 use Rattle.fv_volumes.proofs.Others.{stays_beside}
 
 -- The volume of a slot of a session has a number in some slot of its maps; the one of `home` has it in one that isn't the active one.
@@ -208,21 +215,31 @@ module _ (d e : Disk) (p q : Pool) (states : States) (slot : ℕ) (off : StandOf
       (λ v z held. let at = found_off v z held in next at.1.slot v at.1.rests.volume z at.1.rests.other at.1.rests.there at.1.own)
       clean is
 
--- ---- volumes that stand on no other
+-- ---- volumes of which each clone stands on a snapshot of another
 
--- A session whose volumes stand on no other has none that stands on one of a slot.
-pub alone_off : (slots : Slots) (slot : ℕ) (states : States) → ((s : ℕ) (x : VolumeState) → state_at states s ≡ Some x → parent_at slots s ≡ None) → StandOff slots slot states
-alone_off slots slot states alone s t x other there up = absurd (none-some t (sym (alone s x there) ∙ up))
+-- None stands on one of a free slot.
+pub free_off : (states : States) (slots : Slots) → AreHoused slots states → AreFooted states slots → (slot : ℕ) → state_at states slot ≡ None → StandOff slots slot states
+free_off states slots housed footed slot free s t x other there up = by x.base refl
+  where
+    parent_is : parent_in (Some x) ≡ Some t
+    parent_is = sym (housed.parents s ∙ ap parent_in there) ∙ up
 
--- Volumes without a base stand together where each stands and lies apart from that one.
-pub alone_together : (disk : Disk) (pool : Pool) (states : States) (map : Maps) (home : ℕ) → ((s : ℕ) → IfSome (state_at states s) (IsHeldIn disk pool s))
-    → IfSome (state_at states home) (λ x. x.map ≡ map) → ((s : ℕ) (x : VolumeState) → s ≢ home → state_at states s ≡ Some x → LiesApart pool.containers s home)
-    → ((s : ℕ) (x : VolumeState) → state_at states s ≡ Some x → parent_at pool.containers s ≡ None) → StandTogether pool map home states
-alone_together disk pool states map home each same apart alone = record {
+    by : (o : Option Base) → x.base ≡ o → (t ≢ slot) × (is_some (state_at states t) ≡ true)
+    by None based = absurd (none-some t (sym (ap (option_map (λ (b : Base). b.parent)) based) ∙ parent_is))
+    by (Some b) based =
+        let is = (each_stands states slots footed s x b there based).0 in
+        let at : b.parent ≡ t = same_Some b.parent t (sym (ap (option_map (λ (b : Base). b.parent)) based) ∙ parent_is) in
+        let here : state_at states t ≡ Some is.parent = ap (state_at states) (sym at) ∙ is.there in
+        ((λ same. none-some is.parent (sym free ∙ ap (state_at states) (sym same) ∙ here)), ap is_some here)
+
+-- They stand together where each stands and lies apart from the one of a slot.
+pub footed_together : (disk : Disk) (pool : Pool) (states : States) (map : Maps) (home : ℕ) → AreHoused pool.containers states → AreFooted states pool.containers → ((s : ℕ) → IfSome (state_at states s) (IsHeldIn disk pool s))
+    → IfSome (state_at states home) (λ x. x.map ≡ map) → ((s : ℕ) (x : VolumeState) → s ≢ home → state_at states s ≡ Some x → LiesApart pool.containers s home) → StandTogether pool map home states
+footed_together disk pool states map home housed footed each same apart = record {
   here = at_home (state_at states home) (each home) same;
   next = λ s x there v e own. next s x (subst (λ (o : Option VolumeState). IfSome o (IsHeldIn disk pool s)) there (each s)) v e own;
   apart = apart;
-  rests = λ s v t x k there has none up. absurd (none-some t (sym (alone s x there) ∙ up));
+  rests = rests_above states pool.containers housed.parents footed (λ s x there. let is = subst (λ (o : Option VolumeState). IfSome o (IsLabelled s)) there (housed.volumes s) in (is.slot_is, some_slot s x is));
 }
   where
     at_home : (o : Option VolumeState) → IfSome o (IsHeldIn disk pool home) → IfSome o (λ x. x.map ≡ map) → IfSome o (λ x. (x.map ≡ map) × AreApart pool map home)

@@ -1,13 +1,12 @@
 -- A volume that is removed: the blocks that it gives back, and what the machine says of it.
-use Rattle.std.proofs.Common.{◌≡◌, ◌≢◌, ◌⊎◌, inl, inr, ⊎_elim, ℕ, zero, suc, ◌+◌, ◌<◌, ◌≤◌, Bool, true, false, not, ◌&&◌, ◌||◌, cond, List, [], ◌∷◌, length, Option, Some, None, true≢false, refl, sym, ap, subst, ◌∙◌, arith}
+use Rattle.std.proofs.Common.{◌≡◌, ◌≢◌, ◌⊎◌, inl, inr, ⊎_elim, ℕ, ◌+◌, ◌<◌, ◌≤◌, Bool, true, false, not, ◌&&◌, ◌||◌, cond, List, [], ◌∷◌, length, Option, Some, None, true≢false, refl, sym, ap, subst, ◌∙◌, arith}
 use Rattle.std.specs.Prelude.{Result, Ok, Err, IfSome, nat_lt, ◌==◌}
-use Rattle.std.specs.List.{list_any}
-use Rattle.std.specs.Option.{is_none, option_map_or}
+use Rattle.std.specs.Option.{is_none}
 use Rattle.std.specs.FinMap as fin
 use Rattle.std.specs.Ordering.{nat_cmp, eq_by_cmp}
 use Rattle.std.specs.Cmp.{nat_cmp_total}
 use Rattle.std.proofs.Math.Seq.{take-length}
-use Rattle.std.proofs.lemmas.Bool.{cases_Bool, cases_eq, cases_lt}
+use Rattle.std.proofs.lemmas.Bool.{cases_eq, cases_lt}
 use Rattle.std.proofs.Math.Bool.{or_comm}
 use Rattle.std.proofs.lemmas.Bool.Decides.{nat_tests}
 use Rattle.fv_bits.specs.Members.{is_member, HasNoneFrom, IsFirstMember}
@@ -15,12 +14,8 @@ use Rattle.fv_model.specs.declared.answers.Refusal.TheVariants.{NoVolume, Volume
 use Rattle.fv_model.specs.declared.commands.Command.TheVariants.{VolDestroy}
 use Rattle.fv_model.specs.Machines.{Machine}
 use Rattle.fv_model.specs.Refusals.{conditions, first_of, is_parent, refusal}
-use Rattle.fv_model.specs.Spelling.{is_same_name}
-use Rattle.fv_model.specs.Volumes.{Base, Volume}
+use Rattle.fv_model.specs.Volumes.{Volume}
 use Rattle.fv_laws.proofs.Changes.{same_name}
-use Rattle.fv_laws.proofs.Lists.{In}
-use Rattle.fv_laws.proofs.Orders.{name_total}
-use Rattle.fv_laws.proofs.Room.{entry_there}
 use Rattle.fv_root.specs.Formatted.{IsSize}
 use Rattle.fv_aggmap.specs.Space.{Space, blocks_of}
 use Rattle.fv_aggmap.specs.Freeing.{room_of}
@@ -47,12 +42,15 @@ use Rattle.fv_volumes.specs.Housed.{AreHoused}
 use Rattle.fv_pool.specs.Keeping.{Blocks}
 use Rattle.fv_volume.specs.Loading.{Houses}
 use Rattle.fv_volume.specs.OneVolume.{volume_as, Content}
+use Rattle.fv_volume.specs.Files.{AreNamed}
 use Rattle.fv_volume.specs.Promising.{HasVolumes}
 use Rattle.fv_volume.specs.Slots.{is_named, HasName, NoneHasName}
 use Rattle.fv_volume.specs.States.{States, state_at, with_state}
 use Rattle.fv_volume.specs.Stored.{is_of, leads}
 use Rattle.fv_volume.specs.Writing.{HasGiven}
+use Rattle.fv_volumes.specs.Footing.{is_stood_on, AreFooted}
 use Rattle.fv_volumes.proofs.Drawing.{given_then, leads_where, not_so}
+use Rattle.fv_volumes.proofs.StoodOn.{parent_by}
 
 -- ---- kept blocks
 
@@ -210,65 +208,22 @@ emptied marks old pool slot (Some x) (Some map) mid new containers gives row rem
 
 -- ---- what the machine says
 
--- no volume is the parent of another, since none has a base
-module _ (old : States) (contents : ℕ → Content) (blocks : ℕ) (m : Machine) (has : HasVolumes old contents blocks m) where
-  -- the first slots have no volume of a name, or one of them has
-  by_slot : (name : List ℕ) (count : ℕ) → ((s : ℕ) → s < count → is_named (state_at old s) name ≡ false) ⊎ ((s : ℕ) × (is_named (state_at old s) name ≡ true))
-  by_slot name zero = inl (λ s low. absurd (omega (arith, low)))
-  by_slot name (suc n) = ⊎_elim
-      (λ (none : (s : ℕ) → s < n → is_named (state_at old s) name ≡ false). ⊎_elim
-      (λ (there : is_named (state_at old n) name ≡ true). inr (n, there))
-      (λ (isnt : is_named (state_at old n) name ≡ false). inl (λ s low. ⊎_elim
-      (λ (same : s ≡ n). ap (λ (k : ℕ). is_named (state_at old k) name) same ∙ isnt)
-      (λ (other : s ≢ n). none s (omega (arith, low, other)))
-      (cases_eq s n)))
-      (cases_Bool (is_named (state_at old n) name)))
-      (λ there. inr there)
-      (by_slot name n)
+-- what a machine that has these volumes asks of `vol destroy`
+destroy_by : (m : Machine) (name : List ℕ) (o : Option Volume) → fin.get m.volumes name ≡ o → refusal m (VolDestroy name) ≡ cond (is_none o) (Some NoVolume) (cond (is_parent m name) (Some VolumeInUse) None)
+unfolding conditions
+destroy_by m name o is = λ j. first_of ((NoVolume, is_none (is j)) ∷ (VolumeInUse, is_parent m name) ∷ [])
 
-  -- a volume of the machine has no base
-  baseless : (name : List ℕ) (v : Volume) → fin.get m.volumes name ≡ Some v → v.base ≡ None
-  baseless name v at = ⊎_elim
-      (λ (none : (s : ℕ) → s < slot_count → is_named (state_at old s) name ≡ false). absurd (nothing (sym (has.none name (record { none = none })) ∙ at)))
-      (λ (there : (s : ℕ) × (is_named (state_at old s) name ≡ true)). by there.0 (state_at old there.0) there.1 (has.there there.0))
-      (by_slot name slot_count)
-    where
-      nothing : ◌≡◌ {A = Option Volume} None (Some v) → ⊥
-      nothing e = cc
-
-      same : (a b : Volume) → ◌≡◌ {A = Option Volume} (Some a) (Some b) → a ≡ b
-      same a b e = cc
-
-      by : (s : ℕ) (o : Option VolumeState) → is_named o name ≡ true → IfSome o (λ x. Has x.name (volume_as x (contents s)) m) → v.base ≡ None
-      by s None named its = absurd (true≢false (sym named))
-      by s (Some x) named its =
-          let found : fin.get m.volumes name ≡ Some (volume_as x (contents s)) = ap (fin.get m.volumes) (sym (same_name x.name name named)) ∙ its in
-          ap (λ (w : Volume). w.base) (same v (volume_as x (contents s)) (sym at ∙ found))
-
-  no_parent : (name : List ℕ) → is_parent m name ≡ false
-  no_parent name = none_of (fin.entries m.volumes) (λ e inside. inside)
-    where
-      test : List ℕ × Volume → Bool
-      test e = option_map_or (λ (b : Base). is_same_name b.parent name) e.1.base false
-
-      none_of : (es : List (List ℕ × Volume)) → ((e : List ℕ × Volume) → In e es → In e (fin.entries m.volumes)) → list_any test es ≡ false
-      none_of [] part = refl
-      none_of (e ∷ es) part =
-          let bare : test e ≡ false = ap (λ (o : Option Base). option_map_or (λ (b : Base). is_same_name b.parent name) o false) (baseless e.0 e.1 (entry_there name_total m.volumes e (part e (inl refl)))) in
-          ap (λ (t : Bool). t || list_any test es) bare ∙ none_of es (λ y inside. part y (inr inside))
-
-  destroy_by : (name : List ℕ) (o : Option Volume) → fin.get m.volumes name ≡ o → refusal m (VolDestroy name) ≡ cond (is_none o) (Some NoVolume) None
-  unfolding conditions
-  destroy_by name o is = λ j. first_of ((NoVolume, is_none (is j)) ∷ (VolumeInUse, no_parent name j) ∷ [])
-
--- a machine that has the volume of a slot doesn't refuse its removal
-said_none : (old : States) (contents : ℕ → Content) (blocks : ℕ) (m : Machine) → HasVolumes old contents blocks m → (name : List ℕ) (slot : ℕ) → HasName old slot name → refusal m (VolDestroy name) ≡ None
-said_none old contents blocks m its name slot has = by (state_at old slot) refl has.named (its.there slot)
+-- one that has the volume of a slot says whether a clone stands on it
+said_used : (old : States) (slots : Slots) → AreFooted old slots → AreNamed old → length old ≡ 64 → (contents : ℕ → Content) (blocks : ℕ) (m : Machine) → HasVolumes old contents blocks m → (name : List ℕ) (slot : ℕ) → HasName old slot name
+    → refusal m (VolDestroy name) ≡ cond (is_stood_on old slot) (Some VolumeInUse) None
+said_used old slots footed names long contents blocks m its name slot has = by (state_at old slot) refl has.named (its.there slot)
   where
-    by : (o : Option VolumeState) → state_at old slot ≡ o → is_named o name ≡ true → IfSome o (λ x. Has x.name (volume_as x (contents slot)) m) → refusal m (VolDestroy name) ≡ None
+    by : (o : Option VolumeState) → state_at old slot ≡ o → is_named o name ≡ true → IfSome o (λ x. Has x.name (volume_as x (contents slot)) m) → refusal m (VolDestroy name) ≡ cond (is_stood_on old slot) (Some VolumeInUse) None
     by None there named its_own = absurd (true≢false (sym named))
     by (Some x) there named its_own =
-        destroy_by old contents blocks m its name (Some (volume_as x (contents slot))) (ap (fin.get m.volumes) (sym (same_name x.name name named)) ∙ its_own)
+        let same : x.name ≡ name = same_name x.name name named in
+        destroy_by m name (Some (volume_as x (contents slot))) (ap (fin.get m.volumes) (sym same) ∙ its_own)
+        ∙ ap (λ (t : Bool). cond t (Some VolumeInUse) None) (ap (is_parent m) (sym same) ∙ parent_by old slots footed names long contents blocks m its slot x there)
 
 -- a fault of a block is the volume's, and has its reason
 pub cause_of : (T : Type 0) (before now : ℕ) (e : BlockFault) (r : Result Unit VolumeFault) → r ≡ Err (of_block e) → HasBlockCause {T = T} before now (Err e) → HasVolumeCause before now r
@@ -279,62 +234,128 @@ cause_of T before now e r is cause = subst (HasVolumeCause before now) (sym is) 
     by (Damaged at want found) cause = cause
     by Memory cause = cause
 
+-- two slots that have a name are one: it is the first one's
+same_slot : (old : States) (name : List ℕ) (s k : ℕ) → HasName old s name → HasName old k name → s ≡ k
+same_slot old name s k one other = ⊎_elim
+    (λ (low : s < k). absurd (true≢false (sym one.named ∙ other.first s low)))
+    (λ (high : k ≤ s). ⊎_elim (λ (low : k < s). absurd (true≢false (sym other.named ∙ one.first k low))) (λ (least : s ≤ k). omega (arith, high, least)) (cases_lt k s))
+    (cases_lt s k)
+
 module _ (disk : Disk) (old : States) (pool : Pool) (name : List ℕ) where
+  -- no volume has the name,
   pub destroy_missing : NoneHasName old name → Destroys disk old pool name old pool (Err (Refused NoVolume))
   destroy_missing none = record {
-    agrees = λ contents blocks m has. destroy_by old contents blocks m has name None (has.none name none);
+    agrees = λ footed named contents blocks m has. destroy_by m name None (has.none name none);
     missing = λ nowhere. refl;
-    there = λ slot small has r is. absurd (true≢false (sym has.named ∙ none.none slot small));
+    in_use = λ slot small has used. absurd (true≢false (sym has.named ∙ none.none slot small));
+    there = λ slot small has unused r is. absurd (true≢false (sym has.named ∙ none.none slot small));
     done = tt;
+    unused = tt;
     stays = (refl, record { map = refl; containers = refl; kept = refl; found = refl; version = refl });
-    fails = refl;
+    fails = inl refl;
   }
 
-  -- a leaf wasn't read, or memory ran out
-  pub destroy_failed : (slot : ℕ) → slot < slot_count → HasName old slot name → (left : Pool) → LeavesPool pool left → (e : BlockFault) → IsHoldFault disk pool.containers e → (r : Result Unit VolumeFault) → r ≡ Err (of_block e) → Destroys disk old pool name old left r
-  destroy_failed slot small has left leaves e fault r is = subst (Destroys disk old pool name old left) (sym is) (by e fault)
-    where
-      nobody : NoneHasName old name → ⊥
-      nobody none = true≢false (sym has.named ∙ none.none slot small)
+  module _ (long : length old ≡ slot_count) (slot : ℕ) (small : slot < slot_count) (has : HasName old slot name) where
+    nobody : NoneHasName old name → ⊥
+    nobody none = true≢false (sym has.named ∙ none.none slot small)
 
-      by : (e : BlockFault) → IsHoldFault disk pool.containers e → Destroys disk old pool name old left (Err (of_block e))
-      by DiskFault fault = record { agrees = λ contents blocks m its. said_none old contents blocks m its name slot has; missing = λ none. absurd (nobody none); there = λ s low its r is. cc; done = tt; stays = (refl, leaves); fails = tt }
-      by (Damaged at want found) fault = record { agrees = λ contents blocks m its. said_none old contents blocks m its name slot has; missing = λ none. absurd (nobody none); there = λ s low its r is. cc; done = tt; stays = (refl, leaves); fails = fault }
-      by Memory fault = record { agrees = λ contents blocks m its. said_none old contents blocks m its name slot has; missing = λ none. absurd (nobody none); there = λ s low its r is. cc; done = tt; stays = (refl, leaves); fails = tt }
+    -- what holds of its slot holds of each that has the name
+    of_each : (b : Bool) → is_stood_on old slot ≡ b → (s : ℕ) → HasName old s name → is_stood_on old s ≡ b
+    of_each b is s its = ap (is_stood_on old) (same_slot old name s slot its has) ∙ is
 
-  pub destroys : (slot : ℕ) (marks : List Bool) (mid : Pool) (new : States) (left : Pool) → slot < slot_count → AreHoused pool.containers old → HasName old slot name → LeavesPool pool mid
-      → (TellsEntries disk pool.containers → MarksAt marks (container_at pool.containers slot)) → EmptiesAt marks old mid slot (state_at old slot) (container_at mid.containers slot) new left → Destroys disk old pool name new left (Ok tt)
-  destroys slot marks mid new left small housed has leaves marked empties =
-      by (state_at old slot) (container_at pool.containers slot) refl refl has.named (housed.each slot) marked
-      (subst (λ (s : Slots). EmptiesAt marks old mid slot (state_at old slot) (container_at s slot) new left) leaves.containers empties)
-    where
-      by : (o : Option VolumeState) (c : Option Mapped) → state_at old slot ≡ o → container_at pool.containers slot ≡ c → is_named o name ≡ true → Houses o c → (TellsEntries disk pool.containers → MarksAt marks c) → EmptiesAt marks old mid slot o c new left
-          → Destroys disk old pool name new left (Ok tt)
-      by None c there lies named houses marked empties = absurd (true≢false (sym named))
-      by (Some x) None there lies named houses marked empties = absurd houses
-      by (Some x) (Some map) there lies named houses marked empties = record {
-        agrees = λ contents blocks m its. said_none old contents blocks m its name slot has;
-        missing = λ none. absurd (true≢false (sym has.named ∙ none.none slot small));
-        there = λ s low its r is. cc;
-        done = record {
-          slot = slot;
-          within = small;
-          state = x;
-          there = there;
-          named = same_name x.name name named;
-          map = map;
-          lies = lies;
-          gone = record {
-            row = empties.row;
-            containers = empties.containers ∙ ap (λ (s : Slots). with_parent (with_container s slot None) slot None) leaves.containers;
-            some = subst (λ (m : Space). HasGivenSome m left.map) leaves.map empties.some;
-            given = λ told. subst (λ (m : Space). HasGiven m (is_of x x.label map) left.map) leaves.map (empties.given (marked told));
-            kept = λ told. subst (λ (k : Blocks). HasForgotten k (leads map (entry_count x.span)) left.kept) leaves.kept (empties.kept (marked told));
-            fewer = subst (λ (k : Blocks). HasForgottenSome k left.kept) leaves.kept empties.fewer;
-            found = empties.found ∙ leaves.found;
-            version = empties.version ∙ leaves.version;
-          };
-        };
-        stays = tt;
-        fails = tt;
-      }
+    -- or a clone stands on the volume,
+    pub destroy_used : is_stood_on old slot ≡ true → Destroys disk old pool name old pool (Err (Refused VolumeInUse))
+    destroy_used used = record {
+      agrees = λ footed named contents blocks m its. said_used old pool.containers footed named long contents blocks m its name slot has ∙ ap (λ (t : Bool). cond t (Some VolumeInUse) None) used;
+      missing = λ none. absurd (nobody none);
+      in_use = λ s low its is. refl;
+      there = λ s low its isnt r is. absurd (true≢false (sym (of_each true used s its) ∙ isnt));
+      done = tt;
+      unused = tt;
+      stays = (refl, record { map = refl; containers = refl; kept = refl; found = refl; version = refl });
+      fails = inr refl;
+    }
+
+    module _ (free : is_stood_on old slot ≡ false) where
+      -- each machine removes it
+      said_none : AreFooted old pool.containers → AreNamed old → (contents : ℕ → Content) (blocks : ℕ) (m : Machine) → HasVolumes old contents blocks m → refusal m (VolDestroy name) ≡ None
+      said_none footed named contents blocks m its = said_used old pool.containers footed named long contents blocks m its name slot has ∙ ap (λ (t : Bool). cond t (Some VolumeInUse) None) free
+
+      never_used : (s : ℕ) → HasName old s name → is_stood_on old s ≡ true → ⊥
+      never_used s its used = true≢false (sym used ∙ of_each false free s its)
+
+      -- or a leaf wasn't read, or memory ran out,
+      pub destroy_failed : (left : Pool) → LeavesPool pool left → (e : BlockFault) → IsHoldFault disk pool.containers e → (r : Result Unit VolumeFault) → r ≡ Err (of_block e) → Destroys disk old pool name old left r
+      destroy_failed left leaves e fault r is = subst (Destroys disk old pool name old left) (sym is) (by e fault)
+        where
+          by : (e : BlockFault) → IsHoldFault disk pool.containers e → Destroys disk old pool name old left (Err (of_block e))
+          by DiskFault fault = record {
+            agrees = said_none;
+            missing = λ none. absurd (nobody none);
+            in_use = λ s low its used. absurd (never_used s its used);
+            there = λ s low its isnt r is. cc;
+            done = tt;
+            unused = tt;
+            stays = (refl, leaves);
+            fails = tt;
+          }
+          by (Damaged at want found) fault = record {
+            agrees = said_none;
+            missing = λ none. absurd (nobody none);
+            in_use = λ s low its used. absurd (never_used s its used);
+            there = λ s low its isnt r is. cc;
+            done = tt;
+            unused = tt;
+            stays = (refl, leaves);
+            fails = fault;
+          }
+          by Memory fault = record {
+            agrees = said_none;
+            missing = λ none. absurd (nobody none);
+            in_use = λ s low its used. absurd (never_used s its used);
+            there = λ s low its isnt r is. cc;
+            done = tt;
+            unused = tt;
+            stays = (refl, leaves);
+            fails = tt;
+          }
+
+      -- or it is removed.
+      pub destroys : (marks : List Bool) (mid : Pool) (new : States) (left : Pool) → AreHoused pool.containers old → LeavesPool pool mid
+          → (TellsEntries disk pool.containers → MarksAt marks (container_at pool.containers slot)) → EmptiesAt marks old mid slot (state_at old slot) (container_at mid.containers slot) new left → Destroys disk old pool name new left (Ok tt)
+      destroys marks mid new left housed leaves marked empties =
+          by (state_at old slot) (container_at pool.containers slot) refl refl has.named (housed.each slot) marked
+          (subst (λ (s : Slots). EmptiesAt marks old mid slot (state_at old slot) (container_at s slot) new left) leaves.containers empties)
+        where
+          by : (o : Option VolumeState) (c : Option Mapped) → state_at old slot ≡ o → container_at pool.containers slot ≡ c → is_named o name ≡ true → Houses o c → (TellsEntries disk pool.containers → MarksAt marks c) → EmptiesAt marks old mid slot o c new left
+              → Destroys disk old pool name new left (Ok tt)
+          by None c there lies named houses marked empties = absurd (true≢false (sym named))
+          by (Some x) None there lies named houses marked empties = absurd houses
+          by (Some x) (Some map) there lies named houses marked empties = record {
+            agrees = said_none;
+            missing = λ none. absurd (nobody none);
+            in_use = λ s low its used. absurd (never_used s its used);
+            there = λ s low its isnt r is. cc;
+            unused = of_each false free;
+            done = record {
+              slot = slot;
+              within = small;
+              state = x;
+              there = there;
+              named = same_name x.name name named;
+              map = map;
+              lies = lies;
+              gone = record {
+                row = empties.row;
+                containers = empties.containers ∙ ap (λ (s : Slots). with_parent (with_container s slot None) slot None) leaves.containers;
+                some = subst (λ (m : Space). HasGivenSome m left.map) leaves.map empties.some;
+                given = λ told. subst (λ (m : Space). HasGiven m (is_of x x.label map) left.map) leaves.map (empties.given (marked told));
+                kept = λ told. subst (λ (k : Blocks). HasForgotten k (leads map (entry_count x.span)) left.kept) leaves.kept (empties.kept (marked told));
+                fewer = subst (λ (k : Blocks). HasForgottenSome k left.kept) leaves.kept empties.fewer;
+                found = empties.found ∙ leaves.found;
+                version = empties.version ∙ leaves.version;
+              };
+            };
+            stays = tt;
+            fails = tt;
+          }

@@ -1,33 +1,56 @@
 -- What is left of the other volumes of a session where one was removed: each stands for what it stood for, and all are spaced still.
-use Rattle.std.proofs.Common.{◌≡◌, ◌≢◌, ⊎_elim, ℕ, ◌<◌, Bool, true, false, not, ◌&&◌, ◌||◌, Option, Some, None, true≢false, refl, sym, ap, subst, ◌∙◌}
-use Rattle.std.specs.Prelude.{IfSome, cond}
+use Rattle.std.proofs.Common.{◌≡◌, ◌≢◌, ◌⊎◌, ⊎_elim, ℕ, zero, suc, ◌<◌, ◌≤◌, ◌+◌, Bool, true, false, not, ◌&&◌, ◌||◌, Option, Some, None, is_some, true≢false, refl, sym, ap, subst, ◌∙◌, arith}
+use Rattle.std.specs.Prelude.{IfSome, cond, ◌==◌}
+use Rattle.std.specs.Option.{option_and_then, option_map, option_map_or}
 use Rattle.std.specs.FinMap as fin
+use Rattle.std.specs.FinSet as set
 use Rattle.std.proofs.lemmas.Bool.{and_parts, cases_eq}
+use Rattle.std.proofs.lemmas.Bool.Decides.{nat_tests}
+use Rattle.std.proofs.lemmas.Option.{none-some, same_Some}
+use Rattle.fv_model.specs.Space.{base_ids}
+use Rattle.fv_model.specs.Volumes.{Volume as Model}
 use Rattle.fv_disk.specs.DiskCalls.{OnlyReads}
 use Rattle.fv_disk.specs.Shown.{Image, Shown}
 use Rattle.fv_bits.specs.Members.{is_member}
-use Rattle.fv_image.specs.Views.{entry_count}
+use Rattle.fv_image.specs.Views.{entry_count, Footing}
+use Rattle.fv_volmap.specs.Slots.{has, slot_at, slot_of_base}
 use Rattle.fv_container.specs.declared.entry.Entry.{Entry}
-use Rattle.fv_container.specs.Chains.{AreCleanOn, TellsEntries, container_at, own_entry, paged_at, slot_count}
+use Rattle.fv_container.specs.Chains.{AreCleanOn, Slots, TellsEntries, container_at, own_entry, paged_at, slot_count}
 use Rattle.fv_container.specs.Mapped.{Mapped}
 use Rattle.fv_container.specs.Spelled.{is_at, names}
 use Rattle.fv_pool.specs.declared.pool.Pool.{Pool}
 use Rattle.fv_store.specs.Held.{StandsOn}
+use Rattle.fv_volume.specs.declared.state.Base.{Base}
 use Rattle.fv_volume.specs.declared.state.VolumeState.{VolumeState}
 use Rattle.fv_volumes.specs.Destroying.{IsDestroyed}
+use Rattle.fv_volumes.specs.Footing.{ends_in, footing_at, is_stood_on, stands_by, AreFooted, IsFooted, IsOnBase}
 use Rattle.fv_volume.specs.Held.{IsHeldIn}
 use Rattle.fv_volumes.specs.Housed.{AreHoused}
 use Rattle.fv_volume.specs.OneVolume.{volume_for}
 use Rattle.fv_volume.specs.Placing.{StaysBeside}
-use Rattle.fv_volume.specs.States.{States, state_at}
+use Rattle.fv_volume.specs.Files.{IsLabelled}
+use Rattle.fv_volume.specs.States.{States, footing_in, parent_in, state_at}
 use Rattle.fv_volume.specs.Stored.{AreSpacedIn, has_block, is_of, leads}
 use Rattle.fv_volumes.specs.UnderRoot.{IsLentAt}
 use Rattle.fv_volumes.proofs.Drawing.{not_so, or_neither}
-use Rattle.fv_volumes.proofs.Beside.{StandOff, alone_off, beside_off}
+use Rattle.fv_volumes.proofs.Beside.{StandOff, beside_off}
 use Rattle.fv_volumes.proofs.Alone.{housed_alone}
 use Rattle.fv_volumes.proofs.PlacedIn.{own_has}
 use Rattle.fv_volumes.proofs.Removed as removed
+use Rattle.fv_volumes.proofs.StoodOn.{stands_not}
 use Rattle.fv_volumes.proofs.Told.{is_inside}
+
+-- A volume on which no clone stands is on no chain of another.
+pub stands_off : (states : States) (slots : Slots) → AreHoused slots states → AreFooted states slots → (slot : ℕ) → is_stood_on states slot ≡ false → StandOff slots slot states
+stands_off states slots housed footed slot unused s t x other there up = by x.base refl (subst (λ (o : Option VolumeState). IfSome o (λ x. IfSome x.base (λ b. IsFooted states x b × IsOnBase slots x))) there (footed.each s))
+  where
+    by : (o : Option Base) → x.base ≡ o → IfSome o (λ b. IsFooted states x b × IsOnBase slots x) → (t ≢ slot) × (is_some (state_at states t) ≡ true)
+    by None bare is = absurd (none-some t (sym (housed_alone slots states housed s x there bare) ∙ up))
+    by (Some b) based is =
+        let at : b.parent ≡ t = same_Some b.parent t (sym (housed.parents s ∙ ap parent_in there ∙ ap (option_map (λ (b : Base). b.parent)) based) ∙ up) in
+        let not : stands_by (λ b. b.parent == slot) (state_at states s) ≡ false = stands_not states (λ b. b.parent == slot) unused s (is_inside states s x housed.long there) in
+        let isnt : (b.parent == slot) ≡ false = sym (ap (stands_by (λ b. b.parent == slot)) there ∙ ap (λ (o : Option Base). option_map_or (λ (b : Base). b.parent == slot) o false) based) ∙ not in
+        ((λ same. let test : (b.parent == slot) ≡ true = (let e : b.parent ≡ slot = at ∙ same in grind (arith, nat_tests, e)) in true≢false (sym test ∙ isnt)), ap is_some (ap (state_at states) (sym at) ∙ is.0.there))
 
 module _ (disk : Shown) (pool : Pool) (states : States) (housed : AreHoused pool.containers states) (slots : (s : ℕ) → s < slot_count → IsLentAt disk.reads pool.found s (state_at states s) (paged_at pool.containers s))
     (spaced : AreSpacedIn pool.found.blocks pool.map.next (state_at states) (container_at pool.containers))
@@ -66,13 +89,13 @@ module _ (disk : Shown) (pool : Pool) (states : States) (housed : AreHoused pool
   its : (k v : ℕ) (z : VolumeState) (e : Entry) → state_at states k ≡ Some z → own_entry (container_at pool.containers k) v ≡ Some e → has_block (state_at states k) (container_at pool.containers k) e.pvbn ≡ true
   its k v z e here own = own_has disk pool states housed slots k z here e.pvbn (record { vvbn = v; entry = e; stands = own; leads = refl })
 
-  -- no volume stands on it: none has a base
-  off : StandOff pool.containers slot states
-  off = alone_off pool.containers slot states (housed_alone pool.containers states housed)
-
   -- ---- another volume
 
-  module _ (y : VolumeState) (at : state_at states y.slot ≡ Some y) (differ : y.slot ≢ slot) (one : IsHeldIn disk pool y.slot y) where
+  module _ (footed : AreFooted states pool.containers) (unused : is_stood_on states slot ≡ false) (y : VolumeState) (at : state_at states y.slot ≡ Some y) (differ : y.slot ≢ slot) (one : IsHeldIn disk pool y.slot y) where
+    -- no volume stands on it
+    off : StandOff pool.containers slot states
+    off = stands_off states pool.containers housed footed slot unused
+
     told : TellsEntries disk pool.containers
     told = (one.stands.told.0, one.stands.told.2)
 
@@ -97,15 +120,78 @@ module _ (disk : Shown) (pool : Pool) (states : States) (housed : AreHoused pool
       stands = stays.standing;
       led = stays.led one.led;
       well = stays.well one.well;
-      wide = one.wide;
+      wide = subst (λ (v : Model). v.most + (set.len (base_ids v.base) + 256) ≤ v.span) (sym stays.volume) one.wide;
       within = one.within;
     }
 
   -- so is the volume of each slot
-  pub held_left : ((s : ℕ) → IfSome (state_at states s) (IsHeldIn disk pool s)) → (s : ℕ) → IfSome (state_at new s) (IsHeldIn after left s)
-  held_left = removed.each_left pool states housed slot x map there new left gone (IsHeldIn disk pool) (IsHeldIn after left) (λ s y differ at is.
+  pub held_left : AreFooted states pool.containers → is_stood_on states slot ≡ false → ((s : ℕ) → IfSome (state_at states s) (IsHeldIn disk pool s)) → (s : ℕ) → IfSome (state_at new s) (IsHeldIn after left s)
+  held_left footed unused each = removed.each_left pool states housed slot x map there new left gone (IsHeldIn disk pool) (IsHeldIn after left) (λ s y differ at is.
       let same = is.slot in
-      subst (λ (n : ℕ). IsHeldIn after left n y) same (beside_held y (ap (state_at states) same ∙ at) (λ e. differ (sym same ∙ e)) (subst (λ (n : ℕ). IsHeldIn disk pool n y) (sym same) is)))
+      subst (λ (n : ℕ). IsHeldIn after left n y) same (beside_held footed unused y (ap (state_at states) same ∙ at) (λ e. differ (sym same ∙ e)) (subst (λ (n : ℕ). IsHeldIn disk pool n y) (sym same) is))) each
+
+  -- Each clone stands on what it stood on.
+  pub footed_left : AreFooted states pool.containers → is_stood_on states slot ≡ false → AreFooted new left.containers
+  unfolding ends_in
+  footed_left footed unused = record { each = each; ends = λ s low. ends_still slot_count s (footed.ends s low) }
+    where
+      Stands : States → Slots → Option VolumeState → Type 0
+      Stands t slots o = IfSome o (λ c. IfSome c.base (λ b. IsFooted t c b × IsOnBase slots c))
+
+      -- the volume of another slot stands on one of another slot
+      off_slot : (s : ℕ) (c : VolumeState) (b : Base) → s ≢ slot → state_at states s ≡ Some c → c.base ≡ Some b → b.parent ≢ slot
+      off_slot s c b differ at based = (stands_off states pool.containers housed footed slot unused s b.parent c differ at (housed.parents s ∙ ap parent_in at ∙ ap (option_map (λ (b : Base). b.parent)) based)).0
+
+      on_base : (s : ℕ) (c : VolumeState) → s ≢ slot → state_at states s ≡ Some c → IsOnBase pool.containers c → IsOnBase left.containers c
+      on_base s c differ at is =
+          let its : c.slot ≡ s = (subst (λ (o : Option VolumeState). IfSome o (IsLabelled s)) at (housed.volumes s)).slot_is in
+          let own : (v : ℕ) → own_entry (container_at left.containers c.slot) v ≡ own_entry (container_at pool.containers c.slot) v = λ v. ap (λ (m : Option Mapped). own_entry m v) (other_container c.slot (λ e. differ (sym its ∙ e))) in
+          record { leaves = λ v here. own v ∙ is.leaves v here; rests = λ k v low here. subst (λ (o : Option Entry). (is_some o ≡ true) ⊎ (has v (slot_at c.map slot_of_base) ≡ true)) (sym (own v)) (is.rests k v low here) }
+
+      footed_now : (c : VolumeState) (b : Base) → b.parent ≢ slot → IsFooted states c b → IsFooted new c b
+      footed_now c b differ is = record {
+        parent = is.parent;
+        inside = is.inside;
+        there = other_state b.parent differ ∙ is.there;
+        snap = is.snap;
+        found = is.found;
+        above = is.above;
+        named = is.named;
+        called = is.called;
+        table = is.table;
+        span = is.span;
+        known = is.known;
+        whole = is.whole;
+        same = is.same;
+      }
+
+      each : (s : ℕ) → Stands new left.containers (state_at new s)
+      each s = ⊎_elim
+          (λ (here : s ≡ slot). subst (Stands new left.containers) (sym (ap (state_at new) here ∙ empty_state)) tt)
+          (λ (differ : s ≢ slot). subst (Stands new left.containers) (sym (other_state s differ)) (by s differ (state_at states s) refl (footed.each s)))
+          (cases_eq s slot)
+        where
+          by : (s : ℕ) → s ≢ slot → (o : Option VolumeState) → state_at states s ≡ o → Stands states pool.containers o → Stands new left.containers o
+          by s differ None at is = tt
+          by s differ (Some c) at is = based c.base refl is
+            where
+              based : (o : Option Base) → c.base ≡ o → IfSome o (λ b. IsFooted states c b × IsOnBase pool.containers c) → IfSome o (λ b. IsFooted new c b × IsOnBase left.containers c)
+              based None e is = tt
+              based (Some b) e is = (footed_now c b (off_slot s c b differ at e) is.0, on_base s c differ at is.1)
+
+      ends_still : (n s : ℕ) → ends_in (footing_at states) n s ≡ true → ends_in (footing_at new) n s ≡ true
+      ends_still zero s ends = ends
+      ends_still (suc n) s ends = ⊎_elim
+          (λ (here : s ≡ slot). ap (λ (o : Option Footing). option_map_or (λ (f : Footing). ends_in (footing_at new) n f.parent) o true) (ap (option_and_then (λ (c : VolumeState). option_map footing_in c.base)) (ap (state_at new) here ∙ empty_state)))
+          (λ (differ : s ≢ slot).
+          ap (λ (o : Option Footing). option_map_or (λ (f : Footing). ends_in (footing_at new) n f.parent) o true) (ap (option_and_then (λ (c : VolumeState). option_map footing_in c.base)) (other_state s differ))
+          ∙ so (ends_still n) (footing_at states s) ends)
+          (cases_eq s slot)
+        where
+          so : ((t : ℕ) → ends_in (footing_at states) n t ≡ true → ends_in (footing_at new) n t ≡ true) → (o : Option Footing) → option_map_or (λ (f : Footing). ends_in (footing_at states) n f.parent) o true ≡ true
+              → option_map_or (λ (f : Footing). ends_in (footing_at new) n f.parent) o true ≡ true
+          so next None e = refl
+          so next (Some f) e = next f.parent e
 
   -- ---- all volumes
 

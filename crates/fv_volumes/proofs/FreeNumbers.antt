@@ -16,14 +16,15 @@ use Rattle.fv_bits.specs.Members.{is_member}
 use Rattle.fv_bits.proofs.Counts.{passing}
 use Rattle.fv_codec.specs.declared.pointer.Pointer.{Pointer}
 use Rattle.fv_model.specs.Places.{Id, Ids, id_cmp, ids_of, placed}
-use Rattle.fv_model.specs.Space.{charge, ids_left_out, kept_ids, map_blocks}
+use Rattle.fv_model.specs.Space.{base_ids, charge, ids_left_out, kept_ids, map_blocks}
+use Rattle.fv_laws.proofs.Counts.{len_union}
 use Rattle.fv_model.specs.Volumes.{Volume}
-use Rattle.fv_laws.proofs.Lists.{In, any_in, from_map, in_map}
+use Rattle.fv_laws.proofs.Lists.{In, any_in, from_map, in_either, in_map}
 use Rattle.fv_laws.proofs.Orders.{id_ties, id_total}
 use Rattle.fv_laws.proofs.Tests.{to_any}
 use Rattle.fv_tables.specs.Reached.{is_listed, items}
 use Rattle.fv_tables.specs.Spelled.{Under}
-use Rattle.fv_tables.specs.Told.{table_told}
+use Rattle.fv_tables.specs.Told.{standing_at, table_told}
 use Rattle.fv_tree.specs.Flushing.{Loaded}
 use Rattle.fv_tree.specs.Sources.{Use}
 use Rattle.fv_tree.specs.Standing.{under}
@@ -34,6 +35,7 @@ use Rattle.fv_image.proofs.Counts.{listed_within, none_between, others, within_t
 use Rattle.fv_volmap.specs.Slots.{active_of, has, slot_at, slot_of_base, taken_in}
 use Rattle.fv_pool.specs.declared.pool.Pool.{Pool}
 use Rattle.fv_pool.specs.declared.rooted.Rooted.{Rooted}
+use Rattle.fv_volume.specs.declared.state.Base.{Base as StateBase}
 use Rattle.fv_volume.specs.declared.state.Snap.{Snap}
 use Rattle.fv_volume.specs.declared.state.VolumeState.{VolumeState}
 use Rattle.fv_pool.specs.BlocksOver.{free_numbers}
@@ -41,14 +43,15 @@ use Rattle.fv_volume.specs.Files.{IsLabelled}
 use Rattle.fv_volume.specs.Held.{pending_by, HasNumbers, IsHeldIn}
 use Rattle.fv_volume.specs.Labels.{label_said}
 use Rattle.fv_pool.specs.Tables.{standing_by, AreLedBy, trees_by}
-use Rattle.fv_volume.specs.OneVolume.{blocks_in, shows, standing_kept, trees_for, volume_for, IsKeptTable, IsStanding}
+use Rattle.fv_volume.specs.OneVolume.{blocks_in, shows, standing_kept, trees_for, volume_for, IsKeptTable, IsStanding, base_by, base_table, tables_of}
 use Rattle.fv_volume.specs.Placing.{IsLedTo}
 use Rattle.fv_volume.specs.Sharing.{pointer_in, trees_kept, SharesWith}
 use Rattle.fv_volume.proofs.EachRoot.{all_in}
 use Rattle.fv_volume.proofs.KeptStamps.{stamp_some}
 use Rattle.fv_volume.proofs.ActiveSlot.{active_has}
-use Rattle.fv_volume.proofs.SettledTables.{LeadsHere, few_levels, has_used, listed_at, number_of, slot_found, taken_some}
+use Rattle.fv_volume.proofs.SettledTables.{LeadsHere, few_levels, has_used, listed_at, number_of, slot_found, taken_some, kept_found}
 use Rattle.fv_pool.proofs.Shows.{unused_member}
+use Rattle.fv_volume.proofs.TablesOf.{is_whole}
 use Rattle.fv_volume.proofs.SnapIds.{by_stamp, has_id, in_kept}
 
 -- ---- sets of ids as lists
@@ -175,17 +178,30 @@ module _ (d : Disk) (p : Pool) (x : VolumeState) (is : IsStanding d p x) (labell
   abbrev told : Volume
   told = volume_for d p x
 
-  -- the trees of the active table, and those of each snapshot's
+  -- the trees of the active table, and those of each table that is kept
   abbrev tables : List Trees
-  tables = trees_for d p x ∷ map (trees_kept blocks) x.snapshots
+  tables = trees_for d p x ∷ map (trees_kept blocks) (tables_of x)
 
-  -- the ids that the volume is charged for
+  -- the ids of all of them: those that the volume is charged for, and those of its base
   abbrev charged : Ids
-  charged = set.difference (set.union (ids_of told.active) (kept_ids told)) (ids_left_out told.base)
+  charged = set.union (base_ids told.base) (set.union (ids_of told.active) (kept_ids told))
 
-  -- that's each id of the active table and each of a snapshot's
-  charged_by : (i : Id) → (set.contains (ids_of told.active) i || set.contains (kept_ids told) i) ≡ true → set.contains charged i ≡ true
-  charged_by i one = set.contains-difference id_total (set.union (ids_of told.active) (kept_ids told)) (ids_left_out told.base) i ∙ (λ j. (set.contains-union id_total (ids_of told.active) (kept_ids told) i ∙ one) j && not (set.contains-empty id_cmp i j))
+  own_in : (i : Id) → set.contains (set.union (ids_of told.active) (kept_ids told)) i ≡ true → set.contains charged i ≡ true
+  own_in i one = set.contains-union id_total (base_ids told.base) (set.union (ids_of told.active) (kept_ids told)) i ∙ or_right (set.contains (base_ids told.base) i) _ one
+
+  in_active : (i : Id) → set.contains (ids_of told.active) i ≡ true → set.contains charged i ≡ true
+  in_active i one = own_in i (set.contains-union id_total (ids_of told.active) (kept_ids told) i ∙ or_left (set.contains (ids_of told.active) i) _ one)
+
+  of_kept : (q : Snap) → In q (tables_of x) → (i : Id) → set.contains (ids_of (table_told (standing_kept blocks q))) i ≡ true → set.contains charged i ≡ true
+  of_kept q there i one = ⊎_elim
+      (λ based. set.contains-union id_total (base_ids told.base) (set.union (ids_of told.active) (kept_ids told)) i ∙ or_left (set.contains (base_ids told.base) i) _ (of_base x.base based))
+      (λ kept. own_in i (set.contains-union id_total (ids_of told.active) (kept_ids told) i ∙ or_right (set.contains (ids_of told.active) i) _ (in_kept blocks x.snapshots is.names q kept i one)))
+      (in_either q (base_table x.base) x.snapshots there)
+    where
+      of_base : (o : Option StateBase) → In q (base_table o) → set.contains (base_ids (base_by blocks o)) i ≡ true
+      of_base None none = absurd none
+      of_base (Some b) (inr none) = absurd none
+      of_base (Some b) (inl same) = ap (λ (r : Snap). set.contains (ids_of (table_told (standing_kept blocks r))) i) same ∙ one
 
   -- whether one of them leads to a number
   abbrev is_led : ℕ → Bool
@@ -206,27 +222,27 @@ module _ (d : Disk) (p : Pool) (x : VolumeState) (is : IsStanding d p x) (labell
   active_led = hit (trees_for d p x) (inl refl)
       (λ u there. ⊎_elim
       (λ (same : trees_for d p x ≡ u). subst (Agree (trees_for d p x)) same (λ o level index some stamp. refl))
-      (λ later. let q = from_map (trees_kept blocks) u x.snapshots later in
-      subst (Agree (trees_for d p x)) q.2 (agree (trees_for d p x) (trees_kept blocks q.0) (all_in (λ (q : Snap). SharesWith (trees_for d p x) (trees_kept blocks q)) x.snapshots is.shared.active q.0 q.1)))
+      (λ later. let q = from_map (trees_kept blocks) u (tables_of x) later in
+      subst (Agree (trees_for d p x)) q.2 (agree (trees_for d p x) (trees_kept blocks q.0) (all_in (λ (q : Snap). SharesWith (trees_for d p x) (trees_kept blocks q)) (tables_of x) is.shared.active q.0 q.1)))
       there)
       (λ o level index some.
       let i : Id = (placed (owner_in o) (level, index), (pointer_in (trees_for d p x o) level index).stamp) in
-      charged_by i (or_left (set.contains (ids_of told.active) i) _ (place_id (under (shows d p x)) x.active x.files o level index some)))
+      in_active i (place_id (under (shows d p x)) x.active x.files o level index some))
 
   -- and with that of each snapshot
-  kept_led : (q : Snap) → In q x.snapshots → (v : ℕ) → LeadsHere (trees_kept blocks q) v → is_led v ≡ true
-  kept_led q one = hit (trees_kept blocks q) (inr (in_map (trees_kept blocks) q x.snapshots one))
+  kept_led : (q : Snap) → In q (tables_of x) → (v : ℕ) → LeadsHere (trees_kept blocks q) v → is_led v ≡ true
+  kept_led q one = hit (trees_kept blocks q) (inr (in_map (trees_kept blocks) q (tables_of x) one))
       (λ u there. ⊎_elim
-      (λ (same : trees_for d p x ≡ u). subst (Agree (trees_kept blocks q)) same (agree_back (trees_for d p x) (trees_kept blocks q) (all_in (λ (q : Snap). SharesWith (trees_for d p x) (trees_kept blocks q)) x.snapshots is.shared.active q one)))
-      (λ later. let r = from_map (trees_kept blocks) u x.snapshots later in
-      subst (Agree (trees_kept blocks q)) r.2 (agree (trees_kept blocks q) (trees_kept blocks r.0) (all_in (λ (r : Snap). SharesWith (trees_kept blocks q) (trees_kept blocks r)) x.snapshots (among q one) r.0 r.1)))
+      (λ (same : trees_for d p x ≡ u). subst (Agree (trees_kept blocks q)) same (agree_back (trees_for d p x) (trees_kept blocks q) (all_in (λ (q : Snap). SharesWith (trees_for d p x) (trees_kept blocks q)) (tables_of x) is.shared.active q one)))
+      (λ later. let r = from_map (trees_kept blocks) u (tables_of x) later in
+      subst (Agree (trees_kept blocks q)) r.2 (agree (trees_kept blocks q) (trees_kept blocks r.0) (all_in (λ (r : Snap). SharesWith (trees_kept blocks q) (trees_kept blocks r)) (tables_of x) (among q one) r.0 r.1)))
       there)
       (λ o level index some.
       let i : Id = (placed (owner_in o) (level, index), (pointer_in (trees_kept blocks q o) level index).stamp) in
-      charged_by i (or_right (set.contains (ids_of told.active) i) _ (in_kept blocks x.snapshots is.names q one i (place_id (blocks q.slot) q.table None o level index some))))
+      of_kept q one i (place_id (blocks q.slot) q.table None o level index some))
     where
-      among : (q : Snap) → In q x.snapshots → All (λ (r : Snap). SharesWith (trees_kept blocks q) (trees_kept blocks r)) x.snapshots
-      among q one = all_in (λ (q : Snap). All (λ (r : Snap). SharesWith (trees_kept blocks q) (trees_kept blocks r)) x.snapshots) x.snapshots is.shared.kept q one
+      among : (q : Snap) → In q (tables_of x) → All (λ (r : Snap). SharesWith (trees_kept blocks q) (trees_kept blocks r)) (tables_of x)
+      among q one = all_in (λ (q : Snap). All (λ (r : Snap). SharesWith (trees_kept blocks q) (trees_kept blocks r)) (tables_of x)) (tables_of x) is.shared.kept q one
 
   -- What the active map has the active table leads to.
   active_taken : (v : ℕ) → is_member (active_of x.map) v ≡ true → is_led v ≡ true
@@ -241,25 +257,31 @@ module _ (d : Disk) (p : Pool) (x : VolumeState) (is : IsStanding d p x) (labell
   slot_taken : (k v : ℕ) → has v (slot_at x.map k) ≡ true → is_led v ≡ true
   slot_taken k v here = ⊎_elim
       (λ (first : k ≡ 0). active_taken v (sym (active_has x.map v) ∙ ap (λ (n : ℕ). has v (slot_at x.map n)) (sym first) ∙ here))
-      (λ (other : k ≢ 0). ⊎_elim
-      (λ (base : k ≡ slot_of_base). absurd (both_ways (has v (slot_at x.map k)) (ap (λ (n : ℕ). has v (slot_at x.map n)) base ∙ ap (has v) labelled.slots.base) here))
-      (λ (not_base : k ≢ slot_of_base).
-      let q = slot_found x k (sym (labelled.slots.each k other not_base) ∙ has_used (slot_at x.map k) v here) in
-      let kept = all_in (IsKeptTable d p x) x.snapshots is.kept q.0 q.1.0 in
+      (λ (other : k ≢ 0).
+      let q = kept_found d p x is labelled k other (has_used (slot_at x.map k) v here) in
+      let kept = all_in (IsKeptTable d p x) (tables_of x) is.kept q.0 q.1.0 in
       let listed : is_listed (items (standing_kept blocks q.0)) v ≡ true = sym (kept.1.reach v) ∙ ap (λ (n : ℕ). has v (slot_at x.map n)) q.1.1 ∙ here in
       kept_led q.0 q.1.0 v (listed_at (blocks q.0.slot) q.0.table.levels q.0.table.root (few_levels x.now (blocks q.0.slot) q.0.table.levels q.0.table.root kept.1.table) v listed))
-      (cases_eq k slot_of_base))
       (cases_eq k 0)
 
-  -- So at most as many are taken as the volume is charged for.
-  taken_within : passing (taken_in x.map.slots) 0 x.map.span ≤ x.ledger.charge
+  -- the ids of all tables are those that it is charged for and those of its base
+  all_ids : set.len charged ≡ set.len (base_ids told.base) + set.len (set.difference (set.union (ids_of told.active) (kept_ids told)) (ids_left_out told.base))
+  all_ids = len_union id_total id_ties (base_ids told.base) (set.union (ids_of told.active) (kept_ids told))
+      ∙ ap (λ (s : Ids). set.len (base_ids told.base) + set.len (set.difference (set.union (ids_of told.active) (kept_ids told)) s)) (sym (left x.base (is_whole x.slot x labelled)))
+    where
+      left : (o : Option StateBase) → IfSome o (λ b. b.splitting ≡ false) → ids_left_out (base_by blocks o) ≡ base_ids (base_by blocks o)
+      left None w = refl
+      left (Some b) w = ap (λ (t : Bool). cond t set.empty (ids_of (table_told (standing_at (blocks slot_of_base) b.table.levels b.table.root)))) w
+
+  -- So at most as many are taken as the volume is charged for and its base has.
+  taken_within : passing (taken_in x.map.slots) 0 x.map.span ≤ x.ledger.charge + set.len (base_ids told.base)
   unfolding charge
   taken_within =
       let taken = all_within (taken_in x.map.slots) (all_led charged (led_by tables)) (λ v one. let at = taken_some x.map.slots v one in slot_taken at.0 v at.1) x.map.span in
-      less (passing (taken_in x.map.slots) 0 x.map.span) (length (all_led charged (led_by tables))) (set.len charged) (map_blocks told.span * fin.len told.snapshots) x.ledger.charge taken (count_led charged (led_by tables)) is.ledger.charged
+      less (passing (taken_in x.map.slots) 0 x.map.span) (length (all_led charged (led_by tables))) (set.len charged) _ (map_blocks told.span * fin.len told.snapshots) x.ledger.charge (set.len (base_ids told.base)) taken (count_led charged (led_by tables)) all_ids is.ledger.charged
     where
-      less : (a b c maps all : ℕ) → a ≤ b → b ≡ c → all ≡ c + maps → a ≤ all
-      less a b c maps all within same sum = omega (arith, within, same, sum)
+      less : (a b c own maps all base : ℕ) → a ≤ b → b ≡ c → c ≡ base + own → all ≡ own + maps → a ≤ all + base
+      less a b c own maps all base within same parts sum = omega (arith, within, same, parts, sum)
 
 -- A volume of a session between points has 256 free numbers at least.
 pub free_enough : (disk : Disk) (pool : Pool) (s : ℕ) (x : VolumeState) → IsHeldIn disk pool s x → 256 ≤ free_numbers x.map

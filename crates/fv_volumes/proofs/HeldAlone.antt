@@ -1,8 +1,8 @@
 -- A volume of a session that has nothing in memory: with all its roots it keeps the rules of soundness, and what a view tells of it is the volume.
-use Rattle.std.proofs.Common.{◌≡◌, ◌≢◌, ℕ, ◌+◌, ◌<◌, ◌≤◌, Bool, true, false, not, ◌&&◌, ◌||◌, List, [], ◌∷◌, Option, Some, None, inl, refl, sym, ap, subst, ◌∙◌, arith, length}
-use Rattle.std.specs.Prelude.{All, IfSome, nat_le, nat_lt, map, slice_index_or, take, ◌==◌}
+use Rattle.std.proofs.Common.{◌≡◌, ◌≢◌, ◌⊎◌, ℕ, ◌+◌, ◌<◌, ◌≤◌, Bool, true, false, not, ◌&&◌, ◌||◌, List, [], ◌∷◌, Option, Some, None, inl, inr, is_some, refl, sym, ap, subst, ◌∙◌, arith, length}
+use Rattle.std.specs.Prelude.{IfSome, nat_le, nat_lt, map, take, ◌==◌}
 use Rattle.std.specs.List.{list_all}
-use Rattle.std.specs.Option.{option_and_then, option_map_or}
+use Rattle.std.specs.Option.{is_none, option_map, option_map_or}
 use Rattle.std.specs.FinSet as set
 use Rattle.std.proofs.lemmas.Bool.{and_from, and_parts}
 use Rattle.std.proofs.lemmas.Bool.Decides.{nat_tests}
@@ -12,69 +12,72 @@ use Rattle.fv_codec.specs.declared.inode.InodeRecord.{InodeRecord}
 use Rattle.fv_codec.specs.declared.pointer.Pointer.{Pointer}
 use Rattle.fv_codec.specs.Blocks.{greatest_word}
 use Rattle.fv_model.specs.Machines.{capacity, first_block}
-use Rattle.fv_model.specs.Places.{id_cmp}
 use Rattle.fv_model.specs.Space.{base_ids, commits, use_of}
 use Rattle.fv_model.specs.Tables.{empty_table}
-use Rattle.fv_model.specs.Volumes.{Volume}
-use Rattle.fv_tables.specs.Reached.{Item, items}
+use Rattle.fv_model.specs.Volumes.{Base as ModelBase, Volume}
+use Rattle.fv_tables.specs.Reached.{Item, is_listed, items}
 use Rattle.fv_tables.specs.Spelled.{Under, hole, pointer_at, stored}
 use Rattle.fv_tables.specs.Told.{file_at, file_told, records, standing_at, table_told}
 use Rattle.fv_tables.proofs.Lists.{all_of_range}
+use Rattle.fv_tables.proofs.Items.{kept_items}
 use Rattle.fv_tables.proofs.Tables.{kept_records}
-use Rattle.fv_tree.specs.Standing.{under as blocks_of}
-use Rattle.fv_files.specs.declared.files.Files.{Files}
-use Rattle.fv_files.specs.Apart.{Trees, stored_trees}
 use Rattle.fv_files.specs.Numbering.{AreNumbersIf}
-use Rattle.fv_files.specs.Sharing.{owner_in}
 use Rattle.fv_laws.proofs.Lists.{In}
 use Rattle.fv_laws.specs.WellFormed.{IsWellTable}
 use Rattle.fv_image.specs.Chains.{under}
 use Rattle.fv_image.specs.Held.{Layout, layout_at}
 use Rattle.fv_image.specs.ReachRules.{all_volumes, are_distinct}
-use Rattle.fv_image.specs.Seen.{Reached, Root, VolumeSeen, reached_at, root_seen, roots_of, seen, volume_seen}
+use Rattle.fv_image.specs.Seen.{Based, Reached, Root, VolumeSeen, base_root as base_root_of, reached_at, root_seen, roots_of, seen, volume_seen}
 use Rattle.fv_image.specs.Soundness.{AreTables}
-use Rattle.fv_image.specs.TableRules.{are_levels, is_cell_of}
-use Rattle.fv_image.specs.VolumeRules.{comes_to_end, commits_seen, has_commits_in_capacity, has_use_in_size, has_wide_spans}
+use Rattle.fv_image.specs.BlockRules.{agree}
+use Rattle.fv_image.specs.HintRules.{is_based, is_copied, is_in_label, is_known, is_splitting}
+use Rattle.fv_image.specs.TableRules.{all_items, are_levels, has_same_id, is_cell_of}
+use Rattle.fv_image.specs.VolumeRules.{comes_to_end, commits_seen, has_commits_in_capacity, has_footing, has_use_in_size, has_wide_spans}
 use Rattle.fv_image.specs.Views.{Footing, Head, Rooted, Snap as HeadSnap, View, slots}
-use Rattle.fv_image.specs.Volumes.{active_at, named_with, standing_of, table_at, volume_told, volume_with}
+use Rattle.fv_image.specs.Volumes.{active_at, base_from, named_with, standing_of, table_at, volume_told, volume_with}
 use Rattle.fv_image.proofs.Committed.{commits_told}
-use Rattle.fv_image.proofs.LoneTables.{form_base}
 use Rattle.fv_image.proofs.SameSeen.{seen_at}
 use Rattle.fv_root.specs.Finding.{root_found}
 use Rattle.fv_container.specs.declared.entry.Entry.{Entry}
 use Rattle.fv_container.specs.Chains.{container_at}
-use Rattle.fv_volmap.specs.Slots.{IsVolume}
+use Rattle.fv_volmap.specs.Slots.{IsVolume, slot_of_base}
 use Rattle.fv_pool.specs.declared.pool.Pool.{Pool}
 use Rattle.fv_pool.specs.BlocksOver.{held_entry}
+use Rattle.fv_volume.specs.declared.state.Base.{Base as StateBase}
 use Rattle.fv_volume.specs.declared.state.Snap.{Snap}
 use Rattle.fv_volume.specs.declared.state.VolumeState.{VolumeState}
-use Rattle.fv_volume.specs.Files.{AreStates, IsState, has_form}
+use Rattle.fv_volume.specs.Files.{AreStates, IsState}
 use Rattle.fv_volume.specs.Numbering.{AreNumbersSeen}
-use Rattle.fv_volume.specs.OneVolume.{blocks_in, shows, table_for, volume_for, IsReady, IsStanding, RootStands}
+use Rattle.fv_volume.specs.OneVolume.{IsReady, IsStanding, RootStands, base_by, blocks_in, table_for, volume_for}
 use Rattle.fv_volume.specs.Placing.{IsLedTo, IsStoredWell}
-use Rattle.fv_pool.specs.Tables.{trees_by}
-use Rattle.fv_volume.specs.Sharing.{differs_in, pointer_in, trees_kept, AreShared, SharesWith}
+use Rattle.fv_volume.specs.Sharing.{differs_in, pointer_in, trees_kept}
 use Rattle.fv_volume.specs.Slots.{sum_of}
-use Rattle.fv_volume.specs.States.{States, head_in, rooted_as, state_at, view_over}
+use Rattle.fv_volume.specs.States.{States, footing_in, head_in, rooted_as, state_at, table_in, view_over}
 use Rattle.fv_volume.specs.Trees.{active_in, no_trees}
 use Rattle.fv_volumes.proofs.Distinct.{same_names}
 use Rattle.fv_volumes.proofs.Made.{commits_are}
-use Rattle.fv_volume.proofs.EachRoot.{each_root}
-use Rattle.fv_pool.proofs.OverBlocks.{same_place}
-use Rattle.fv_volume.proofs.ActiveStands.{agrees, roots_stand}
+use Rattle.fv_volume.proofs.AllRoots.{active_root, each_shares, roots, EachShares}
+use Rattle.fv_volume.proofs.BasedRules as rule_on
+use Rattle.fv_volume.proofs.EachRoot.{all_among, each_root}
+use Rattle.fv_volume.proofs.Ruled as rule
+use Rattle.fv_volume.proofs.TablesOf.{is_whole}
+use Rattle.fv_volume.proofs.ActiveStands.{roots_stand}
 use Rattle.fv_volumes.proofs.Reached.{standing_reach}
-use Rattle.fv_volume.proofs.Shared.{shares_back}
 use Rattle.fv_volume.proofs.SharedRoots.{alike_shares, stored_place, stored_same}
 use Rattle.fv_volume.proofs.SnapNames.{names_in}
 use Rattle.fv_volumes.proofs.Agreed.{root_agrees}
+use Rattle.fv_volumes.specs.Footing.{AreFooted}
+use Rattle.fv_volumes.proofs.FootedSeen.{base_seen}
+use Rattle.fv_volumes.proofs.HeldBase.{base_borne, base_found, base_kept, base_leaves, base_rests, base_same, base_stands, based_at, root_low, snap_kept}
+use Rattle.fv_volumes.proofs.LoadedBase.{loaded_ends}
 use Rattle.fv_volumes.proofs.Standings.{standing_state, standing_table, standing_volume}
 use Rattle.fv_volumes.proofs.Told.{head_there, is_inside}
 use Rattle.fv_volumes.proofs.Trees.{unchanged_machine}
 use Rattle.fv_volumes.proofs.Facts.{are_ruled, led_by, led_place}
 use Rattle.fv_volumes.proofs.Records.{all_records, cell_below, file_levels, file_there, inode_levels, names_apart}
-use Rattle.fv_volume.proofs.Ruled.{AreOneToOne, AreRuled, IsRuled, of_roots, one_itself, owner_number}
+use Rattle.fv_volume.proofs.Ruled.{AreOneToOne, AreRuled, IsRuled, of_roots, owner_number}
 use Rattle.fv_disk.specs.Shown.{Image}
-use Rattle.fv_volume.specs.Held.{named_held, IsHeldIn}
+use Rattle.fv_volume.specs.Held.{named_held, HasWholeMap, IsHeldIn}
 use Rattle.fv_volumes.specs.Housed.{AreHoused, ReachesAll}
 use Rattle.fv_volume.specs.Files.{IsLabelled}
 use Rattle.fv_volume.specs.Stored.{AreSpacedIn}
@@ -121,7 +124,8 @@ commits_in_view pool states i long are =
 
 -- ---- a volume with nothing of it in memory
 
-module _ (disk : Shown) (pool : Pool) (states : States) (housed : AreHoused pool.containers states) (spaced : AreSpacedIn pool.found.blocks pool.map.next (state_at states) (container_at pool.containers))
+module _ (disk : Shown) (pool : Pool) (states : States) (housed : AreHoused pool.containers states) (spaced : AreSpacedIn pool.found.blocks pool.map.next (state_at states) (container_at pool.containers)) (footed : AreFooted states pool.containers)
+    (each : (s : ℕ) → IfSome (state_at states s) (IsHeldIn disk pool s)) (maps : (s : ℕ) → HasWholeMap (state_at states s))
     (x : VolumeState) (there : state_at states x.slot ≡ Some x) (one : IsHeldIn disk pool x.slot x) (no_files : x.files ≡ None) (whole : IsVolume x.map) where
   abbrev w : View
   w = view_over pool states disk.reads
@@ -131,12 +135,6 @@ module _ (disk : Shown) (pool : Pool) (states : States) (housed : AreHoused pool
 
   abbrev s : ℕ
   s = x.slot
-
-  form : has_form h ≡ true
-  form = one.ready.labelled.form
-
-  base : h.base ≡ None
-  base = form_base h form
 
   span : x.map.span ≡ x.span
   span = one.ready.labelled.map
@@ -167,48 +165,35 @@ module _ (disk : Shown) (pool : Pool) (states : States) (housed : AreHoused pool
 
   -- ---- what they share
 
-  abbrev active_trees : Trees
-  active_trees = stored_trees (blocks_of (shows disk pool x)) x.active.levels x.active.root
+  shared : EachShares disk pool x (roots x)
+  shared = each_shares disk pool x no_files (stood 0 h.active (inl refl)) one.stands.shared
 
-  abbrev snap_trees : Snap → Trees
-  snap_trees = trees_kept (blocks_in disk pool x)
+  abbrev kept_led : Snap → Option ℕ → ℕ → ℕ → Pointer
+  kept_led q = led_by (blocks_in disk pool x q.slot) q.table
 
-  shared : AreShared active_trees (blocks_in disk pool x) x.snapshots
-  shared = subst (λ (o : Option Files). AreShared (trees_by (blocks_of (shows disk pool x)) x.active o) (blocks_in disk pool x) x.snapshots) no_files one.stands.shared
+  -- the pointers of two tables that are kept are one to one,
+  kept_one : (p q : Snap) → In p (roots x) → In q (roots x) → AreOneToOne (kept_led p) (kept_led q)
+  kept_one p q first second = alike_shares (trees_kept (blocks_in disk pool x) p) (trees_kept (blocks_in disk pool x) q) (kept_led p) (kept_led q) (place p) (place q) (same p) (same q) (shared p q first second)
+    where
+      place : (q : Snap) (o : Option ℕ) (level index : ℕ) → pointer_in (trees_kept (blocks_in disk pool x) q o) level index ≡ kept_led q o level index
+      place q o level index = stored_place (blocks_in disk pool x q.slot) q.table.levels q.table.root o level index ∙ led_place (blocks_in disk pool x q.slot) q.table o level index
 
-  active_place : (o : Option ℕ) (level index : ℕ) → pointer_in (active_trees o) level index ≡ led 0 h.active o level index
-  active_place o level index =
-      stored_place (blocks_of (shows disk pool x)) x.active.levels x.active.root o level index
-      ∙ sym (same_place (blocks_of (shows disk pool x)) (blocks_in disk pool x 0) x.active.levels x.active.root (agrees disk pool x one.stands no_files) (owner_in o) level index)
-      ∙ led_place (blocks_in disk pool x 0) x.active o level index
+      same : (q : Snap) (o : Option ℕ) (level index : ℕ) → differs_in (trees_kept (blocks_in disk pool x) q o) level index ≡ false
+      same q = stored_same (blocks_in disk pool x q.slot) q.table.levels q.table.root
 
-  snap_place : (q : Snap) (o : Option ℕ) (level index : ℕ) → pointer_in (snap_trees q o) level index ≡ led_by (blocks_in disk pool x q.slot) q.table o level index
-  snap_place q o level index = stored_place (blocks_in disk pool x q.slot) q.table.levels q.table.root o level index ∙ led_place (blocks_in disk pool x q.slot) q.table o level index
+  -- and so are those of a root with those of any that is kept,
+  root_one : (k : ℕ) (r : Rooted) → IsRoot k r → (q : Snap) → In q (roots x) → AreOneToOne (led k r) (kept_led q)
+  root_one k r is q there = each_root x (λ k r. AreOneToOne (led_by (blocks_in disk pool x k) r) (kept_led q)) (kept_one (active_root x) q (inl refl) there)
+      (all_among (λ (p : Snap). AreOneToOne (kept_led p) (kept_led q)) x.snapshots (λ p here. kept_one p q (inr (snap_kept x p here)) there)) k r is
 
-  active_same : (o : Option ℕ) (level index : ℕ) → differs_in (active_trees o) level index ≡ false
-  active_same = stored_same (blocks_of (shows disk pool x)) x.active.levels x.active.root
-
-  snap_same : (q : Snap) (o : Option ℕ) (level index : ℕ) → differs_in (snap_trees q o) level index ≡ false
-  snap_same q = stored_same (blocks_in disk pool x q.slot) q.table.levels q.table.root
-
-  -- the pointers of the active table and those of any root are one to one,
-  with_active : (j : ℕ) (r : Rooted) → IsRoot j r → AreOneToOne (led 0 h.active) (led j r)
-  with_active = each_root x (λ j r. AreOneToOne (led 0 h.active) (led_by (blocks_in disk pool x j) r)) (one_itself w s h h.active (led 0 h.active) (ruled 0 h.active (inl refl)))
-      (λ n q lt. alike_shares active_trees (snap_trees (slice_index_or x.snapshots n q)) (led 0 h.active) (led_by (blocks_in disk pool x (slice_index_or x.snapshots n q).slot) (slice_index_or x.snapshots n q).table)
-      active_place (snap_place (slice_index_or x.snapshots n q)) active_same (snap_same (slice_index_or x.snapshots n q)) (shared.active n q lt))
-
-  -- and so are those of a snapshot's
-  with_snap : (p : Snap) → SharesWith active_trees (snap_trees p) → All (λ (q : Snap). SharesWith (snap_trees p) (snap_trees q)) x.snapshots → (j : ℕ) (r : Rooted) → IsRoot j r → AreOneToOne (led_by (blocks_in disk pool x p.slot) p.table) (led j r)
-  with_snap p active kept = each_root x (λ j r. AreOneToOne (led_by (blocks_in disk pool x p.slot) p.table) (led_by (blocks_in disk pool x j) r))
-      (alike_shares (snap_trees p) active_trees (led_by (blocks_in disk pool x p.slot) p.table) (led 0 h.active) (snap_place p) active_place (snap_same p) active_same (shares_back active_trees (snap_trees p) active))
-      (λ n q lt. alike_shares (snap_trees p) (snap_trees (slice_index_or x.snapshots n q)) (led_by (blocks_in disk pool x p.slot) p.table)
-      (led_by (blocks_in disk pool x (slice_index_or x.snapshots n q).slot) (slice_index_or x.snapshots n q).table)
-      (snap_place p) (snap_place (slice_index_or x.snapshots n q)) (snap_same p) (snap_same (slice_index_or x.snapshots n q)) (kept n q lt))
+  -- so some that are with all that are kept are with those of any root
+  with_roots : (places : Option ℕ → ℕ → ℕ → Pointer) → ((q : Snap) → In q (roots x) → AreOneToOne places (kept_led q)) → (k : ℕ) (r : Rooted) → IsRoot k r → AreOneToOne places (led k r)
+  with_roots places with = each_root x (λ k r. AreOneToOne places (led_by (blocks_in disk pool x k) r)) (with (active_root x) (inl refl))
+      (all_among (λ (p : Snap). AreOneToOne places (kept_led p)) x.snapshots (λ p here. with p (inr (snap_kept x p here))))
 
   -- Pointers of two roots lead to one VVBN exactly where they have one id.
   pub one_to_one : (k : ℕ) (r : Rooted) (j : ℕ) (q : Rooted) → IsRoot k r → IsRoot j q → AreOneToOne (led k r) (led j q)
-  one_to_one k r j q one two = each_root x (λ k r. AreOneToOne (led_by (blocks_in disk pool x k) r) (led j q)) (with_active j q two)
-      (λ n p lt. with_snap (slice_index_or x.snapshots n p) (shared.active n p lt) (shared.kept n p lt) j q two) k r one
+  one_to_one k r j q one two = with_roots (led k r) (root_one k r one) j q two
 
   -- The names of its snapshots differ.
   pub names_rule : are_distinct (map (λ (p : HeadSnap). p.name) h.snapshots) ≡ true
@@ -297,14 +282,22 @@ module _ (disk : Shown) (pool : Pool) (states : States) (housed : AreHoused pool
   table_is : active_in w no_trees s ≡ table_at w s h.active
   table_is = ap (λ (o : Option Head). option_map_or (λ h. table_at w s h.active) o empty_table) here
 
+  -- each volume has the tables that it keeps, and its maps
+  others : (t : ℕ) (y : VolumeState) → state_at states t ≡ Some y → (y.slot ≡ t) × (IsStanding disk pool y × (IsVolume y.map × (y.map.span ≡ y.span)))
+  others t y here =
+      let its : IsHeldIn disk pool t y = subst (λ (o : Option VolumeState). IfSome o (IsHeldIn disk pool t)) here (each t) in
+      (its.slot, (its.stands, (subst HasWholeMap here (maps t), its.ready.labelled.map)))
+
+  -- what it stands on is told as it knows it
+  based : base_from w h.base ≡ base_by (blocks_in disk pool x) x.base
+  based = base_seen disk pool states housed.parents footed s inside x refl there others
+
   volume_is : volume_told w s h ≡ volume_for disk pool x
-  volume_is = ap (volume_with w s h) (sym table_is) ∙ standing_volume disk pool states x there housed.parents whole span one.stands no_files base
+  volume_is = ap (volume_with w s h) (sym table_is) ∙ standing_volume disk pool states x there housed.parents whole span one.stands no_files based
 
   pub wide_rule : nat_le (h.most + (set.len (base_ids (volume_told w s h).base) + 256)) h.span ≡ true
-  wide_rule =
-      let nothing : set.len (base_ids (volume_told w s h).base) ≡ 0 = ap (λ (v : Volume). set.len (base_ids v.base)) volume_is ∙ set.len-empty id_cmp in
-      let wide = one.wide in
-      at_most (h.most + (set.len (base_ids (volume_told w s h).base) + 256)) h.span (omega (arith, nothing, wide))
+  wide_rule = at_most (h.most + (set.len (base_ids (volume_told w s h).base) + 256)) h.span
+      (subst (λ (v : Volume). x.most + (set.len (base_ids v.base) + 256) ≤ x.span) (sym volume_is) one.wide)
 
   pub size_rule : nat_le (use_of (volume_told w s h)) h.size ≡ true
   size_rule =
@@ -315,10 +308,92 @@ module _ (disk : Shown) (pool : Pool) (states : States) (housed : AreHoused pool
       let fits = one.within in
       at_most (use_of (volume_told w s h)) h.size (omega (arith, same, charged, needed, nothing, fits))
 
-  pub footing_rule : comes_to_end (seen w) 64 x.slot ≡ true
-  unfolding comes_to_end volume_seen
-  footing_rule = ap (λ (o : Option Footing). option_map_or (λ b. comes_to_end (seen w) 63 b.parent) o true)
-      (ap (λ (o : Option VolumeSeen). option_and_then (λ y. y.head.base) o) (seen_at w x.slot h inside here) ∙ base)
+  -- ---- the rules on what it stands on
+
+  footing_rule : comes_to_end (seen w) 64 s ≡ true
+  footing_rule = loaded_ends disk pool states housed.long 64 s ∙ footed.ends s inside
+
+  -- without a base, and with one that isn't being split
+  by_base : {P : Type 0} → (h.base ≡ None → P) → ((b : StateBase) → x.base ≡ Some b → h.base ≡ Some (footing_in b) → b.splitting ≡ false → P) → P
+  by_base {P} none some = by x.base refl
+    where
+      by : (o : Option StateBase) → x.base ≡ o → P
+      by None e = none (ap (option_map footing_in) e)
+      by (Some b) e = some b e (ap (option_map footing_in) e) (subst (λ (o : Option StateBase). IfSome o (λ b. b.splitting ≡ false)) e (is_whole s x one.ready.labelled))
+
+  module _ (b : StateBase) (on : x.base ≡ Some b) where
+    abbrev base_root : Rooted
+    base_root = table_in b.table
+
+    abbrev IsTable : ℕ → Rooted → Type 0
+    IsTable k r = In {X = ℕ × Rooted} (k, r) ((slot_of_base, base_root) ∷ roots_of h)
+
+    abbrev es : List Item
+    es = items (standing_of w s base_root)
+
+    table_found : base_root_of w (footing_in b) ≡ Some base_root
+    table_found = base_found disk pool states housed.parents footed x inside there others b on
+
+    table_same : items (standing_of w b.parent base_root) ≡ es
+    table_same = base_same disk pool states housed.parents footed x inside there others b on
+
+    table_ruled : AreRuled w s h base_root (led slot_of_base base_root)
+    table_ruled = are_ruled disk pool states x slot_of_base b.table (base_stands disk pool states housed.parents footed x inside there others b on) there housed.parents whole span within
+
+    in_roots : In (based_at b) (roots x)
+    in_roots = inr (base_kept x b on)
+
+    table_one : (k : ℕ) (r : Rooted) → IsTable k r → (q : Snap) → In q (roots x) → AreOneToOne (led k r) (kept_led q)
+    table_one k r (inl e) q there = subst (λ (p : ℕ × Rooted). AreOneToOne (led p.0 p.1) (kept_led q)) e (kept_one (based_at b) q in_roots there)
+    table_one k r (inr is) q there = root_one k r is q there
+
+    table_pairs : (k : ℕ) (r : Rooted) (j : ℕ) (q : Rooted) → IsTable k r → IsTable j q → AreOneToOne (led k r) (led j q)
+    table_pairs k r j q one (inl e) = subst (λ (p : ℕ × Rooted). AreOneToOne (led k r) (led p.0 p.1)) e (table_one k r one (based_at b) in_roots)
+    table_pairs k r j q one (inr two) = with_roots (led k r) (table_one k r one) j q two
+
+    -- what a root reaches rests on an entry of its own or on the base table
+    table_rests : (k : ℕ) (r : Rooted) → IsRoot k r → (v : ℕ) → is_listed (items (standing_of w s r)) v ≡ true → (is_some (w.entry s v) ≡ true) ⊎ (is_listed es v ≡ true)
+    table_rests k r is v listed = base_rests disk pool states housed.parents footed x inside there others b on k v (root_low h one.ready.labelled.snapshots.slots k r is)
+        ((stood k r is).reach v
+        ∙ sym (ap (λ (es : List Item). is_listed es v) (kept_items (blocks_in disk pool x k) (under w s) r.levels r.root (root_agrees disk pool states housed.parents x there whole span k (rooted_as r) (stood k r is).trees)))
+        ∙ listed)
+
+  pub bases_rule : (comes_to_end (seen w) 64 s && option_map_or (has_footing (seen w) (volume_seen w s h)) h.base true) ≡ true
+  bases_rule = and_from (comes_to_end (seen w) 64 s) _ footing_rule (by_base
+      (λ none. ap (λ (o : Option Footing). option_map_or (has_footing (seen w) (volume_seen w s h)) o true) none)
+      (λ b e on whole. ap (λ (o : Option Footing). option_map_or (has_footing (seen w) (volume_seen w s h)) o true) on ∙ base_borne disk pool states housed.parents footed x inside there others b e))
+
+  pub ids_rule : list_all (λ a. list_all (λ b. agree (has_same_id a b) (a.pointer.vvbn == b.pointer.vvbn)) (all_items (volume_seen w s h))) (all_items (volume_seen w s h)) ≡ true
+  ids_rule = by_base
+      (λ none. rule.ids w s h led ruled none one_to_one)
+      (λ b e on whole. rule_on.ids w s h led ruled (footing_in b) on whole (base_root b e) (table_found b e) (table_same b e) (table_ruled b e) (table_pairs b e))
+
+  pub stamps_rule : list_all (λ e. nat_le e.pointer.stamp h.now) (all_items (volume_seen w s h)) ≡ true
+  stamps_rule = by_base
+      (λ none. rule.stamps w s h led ruled none)
+      (λ b e on whole. rule_on.stamps w s h led ruled (footing_in b) on whole (base_root b e) (table_found b e) (table_same b e) (table_ruled b e))
+
+  pub split_rule : list_all (λ (r : Root). not (is_splitting h.base) || list_all (λ (e : Reached). not (is_known e.item.pointer)
+      || not (is_in_label e.item || (is_copied (volume_seen w s h) r e.item.pointer.vvbn || is_copied (volume_seen w s h) r e.item.holder.vvbn))) r.reached) (volume_seen w s h).roots ≡ true
+  split_rule = by_base
+      (λ none. rule.split w s h led ruled none split)
+      (λ b e on whole. rule_on.split w s h led ruled (footing_in b) on whole (base_root b e) (table_found b e) (table_same b e) (table_ruled b e) split)
+    where
+      split : Root → Bool
+      split r = list_all (λ (e : Reached). not (is_known e.item.pointer) || not (is_in_label e.item || (is_copied (volume_seen w s h) r e.item.pointer.vvbn || is_copied (volume_seen w s h) r e.item.holder.vvbn))) r.reached
+
+  pub leaves_rule : list_all (λ (b : Based). not b.own) (volume_seen w s h).base ≡ true
+  leaves_rule = by_base
+      (λ none. rule.leaves w s h led ruled none)
+      (λ b e on whole. rule_on.leaves w s h led ruled (footing_in b) on whole (base_root b e) (table_found b e) (table_same b e) (table_ruled b e)
+      (base_leaves disk pool states housed.parents footed x inside there others b e))
+
+  pub rests_rule : list_all (λ (r : Root). is_none h.base || list_all (λ (e : Reached). e.own || is_based (volume_seen w s h) e.item.pointer.vvbn) r.reached) (volume_seen w s h).roots ≡ true
+  rests_rule = by_base
+      (λ none. rule.rests w s h led ruled none (λ r. list_all (λ (e : Reached). e.own || is_based (volume_seen w s h) e.item.pointer.vvbn) r.reached))
+      (λ b e on whole. rule_on.rests w s h led ruled (footing_in b) on whole (base_root b e) (table_found b e) (table_same b e) (table_ruled b e) (table_rests b e))
+
+  -- ---- the volume in the view
 
   -- the view tells its table
   pub table_seen : active_in w no_trees s ≡ table_for disk pool x
@@ -330,7 +405,7 @@ module _ (disk : Shown) (pool : Pool) (states : States) (housed : AreHoused pool
 
   -- and it as it is,
   pub state_is : IsState w no_trees s x
-  state_is = standing_state disk pool states x there housed.parents whole span one.stands no_files one.ready.labelled
+  state_is = standing_state disk pool states x there housed.parents whole span one.stands no_files based one.ready.labelled
 
   -- with what it reaches,
   pub reach_is : ReachesAll w s x
@@ -357,14 +432,12 @@ module _ (pool : Pool) (states : States) (i : Image) (long : length states ≡ 6
   stands : seen_by.head s ≡ Some head
   stands = head_there pool states i s x there
 
-  -- its span is wide enough for all that it may grow to
-  seen_wide : x.most + 256 ≤ x.span
-  unfolding has_wide_spans volume_seen
-  seen_wide = by (set.len (base_ids (volume_told seen_by s head).base))
-      (of_volume seen_by (λ s y. nat_le (y.head.most + (set.len (base_ids y.volume.base) + 256)) y.head.span) s head tables.spans small stands)
-    where
-      by : (n : ℕ) → nat_le (x.most + (n + 256)) x.span ≡ true → x.most + 256 ≤ x.span
-      by n test = let enough = at_least (x.most + (n + 256)) x.span test in omega (arith, enough)
+  -- its span is wide enough for all that it may grow to beside what its base has, where the view tells this
+  seen_wide : (base : Option ModelBase) → base_from seen_by head.base ≡ base → x.most + (set.len (base_ids base) + 256) ≤ x.span
+  unfolding has_wide_spans volume_seen volume_with
+  seen_wide base told = subst (λ (b : Option ModelBase). x.most + (set.len (base_ids b) + 256) ≤ x.span) told
+      (at_least (x.most + (set.len (base_ids (volume_told seen_by s head).base) + 256)) x.span
+      (of_volume seen_by (λ s y. nat_le (y.head.most + (set.len (base_ids y.volume.base) + 256)) y.head.span) s head tables.spans small stands))
 
   -- and it uses at most its size
   seen_within : x.ledger.charge ≤ x.size
@@ -375,21 +448,21 @@ module _ (pool : Pool) (states : States) (i : Image) (long : length states ≡ 6
       let charged : x.ledger.charge ≡ charge (volume_told seen_by s head) = state.ledger.charged ∙ ap (λ (t : Table). charge (volume_with seen_by s head t)) table in
       omega (arith, fits, charged)
 
-  -- So it is what it is between points, where calls can be made on it and it stands for one of the machine.
-  seen_held : (disk : Shown) → IsReady disk pool x → IsStanding disk pool x → IsLedTo disk pool x → IsStoredWell disk pool x → IsHeldIn disk pool s x
-  seen_held disk ready stood leads stored_so = record { slot = state.labelled.slot_is; ready = ready; stands = stood; led = leads; well = stored_so; wide = seen_wide; within = seen_within }
+  -- So it is what it is between points, where the view tells its base, calls can be made on it and it stands for one of the machine.
+  seen_held : (disk : Shown) → base_from seen_by head.base ≡ base_by (blocks_in disk pool x) x.base → IsReady disk pool x → IsStanding disk pool x → IsLedTo disk pool x → IsStoredWell disk pool x → IsHeldIn disk pool s x
+  seen_held disk told ready stand leads stored_so = record { slot = state.labelled.slot_is; ready = ready; stands = stand; led = leads; well = stored_so; wide = seen_wide (base_by (blocks_in disk pool x) x.base) told; within = seen_within }
 
 -- ---- all that a sound view tells
 
 module _ (pool : Pool) (states : States) (i : Image) (long : length states ≡ 64) (tables : AreTables (seen (view_over pool states i))) (are : AreStates (view_over pool states i) no_trees states) where
   -- so is each of them,
-  pub each_held : (disk : Shown) (s : ℕ) → IfSome (state_at states s) (IsReady disk pool) → IfSome (state_at states s) (IsStanding disk pool) → IfSome (state_at states s) (IsLedTo disk pool) → IfSome (state_at states s) (IsStoredWell disk pool)
+  pub each_held : (disk : Shown) (s : ℕ) → IfSome (state_at states s) (λ x. base_from (view_over pool states i) (head_in x).base ≡ base_by (blocks_in disk pool x) x.base) → IfSome (state_at states s) (IsReady disk pool) → IfSome (state_at states s) (IsStanding disk pool) → IfSome (state_at states s) (IsLedTo disk pool) → IfSome (state_at states s) (IsStoredWell disk pool)
       → IfSome (state_at states s) (IsHeldIn disk pool s)
   each_held disk s = by (state_at states s) refl
     where
-      by : (o : Option VolumeState) → state_at states s ≡ o → IfSome o (IsReady disk pool) → IfSome o (IsStanding disk pool) → IfSome o (IsLedTo disk pool) → IfSome o (IsStoredWell disk pool) → IfSome o (IsHeldIn disk pool s)
-      by None there a b c d = tt
-      by (Some x) there a b c d = seen_held pool states i long tables s x there (subst (λ (o : Option VolumeState). IfSome o (IsState (view_over pool states i) no_trees s)) there (are.each s)) disk a b c d
+      by : (o : Option VolumeState) → state_at states s ≡ o → IfSome o (λ x. base_from (view_over pool states i) (head_in x).base ≡ base_by (blocks_in disk pool x) x.base) → IfSome o (IsReady disk pool) → IfSome o (IsStanding disk pool) → IfSome o (IsLedTo disk pool) → IfSome o (IsStoredWell disk pool) → IfSome o (IsHeldIn disk pool s)
+      by None there told a b c d = tt
+      by (Some x) there told a b c d = seen_held pool states i long tables s x there (subst (λ (o : Option VolumeState). IfSome o (IsState (view_over pool states i) no_trees s)) there (are.each s)) disk told a b c d
 
   -- and what they commit fits
   pub commits_fit : sum_of states ≤ capacity pool.found.blocks

@@ -10,6 +10,7 @@ use Rattle.fv_codec.specs.Blocks.{label_at}
 use Rattle.fv_image.specs.Containers.{IsNodeFault, shaped}
 use Rattle.fv_image.specs.Views.{entry_count, head_of, snaps_from}
 use Rattle.fv_image.specs.Held.{label_in, label_place, lying_at, view_at}
+use Rattle.fv_disk.specs.Faults.{HasBlockCause}
 use Rattle.fv_disk.specs.declared.fault.BlockFault.{BlockFault}
 use Rattle.fv_disk.specs.declared.fault.BlockFault.TheVariants.{DiskFault, Damaged, Memory}
 use Rattle.fv_container.specs.Chains.{IsBadLeaf, map_in}
@@ -30,6 +31,11 @@ use Rattle.fv_volume.proofs.KeptSlots.{slots_with}
 pub handed : {T : Type 0} (P : BlockFault → Type 0) (e : BlockFault) (result : Result T BlockFault) → IsErrAnd result (λ f. f ≡ e) → P e → IfErr result P
 handed P e (Ok x) is holds = tt
 handed P e (Err f) is holds = subst P (sym is) holds
+
+-- memory lacks where the disk raised no fault
+pub lacks_memory : {T : Type 0} (before now : ℕ) (result : Result T BlockFault) → IsErrAnd result (λ f. f ≡ Memory) → now ≡ before → HasBlockCause before now result
+lacks_memory before now (Ok x) is same = same
+lacks_memory {T} before now (Err f) is same = subst (λ (g : BlockFault). HasBlockCause {T = T} before now (Err g)) (sym is) same
 
 module _ (found : Found) (i : Image) (s : ℕ) (lt : s < 64) where
   place_there : label_place (root_found found) s ≡ get_or found.root.labels s 0

@@ -4,7 +4,6 @@ use Rattle.std.specs.Prelude.{IfSome}
 use Rattle.std.proofs.lemmas.Bool.{cases_eq, cases_lt}
 use Rattle.std.proofs.lemmas.List.{get_or_past}
 use Rattle.fv_disk.specs.Shown.{Image}
-use Rattle.fv_image.proofs.LoneTables.{form_base}
 use Rattle.fv_charge.specs.declared.ledger.Ledger.{Ledger}
 use Rattle.fv_container.specs.Chains.{Slots, container_at, paged_at, slot_count}
 use Rattle.fv_container.specs.Mapped.{Mapped}
@@ -15,7 +14,6 @@ use Rattle.fv_volume.specs.Files.{IsLabelled}
 use Rattle.fv_volume.specs.Labels.{label_said}
 use Rattle.fv_volume.specs.Loading.{AreCountedTo, Counts, Houses, IsCountable, IsCounted, IsLoaded, IsRead, KeptTo, LoadedTo, ReadTo}
 use Rattle.fv_volume.specs.States.{States, head_in, parent_in, state_at}
-use Rattle.fv_volume.proofs.Counted.{none_counted}
 
 -- the ledger of each volume that was read can be counted
 pub countable : (states : States) → ((s : ℕ) → IfSome (state_at states s) (IsLabelled s)) → ((s : ℕ) → IfSome (state_at states s) IsRead) → (s : ℕ) → IfSome (state_at states s) IsCountable
@@ -23,7 +21,7 @@ countable states labelled read s = by (state_at states s) (labelled s) (read s)
   where
     by : (o : Option VolumeState) → IfSome o (IsLabelled s) → IfSome o IsRead → IfSome o IsCountable
     by None a b = tt
-    by (Some x) a b = record { map = a.map; span = a.span; few = b.few; alone = none_counted x.base x.map (form_base (head_in x) a.form) }
+    by (Some x) a b = record { map = a.map; span = a.span; few = b.few }
 
 -- ---- one slot more
 

@@ -66,3 +66,24 @@ pub mod Emptied
 pub mod SlotReads
 pub mod SlotRoots
 pub mod StandingMaps
+mod EndsIn
+pub mod OnChains
+pub mod Footed
+pub mod CalledFooted
+pub mod PlacedFooted
+pub mod SnapFooted
+pub mod SettledFooted
+pub mod DestroyedFooted
+pub mod AddedClone
+pub mod AddedView
+pub mod MadeFooted
+pub mod NamedBases
+pub mod SlotTests
+pub mod BaseTold
+pub mod StoodOn
+pub mod FootedSeen
+mod HeldBase
+pub mod LoadedBase
+pub mod LoadedStates
+pub mod Learned
+pub mod HoleContainers

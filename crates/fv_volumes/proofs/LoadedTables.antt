@@ -1,12 +1,11 @@
 -- The tables of a volume with nothing of it in memory, each over the blocks of its slot: they stand on them, where the session's view keeps the
 -- rules of soundness.
 use Rattle.std.proofs.Common.{◌≡◌, ◌≢◌, ℕ, ◌<◌, ◌≤◌, Bool, true, cond, List, Option, Some, None, is_some, inl, inr, refl, sym, ap, subst, ◌∙◌, arith, length}
-use Rattle.std.specs.Prelude.{◌⊎◌, ◌==◌, flat_map, map, nat_le, IfSome}
+use Rattle.std.specs.Prelude.{◌⊎◌, ◌==◌, nat_le, IfSome}
 use Rattle.std.specs.List.{list_all}
 use Rattle.std.specs.Option.{option_map, option_map_or}
 use Rattle.std.proofs.lemmas.Bool.{and_parts}
 use Rattle.std.proofs.lemmas.Bool.Decides.{nat_tests}
-use Rattle.std.proofs.lemmas.List.Folds.{list_all-append, list_all-map}
 use Rattle.fv_disk.specs.Shown.{Shown as Disk}
 use Rattle.fv_codec.specs.declared.pointer.Pointer.{Pointer}
 use Rattle.fv_codec.specs.declared.inode.InodeRecord.{InodeRecord}
@@ -22,20 +21,19 @@ use Rattle.fv_tables.specs.Reached.{Item, is_listed, items}
 use Rattle.fv_tables.specs.Spelled.{Under, Rooted as Tree, hole, stored, pointer_at}
 use Rattle.fv_tables.specs.Told.{standing_at, file_at, file_in, file_told, records, table_told, tree_of}
 use Rattle.fv_tables.proofs.Items.{agree_when_listed, kept_items}
-use Rattle.fv_tables.proofs.Lists.{all_flat}
 use Rattle.fv_tables.proofs.TablePlaces.{pointer_in, number}
 use Rattle.fv_tables.proofs.Tables.{files_told, kept_table}
 use Rattle.fv_tree.specs.Sources.{Use}
 use Rattle.fv_tree.specs.Flushing.{IsRight, ReachesOnce}
 use Rattle.fv_image.specs.Chains.{place, under}
 use Rattle.fv_image.specs.Held.{layout_at, view_at}
-use Rattle.fv_image.specs.Seen.{Based, Reached, Root, base_seen, reached_at, root_seen, roots_of, seen, volume_seen}
+use Rattle.fv_image.specs.Seen.{Root, root_seen, roots_of, seen, volume_seen}
 use Rattle.fv_image.specs.Soundness.{AreTables, AreMaps}
 use Rattle.fv_image.specs.TableRules.{all_items, has_stamps_past}
 use Rattle.fv_image.specs.Views.{Placed, Head, Rooted, View, volume_bit}
 use Rattle.fv_image.specs.Volumes.{standing_of, table_at}
 use Rattle.fv_image.specs.WholeMachine.{Tells, has_no_reserves}
-use Rattle.fv_image.proofs.LoneTables.{built_reserves, form_known, kind_led, IsLedEntry}
+use Rattle.fv_image.proofs.LoneTables.{built_reserves, kind_led, IsLedEntry}
 use Rattle.fv_image.proofs.OwnUses.{HasLabelNumbers}
 use Rattle.fv_image.proofs.RootTables.{led_below, led_entry, root_bit, root_led, root_led_once, root_reach}
 use Rattle.fv_image.proofs.SameSeen.{of_volume}
@@ -55,7 +53,11 @@ use Rattle.fv_volume.specs.Loading.{HaveBits, KeptTo, LoadedTo}
 use Rattle.fv_volume.specs.OneVolume.{blocks_in, uses_in}
 use Rattle.fv_volume.specs.States.{States, head_in, parent_in, placed_in, state_at, view_over}
 use Rattle.fv_pool.proofs.Holding.{has_taken, held_some}
+use Rattle.fv_volumes.proofs.Chains.{place_view}
+use Rattle.fv_volume.proofs.EachRoot.{root_there}
 use Rattle.fv_volume.proofs.KeptSlots.{root_bits, root_few}
+use Rattle.fv_volume.proofs.SharedRoots.{roots_among}
+use Rattle.fv_volumes.specs.Housed.{ReachesAll}
 use Rattle.fv_pool.proofs.OverBlocks.{same_place}
 use Rattle.fv_volumes.proofs.Chains.{place_view}
 use Rattle.fv_volumes.proofs.Told.{head_there, is_inside}
@@ -154,22 +156,9 @@ module _ (disk : Disk) (pool : Pool) (states : States) (x : VolumeState) (is : S
     pub stands_told : table_told (standing_at blocks r.levels r.root) ≡ table_at w s r
     stands_told = kept_table (under w s) blocks r.levels r.root agree
 
-    abbrev in_time : Item → Bool
-    in_time e = nat_le e.pointer.stamp x.now
-
-    abbrev listed : Root → List Item
-    listed t = map (λ (e : Reached). e.item) t.reached
-
-    abbrev rooted : ℕ × Rooted → Root
-    rooted p = root_seen w s p.0 p.1
-
-    stamps : list_all in_time (items (standing_of w s r)) ≡ true
-    unfolding has_stamps_past volume_seen root_seen
-    stamps =
-        let all = of_volume w (λ s y. list_all (λ (e : Item). nat_le e.pointer.stamp y.head.now) (all_items y)) s h is.tables.stamps is.small here in
-        let roots = (and_parts _ _ (sym (list_all-append in_time (flat_map listed (map rooted (roots_of h))) (map (λ (b : Based). b.item) (base_seen w s h.base))) ∙ all)).0 in
-        let mine = all_one (λ (t : Root). list_all in_time (listed t)) rooted (roots_of h) (k, r) (sym (all_flat in_time listed (map rooted (roots_of h))) ∙ roots) one in
-        sym (list_all-map (λ (e : Reached). in_time e.item) (reached_at w s) (items (standing_of w s r))) ∙ sym (list_all-map in_time (λ (e : Reached). e.item) (map (reached_at w s) (items (standing_of w s r)))) ∙ mine
+    stamps : list_all (λ (e : Item). nat_le e.pointer.stamp x.now) (items (standing_of w s r)) ≡ true
+    unfolding has_stamps_past volume_seen
+    stamps = roots_among w s h k r one (λ (e : Item). nat_le e.pointer.stamp x.now) (of_volume w (λ s y. list_all (λ (e : Item). nat_le e.pointer.stamp y.head.now) (all_items y)) s h is.tables.stamps is.small here)
 
     -- which is well-formed
     pub stands_well : IsWellTable x.now (table_told (standing_at blocks r.levels r.root))
@@ -299,6 +288,12 @@ module _ (disk : Disk) (pool : Pool) (states : States) (x : VolumeState) (is : S
     stands_file n f found = reaches (OfFile n) (stored blocks n f.levels f.root)
         (λ level index. ap (λ (o : Option InodeRecord). option_map_or (λ (f : InodeRecord). pointer_at (stored blocks n f.levels f.root) level index) o hole) found) refl refl
 
+  -- So each slot that has a root has what that reaches in the view.
+  pub stands_reaches : ReachesAll w s x
+  stands_reaches k r at v =
+      let one = root_there h k r at in
+      member_is k r one v ∙ root_reach w s h is.small here is.tables k r one (few k r one) is.maps v
+
 -- ---- what a sound image tells
 
 -- a volume that stands as its label says, over an image that stands for a machine
@@ -312,7 +307,7 @@ in_view disk pool states long few parents loaded none m is whole x there labelle
     record {
       small = small;
       there = there;
-      known = form_known (head_in x) labelled.form;
+      known = (and_parts x.known _ labelled.form).0;
       parents = parents;
       span = labelled.span;
       numbers = numbers_at (root_found pool.found) disk.reads whole x.slot (head_in x) (ap (λ (v : View). v.head x.slot) (sym alike) ∙ head_there pool states disk.reads x.slot x there);

@@ -36,15 +36,14 @@ use Rattle.fv_charge.specs.declared.ledger.Ledger.{Ledger}
 use Rattle.fv_charge.specs.Ledgers.{IsLedgerOf}
 use Rattle.fv_container.specs.Chains.{Slots, container_at, map_in, own_entry, with_container, with_parent}
 use Rattle.fv_container.specs.Paged.{Paged, empty_paged}
-use Rattle.fv_image.specs.Chains.{parent_in, under}
-use Rattle.fv_image.specs.Views.{Head, Placed, View, entry_count}
-use Rattle.fv_image.proofs.LoneTables.{form_base, no_parent, place_own}
+use Rattle.fv_image.specs.Chains.{under}
+use Rattle.fv_image.specs.Views.{Head, View, entry_count}
 use Rattle.fv_volmap.specs.Slots.{Volume as MapSlots, empty_volume as no_numbers, stored_count}
 use Rattle.fv_pool.specs.declared.pool.Pool.{Pool}
 use Rattle.fv_volume.specs.declared.state.VolumeState.{VolumeState}
 use Rattle.fv_volumes.specs.Creating.{Admits, IsNew, Refuses, new_ledger_of}
 use Rattle.fv_volume.specs.SnapRecords.{hole, AreSayable, IsSayableSnap}
-use Rattle.fv_volume.proofs.Labels.{IsSayable, label_range}
+use Rattle.fv_volume.proofs.Labels.{IsSayable, IsSayableBase, label_range}
 use Rattle.fv_volume.specs.Slots.{is_named, HasName, HaveSpans, HasSpan, IsFirstFree, IsFull, NoneHasName, sum_of}
 use Rattle.fv_volume.proofs.StayingMaps.{no_waits}
 use Rattle.fv_volume.specs.Files.{AreNamed, AreStates, HasSlotsOf, IsLabelled, IsState, has_form}
@@ -52,6 +51,8 @@ use Rattle.fv_volume.proofs.MapSlots.{one_empty, slots_of_one}
 use Rattle.fv_volume.specs.States.{States, empty_head, head_in, ledger_of_empty, placed_in, state_at, view_over, with_state}
 use Rattle.fv_volume.specs.Trees.{Trees, active_by, active_in, machine_in}
 use Rattle.fv_volumes.proofs.Told.{Named, AreDistinct, named_from, volume_by, all_named, counted, distinct_from, fewer_named, find_set, head_there, is_inside, ledger_commit, none_named, none_some, same_named, some_named, summed, summed_states, volumes_are}
+use Rattle.fv_volumes.specs.Footing.{AreFooted}
+use Rattle.fv_volumes.proofs.AddedView.{base_same, under_same}
 use Rattle.fv_volumes.proofs.Trees.{told_alike, same_active, same_snaps}
 
 -- ---- the new volume
@@ -232,6 +233,7 @@ sayable_new y name size kind span fits is head sized named =
       span_step = omega (arith, span_is, is);
       now = rw now_is (omega arith);
       levels = omega (arith, levels_are);
+      base = subst (λ (h : Head). IfSome h.base IsSayableBase) (sym head) tt;
       root = subst IsPointer (sym root_is) (record { vvbn = omega arith; pvbn = omega arith; stamp = omega arith });
       snapshots = subst AreSayable (sym head) (new_sayable name size kind span);
     }
@@ -248,7 +250,7 @@ new_labelled y slot name size kind span fits is at head ledger sized named map s
       span = omega (arith, span_is, fits);
       map = ap (λ (x : MapSlots). x.span) map ∙ sym span_is;
       snapshots = subst AreSayable (sym head) (new_sayable name size kind span);
-      slots = subst (λ (h : Head). HasSlotsOf h y.map) (sym head) (subst (HasSlotsOf (empty_head name size kind span)) (sym map) (slots_of_one (empty_head name size kind span) (no_numbers span) refl (one_empty span)));
+      slots = subst (λ (h : Head). HasSlotsOf h y.map) (sym head) (subst (HasSlotsOf (empty_head name size kind span)) (sym map) (slots_of_one (empty_head name size kind span) (no_numbers span) refl refl (one_empty span)));
       waits = no_waits y settled;
       counts = ap (λ (l : Ledger). l.span) ledger ∙ sym span_is;
       levels = omega (arith, levels);
@@ -305,7 +307,7 @@ added_by pool states slot name size kind span y new_pool container long is at he
 }
 
 module _ (pool : Pool) (states : States) (slot : ℕ) (name : List ℕ) (size : ℕ) (kind : Kind) (y : VolumeState) (new_pool : Pool) (is : IsAdded pool states slot name size kind y new_pool) (trees : Trees) (i : Image)
-    (are : AreStates (view_over pool states i) trees states) where
+    (are : AreStates (view_over pool states i) trees states) (footed : AreFooted states pool.containers) where
   abbrev new_states : States
   new_states = with_state states slot (Some y)
 
@@ -326,34 +328,33 @@ module _ (pool : Pool) (states : States) (slot : ℕ) (name : List ℕ) (size : 
 
   -- ---- the other slots
 
+  other_state : (s : ℕ) → s ≢ slot → state_at new_states s ≡ state_at states s
+  other_state s other = get_or-set_other states slot s (Some y) None other
+
+  all_heads : (s : ℕ) → s ≢ slot → now.head s ≡ before.head s
+  unfolding view_over
+  all_heads s other = ap (option_map head_in) (other_state s other)
+
+  all_entries : (s : ℕ) → s ≢ slot → (v : ℕ) → now.entry s v ≡ before.entry s v
+  unfolding view_over
+  all_entries s other v = (λ j. placed_in (is.kept j) i (own_entry (is.others s other j) v))
+
+  -- another volume leads to what it led to
+  other_under : (s : ℕ) (x : VolumeState) → state_at states s ≡ Some x → under now s ≡ under before s
+  other_under = under_same states pool.containers footed slot free.free before now (head_there pool states i) all_heads all_entries
+
   module _ (s : ℕ) (other : s ≢ slot) where
-    other_state : state_at new_states s ≡ state_at states s
-    other_state = get_or-set_other states slot s (Some y) None other
-
     other_head : now.head s ≡ before.head s
-    unfolding view_over
-    other_head = ap (option_map head_in) other_state
+    other_head = all_heads s other
 
-    other_entry : (v : ℕ) → now.entry s v ≡ before.entry s v
-    unfolding view_over
-    other_entry v = (λ j. placed_in (is.kept j) i (own_entry (is.others s other j) v))
-
-    -- a volume without a base leads to what it led to
-    other_under : (x : VolumeState) → state_at states s ≡ Some x → (head_in x).base ≡ None → under now s ≡ under before s
-    unfolding under
-    other_under x in_slot base =
-        let old_head : before.head s ≡ Some (head_in x) = head_there pool states i s x in_slot in
-        let old_alone : parent_in (before.head s) ≡ None = no_parent before s (head_in x) old_head base in
-        let new_alone : parent_in (now.head s) ≡ None = ap parent_in other_head ∙ old_alone in
-        (λ j v. option_map (λ (p : Placed). p.block) ((place_own now s v new_alone ∙ other_entry v ∙ sym (place_own before s v old_alone)) j))
-
-    other_active : (x : VolumeState) → state_at states s ≡ Some x → (head_in x).base ≡ None → active_in now trees s ≡ active_in before trees s
-    other_active x in_slot base = same_active before now s (other_under x in_slot base) other_head (trees s)
+    other_active : (x : VolumeState) → state_at states s ≡ Some x → active_in now trees s ≡ active_in before trees s
+    other_active x in_slot = same_active before now s (other_under s x in_slot) other_head (trees s)
 
     -- so it is told as it was
-    other_told : (x : VolumeState) → state_at states s ≡ Some x → (head_in x).base ≡ None → volume_by now (active_in now trees) s x ≡ volume_by before (active_in before trees) s x
-    other_told x in_slot base = told_alike before now s (head_in x) (head_in x).active (active_in before trees s) (active_in now trees s) base
-        (same_snaps before now s (head_in x).snapshots (other_under x in_slot base)) (other_active x in_slot base)
+    other_told : (x : VolumeState) → state_at states s ≡ Some x → volume_by now (active_in now trees) s x ≡ volume_by before (active_in before trees) s x
+    other_told x in_slot = told_alike before now s (head_in x) (head_in x).active (active_in before trees s) (active_in now trees s)
+        (base_same states pool.containers footed slot free.free before now (head_there pool states i) all_heads all_entries s x in_slot)
+        (same_snaps before now s (head_in x).snapshots (other_under s x in_slot)) (other_active x in_slot)
 
   -- ---- the new one
 
@@ -390,13 +391,12 @@ module _ (pool : Pool) (states : States) (slot : ℕ) (name : List ℕ) (size : 
   -- a volume of another slot is one still
   old_state : (s : ℕ) → s ≢ slot → (x : VolumeState) → state_at states s ≡ Some x → IsState before trees s x → IsState now trees s x
   old_state s other x in_slot was =
-      let base : (head_in x).base ≡ None = form_base (head_in x) was.labelled.form in
-      let active = other_active s other x in_slot base in
+      let active = other_active s other x in_slot in
       record {
         labelled = was.labelled;
         table = subst (λ (t : Table). IsWellTable x.now t) (sym active) was.table;
         reserves = subst HasNoReserve (sym active) was.reserves;
-        ledger = subst (λ (v : Volume). IsLedgerOf v x.ledger) (sym (other_told s other x in_slot base)) was.ledger;
+        ledger = subst (λ (v : Volume). IsLedgerOf v x.ledger) (sym (other_told s other x in_slot)) was.ledger;
       }
 
   old_each : (s : ℕ) → s ≢ slot → (o : Option VolumeState) → state_at states s ≡ o → IfSome o (IsState before trees s) → IfSome o (IsState now trees s)
@@ -445,9 +445,8 @@ module _ (pool : Pool) (states : States) (slot : ℕ) (name : List ℕ) (size : 
   old_same : named_from (volume_by now (active_in now trees)) 0 states ≡ named_from (volume_by before (active_in before trees)) 0 states
   old_same = same_named (volume_by before (active_in before trees)) (volume_by now (active_in now trees)) states 0 (λ k x in_slot.
       let zero_is : 0 + k ≡ k = omega arith in
-      let base : (head_in x).base ≡ None = form_base (head_in x) (state_is pool states trees i is.long are k x in_slot).labelled.form in
       subst (λ (n : ℕ). volume_by now (active_in now trees) n x ≡ volume_by before (active_in before trees) n x) (sym zero_is)
-      (other_told k (λ same. none_some x (sym in_slot ∙ ap (state_at states) same ∙ free.free)) x in_slot base))
+      (other_told k (λ same. none_some x (sym in_slot ∙ ap (state_at states) same ∙ free.free)) x in_slot))
 
   pub made_next : machine_in new_pool new_states trees i ≡ next (machine_in pool states trees i) (VolCreate name size kind)
   unfolding change_of machine_in told_with view_over

@@ -1,5 +1,5 @@
 -- A volume that was just made stands for the machine's new one.
-use Rattle.std.proofs.Common.{◌≡◌, ℕ, Bool, true, List, [], Option, Some, None, sym, ap, subst, ◌∙◌, arith}
+use Rattle.std.proofs.Common.{◌≡◌, ℕ, Bool, true, List, [], Option, Some, None, sym, ap, subst, ◌∙◌, arith, ◌++◌, refl}
 use Rattle.std.specs.Prelude.{IsTrue, ◌==◌, if◌then◌else◌}
 use Rattle.std.specs.Option.{option_map}
 use Rattle.std.specs.Ordering.{nat_cmp}
@@ -37,11 +37,12 @@ use Rattle.fv_files.specs.Numbering.{AreNumbersIf}
 use Rattle.fv_pool.specs.declared.pool.Pool.{Pool}
 use Rattle.fv_volume.specs.declared.state.VolumeState.{VolumeState}
 use Rattle.fv_pool.specs.Tables.{standing_by, AreLaidBy, AreSoundBy, AreStoredBy}
-use Rattle.fv_volume.specs.OneVolume.{blocks_in, shows, table_for, trees_for, volume_as, volume_for, IsKeptTable, IsStanding}
+use Rattle.fv_volume.specs.OneVolume.{blocks_in, shows, table_for, trees_for, volume_as, volume_for, IsKeptTable, IsStanding, base_as, base_table, base_told_by, tables_of}
 use Rattle.fv_volume.specs.Placing.{IsStoredWell}
 use Rattle.fv_volume.specs.States.{empty_head, head_in, ledger_of_empty}
 use Rattle.fv_volume.proofs.KeptTables.{none_kept, none_told, snaps_none}
 use Rattle.fv_volume.proofs.Shared.{none_named, none_shared}
+use Rattle.fv_volume.proofs.TablesOf.{no_footing}
 use Rattle.fv_volumes.proofs.Made.{ledger_new}
 use Rattle.fv_volumes.proofs.Alone.{apart_alone}
 use Rattle.fv_volumes.proofs.Stepping.{none_in}
@@ -91,6 +92,12 @@ module _ (disk : Disk) (pool : Pool) (x : VolumeState) (size : ℕ) (kind : Kind
   no_snapshots : x.snapshots ≡ []
   no_snapshots = snaps_none x.snapshots (ap (λ (h : Head). h.snapshots) head)
 
+  no_base : x.base ≡ None
+  no_base = no_footing x.base (ap (λ (h : Head). h.base) head)
+
+  no_tables : tables_of x ≡ []
+  no_tables = λ i. base_table (no_base i) ++ no_snapshots i
+
   bare : x.active.root.stamp ≡ 0
   bare = ap (λ (p : Pointer). p.stamp) root
 
@@ -107,9 +114,9 @@ module _ (disk : Disk) (pool : Pool) (x : VolumeState) (size : ℕ) (kind : Kind
 
   -- it is told as the machine's new volume
   pub made_volume : volume_for disk pool x ≡ empty_volume size kind
-  made_volume = (λ i. volume_as x (record { active = made_table i; snapshots = none_told (blocks_in disk pool x) x.snapshots no_snapshots i })) ∙ by
+  made_volume = (λ i. volume_as x (record { active = made_table i; snapshots = none_told (blocks_in disk pool x) x.snapshots no_snapshots i; base = base_told_by (blocks_in disk pool x) (no_base i) })) ∙ by
     where
-      by : volume_as x (record { active = empty_table; snapshots = fin.empty }) ≡ empty_volume size kind
+      by : volume_as x (record { active = empty_table; snapshots = fin.empty; base = empty_table }) ≡ empty_volume size kind
       by = λ i. record {
         kind = (head i).kind;
         size = (head i).size;
@@ -118,7 +125,7 @@ module _ (disk : Disk) (pool : Pool) (x : VolumeState) (size : ℕ) (kind : Kind
         now = (head i).now;
         active = empty_table;
         snapshots = fin.empty;
-        base = None;
+        base = base_as (no_base i) empty_table;
         known = (head i).known;
       }
 
@@ -128,9 +135,9 @@ module _ (disk : Disk) (pool : Pool) (x : VolumeState) (size : ℕ) (kind : Kind
     told = (tells, apart_alone pool x.map x.slot alone (λ v e is. absurd (no_entry v e is)) (λ v w other e is f there. absurd (no_entry v e is)), clean);
     table = subst (IsWellTable x.now) (sym made_table) (empty_well x.now);
     reserves = subst HasNoReserve (sym made_table) no_reserve;
-    kept = none_kept (IsKeptTable disk pool x) x.snapshots no_snapshots;
+    kept = none_kept (IsKeptTable disk pool x) (tables_of x) no_tables;
     names = none_named x.snapshots no_snapshots;
-    shared = none_shared (trees_for disk pool x) (blocks_in disk pool x) x.snapshots no_snapshots;
+    shared = none_shared (trees_for disk pool x) (blocks_in disk pool x) (tables_of x) no_tables;
     ledger = subst (λ v. IsLedgerOf v x.ledger) (sym made_volume) (subst (IsLedgerOf (empty_volume size kind)) (sym ledger) (ledger_new size kind));
     trees = subst (AreSoundBy (under (shows disk pool x)) (shows disk pool x).used x.active) (sym none) (bare_reached (under (shows disk pool x)) (shows disk pool x).used x.active.levels x.active.root bare);
     laid = subst (AreLaidBy (under (shows disk pool x))) (sym none) tt;

@@ -21,6 +21,7 @@ use Rattle.fv_volume.specs.declared.state.VolumeState.{VolumeState}
 use Rattle.fv_pool.specs.BlocksOver.{entries_in}
 use Rattle.fv_pool.specs.Calls.{Reads}
 use Rattle.fv_volume.specs.Files.{IsLabelled, IsState}
+use Rattle.fv_volume.specs.KnownBase.{KnowBases}
 use Rattle.fv_volume.specs.Loading.{Houses, IsCounted, KeptTo, LoadedTo}
 use Rattle.fv_volume.specs.OneVolume.{table_for, IsReady, IsStanding}
 use Rattle.fv_volume.specs.Placing.{IsLedTo, IsStoredWell}
@@ -29,12 +30,12 @@ use Rattle.fv_volume.specs.Trees.{no_trees}
 use Rattle.fv_volumes.proofs.Apart.{loaded_apart}
 use Rattle.fv_volumes.proofs.CleanSlots.{loaded_clean}
 use Rattle.fv_volume.proofs.Counted.{counted_within}
+use Rattle.fv_volumes.proofs.LoadedStates.{in_slot, loaded_footed, loaded_states}
 use Rattle.fv_volumes.proofs.LoadedTables.{loaded_stands}
 use Rattle.fv_volume.proofs.OneVolumes.{still_standing}
 use Rattle.fv_volumes.proofs.Standings.{seen_led, seen_standing, seen_well}
 use Rattle.fv_volume.proofs.OneVolumes.{still_led, still_well}
 use Rattle.fv_volumes.proofs.Told.{is_inside}
-use Rattle.fv_volumes.proofs.Viewed.{loaded_states}
 
 -- a volume with its container has an entry for each of its VVBNs
 housed_entries : (x : VolumeState) (container : Option Mapped) → Houses (Some x) container → length (entries_in container) ≡ entry_count x.span
@@ -79,15 +80,15 @@ module _ (pool : Pool) (states : States) (kept : KeptTo slot_count states pool.c
       }
 
   -- Over an image that stands for a machine it stands for a volume of that.
-  pub loaded_standing : (disk : Disk) → IsTrue disk.tells → ((b : ℕ) → length (disk.reads b) ≡ 4096) → LoadedTo disk.reads pool.found slot_count states pool.containers → IsAsFound pool
+  pub loaded_standing : (disk : Disk) → KnowBases states → IsTrue disk.tells → ((b : ℕ) → length (disk.reads b) ≡ 4096) → LoadedTo disk.reads pool.found slot_count states pool.containers → IsAsFound pool
       → IsMapLoaded disk.reads pool.found pool.map → (m : Machine) → Tells (layout_at (root_found pool.found) disk.reads) m → IsStanding disk pool x
-  loaded_standing disk tells whole loaded none map m is =
-      seen_standing disk pool states x
-      (loaded_stands disk pool states kept loaded none m is whole x here)
+  loaded_standing disk knows tells whole loaded none map m is =
+      let stands = in_slot disk pool states kept loaded none knows m is whole in
+      seen_standing disk pool states x (stands s x there).1 (loaded_footed disk pool states kept loaded none knows m is whole) stands
       counted.none tells
       (loaded_apart pool disk.reads states is.sound map kept loaded x.map x.slot)
       (loaded_clean pool.found disk.reads states pool.containers whole is.sound kept.few loaded)
-      (subst (λ (o : Option VolumeState). IfSome o (IsState (view_over pool states disk.reads) no_trees x.slot)) here ((loaded_states pool disk.reads states kept loaded none m is whole).each x.slot))
+      (subst (λ (o : Option VolumeState). IfSome o (IsState (view_over pool states disk.reads) no_trees x.slot)) here ((loaded_states disk pool states kept loaded none knows m is whole).each x.slot))
       (subst (λ (o : Option FileNumbers). AreNumbersIf o (table_for disk pool x)) (sym counted.numbers) tt)
 
   -- What is in use of it is led to.
@@ -109,14 +110,14 @@ all_ready disk pool states kept stands size s = so (state_at states s) refl
     so None there = tt
     so (Some x) there = loaded_ready pool states kept s x there disk stands size
 
-pub all_standing : (old new : Disk) (pool : Pool) (states : States) → Reads old pool new pool → KeptTo slot_count states pool.containers → IsTrue old.tells → ((b : ℕ) → length (old.reads b) ≡ 4096)
+pub all_standing : (old new : Disk) (pool : Pool) (states : States) → Reads old pool new pool → KeptTo slot_count states pool.containers → KnowBases states → IsTrue old.tells → ((b : ℕ) → length (old.reads b) ≡ 4096)
     → LoadedTo old.reads pool.found slot_count states pool.containers → IsAsFound pool → IsMapLoaded old.reads pool.found pool.map → (m : Machine) → Tells (layout_at (root_found pool.found) old.reads) m
     → (s : ℕ) → IfSome (state_at states s) (IsStanding new pool)
-all_standing old new pool states reads kept tells whole loaded none map m is s = so (state_at states s) refl
+all_standing old new pool states reads kept knows tells whole loaded none map m is s = so (state_at states s) refl
   where
     so : (o : Option VolumeState) → state_at states s ≡ o → IfSome o (IsStanding new pool)
     so None there = tt
-    so (Some x) there = still_standing old new pool pool reads x (loaded_standing pool states kept s x there old tells whole loaded none map m is)
+    so (Some x) there = still_standing old new pool pool reads x (loaded_standing pool states kept s x there old knows tells whole loaded none map m is)
 
 pub all_led : (old new : Disk) (pool : Pool) (states : States) → Reads old pool new pool → KeptTo slot_count states pool.containers → IsTrue old.tells → ((b : ℕ) → length (old.reads b) ≡ 4096)
     → LoadedTo old.reads pool.found slot_count states pool.containers → IsAsFound pool → (m : Machine) → Tells (layout_at (root_found pool.found) old.reads) m

@@ -24,7 +24,7 @@ use Rattle.fv_volume.specs.declared.state.VolumeState.{VolumeState}
 use Rattle.fv_pool.specs.BlocksOver.{AreApart, LoadsPool, block_of, held_block, held_entry}
 use Rattle.fv_pool.specs.Lending.{use_of}
 use Rattle.fv_pool.specs.Tables.{standing_by, AreLaidBy, AreSoundBy, AreLedBy, AreStoredBy, trees_by}
-use Rattle.fv_volume.specs.OneVolume.{blocks_in, shows, snaps_by, standing_for, trees_for, uses_in, volume_as, volume_for, IsKeptTable, IsStanding, IsTableIn}
+use Rattle.fv_volume.specs.OneVolume.{blocks_in, shows, base_told_by, snaps_by, standing_for, tables_of, trees_for, uses_in, volume_as, volume_for, IsKeptTable, IsStanding, IsTableIn}
 use Rattle.fv_volume.specs.Placing.{IsLedTo, IsStoredWell, StaysBeside}
 use Rattle.fv_volume.specs.Sharing.{AreShared}
 use Rattle.fv_pool.proofs.Holding.{held_kept}
@@ -51,16 +51,16 @@ module _ (d e : Disk) (p q : Pool) (y : VolumeState)
   same_uses : uses_in q y ≡ uses_in p y
   same_uses = λ i k v. cond (has v (slot_at y.map k)) (Some (use_of (same_held v i))) None
 
-  same_kept : All (IsKeptTable d p y) y.snapshots → All (IsKeptTable e q y) y.snapshots
-  same_kept all = subst (λ (u : ℕ → Under). All (λ (s : Snap). (s.slot ≢ 0) × IsTableIn (u s.slot) (uses_in q y s.slot) (slot_at y.map s.slot) y.now s.table) y.snapshots) (sym same_slots)
-      (subst (λ (u : ℕ → ℕ → Option Use). All (λ (s : Snap). (s.slot ≢ 0) × IsTableIn (blocks_in d p y s.slot) (u s.slot) (slot_at y.map s.slot) y.now s.table) y.snapshots) (sym same_uses) all)
+  same_kept : All (IsKeptTable d p y) (tables_of y) → All (IsKeptTable e q y) (tables_of y)
+  same_kept all = subst (λ (u : ℕ → Under). All (λ (s : Snap). (s.slot ≢ 0) × IsTableIn (u s.slot) (uses_in q y s.slot) (slot_at y.map s.slot) y.now s.table) (tables_of y)) (sym same_slots)
+      (subst (λ (u : ℕ → ℕ → Option Use). All (λ (s : Snap). (s.slot ≢ 0) × IsTableIn (blocks_in d p y s.slot) (u s.slot) (slot_at y.map s.slot) y.now s.table) (tables_of y)) (sym same_uses) all)
 
-  same_shared : AreShared (trees_for d p y) (blocks_in d p y) y.snapshots → AreShared (trees_for e q y) (blocks_in e q y) y.snapshots
-  same_shared is = subst (λ (u : Under). AreShared (trees_by u y.active y.files) (blocks_in e q y) y.snapshots) (sym same_under)
-      (subst (λ (u : ℕ → Under). AreShared (trees_for d p y) u y.snapshots) (sym same_slots) is)
+  same_shared : AreShared (trees_for d p y) (blocks_in d p y) (tables_of y) → AreShared (trees_for e q y) (blocks_in e q y) (tables_of y)
+  same_shared is = subst (λ (u : Under). AreShared (trees_by u y.active y.files) (blocks_in e q y) (tables_of y)) (sym same_under)
+      (subst (λ (u : ℕ → Under). AreShared (trees_for d p y) u (tables_of y)) (sym same_slots) is)
 
   pub stays_volume : volume_for e q y ≡ volume_for d p y
-  stays_volume = λ i. volume_as y (record { active = table_told (same_standing i); snapshots = snaps_by (same_slots i) y.snapshots })
+  stays_volume = λ i. volume_as y (record { active = table_told (same_standing i); snapshots = snaps_by (same_slots i) y.snapshots; base = base_told_by (same_slots i) y.base })
 
   pub stays_led : IsLedTo d p y → IsLedTo e q y
   stays_led led = subst (λ (u : ℕ → Option Use). AreLedBy (under (shows e q y)) u y.active y.files) (sym same_used)

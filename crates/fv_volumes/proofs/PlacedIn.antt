@@ -5,6 +5,9 @@ use Rattle.std.specs.Option.{option_map}
 use Rattle.std.proofs.lemmas.Bool.{both_ways, cases_Bool, cases_eq, or_from, or_right}
 use Rattle.std.proofs.lemmas.List.{set-get_or}
 use Rattle.std.proofs.lemmas.List.Sums.{sum_by-set}
+use Rattle.std.specs.FinSet as set
+use Rattle.fv_model.specs.Space.{base_ids}
+use Rattle.fv_model.specs.Volumes.{Volume as Model}
 use Rattle.fv_disk.specs.Shown.{Image, Shown}
 use Rattle.fv_disk.specs.DiskCalls.{OnlyReads}
 use Rattle.fv_model.specs.Volumes.{Volume}
@@ -45,9 +48,9 @@ use Rattle.fv_volumes.proofs.Made.{from_pairs, to_pair}
 use Rattle.fv_volumes.proofs.Spacing.{spaced_next}
 use Rattle.fv_volumes.proofs.Told.{is_inside, none_some}
 use Rattle.fv_volume.specs.Held.{core_of, named_held, IsHeldIn, IsPlacedAs, IsReadyIn}
+use Rattle.fv_volumes.specs.Footing.{AreFooted}
 use Rattle.fv_volumes.specs.Housed.{AreHoused}
-use Rattle.fv_volumes.proofs.Alone.{housed_alone}
-use Rattle.fv_volumes.proofs.Beside.{alone_together, beside_flush}
+use Rattle.fv_volumes.proofs.Beside.{beside_flush, footed_together}
 use Rattle.fv_volumes.proofs.Owned.{apart_now, bits, from_free, leads_own, lies_well, tree_same}
 
 -- a container that is there
@@ -258,7 +261,7 @@ module _ (disk after : Shown) (pool left : Pool) (states stay : States) (x y : V
   -- ---- where volumes are what they are between points
 
   module _ (size : blocks_of pool.map ≡ pool.found.blocks) (slots : (s : ℕ) → s < slot_count → IsLentAt disk.reads pool.found s (state_at states s) (paged_at pool.containers s)) (spaced : AreSpacedIn pool.found.blocks pool.map.next (state_at states) (container_at pool.containers))
-      (each : (s : ℕ) → IfSome (state_at states s) (IsHeldIn disk pool s)) where
+      (each : (s : ℕ) → IfSome (state_at states s) (IsHeldIn disk pool s)) (footed : AreFooted states pool.containers) where
     pub mine : IsHeldIn disk pool s x
     mine = subst (λ (o : Option VolumeState). IfSome o (IsHeldIn disk pool s)) there (each s)
 
@@ -339,9 +342,9 @@ module _ (disk after : Shown) (pool left : Pool) (states stay : States) (x y : V
         (lent_again disk.reads pool.found k (state_at states k) (paged_at pool.containers k) (paged_at left.containers k) (over.others k differ) (clean_now k) (slots k low)))
         (cases_eq k s)))
 
-    -- the volumes stand together: none has a base
+    -- the volumes stand together
     together : StandTogether pool x.map s states
-    together = alone_together disk pool states x.map s each (subst (λ (o : Option VolumeState). IfSome o (λ z. z.map ≡ x.map)) (sym there) refl) lies (housed_alone pool.containers states housed)
+    together = footed_together disk pool states x.map s housed footed each (subst (λ (o : Option VolumeState). IfSome o (λ z. z.map ≡ x.map)) (sym there) refl) lies
       where
         lies : (k : ℕ) (w : VolumeState) → k ≢ s → state_at states k ≡ Some w → LiesApart pool.containers k s
         lies k w differ at v e own owned = spaced.apart k s e.pvbn (is_inside states k w housed.long at) inside differ
@@ -362,7 +365,7 @@ module _ (disk after : Shown) (pool left : Pool) (states stay : States) (x y : V
           stands = b.standing;
           led = b.led one.led;
           well = b.well one.well;
-          wide = one.wide;
+          wide = subst (λ (v : Model). v.most + (set.len (base_ids v.base) + 256) ≤ v.span) (sym b.volume) one.wide;
           within = one.within;
         }
 
@@ -373,7 +376,7 @@ module _ (disk after : Shown) (pool left : Pool) (states stay : States) (x y : V
       stands = standing;
       led = placed.led mine.stands mine.led;
       well = placed.well mine.stands mine.led mine.well;
-      wide = subst (λ (v : VolumeState). v.most + 256 ≤ v.span) (sym placed.keeps) mine.wide;
+      wide = subst (λ (v : Model). v.most + (set.len (base_ids v.base) + 256) ≤ v.span) (sym (placed.volume mine.stands)) mine.wide;
       within = subst (λ (v : VolumeState). v.ledger.charge ≤ v.size) (sym placed.keeps) mine.within;
     }
 

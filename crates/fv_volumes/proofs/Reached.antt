@@ -15,15 +15,14 @@ use Rattle.fv_pool.specs.declared.pool.Pool.{Pool}
 use Rattle.fv_pool.specs.declared.rooted.Rooted.{Rooted}
 use Rattle.fv_volume.specs.declared.state.Snap.{Snap}
 use Rattle.fv_volume.specs.declared.state.VolumeState.{VolumeState}
-use Rattle.fv_volume.specs.Files.{IsLabelled}
-use Rattle.fv_volumes.specs.Housed.{ReachesAll, IsSeen}
+use Rattle.fv_volumes.specs.Housed.{ReachesAll}
 use Rattle.fv_volume.specs.OneVolume.{blocks_in, uses_in, IsKeptTable, IsStanding}
 use Rattle.fv_volume.specs.Placing.{IsLedTo}
 use Rattle.fv_volume.specs.States.{States, head_in, parent_in, state_at, table_in, view_over}
 use Rattle.fv_volume.proofs.EachRoot.{each_root, root_there}
 use Rattle.fv_volume.proofs.ActiveStands.{active_reach, active_reached}
 use Rattle.fv_volumes.proofs.Agreed.{root_agrees}
-use Rattle.fv_volumes.proofs.Standings.{standing_state, standing_table}
+use Rattle.fv_volume.proofs.TablesOf.{snaps_all}
 
 -- ---- in a view
 
@@ -47,13 +46,5 @@ module _ (disk : Disk) (pool : Pool) (states : States) (x : VolumeState) (there 
   pub standing_reach : IsStanding disk pool x → x.files ≡ None → IsLedTo disk pool x → ReachesAll u x.slot x
   standing_reach is none led k r at = each_root x Reaches
       (root_reaches 0 x.active (active_reached disk pool x is none) (active_reach disk pool x is none led))
-      (λ n q lt. kept_reaches (slice_index_or x.snapshots n q) (is.kept n q lt))
+      (λ n q lt. kept_reaches (slice_index_or x.snapshots n q) (snaps_all (IsKeptTable disk pool x) x is.kept n q lt))
       k r (root_there (head_in x) k r at)
-
--- So its view alone tells it.
-pub standing_seen : (disk : Disk) (pool : Pool) (x : VolumeState) → IsVolume x.map → IsStanding disk pool x → x.files ≡ None → IsLabelled x.slot x → IsSeen disk pool x
-standing_seen disk pool x whole is none labelled = λ states there parents. record {
-  table = standing_table disk pool states x there parents whole labelled.map is none;
-  state = standing_state disk pool states x there parents whole labelled.map is none labelled;
-  reach = standing_reach disk pool states x there parents whole labelled.map is none;
-}

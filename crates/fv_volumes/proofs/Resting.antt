@@ -1,6 +1,9 @@
 -- Over a disk that reads as before a volume of a session is what it was between points.
-use Rattle.std.proofs.Common.{◌≡◌, ℕ, Option, Some, None, sym, ap, subst, ◌∙◌, refl}
+use Rattle.std.proofs.Common.{◌≡◌, ◌+◌, ◌≤◌, ℕ, Option, Some, None, sym, ap, subst, ◌∙◌, refl}
 use Rattle.std.specs.Prelude.{All, IfSome, IsTrue}
+use Rattle.std.specs.FinSet as set
+use Rattle.fv_model.specs.Space.{base_ids}
+use Rattle.fv_model.specs.Volumes.{Base}
 use Rattle.fv_disk.specs.Shown.{Image, Shown}
 use Rattle.fv_disk.specs.DiskCalls.{Stays}
 use Rattle.fv_laws.specs.WellFormed.{IsWellTable}
@@ -14,7 +17,7 @@ use Rattle.fv_pool.specs.declared.pool.Pool.{Pool}
 use Rattle.fv_volume.specs.declared.state.VolumeState.{VolumeState}
 use Rattle.fv_volume.specs.Held.{named_held, IsHeldIn, IsReadyIn}
 use Rattle.fv_pool.specs.Tables.{AreLaidBy, AreSoundBy, AreLedBy, AreStoredBy}
-use Rattle.fv_volume.specs.OneVolume.{blocks_in, shows, table_for, trees_for, volume_for, IsKeptTable, IsReady, IsStanding}
+use Rattle.fv_volume.specs.OneVolume.{blocks_in, shows, table_for, trees_for, volume_for, IsKeptTable, IsReady, IsStanding, base_by, tables_of}
 use Rattle.fv_volume.specs.Placing.{IsLedTo, IsStoredWell}
 use Rattle.fv_volume.specs.Sharing.{AreShared}
 
@@ -41,9 +44,9 @@ module _ (d e : Shown) (stays : Stays d e) (pool : Pool) where
     told = (subst IsTrue (sym stays.tells) is.told.0, is.told.1, subst (λ (i : Image). AreCleanOn i pool.containers) (sym stays.reads) is.told.2);
     table = subst (λ (i : Image). IsWellTable x.now (table_for (over i) pool x)) (sym stays.reads) is.table;
     reserves = subst (λ (i : Image). HasNoReserve (table_for (over i) pool x)) (sym stays.reads) is.reserves;
-    kept = subst (λ (i : Image). All (IsKeptTable (over i) pool x) x.snapshots) (sym stays.reads) is.kept;
+    kept = subst (λ (i : Image). All (IsKeptTable (over i) pool x) (tables_of x)) (sym stays.reads) is.kept;
     names = is.names;
-    shared = subst (λ (i : Image). AreShared (trees_for (over i) pool x) (blocks_in (over i) pool x) x.snapshots) (sym stays.reads) is.shared;
+    shared = subst (λ (i : Image). AreShared (trees_for (over i) pool x) (blocks_in (over i) pool x) (tables_of x)) (sym stays.reads) is.shared;
     ledger = subst (λ (i : Image). IsLedgerOf (volume_for (over i) pool x) x.ledger) (sym stays.reads) is.ledger;
     trees = subst (λ (i : Image). AreSoundBy (under (shows (over i) pool x)) (shows d pool x).used x.active x.files) (sym stays.reads) is.trees;
     laid = subst (λ (i : Image). AreLaidBy (under (shows (over i) pool x)) x.files) (sym stays.reads) is.laid;
@@ -70,7 +73,7 @@ module _ (d e : Shown) (stays : Stays d e) (pool : Pool) where
     stands = standing_still x is.stands;
     led = led_still x is.led;
     well = well_still x is.well;
-    wide = is.wide;
+    wide = subst (λ (o : Option Base). x.most + (set.len (base_ids o) + 256) ≤ x.span) (ap (λ (i : Image). base_by (blocks_in (over i) pool x) x.base) (sym stays.reads)) is.wide;
     within = is.within;
   }
 

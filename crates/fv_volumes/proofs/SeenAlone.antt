@@ -28,6 +28,7 @@ use Rattle.fv_volumes.proofs.Standings.{active_is, seen_led, seen_standing, seen
 use Rattle.fv_volumes.proofs.Told.{head_there}
 use Rattle.fv_image.specs.WholeMachine.{Tells}
 use Rattle.fv_volume.specs.Files.{AreStates}
+use Rattle.fv_volumes.specs.Footing.{AreFooted}
 use Rattle.fv_volumes.specs.Housed.{AreHoused}
 
 module _ (disk : Shown) (pool : Pool) (states : States) (housed : AreHoused pool.containers states) (loaded : LoadedTo disk.reads pool.found slot_count states pool.containers) (unkept : IsAsFound pool)
@@ -35,11 +36,14 @@ module _ (disk : Shown) (pool : Pool) (states : States) (housed : AreHoused pool
   abbrev w : View
   w = view_over pool states disk.reads
 
-  labelled : IsLabelled x.slot x
-  labelled = subst (λ (o : Option VolumeState). IfSome o (IsLabelled x.slot)) there (housed.volumes x.slot)
+  in_slot : (t : ℕ) (y : VolumeState) → state_at states t ≡ Some y → (y.slot ≡ t) × StandsInView disk pool states y
+  in_slot t y here =
+      let labelled : IsLabelled t y = subst (λ (o : Option VolumeState). IfSome o (IsLabelled t)) here (housed.volumes t) in
+      let at : y.slot ≡ t = labelled.slot_is in
+      (at, in_view disk pool states housed.long few housed.parents loaded unkept m told whole y (ap (state_at states) at ∙ here) (subst (λ (n : ℕ). IsLabelled n y) (sym at) labelled))
 
   abbrev stands : StandsInView disk pool states x
-  stands = in_view disk pool states housed.long few housed.parents loaded unkept m told whole x there labelled
+  stands = (in_slot x.slot x there).1
 
   -- its table is told as by the view
   told_as : table_for disk pool x ≡ active_in w no_trees x.slot
@@ -51,10 +55,12 @@ module _ (disk : Shown) (pool : Pool) (states : States) (housed : AreHoused pool
   pub well : IsStoredWell disk pool x
   well = seen_well disk pool states x stands no_files
 
-  module _ (are : AreStates w no_trees states) (map : IsMapLoaded disk.reads pool.found pool.map) (tells : IsTrue disk.tells) where
+  module _ (are : AreStates w no_trees states) (map : IsMapLoaded disk.reads pool.found pool.map) (tells : IsTrue disk.tells) (footed : AreFooted states pool.containers) where
     apart : AreApart pool x.map x.slot
     apart = entries_apart (root_found pool.found) disk.reads pool (sound_holds (layout_at (root_found pool.found) disk.reads) told.sound) (record { few = few; each = λ s inside. (loaded.each s inside).tree })
         (λ b bit. ap (λ (set : List Bool). is_member set b) map.same ∙ (map.bits b ∙ bit)) x.map x.slot
 
     pub standing : AreNumbersSeen w x.slot (Some x) → IsStanding disk pool x
-    standing numbered = seen_standing disk pool states x stands no_files tells apart (loaded_clean pool.found disk.reads states pool.containers whole told.sound few loaded) (subst (λ (o : Option VolumeState). IfSome o (IsState w no_trees x.slot)) there (are.each x.slot)) (subst (AreNumbersIf x.numbers) (sym told_as) numbered)
+    standing numbered = seen_standing disk pool states x stands footed in_slot no_files tells apart
+        (loaded_clean pool.found disk.reads states pool.containers whole told.sound few loaded)
+        (subst (λ (o : Option VolumeState). IfSome o (IsState w no_trees x.slot)) there (are.each x.slot)) (subst (AreNumbersIf x.numbers) (sym told_as) numbered)

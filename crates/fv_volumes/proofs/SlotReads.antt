@@ -1,6 +1,7 @@
 -- The maps of slots as they are read from their blocks, one after another; the other slots stay.
 use Rattle.std.proofs.Common.{◌≡◌, ◌≢◌, ◌<◌, ◌≤◌, ◌+◌, ◌*◌, ◌/◌, ◌%◌, ℕ, Bool, true, false, List, get_or, inl, inr, length, length-set, replicate, Option, Some, None, refl, sym, ap, subst, ◌∙◌, ⊎_elim, arith}
-use Rattle.std.specs.Prelude.{nat_lt, ◌&&◌, ◌||◌, ◌==◌, is_some, IfErr, IfNone, IfSome, Result, Ok, Err}
+use Rattle.std.specs.Prelude.{nat_lt, not, ◌&&◌, ◌||◌, ◌==◌, if◌then◌else◌, is_some, IfErr, IfNone, IfSome, OnOk, Result, Ok, Err}
+use Rattle.std.specs.declared.alloc.AllocError.{AllocError}
 use Rattle.std.proofs.lemmas.Bool.{cases_eq, cases_lt, true≢false}
 use Rattle.std.proofs.lemmas.Bool.Decides.{nat_tests}
 use Rattle.std.proofs.lemmas.List.{get_or-set_other, get_or-set_same}
@@ -12,7 +13,7 @@ use Rattle.fv_bits.specs.Members.{IsFirstPast, TakesBlock, is_member}
 use Rattle.fv_bits.proofs.Laws.{is_member-replicate, taken_more, zero_block}
 use Rattle.fv_model.specs.Space.{map_blocks}
 use Rattle.fv_codec.specs.declared.label.Label.{Label}
-use Rattle.fv_image.specs.Views.{entry_count, map_vvbn, volume_bit}
+use Rattle.fv_image.specs.Views.{Footing, View, entry_count, footing_of, map_vvbn, volume_bit}
 use Rattle.fv_image.specs.Held.{view_at}
 use Rattle.fv_container.specs.declared.entry.Entry.{Entry}
 use Rattle.fv_container.specs.Mapped.{IsMapped, Mapped, entry_under}
@@ -23,11 +24,11 @@ use Rattle.fv_container.specs.Spelled.{IsOpened}
 use Rattle.fv_container.proofs.Damage.{bad_leaf}
 use Rattle.fv_root.specs.declared.find.Found.{Found}
 use Rattle.fv_root.specs.Finding.{root_found}
-use Rattle.fv_volmap.specs.Slots.{IsVolume, Loads, Slot, Volume, empty_volume, has, map_or_empty, slot_at, slot_count, stored_count}
+use Rattle.fv_volmap.specs.Slots.{IsVolume, Loads, Slot, Volume, empty_volume, has, map_or_empty, slot_at, slot_count, slot_of_base, stored_count, TakesBase}
 use Rattle.fv_volume.specs.declared.state.Snap.{Snap}
 use Rattle.fv_delay.specs.Delay.{is_used_slot}
 use Rattle.fv_volume.specs.Loading.{HaveBits, IsBadMap, IsBadSlot, IsPastSpan, entry_block, is_slot_with, label_of}
-use Rattle.fv_volume.specs.SlotReads.{AreUsedTo, HasReadSlot, HaveRead, TakesSlot, slot_bit}
+use Rattle.fv_volume.specs.SlotReads.{AreUsedBeside, AreUsedTo, HasReadSlot, HoldsBase, HaveRead, TakesSlot, slot_bit}
 use Rattle.fv_volume.specs.Snapshots.{has_slot}
 use Rattle.fv_volume.proofs.MapSlots.{one_empty}
 use Rattle.fv_volumes.proofs.Mapping.{block_there}
@@ -169,6 +170,41 @@ module _ (found : Found) (i : Image) (s : ℕ) (l : Label) (map : Mapped) (lies 
           let some : is_some (slot_at m k) ≡ true = ap (λ (o : Slot). is_some o) e in
           slot_read m span k (read.each k low some) v
           ∙ sym (ap (λ (t : Bool). t && volume_bit (view_at (root_found found) i) s span k v) (ap (λ (t : Bool). (k == 0) || t) some ∙ always (k == 0)))
+
+-- ---- the slot of the base
+
+module _ (base : Option Footing) (old new : Volume) (holds : HoldsBase base old new) where
+  -- the slots are used that were read, and that of the base where there is one
+  pub used_beside : (snaps : List Snap) → AreUsedTo snaps stored_count old → AreUsedBeside snaps base new
+  used_beside snaps used = record { each = λ k other. ap (λ (o : Slot). is_some o) (holds.others k other) ∙ used.each k; base = holds.used }
+
+  -- and have the bits of their blocks
+  pub bits_beside : (w : View) (s span : ℕ) → HaveBits w s span old → HaveBits w s span new
+  bits_beside w s span bits k v low =
+      let same : slot_at new k ≡ slot_at old k = holds.others k (λ e. absurd (let is : k ≡ slot_of_base = e in omega (arith, low, is))) in
+      subst (λ (o : Slot). has v o ≡ (((k == 0) || is_some o) && volume_bit w s span k v)) (sym same) (bits k v low)
+
+-- a label says a base exactly where its parent isn't 0
+used_by : (t : Bool) (b : Footing) → is_some (if t then None else Some b) ≡ not t
+used_by true b = refl
+used_by false b = refl
+
+-- a volume whose label says none holds none,
+pub holds_none : (l : Label) (old : Volume) → (l.parent == 0) ≡ true → is_some (slot_at old slot_of_base) ≡ false → HoldsBase (footing_of l) old old
+holds_none l old none free = record { span = refl; others = λ k other. refl; used = free ∙ sym (used_by (l.parent == 0) _ ∙ ap not none) }
+
+-- and one that took the base that its label says holds it,
+pub holds_taken : (l : Label) (old new : Volume) (from : Slot) → (l.parent == 0) ≡ false → TakesBase old from new → HoldsBase (footing_of l) old new
+holds_taken l old new from some takes = record {
+  span = ap (λ (m : Volume). m.span) takes.volume;
+  others = λ k other. ap (λ (m : Volume). slot_at m k) takes.volume ∙ get_or-set_other old.slots slot_of_base k (Some takes.map) None other;
+  used = ap (λ (o : Slot). is_some o) takes.base ∙ sym (used_by (l.parent == 0) _ ∙ ap not some);
+}
+
+-- where memory was found
+pub holds_where : (l : Label) (old new : Volume) (from : Slot) (result : Result (Unit {0}) AllocError) → (l.parent == 0) ≡ false → OnOk result (TakesBase old from new) → OnOk result (HoldsBase (footing_of l) old new)
+holds_where l old new from (Ok unit) some takes = holds_taken l old new from some takes
+holds_where l old new from (Err fault) some takes = tt
 
 -- ---- slot by slot
 

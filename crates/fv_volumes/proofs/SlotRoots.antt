@@ -1,17 +1,17 @@
 -- The roots of a volume and the slots of its maps: which slot each root has, and that a slot has what its root reaches.
-use Rattle.std.proofs.Common.{◌≡◌, ◌<◌, ◌≤◌, ℕ, Bool, true, false, map, take, inl, inr, refl, sym, ap, subst, ◌∙◌, arith}
+use Rattle.std.proofs.Common.{◌≡◌, ◌≢◌, ◌<◌, ◌≤◌, ℕ, Bool, true, false, map, take, inl, inr, refl, sym, ap, subst, ◌∙◌, arith}
 use Rattle.std.specs.Prelude.{Some, None, ◌&&◌, ◌||◌, ◌==◌, find, get_or, is_some, nat_le, nat_lt, if◌then◌else◌}
 use Rattle.std.specs.List.{list_all, range_with_len}
-use Rattle.std.specs.Option.{option_map}
+use Rattle.std.specs.Option.{option_and_then, option_map}
 use Rattle.std.proofs.lemmas.Bool.{and_parts}
 use Rattle.std.proofs.lemmas.Bool.Decides.{nat_tests}
 use Rattle.fv_laws.proofs.Lists.{In, from_flat_map, from_map, in_map, in_range}
 use Rattle.fv_laws.proofs.Tests.{from_all, to_any}
 use Rattle.fv_tables.specs.Reached.{Item, items, is_listed}
 use Rattle.fv_tables.proofs.Listed.{picked, picked_all, picked_in, picked_is}
-use Rattle.fv_image.specs.Views.{Head, Rooted, Snap, View, used_slots}
+use Rattle.fv_image.specs.Views.{Footing, Head, Rooted, Snap, View, used_slots}
 use Rattle.fv_image.specs.Volumes.{snap_at, standing_of}
-use Rattle.fv_image.specs.Seen.{Reached, roots_of, seen, volume_seen}
+use Rattle.fv_image.specs.Seen.{Reached, base_root, roots_of, seen, volume_seen}
 use Rattle.fv_image.specs.ReachRules.{has_pointers_in_range, is_hint}
 use Rattle.fv_image.specs.Mapped.{AreInSlots, root_at, stored_slots}
 use Rattle.fv_image.specs.Staying.{own_items}
@@ -54,6 +54,16 @@ slot_rooted h order r (inr there) =
     subst (λ (q : ℕ × Rooted). root_at h q.0 ≡ Some q.1) p.2
     (ap (λ (b : Bool). if b then Some h.active else option_map (λ (p : Snap). p.table) (find (λ q. q.slot == p.0.slot) h.snapshots)) later
     ∙ ap (option_map (λ (p : Snap). p.table)) (found_rising h.snapshots order.rising p.0 p.1))
+
+-- The slot of a snapshot has its root,
+pub snap_rooted : (h : Head) (k : ℕ) (p : Snap) → k ≢ 0 → snap_at h k ≡ Some p → root_at h k ≡ Some p.table
+snap_rooted h k p above found =
+    let test : (k == 0) ≡ false = grind (arith, nat_tests, above) in
+    ap (λ (t : Bool). if t then Some h.active else option_map (λ (p : Snap). p.table) (snap_at h k)) test ∙ ap (option_map (λ (p : Snap). p.table)) found
+
+-- which is the one of the base table of a clone that stands on it,
+pub base_rooted : (w : View) (b : Footing) (g : Head) (p : Snap) → w.head b.parent ≡ Some g → snap_at g b.slot ≡ Some p → base_root w b ≡ Some p.table
+base_rooted w b g p there found = ap (option_and_then (λ (g : Head). option_map (λ (p : Snap). p.table) (snap_at g b.slot))) there ∙ ap (option_map (λ (p : Snap). p.table)) found
 
 -- and is used in the maps.
 pub root_slot : (w : View) (s : ℕ) (h : Head) (m : Maps) → HasSlotsOf h m → AreInSlots h → (r : ℕ × Rooted) → In r (roots_of h) → is_used_slot m r.0 ≡ true

@@ -24,7 +24,7 @@ still_used : (o : Option VolumeState) (label : ℕ) → IsSome o → IsSome (opt
 still_used None label is = is
 still_used (Some x) label is = is
 
-same_sum : (xs ys : States) → length ys ≡ length xs → ((s : ℕ) → committed_by (state_at ys s) ≡ committed_by (state_at xs s)) → sum_of ys ≡ sum_of xs
+pub same_sum : (xs ys : States) → length ys ≡ length xs → ((s : ℕ) → committed_by (state_at ys s) ≡ committed_by (state_at xs s)) → sum_of ys ≡ sum_of xs
 same_sum [] [] long same = refl
 same_sum [] (y ∷ ys) long same = absurd (omega (arith, long))
 same_sum (x ∷ xs) [] long same = absurd (omega (arith, long))

@@ -1,11 +1,11 @@
 -- Volumes that stand in an image under new labels: it tells what they told, and stands for the same machine, where the space rule holds.
-use Rattle.std.proofs.Common.{◌≡◌, ℕ, ◌-◌, ◌*◌, ◌<◌, ◌≤◌, Bool, true, false, List, get_or, take, refl, sym, ap, subst, ◌∙◌, arith, ⊎_elim}
+use Rattle.std.proofs.Common.{◌≡◌, ℕ, ◌-◌, ◌*◌, ◌<◌, ◌≤◌, Bool, true, false, List, [], get_or, take, refl, sym, ap, subst, ◌∙◌, arith, ⊎_elim}
 use Rattle.std.specs.Prelude.{Option, Some, None, IfSome, ◌&&◌, nat_lt, if◌then◌else◌}
 use Rattle.std.specs.List.{list_all, range_with_len}
-use Rattle.std.specs.Option.{option_map}
+use Rattle.std.specs.Option.{is_some, option_map, option_map_or}
 use Rattle.std.specs.FinMap as fin
 use Rattle.std.specs.Ordering.{nat_cmp}
-use Rattle.std.proofs.lemmas.Bool.{cases_lt}
+use Rattle.std.proofs.lemmas.Bool.{cases_lt, false≢true}
 use Rattle.std.proofs.lemmas.Bool.Decides.{nat_tests}
 use Rattle.std.proofs.lemmas.List.{get_or_past}
 use Rattle.std.proofs.lemmas.Option.{none-some, same_Some}
@@ -26,11 +26,10 @@ use Rattle.fv_image.specs.Whole.{is_held_by}
 use Rattle.fv_image.specs.Volumes.{standing_of, told}
 use Rattle.fv_image.specs.Seen.{roots_of, seen}
 use Rattle.fv_image.specs.Soundness.{AreMaps, AreTables}
-use Rattle.fv_image.specs.Staying.{StaysHeld, own_items}
+use Rattle.fv_image.specs.Staying.{StaysHeld, base_items, own_items}
 use Rattle.fv_image.specs.WholeMachine.{is_built, machine_from}
 use Rattle.fv_image.proofs.Counted.{HasHeads}
 use Rattle.fv_image.proofs.LabelNumbers.{label_numbers}
-use Rattle.fv_image.proofs.LoneTables.{form_base}
 use Rattle.fv_image.proofs.OwnBases.{uses_own}
 use Rattle.fv_image.proofs.OwnUses.{HasLabelNumbers}
 use Rattle.fv_image.proofs.Points.{Ends, UsesOwn, end_machine, has_bits_of, maps_from}
@@ -39,30 +38,35 @@ use Rattle.fv_image.proofs.SameSeen.{same_seen}
 use Rattle.fv_image.proofs.SoundSlots.{blocks_from_slots, kinds_from_slots, maps_from_slots, slot_stays_sound}
 use Rattle.fv_image.proofs.Spaced.{AreSpaced}
 use Rattle.fv_image.proofs.WholeSlots.{all_between}
-use Rattle.fv_container.specs.Chains.{map_in}
+use Rattle.fv_container.specs.Chains.{container_at, map_in, own_entry}
+use Rattle.fv_container.specs.declared.entry.Entry.{Entry}
 use Rattle.fv_container.specs.Paged.{Paged}
 use Rattle.fv_root.specs.declared.find.Found.{Found}
 use Rattle.fv_root.specs.Finding.{root_found}
 use Rattle.fv_root.specs.Formatted.{IsSize}
-use Rattle.fv_volmap.specs.Slots.{stored_count, taken_in}
+use Rattle.fv_volmap.specs.Slots.{has, slot_at, stored_count, taken_in}
 use Rattle.fv_pool.specs.declared.pool.Pool.{Pool}
+use Rattle.fv_volume.specs.declared.state.Base.{Base}
 use Rattle.fv_volume.specs.declared.state.VolumeState.{VolumeState}
 use Rattle.fv_volume.specs.Files.{AreNamed, IsLabelled}
+use Rattle.fv_volumes.specs.Footing.{AreFooted, IsFooted, IsOnBase}
 use Rattle.fv_volumes.specs.Housed.{AreHoused, HaveReaches, ReachesAll, settled_as, settled_at}
 use Rattle.fv_volume.specs.Labels.{label_said}
 use Rattle.fv_volume.specs.Loading.{HaveBits, label_of}
-use Rattle.fv_volume.specs.States.{States, head_in, state_at, view_over}
+use Rattle.fv_volume.specs.States.{States, footing_in, head_in, placed_in, snap_in, state_at, table_in, view_over}
 use Rattle.fv_volume.specs.Stored.{has_block, has_stored_map, map_slot, stays}
 use Rattle.fv_volumes.specs.UnderRoot.{AllStandUnder}
 use Rattle.fv_volumes.proofs.Distinct.{same_names}
+use Rattle.fv_volume.proofs.KnownBases.{snap_inside}
 use Rattle.fv_volume.proofs.Labels.{label_head}
+use Rattle.fv_volumes.proofs.Footed.{each_stands}
 use Rattle.fv_volumes.proofs.Settled.{same_head, settled_back}
-use Rattle.fv_volumes.proofs.SlotRoots.{none_past, own_below, own_taken, root_has, root_slot, slot_stored}
+use Rattle.fv_volumes.proofs.SlotRoots.{base_rooted, none_past, own_below, own_taken, root_has, root_slot, slot_stored, snap_rooted}
 use Rattle.fv_volumes.proofs.StoredSlot.{HaveNonePast}
 use Rattle.fv_volumes.proofs.Told.{is_inside}
 use Rattle.fv_volumes.proofs.Viewed.{entry_of}
 
-module _ (pool : Pool) (states : States) (before : Image) (housed : AreHoused pool.containers states) (tables : AreTables (seen (view_over pool states before))) (reach : HaveReaches (view_over pool states before) states) where
+module _ (pool : Pool) (states : States) (before : Image) (housed : AreHoused pool.containers states) (tables : AreTables (seen (view_over pool states before))) (reach : HaveReaches (view_over pool states before) states) (footed : AreFooted states pool.containers) where
   abbrev w : View
   w = view_over pool states before
 
@@ -98,15 +102,48 @@ module _ (pool : Pool) (states : States) (before : Image) (housed : AreHoused po
       ap (λ (t : Bool). if t then taken_in (take stored_count x.map.slots) v else has_stored_map x (map_slot x.span v)) test
       ∙ own_taken w s x (reaches s x inside there) (labelled s x there).snapshots.slots v listed
 
-  -- no volume stands on another
-  no_footing : (s : ℕ) (h : Head) (b : Footing) → w.head s ≡ Some h → h.base ≡ Some b → ⊥
-  no_footing s h b is_head based =
-      let x = state_of s h is_head in
-      none-some b (sym (form_base (head_in x.0) (labelled s x.0 x.1).form) ∙ ap (λ (g : Head). g.base) x.2 ∙ based)
+  -- what a volume stands on, by its head
+  record HasBase (x : VolumeState) (f : Footing) : Type 0 where
+    base : Base
+    based : x.base ≡ Some base
+    tells : footing_in base ≡ f
 
-  -- What roots reach stays in a view with the same heads in which the entries stay that do.
-  pub stays_in : (u : View) → u.blocks ≡ w.blocks → u.version ≡ w.version → ((s : ℕ) → u.head s ≡ w.head s) → ((s v : ℕ) (x : VolumeState) → s < 64 → state_at states s ≡ Some x → stays x v ≡ true → u.entry s v ≡ w.entry s v) → StaysHeld w u
-  stays_in u blocks version heads entries = record {
+  base_of : (x : VolumeState) (f : Footing) → (head_in x).base ≡ Some f → HasBase x f
+  base_of x f tells = by x.base refl tells
+    where
+      by : (o : Option Base) → x.base ≡ o → option_map footing_in o ≡ Some f → HasBase x f
+      by None based e = absurd (none-some f e)
+      by (Some b) based e = record { base = b; based = based; tells = same_Some (footing_in b) f e }
+
+  -- What the base table of a clone reaches lies below its span, and it has no entry of its own there.
+  module _ (s : ℕ) (x : VolumeState) (there : state_at states s ≡ Some x) (b : Base) (based : x.base ≡ Some b) (v : ℕ) (listed : is_listed (base_items w (Some (footing_in b))) v ≡ true) where
+    abbrev both : IsFooted states x b × IsOnBase pool.containers x
+    both = each_stands states pool.containers footed s x b there based
+
+    abbrev is : IsFooted states x b
+    is = both.0
+
+    reached : is_listed (items (standing_of w b.parent (table_in is.snap.table))) v ≡ true
+    reached = ap (λ (o : Option Rooted). is_listed (option_map_or (λ (r : Rooted). items (standing_of w b.parent r)) o []) v) (sym (base_rooted w (footing_in b) (head_in is.parent) (snap_in is.snap) (head_there b.parent is.parent is.there) is.found)) ∙ listed
+
+    -- its parent has it in the slot of the snapshot
+    has_it : has v (slot_at is.parent.map b.slot) ≡ true
+    has_it = reaches b.parent is.parent is.inside is.there b.slot (table_in is.snap.table) (snap_rooted (head_in is.parent) b.slot (snap_in is.snap) is.above is.found) v ∙ reached
+
+    below_span : v < x.span
+    below_span = ⊎_elim
+        (λ (low : v < is.parent.span). let wide = is.span in omega (arith, low, wide))
+        (λ (past : is.parent.span ≤ v). absurd (false≢true (sym (past_clear b.parent is.parent is.inside is.there b.slot v (snap_inside is.parent b.parent (labelled b.parent is.parent is.there) b.slot (snap_in is.snap) is.found).1 past) ∙ has_it)))
+        (cases_lt v is.parent.span)
+
+    unowned : own_entry (container_at pool.containers s) v ≡ None
+    unowned = ap (λ (n : ℕ). own_entry (container_at pool.containers n) v) (sym (labelled s x there).slot_is) ∙ both.1.leaves v (is.same v ∙ has_it)
+
+  -- What roots reach stays in a view with the same heads in which the entries stay that do, and which has no entry more below a span.
+  pub stays_in : (u : View) → u.blocks ≡ w.blocks → u.version ≡ w.version → ((s : ℕ) → u.head s ≡ w.head s) → ((s v : ℕ) (x : VolumeState) → s < 64 → state_at states s ≡ Some x → stays x v ≡ true → u.entry s v ≡ w.entry s v)
+      → ((s v : ℕ) (x : VolumeState) → s < 64 → state_at states s ≡ Some x → v < x.span → own_entry (container_at pool.containers s) v ≡ None → u.entry s v ≡ None) → StaysHeld w u
+  unfolding view_over
+  stays_in u blocks version heads entries holes = record {
     blocks = blocks;
     version = version;
     heads = heads;
@@ -114,7 +151,12 @@ module _ (pool : Pool) (states : States) (before : Image) (housed : AreHoused po
         let x = state_of s h is_head in
         let inside = is_inside states s x.0 housed.long x.1 in
         entries s v x.0 inside x.1 (reached_stays s x.0 v inside x.1 (subst (λ (g : Head). is_listed (own_items w s g) v ≡ true) (sym x.2) listed));
-    based = λ s h b v is_head based splitting listed. absurd (no_footing s h b is_head based);
+    based = λ s h b v is_head based splitting listed.
+        let x = state_of s h is_head in
+        let its = base_of x.0 b (ap (λ (g : Head). g.base) x.2 ∙ based) in
+        let here : is_listed (base_items w (Some (footing_in its.base))) v ≡ true = ap (λ (f : Footing). is_listed (base_items w (Some f)) v) its.tells ∙ listed in
+        let none : own_entry (container_at pool.containers s) v ≡ None = unowned s x.0 x.1 its.base its.based v here in
+        ap is_some (holes s v x.0 (is_inside states s x.0 housed.long x.1) x.1 (below_span s x.0 x.1 its.base its.based v here) none) ∙ sym (ap (λ (e : Option Entry). is_some (placed_in pool.kept before e)) none);
   }
 
   -- ---- where they stand
@@ -153,9 +195,14 @@ module _ (pool : Pool) (states : States) (before : Image) (housed : AreHoused po
     unfolding view_at view_over
     same_version = version
 
+    -- a hole below a span is one still
+    hole_stays : (s v : ℕ) (x : VolumeState) → s < 64 → state_at states s ≡ Some x → v < x.span → own_entry (container_at pool.containers s) v ≡ None → (view_at u i).entry s v ≡ None
+    unfolding view_at
+    hole_stays s v x inside there low none = sym (entry_of fin.empty i (λ b. fin.get-empty nat_cmp b) (label_of f i s) (map_in (container s)) v (is.each s inside).loaded.tree) ∙ ap (placed_in fin.empty i) (is.holes s v x inside there low none)
+
     -- What roots reach stays in the view.
     pub stays_now : StaysHeld w (view_at u i)
-    stays_now = stays_in (view_at u i) same_blocks same_version heads_are entry_stays
+    stays_now = stays_in (view_at u i) same_blocks same_version heads_are entry_stays hole_stays
 
     -- ---- the layout
 

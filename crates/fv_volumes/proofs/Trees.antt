@@ -1,5 +1,5 @@
 -- What a session with trees in memory tells.
-use Rattle.std.proofs.Common.{◌≡◌, ℕ, List, map, Option, Some, None, sym, ap, ◌∙◌}
+use Rattle.std.proofs.Common.{◌≡◌, ℕ, List, map, Option, Some, None, ap}
 use Rattle.std.specs.Option.{option_map_or}
 use Rattle.std.specs.FinMap as fin
 use Rattle.fv_disk.specs.Shown.{Image}
@@ -23,11 +23,11 @@ unchanged_machine pool states trees i none = λ j. told_with (view_over pool sta
 pub same_snaps : (w u : View) (s : ℕ) (snaps : List Snap) → under u s ≡ under w s → map (snap_told u s) snaps ≡ map (snap_told w s) snaps
 same_snaps w u s snaps same = ap (λ (blocks : Under). map (λ (p : Snap). (p.name, table_told (standing_at blocks p.table.levels p.table.root))) snaps) same
 
--- A volume without a base is told by its head, its active table and the tables of its snapshots alone.
-pub told_alike : (w u : View) (s : ℕ) (h : Head) (root : Rooted) (a b : Table) → h.base ≡ None → map (snap_told u s) h.snapshots ≡ map (snap_told w s) h.snapshots → b ≡ a
+-- A volume is told by its head, its active table, the tables of its snapshots and its base alone.
+pub told_alike : (w u : View) (s : ℕ) (h : Head) (root : Rooted) (a b : Table) → base_from u h.base ≡ base_from w h.base → map (snap_told u s) h.snapshots ≡ map (snap_told w s) h.snapshots → b ≡ a
     → volume_with u s (record h { active = root }) b ≡ volume_with w s h a
 unfolding volume_with
-told_alike w u s h root a b base snaps same = λ i. record { kind = h.kind; size = h.size; most = h.most; span = h.span; now = h.now; active = same i; snapshots = fin.from_entries {R = name_cmp} (snaps i); base = (ap (base_from u) base ∙ sym (ap (base_from w) base)) i; known = h.known }
+told_alike w u s h root a b base snaps same = λ i. record { kind = h.kind; size = h.size; most = h.most; span = h.span; now = h.now; active = same i; snapshots = fin.from_entries {R = name_cmp} (snaps i); base = base i; known = h.known }
 
 -- A slot with the same head, over the same blocks, has the same active table.
 pub same_active : (w u : View) (k : ℕ) → under u k ≡ under w k → u.head k ≡ w.head k → (o : Option Changed) → active_by u k o ≡ active_by w k o

@@ -4,3 +4,5 @@ pub mod Housed
 pub mod UnderRoot
 pub mod Destroying
 pub mod Finding
+pub mod Footing
+pub mod Learned

@@ -71,9 +71,10 @@ pub record StandsUnder (i : Image) (found : Found) (s : ℕ) (state : Option Vol
   pub holds : (b : ℕ) → is_held_by (layout_at (root_found found) i) s b ≡ has_block state (map_in container) b
 
 -- Volumes with blocks that wait over one image stand, settled, in another under new labels: each slot stands there, the entries that stay
--- have their blocks, and the volumes are spaced.
+-- have their blocks, no entry came below a span where there was none, and the volumes are spaced.
 pub record AllStandUnder (pool : Pool) (states : States) (before : Image) (found : Found) (labels : List ℕ) (next : List Bool) (container : ℕ → Option Paged) (i : Image) : Type 0 where
   pub each : (s : ℕ) → s < slot_count → StandsUnder i found s (settled_at labels states s) (container s)
   pub kept : (s v : ℕ) (x : VolumeState) → s < slot_count → state_at states s ≡ Some x → stays x v ≡ true
       → placed_in fin.empty i (own_entry (map_in (container s)) v) ≡ placed_in pool.kept before (own_entry (container_at pool.containers s) v)
+  pub holes : (s v : ℕ) (x : VolumeState) → s < slot_count → state_at states s ≡ Some x → v < x.span → own_entry (container_at pool.containers s) v ≡ None → own_entry (map_in (container s)) v ≡ None
   pub spaced : AreSpacedIn found.blocks next (settled_at labels states) (λ s. map_in (container s))

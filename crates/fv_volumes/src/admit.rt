@@ -1,12 +1,13 @@
 //! Whether a new volume is admitted.
 
-ghost use Rattle.std.specs.Prelude.{◌≡◌, ◌≤◌, ◌*◌, length, true, IfOk, IfErr};
+ghost use Rattle.std.specs.Prelude.{◌≡◌, ◌≤◌, ◌+◌, ◌*◌, length, true, IfOk, IfErr, OnOk};
 ghost use Rattle.fv_container.specs.Chains.{slot_count};
 ghost use Rattle.fv_model.specs.Numbers.{greatest_span, is_size};
 ghost use Rattle.fv_model.specs.Space.{span_of};
 ghost use Rattle.fv_root.specs.Formatted.{IsSize};
-ghost use Rattle.fv_volumes.specs.Creating.{Admits, Refuses};
-ghost use Rattle.fv_volume.specs.Slots.{sum_of};
+ghost use Rattle.fv_model.specs.Machines.{capacity};
+ghost use Rattle.fv_volumes.specs.Creating.{Admits, LacksPlace, Refuses};
+ghost use Rattle.fv_volume.specs.Slots.{IsFirstFree, sum_of};
 
 use crate::search::{find_name, free_slot};
 use fv_charge::span_of;
@@ -63,13 +64,31 @@ pub(crate) fn admit(
     if find_name(states, name).is_some() {
         return Err(Refusal::VolumeExists);
     }
+    let span = new_span(size);
+    let commit = new_ledger(size, kind, span).commit();
+    let slot = find_place(states, blocks, commits, commit)?;
+    Ok(Admitted { slot, span })
+}
+
+/// Where a new volume goes that commits so many blocks beside all others, which commit `commits`: the least slot that is free.
+pub(crate) fn find_place(
+    states: &[Option<VolumeState>],
+    blocks: u32,
+    commits: u64,
+    commit: u64,
+) -> Result<u8, Refusal>
+    requires few { length states.now ≡ slot_count }
+    requires blocks { IsSize blocks }
+    requires sum { commits ≡ sum_of states.now }
+    ensures free { IfOk result (IsFirstFree states.now) }
+    ensures room { OnOk result (sum_of states.now + commit ≤ capacity blocks) }
+    ensures refused { IfErr result (LacksPlace states.now blocks commit) }
+{
     let Some(slot) = free_slot(states) else {
         return Err(Refusal::TooMany);
     };
-    let span = new_span(size);
-    let commit = new_ledger(size, kind, span).commit();
     if commits.saturating_add(commit) > u64::from(capacity(blocks)) {
         return Err(Refusal::AggregateFull);
     }
-    Ok(Admitted { slot, span })
+    Ok(slot)
 }

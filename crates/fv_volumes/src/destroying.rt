@@ -41,13 +41,14 @@ impl Volumes {
     /// first block is given back.
     ///
     /// # Errors
-    /// `NoVolume` exactly where no volume has the name, as the machine refuses `vol destroy`; no volume can be the parent of another yet.
+    /// As the machine refuses `vol destroy`: `NoVolume` exactly where no volume has the name, and `VolumeInUse` exactly where a clone stands on
+    /// the volume, on whichever of its snapshots; nothing changes then, and nothing was read.
     /// `Damaged` only where a leaf of the container doesn't stand where it has to, `DiskFault` only where a read failed in this call, and
     /// `Memory` where memory ran out. Nothing but the cache changes then.
     ///
     /// `commits` is what all volumes commit together, in blocks, before the call and behind it.
     ///
-    /// Costs a comparison for each volume, a read for each leaf of the container that is there and not in memory, a step for each entry, each
+    /// Costs a comparison for each volume, a step for each slot, a read for each leaf of the container that is there and not in memory, a step for each entry, each
     /// node of the container and each block that is given back, and one for each word of 64 blocks that an aggregate can have; and memory
     /// for a bit for each of these, 128 KB. It walks no file. `docs/SPACE.md` says when the blocks can be used again.
     pub fn destroy<D: Disk>(
@@ -69,6 +70,9 @@ impl Volumes {
     {
         match self.find(name) {
             Some(slot) => {
+                if self.is_stood_on(slot) {
+                    return Err(VolumeFault::Refused(Refusal::VolumeInUse));
+                }
                 let marks = self.mark_slot(pool, disk, slot)?;
                 *commits = self.commits_beside(*commits, slot);
                 self.empty_slot(pool, slot, &marks);

@@ -5,9 +5,12 @@
 mod admit;
 mod destroying;
 mod giving;
+mod learning;
 mod load;
 mod promising;
+mod putting;
 mod search;
+mod standing;
 mod taking;
 mod volumes;
 mod write;

@@ -1,6 +1,6 @@
 //! Reading the volumes of a root: labels, containers and maps.
 
-ghost use Rattle.std.specs.Prelude.{◌≡◌, ℕ, IfSome, ◌<◌, ◌≤◌, ◌+◌, ◌*◌, length, replicate, None, Some, IfOk, IfErr, OnOk, OnErr, IsTrue, get_or, ◌++◌, ◌∷◌, []};
+ghost use Rattle.std.specs.Prelude.{◌≡◌, ℕ, IfSome, ◌<◌, ◌≤◌, ◌+◌, ◌*◌, length, replicate, None, Some, IfOk, IfErr, OnOk, OnErr, IsTrue, false, get_or, is_some, ◌++◌, ◌∷◌, []};
 ghost use Rattle.fv_bits.specs.Bits.{block_bits};
 ghost use Rattle.fv_codec.specs.Blocks.{IsLabel, label_at};
 ghost use Rattle.fv_container.specs.Chains.{no_containers, paged_at, parent_at, slot_count, with_container, with_parent};
@@ -9,16 +9,18 @@ ghost use Rattle.fv_container.specs.Clean.{IsCleanOn, IsCleanTree};
 ghost use Rattle.fv_container.specs.Spelled.{IsFault, IsOpened};
 ghost use Rattle.fv_disk.specs.DiskCalls.{OnlyReads};
 ghost use Rattle.fv_disk.specs.Faults.{HasBlockCause};
-ghost use Rattle.fv_image.specs.Views.{entry_count, head_of, map_vvbn};
+ghost use Rattle.fv_image.specs.Views.{entry_count, footing_of, head_of, map_vvbn};
 ghost use Rattle.fv_model.specs.Numbers.{greatest_span};
 ghost use Rattle.fv_model.specs.Space.{map_blocks};
 ghost use Rattle.fv_store.specs.Held.{StandsOn};
 ghost use Rattle.fv_volumes.specs.Finding.{AreMapEntries};
-ghost use Rattle.fv_volmap.specs.Slots.{IsVolume, Loads, slot_count as map_slot_count, stored_count};
+ghost use Rattle.fv_volmap.specs.Slots.{IsVolume, Loads, slot_at, slot_count as map_slot_count, slot_of_base, stored_count};
+ghost use Rattle.fv_volume.specs.KnownBase.{KnowBases};
 ghost use Rattle.fv_volume.specs.Loading.{AreCountedTo, Counts, IsBadLabel, IsBadMap, IsBadSlot, IsCountable, IsFilled, IsLoadFault, IsLoaded, KeptTo, KeepsOthers, LoadedTo, ReadTo, form_in};
-ghost use Rattle.fv_volume.specs.SlotReads.{AreUsedTo, HasReadSlot, HaveRead, IsAway, IsOpenedOn, IsReadable, IsSnapSlot, TakesSlot};
-ghost use Rattle.fv_volume.specs.States.{head_in, state_at};
+ghost use Rattle.fv_volume.specs.SlotReads.{AreUsedTo, HasReadSlot, HoldsBase, HaveRead, IsAway, IsOpenedOn, IsReadable, IsSnapSlot, TakesSlot};
+ghost use Rattle.fv_volume.specs.States.{head_in, parent_in, state_at};
 
+use crate::learning::learn_bases;
 use fv_codec::Label;
 use fv_container::{Container, Containers, Entry};
 use fv_disk::{Block, BlockFault, Disk, ZERO};
@@ -230,6 +232,32 @@ fn read_container<D: Disk>(
     )
 }
 
+/// Makes the slot of the base used where the label says one. It has no number yet: the maps of its parent say those, once they were read.
+#[tactic(auto, using(crate::proofs::SlotReads::holds_none, crate::proofs::SlotReads::holds_where))]
+fn hold_base(alloc: Global, map: &mut VolMap, label: &Label) -> Result<(), AllocError>
+    requires span { map.old.span ≡ label.now.span }
+    requires free { is_some (slot_at map.old slot_of_base) ≡ false }
+    ensures { OnOk result (HoldsBase (footing_of label.entry.now) map.old map.new) }
+{
+    if label.parent == 0 {
+        return Ok(());
+    }
+    let none = VolMap::new(alloc, label.span)?;
+    map.stand_on(&none, 0)
+}
+
+/// The slot of the volume that a volume stands on; `None` without a base.
+fn parent_of(state: &VolumeState) -> Option<u8>
+    requires { IfSome state.now.base (λ base. base.parent < slot_count) }
+    ensures value { result ≡ parent_in (Some state.entry.now) }
+    ensures inside { IfSome result (λ parent. parent < slot_count) }
+{
+    match state.base {
+        None => None,
+        Some(base) => Some(base.parent),
+    }
+}
+
 /// Reads the volume of a slot below 64, if it has one, and puts its container into that slot, with the slot
 /// of its parent. Its ledger isn't counted yet.
 #[tactic(auto, using(fv_disk::proofs::Resting::reads_then))]
@@ -261,9 +289,10 @@ fn load_volume<D: Disk>(
     let label = read_label(store, disk, place)?;
     let container = read_container(alloc, store, disk, &label)?;
     let snapshots = Snapshots::of_records(alloc, &label.snapshots)?;
-    let map = read_map(alloc, store, disk, &container, &snapshots, label.span)?;
-    containers.put(slot, container, None);
+    let mut map = read_map(alloc, store, disk, &container, &snapshots, label.span)?;
+    hold_base(alloc, &mut map, &label)?;
     let state = VolumeState::of_label(slot, place, &label, snapshots, map);
+    containers.put(slot, container, parent_of(&state));
     Ok(Some(state))
 }
 
@@ -349,8 +378,9 @@ fn count_volumes(states: &mut Vec<Option<VolumeState>>)
     }
 }
 
-/// Reads the volumes of all slots, and puts their containers into the slots of `containers`, which has none. The ledgers are counted once
-/// all are read: what isn't charged in a clone is said by the map of its parent's snapshot, whichever slot is the lower one.
+/// Reads the volumes of all slots, and puts their containers into the slots of `containers`, which has none. Once all are read each learns
+/// what it stands on, whichever slot is the lower one, and then the ledgers are counted: what isn't charged in a clone is said by the map of
+/// its parent's snapshot.
 pub(crate) fn load_states<D: Disk>(
     alloc: Global,
     store: &mut Store,
@@ -361,6 +391,7 @@ pub(crate) fn load_states<D: Disk>(
     requires stands { StandsOn (D.shown disk.old) store.old.pairs }
     requires none { containers.old ≡ no_containers }
     ensures kept { IfOk result (λ states. KeptTo slot_count states.items containers.new) }
+    ensures bases { IfOk result (λ states. KnowBases states.items) }
     ensures loaded { IsTrue (D.shown disk.old).tells → IfOk result (λ states. LoadedTo (D.shown disk.old).reads found.now slot_count states.items containers.new) }
     ensures fault { IsTrue (D.shown disk.old).tells → IfErr result (IsLoadFault (D.shown disk.old).reads found.now) }
     ensures only_reads { OnlyReads (D.shown disk.old) (D.shown disk.new) }
@@ -369,6 +400,7 @@ pub(crate) fn load_states<D: Disk>(
 {
     let mut states = Vec::new(alloc);
     load_volumes(alloc, store, disk, found, containers, &mut states)?;
+    learn_bases(&mut states)?;
     count_volumes(&mut states);
     Ok(states)
 }

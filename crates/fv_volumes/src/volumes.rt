@@ -14,7 +14,8 @@ ghost use Rattle.fv_model.specs.Machines.{capacity};
 ghost use Rattle.fv_root.specs.Formatted.{IsSize};
 ghost use Rattle.fv_pool.specs.declared.pool.Pool.{Pool};
 ghost use Rattle.fv_store.specs.Held.{StandsOn};
-ghost use Rattle.fv_volumes.specs.Creating.{Admits, IsMade, IsNew, with_holes, Refuses};
+ghost use Rattle.fv_volumes.specs.Footing.{AreFooted, is_snap_stood_on, is_stood_on};
+ghost use Rattle.fv_volumes.specs.Creating.{Admits, IsMade, IsNew, LacksPlace, with_holes, Refuses};
 ghost use Rattle.fv_pool.specs.Causes.{WithBlockFault};
 ghost use Rattle.fv_volume.specs.Opening.{OpensVolumes};
 ghost use Rattle.fv_volume.specs.States.{view_over, state_at, with_state};
@@ -22,9 +23,10 @@ ghost use Rattle.fv_volume.specs.Trees.{Trees, machine_in};
 ghost use Rattle.fv_volume.specs.Files.{AreStates, IsLabelled, Over};
 ghost use Rattle.fv_volume.specs.Slots.{IsFirstFree, IsFull, HasName, NoneHasName, sum_of};
 
-use crate::admit::{Admitted, admit};
+use crate::admit::{Admitted, admit, find_place};
 use crate::load::load_states;
-use crate::search::{find_name, sum_commits};
+use crate::search::{find_name, free_slot, sum_commits};
+use crate::standing::{is_snap_stood_on, is_stood_on};
 use fv_container::{Container, Containers};
 use fv_disk::{BlockFault, Disk};
 use fv_model::{Kind, Name, Refusal};
@@ -65,7 +67,7 @@ impl Volumes {
     ///
     /// # Errors
     /// `Damaged` comes only where a block that this call read isn't as it has to be: a label without its
-    /// shape, or with a base or an unknown place, neither of which can be loaded yet; a node
+    /// shape, or of a volume that is being split or has an unknown place, neither of which can be loaded yet; a node
     /// of a container without its shape, whatever position it names; or a block of a map with a bit set
     /// past the span. `DiskFault` comes only where a read failed in this call, and `Memory` where memory ran out. The
     /// pool's containers stay then.
@@ -117,6 +119,38 @@ impl Volumes {
         self.states[slot as usize].as_mut()
     }
 
+    /// The least slot that is free; `None` exactly where all 64 are in use. Costs a step for each slot.
+    pub fn free_slot(&self) -> Option<u8>
+        ensures some { IfSome result (IsFirstFree self.now) }
+        ensures none { IfNone result (IsFull self.now) }
+    {
+        free_slot(&self.states)
+    }
+
+    /// Where a new volume goes that commits so many blocks, in an aggregate of `blocks` blocks of which all volumes commit `commits`: the
+    /// least slot that is free.
+    ///
+    /// # Errors
+    /// `TooMany` where all 64 slots are in use, and else `AggregateFull` where all would commit more than the capacity. Costs a step for
+    /// each slot.
+    pub fn find_place(&self, blocks: u32, commits: u64, commit: u64) -> Result<u8, Refusal>
+        requires blocks { IsSize blocks }
+        requires sum { commits ≡ sum_of self.now }
+        ensures free { IfOk result (IsFirstFree self.now) }
+        ensures room { OnOk result (sum_of self.now + commit ≤ capacity blocks) }
+        ensures refused { IfErr result (LacksPlace self.now blocks commit) }
+    {
+        find_place(&self.states, blocks, commits, commit)
+    }
+
+    /// Gives a slot below 64 this volume, in place of what it had.
+    pub(crate) fn fill(&mut self, slot: u8, state: VolumeState)
+        requires { slot < slot_count }
+        ensures { self.new ≡ with_state self.old slot (Some state) }
+    {
+        self.states[slot as usize] = Some(state);
+    }
+
     /// Frees a slot below 64. Costs a step for what was kept of its volume.
     pub(crate) fn clear(&mut self, slot: u8)
         requires { slot < slot_count }
@@ -133,6 +167,20 @@ impl Volumes {
         ensures none { IfNone result (NoneHasName self.now name.now) }
     {
         find_name(&self.states, name)
+    }
+
+    /// Whether a clone stands on the volume of a slot, on whichever of its snapshots. Costs a step for each slot.
+    pub fn is_stood_on(&self, slot: u8) -> bool
+        ensures { result ≡ is_stood_on self.now slot }
+    {
+        is_stood_on(&self.states, slot)
+    }
+
+    /// Whether a clone stands on the snapshot with this map slot of the volume of a slot. Costs a step for each slot.
+    pub fn is_snap_stood_on(&self, slot: u8, snap: u8) -> bool
+        ensures { result ≡ is_snap_stood_on self.now slot snap }
+    {
+        is_snap_stood_on(&self.states, slot, snap)
     }
 
     /// What all volumes commit together, in blocks. Costs a step for each slot.
@@ -173,10 +221,11 @@ impl Volumes {
         ensures holes { IfOk result (λ slot. pool.new ≡ with_holes pool.old slot size) }
         ensures long { length self.new ≡ slot_count }
         ensures each { OnOk result ((s : ℕ) → IfSome (state_at self.new s) (IsLabelled s)) }
-        ensures states { OnOk result ((trees : Trees) (i : Image) → AreStates (view_over pool.old self.old i) trees self.old → AreStates (view_over pool.new self.new i) trees self.new) }
+        ensures states { OnOk result ((trees : Trees) (i : Image) → AreFooted self.old pool.old.containers → AreStates (view_over pool.old self.old i) trees self.old → AreStates (view_over pool.new self.new i) trees self.new) }
         ensures accepted { OnOk result ((trees : Trees) → Over pool.old self.old trees (λ m. refusal m (VolCreate name.now size kind) ≡ None)) }
-        ensures machine { OnOk result ((trees : Trees) (i : Image) → AreStates (view_over pool.old self.old i) trees self.old
+        ensures machine { OnOk result ((trees : Trees) (i : Image) → AreFooted self.old pool.old.containers → AreStates (view_over pool.old self.old i) trees self.old
             → machine_in pool.new self.new trees i ≡ next (machine_in pool.old self.old trees i) (VolCreate name.now size kind)) }
+        ensures footed { OnOk result (AreFooted self.old pool.old.containers → AreFooted self.new pool.new.containers) }
         ensures same { OnErr result ((self.new ≡ self.old) × (pool.new ≡ pool.old)) }
     {
         let Admitted { slot, span } = admitted;

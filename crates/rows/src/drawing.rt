@@ -33,14 +33,15 @@ impl Lot {
     }
 }
 
-/// What scripts are drawn: how many lines each has, over how many volumes, two to four where that is 0, whether these have snapshots, and
-/// whether most lines write or remove a few blocks.
+/// What scripts are drawn: how many lines each has, over how many volumes, two to four where that is 0, whether these have snapshots, whether
+/// most lines write or remove a few blocks, and whether most volumes begin as clones.
 #[derive(Clone, Copy)]
 pub struct Drawing {
     pub lines: u64,
     pub over: u64,
     pub snapshots: bool,
     pub removals: bool,
+    pub clones: bool,
 }
 
 /// A script over a few volumes, with its aggregate's blocks and the lines that ask for what these volumes hold.
@@ -88,7 +89,7 @@ const OTHERS: [&str; 13] = [
 /// The script of a seed.
 pub fn draw(alloc: Global, seed: u64, kind: Drawing) -> Result<Drawn, AllocError> {
     let mut lot = lot_of(seed);
-    let wide = kind.over > 4 || lot.below(4) == 0;
+    let wide = kind.clones || kind.over > 4 || lot.below(4) == 0;
     let volumes = if kind.over != 0 {
         kind.over.saturating_sub(1)
     } else if wide {
@@ -98,14 +99,18 @@ pub fn draw(alloc: Global, seed: u64, kind: Drawing) -> Result<Drawn, AllocError
     };
     let mut script = Vec::new(alloc);
     let capacity = if wide { 761 } else { 249 };
-    add_volumes(alloc, &mut lot, capacity, volumes, &mut script)?;
+    if kind.clones {
+        add_clones(alloc, &mut lot, volumes, &mut script)?;
+    } else {
+        add_volumes(alloc, &mut lot, capacity, volumes, &mut script)?;
+    }
     for _ in lines_in(script.as_slice())..kind.lines {
         add_command(alloc, &mut lot, volumes, kind, &mut script)?;
     }
     Ok(Drawn {
         blocks: if wide { 1024 } else { 512 },
         script,
-        looks: looks_at(alloc, volumes, kind.snapshots)?,
+        looks: looks_at(alloc, volumes, kind.snapshots || kind.clones)?,
     })
 }
 
@@ -151,6 +156,49 @@ fn add_volumes(
     Ok(())
 }
 
+/// Two volumes, each with two files and a snapshot, and the others as clones, each of the snapshot of an earlier volume and with one of its own.
+/// In 1024 blocks there is room for six, and for a few more.
+fn add_clones(
+    alloc: Global,
+    lot: &mut Lot,
+    volumes: u64,
+    script: &mut Vec<u8>,
+) -> Result<(), AllocError> {
+    add(script, "vol create v0 100 volume\n")?;
+    add_parent(alloc, 0, script)?;
+    add(script, "vol create v1 300 none\n")?;
+    add_parent(alloc, 1, script)?;
+    for volume in 2..=volumes {
+        let parent = lot.below(volume);
+        let (size, kind, _) = shape(lot);
+        let line = format!(in alloc; "clone create v{volume} v{parent} s0 {size} {kind}\n")?;
+        add(script, line.as_str())?;
+        add(
+            script,
+            format!(in alloc; "snap create v{volume} s0\n")?.as_str(),
+        )?;
+    }
+    Ok(())
+}
+
+/// Two files of one block in a volume, and a snapshot of them.
+fn add_parent(alloc: Global, volume: u64, script: &mut Vec<u8>) -> Result<(), AllocError> {
+    for file in 0..2 {
+        add(
+            script,
+            format!(in alloc; "new v{volume} f{file}\n")?.as_str(),
+        )?;
+        add(
+            script,
+            format!(in alloc; "put v{volume} f{file} 0 {file}1\n")?.as_str(),
+        )?;
+    }
+    add(
+        script,
+        format!(in alloc; "snap create v{volume} s0\n")?.as_str(),
+    )
+}
+
 /// The size and kind of a volume, and what it commits while it has no file.
 fn shape(lot: &mut Lot) -> (u64, &'static str, u64) {
     let size = lot.below(10).saturating_add(3);
@@ -174,7 +222,7 @@ fn add_content(alloc: Global, lot: &mut Lot, script: &mut Vec<u8>) -> Result<(),
     }
 }
 
-/// A line on a file, on names, on a volume, perhaps on a snapshot, or another one. Some name a volume that isn't there.
+/// A line on a file, on names, on a volume, perhaps on a snapshot or a clone, or another one. Some name a volume that isn't there.
 fn add_command(
     alloc: Global,
     lot: &mut Lot,
@@ -187,9 +235,11 @@ fn add_command(
     } else {
         lot.below(volumes.saturating_add(1))
     };
-    let line = if kind.snapshots && lot.below(3) == 0 {
+    let line = if kind.clones && lot.below(8) == 0 {
+        clone_line(alloc, lot, volume, volumes)?
+    } else if (kind.snapshots || kind.clones) && lot.below(3) == 0 {
         snapshot_line(alloc, lot, volume)?
-    } else if kind.removals && lot.below(6) != 0 {
+    } else if (kind.removals && lot.below(6) != 0) || (kind.clones && lot.below(2) == 0) {
         removal_line(alloc, lot, volume)?
     } else if lot.below(4) == 0 {
         volume_line(alloc, lot, volume)?
@@ -201,6 +251,26 @@ fn add_command(
         Ok(())
     } else {
         add_content(alloc, lot, script)
+    }
+}
+
+/// A line that makes a clone of a snapshot of some volume, which may be a clone too, or one that makes or removes what a clone can stand on.
+fn clone_line(
+    alloc: Global,
+    lot: &mut Lot,
+    volume: u64,
+    volumes: u64,
+) -> Result<String, AllocError> {
+    let parent = lot.below(volumes.saturating_add(1));
+    let snapshot = lot.below(3);
+    match lot.below(16) {
+        0..=11 => {
+            let (size, kind, _) = shape(lot);
+            format!(in alloc; "clone create v{volume} v{parent} s{snapshot} {size} {kind}\n")
+        }
+        12 => format!(in alloc; "vol destroy v{parent}\n"),
+        13 => format!(in alloc; "snap delete v{parent} s{snapshot}\n"),
+        _ => format!(in alloc; "snap create v{parent} s{snapshot}\n"),
     }
 }
 

@@ -12,7 +12,7 @@ use std::alloc::AllocError;
 const TEARS: u64 = 12;
 
 /// Plays the script of each seed of a range, each on a new aggregate. The row says how many lines each has, perhaps over how many volumes and
-/// that they have snapshots or small removals, at how many moments by lot it is stopped, and which refusals have to come among all replies.
+/// that they have snapshots, small removals or clones, at how many moments by lot it is stopped, and which refusals have to come among all replies.
 pub fn play_drawn(bench: &mut Bench, text: &str) -> Result<(), Cause> {
     let words: Vec<&str> = text.split(' ').collect(bench.alloc)?;
     let [first, "to", last, "lines", lines, rest @ ..] = words.as_slice() else {
@@ -30,11 +30,16 @@ pub fn play_drawn(bench: &mut Bench, text: &str) -> Result<(), Cause> {
         ["with", "removals", rest @ ..] => (true, rest),
         rest => (false, rest),
     };
+    let (clones, rest) = match rest {
+        ["with", "clones", rest @ ..] => (true, rest),
+        rest => (false, rest),
+    };
     let kind = Drawing {
         lines: number(lines)?,
         over,
         snapshots,
         removals,
+        clones,
     };
     play_seeds(bench, number(first)?, number(last)?, kind, rest)
 }

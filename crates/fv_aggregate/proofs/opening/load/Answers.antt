@@ -92,6 +92,7 @@ returns-clause-each g c =
       none = counted_each (λ x. x.files ≡ None) (λ x is. is.none) states e.states.counted;
       waiting = counted_each (λ x. x.fresh ≡ replicate stored_count false) (λ x is. is.fresh) states e.states.counted;
       maps = counted_each (λ x. IsVolume x.map) (λ x is. is.valid) states e.states.counted;
+      knows = e.bases;
       standing = λ m tells machine. e.standing (told tells) fresh (map tells) m (means m tells machine);
       led = λ m tells machine. e.led (told tells) fresh m (means m tells machine);
       well = λ m tells machine. e.well (told tells) fresh m (means m tells machine);

@@ -8,7 +8,7 @@ pub returns-then-is_alone-clause-alone : goal.returns-then-is_alone-clause-alone
 unfolding is_member
 returns-then-is_alone-clause-alone c = λ test v from below.
     let inside : c.args.region < c.span_of.result / 256 = grind (arith, nat_tests, test) in
-    held_below c.args.map.now v (omega (arith, inside, below, c.span_of.ensures)) ∙ c.is_alone.ensures c.if-is_alone.true v
+    held_below c.args.map.now v (omega (arith, inside, below, c.span_of.ensures)) ∙ c.is_alone.ensures.alone c.if-is_alone.true v
 
 pub returns-then-is_alone-clause-within : goal.returns-then-is_alone-clause-within
 returns-then-is_alone-clause-within c = λ test.

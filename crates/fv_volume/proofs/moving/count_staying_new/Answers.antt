@@ -1,7 +1,6 @@
-use Rattle.std.proofs.Common.{◌≡◌, length, rules}
 use Rattle.std.proofs.lemmas.Result.{IfOk-weaker}
 use Rattle.fv_volume.proofs.RightTables.{active_tells}
-use Rattle.fv_volume.proofs.Charged.{counts_new, no_length, none_by_new}
+use Rattle.fv_volume.proofs.Charged.{counts_new, none_by_new}
 use Rattle.fv_volume.proofs.OneVolumes.{root_fits}
 use Rattle.fv_volume.proofs.TakenTable.{is_told, told_cause}
 use Rattle.fv_volume.proofs.moving.count_staying_new.Goals as goal
@@ -15,5 +14,5 @@ returns-clause-staying g c = λ is. let taken = c.take_table-files.ensures in If
 pub returns-clause-cause : goal.returns-clause-cause
 returns-clause-cause g c = told_cause (g.D.Disk.shown c.args.disk.now) c.args.pool.now c.args.volume.now c.take_table-files.result c.take_table-files.ensures.table c.take_table-files.ensures.trees (c.take_table-files.ensures.held, c.take_table-files.ensures.alike) (g.D.Disk.shown c.staying_new_told-answer.new.disk).faults c.staying_new_told-answer.result c.staying_new_told-answer.ensures.cause
 
-pub returns-then-len-eq0-clause-staying : goal.returns-then-len-eq0-clause-staying
-returns-then-len-eq0-clause-staying g c = λ is. let none : length c.args.volume.now.snapshots ≡ 0 = search rules in none_by_new (g.D.Disk.shown c.args.disk.now) c.args.pool.now c.args.volume.now (no_length c.args.volume.now.snapshots none) c.args.number
+pub returns-then-has_one_table-clause-staying : goal.returns-then-has_one_table-clause-staying
+returns-then-has_one_table-clause-staying g c = λ is. none_by_new (g.D.Disk.shown c.args.disk.now) c.args.pool.now c.args.volume.now (c.has_one_table.ensures c.if-has_one_table.true) c.args.number

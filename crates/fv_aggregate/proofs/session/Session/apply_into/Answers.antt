@@ -2,19 +2,21 @@ use Rattle.std.proofs.Common.{◌≡◌, ◌≤◌, ◌+◌, ◌⊎◌, ℕ, Ok,
 use Rattle.std.specs.Prelude.{IsNone, Some}
 use Rattle.fv_aggregate.specs.Applying.{HasApplied}
 use Rattle.fv_model.specs.declared.answers.Reply.{Reply}
+use Rattle.fv_model.specs.declared.commands.Command.{Command}
 use Rattle.fv_model.specs.Space.{overhead, span_of}
 use Rattle.fv_aggregate.specs.Answers.{answer}
 use Rattle.fv_aggregate.specs.declared.fault.Fault.TheVariants.{Memory}
 use Rattle.fv_aggregate.specs.Telling.{names_from}
 use Rattle.fv_aggregate.specs.declared.session.Session.{Session}
 use Rattle.fv_model.specs.declared.answers.Reply.TheVariants.{Names}
-use Rattle.fv_model.specs.declared.commands.Command.TheVariants.{VolGuarantee, VolResize, VolStat}
+use Rattle.fv_model.specs.declared.commands.Command.TheVariants.{VolCreate, VolGuarantee, VolResize, VolStat, CloneCreate}
 use Rattle.fv_aggregate.specs.Commands.{changed_by, dirty_limit, managed_by, room_by, volume_asked}
 use Rattle.fv_aggregate.proofs.Answered.{fails}
 use Rattle.fv_aggregate.proofs.Added.{not_refused}
-use Rattle.fv_aggregate.proofs.Applied.{cp_asks, cp_built, cp_goes, cp_goes_for, cp_no_files, cp_no_list, cp_no_names, cp_no_snap, cp_no_whole, cp_replies, list_no_point, create_asks, create_built, create_goes, create_goes_for, create_no_files, create_no_list, create_no_names, create_no_point, create_no_snap, create_no_whole, create_replies, create_room, list_after, list_done, list_fails, list_replies, no_files, some_room}
+use Rattle.fv_aggregate.proofs.Applied.{cp_asks, cp_built, cp_goes, cp_goes_for, cp_no_files, cp_no_list, cp_no_names, cp_no_snap, cp_no_whole, cp_replies, list_no_point, list_after, list_done, list_fails, list_replies, no_files}
 use Rattle.fv_aggregate.proofs.Applying.{booked_each, no_step, not_dead, pointed_same, rests_as}
 use Rattle.fv_aggregate.proofs.Keeping.{keeps_but}
+use Rattle.fv_aggregate.proofs.Making.{create_made, made_applied, making_clone, making_create}
 use Rattle.fv_aggregate.specs.Reclaiming.{MakesRoom}
 use Rattle.fv_aggregate.proofs.MadeRoom.{cp_room, list_room, none_roomy, snaps_room}
 use Rattle.fv_aggregate.proofs.Ready.{stands_ready}
@@ -30,46 +32,24 @@ returns-in-Some g c =
 
 pub returns-in-VolCreate : goal.returns-in-VolCreate
 returns-in-VolCreate g c =
-    let d = g.D.Disk.shown c.args.disk.now in let e = g.D.Disk.shown c.create.new.disk in let s = c.args.self.now in
-    let n = c.create.new.self in let command = c.args.command.now in let size = c.in-VolCreate.size in
-    let room : room_by s.volumes command ≡ overhead (span_of size 0 0) = create_room command _ size _ c.in-VolCreate.is s in
+    let s = c.args.self.now in let n = c.create.new.self in let r = answer c.create.new.into c.create.result in let e = c.create.ensures in
     let fresh : IsNone s.failed = subst (λ (k : Session). IsNone k.failed) c.self.view_is (subst IsNone (sym c.in_default.is) refl) in
-    let low : (room_by s.volumes command ≡ 0) ⊎ (s.pending + room_by s.volumes command ≤ dirty_limit) → s.pending + overhead (span_of size 0 0) ≤ dirty_limit =
-    λ few. ⊎_elim (λ (none : room_by s.volumes command ≡ 0). absurd (some_room size (sym room ∙ none))) (λ (few : s.pending + room_by s.volumes command ≤ dirty_limit). subst (λ (k : ℕ). s.pending + k ≤ dirty_limit) room few) few in
-    record {
-      goes = create_goes command _ _ _ c.in-VolCreate.is d s e n (answer c.create.new.into c.create.result) c.create.ensures.runs.goes;
-      asks = λ none. create_asks command _ _ _ c.in-VolCreate.is d s e n c.create.ensures.runs.asks;
-      goes_for = λ tells last m stands. create_goes_for command _ _ _ c.in-VolCreate.is d last m e n (answer c.create.new.into c.create.result) (c.create.ensures.runs.goes_for tells last m stands);
-      reply = λ tells last m stands. create_replies command _ _ _ c.in-VolCreate.is m (answer c.create.new.into c.create.result) (c.create.ensures.reply tells last m stands);
-      plain = λ plain. record {
-        refused = c.create.ensures.refused;
-        calm = λ other idle few. c.create.ensures.calm (low few);
-        idle = λ other stays none few. c.create.ensures.calm (low few);
-        map = λ other stays places few. c.create.ensures.map (low few);
-        wanting = λ other idle few. c.create.ensures.wanting (low few);
-        damage = c.create.ensures.runs.damage;
-        unbuilt = λ fresh none. create_built command _ _ _ c.in-VolCreate.is _ none;
-        listed = λ list. create_no_list command _ _ _ c.in-VolCreate.is _ list;
-        untouched = λ list. create_no_list command _ _ _ c.in-VolCreate.is _ list;
-        pointed = λ cp. create_no_point command _ _ _ c.in-VolCreate.is _ cp;
-        unpointed = λ cp. create_no_point command _ _ _ c.in-VolCreate.is _ cp;
-        managed = λ fresh name of stays. create_no_whole command _ _ _ c.in-VolCreate.is _ name of;
-        removed = λ fresh name its. create_no_whole command _ _ _ c.in-VolCreate.is _ name (ap managed_by its);
-        snapped = λ fresh name of. create_no_snap command _ _ _ c.in-VolCreate.is _ name of;
-        snapshots = λ fresh name names. create_no_names command _ _ _ c.in-VolCreate.is _ name names;
-      };
-      on_files = λ files. create_no_files command _ _ _ c.in-VolCreate.is _ files;
-      point = λ tells last m stands cp. create_no_point command _ _ _ c.in-VolCreate.is _ cp;
-      sides = λ tells last m stands cp. create_no_point command _ _ _ c.in-VolCreate.is _ cp;
-      roomy = subst (λ (k : ℕ). MakesRoom k d s e (answer c.create.new.into c.create.result)) (sym room) c.create.ensures.roomy;
-      calm = λ other few. rests_as g.D.Disk.shown c.args.disk.now c.create.new.disk (c.create.ensures.calm (low few));
-      entries = λ other few stays. c.create.ensures.entries (low few);
-      files = λ tells none without. c.create.ensures.holding.files tells without;
-      same = λ tells none stays places same. c.create.ensures.holding.same tells same;
-      steps = record { other = λ none. refl; known = λ tells last m stands. no_step (answer c.create.new.into c.create.result) c.args.steps.now; dead = λ failed. refl };
-      numbers = λ alive. keeps_but _ s.volumes n.volumes (c.create.ensures.runs.numbers alive);
-      dead = λ failed. not_dead _ s fresh failed;
-    }
+    subst (λ (k : Command). HasApplied k (g.D.Disk.shown c.args.disk.now) c.args.disk.now s c.args.steps.now (g.D.Disk.shown c.create.new.disk) c.create.new.disk n c.args.steps.now r) (sym c.in-VolCreate.is)
+    (made_applied g.D.Disk.shown (VolCreate c.in-VolCreate.volume c.in-VolCreate.size c.in-VolCreate.kind) (making_create c.in-VolCreate.volume c.in-VolCreate.size c.in-VolCreate.kind) c.args.disk.now s c.create.new.disk n r
+    (create_made g.D.Disk.shown c.in-VolCreate.volume c.in-VolCreate.size c.in-VolCreate.kind c.args.disk.now s c.create.new.disk n r fresh e.runs e.reply e.refused e.calm e.map e.entries e.holding e.wanting e.roomy) c.args.steps.now)
+
+pub returns-in-CloneCreate : goal.returns-in-CloneCreate
+returns-in-CloneCreate g c =
+    let s = c.args.self.now in let n = c.clone_volume.new.self in let r = answer c.clone_volume.new.into c.clone_volume.result in let e = c.clone_volume.ensures in
+    let fresh : IsNone s.failed = subst (λ (k : Session). IsNone k.failed) c.self.view_is (subst IsNone (sym c.in_default.is) refl) in
+    subst (λ (k : Command). HasApplied k (g.D.Disk.shown c.args.disk.now) c.args.disk.now s c.args.steps.now (g.D.Disk.shown c.clone_volume.new.disk) c.clone_volume.new.disk n c.args.steps.now r) (sym c.in-CloneCreate.is)
+    (made_applied g.D.Disk.shown (CloneCreate c.in-CloneCreate.clone c.in-CloneCreate.parent c.in-CloneCreate.snapshot c.in-CloneCreate.size c.in-CloneCreate.kind) (making_clone c.in-CloneCreate.clone c.in-CloneCreate.parent c.in-CloneCreate.snapshot c.in-CloneCreate.size c.in-CloneCreate.kind) c.args.disk.now s c.clone_volume.new.disk n r
+    (record { fresh = fresh; runs = e.runs; reply = e.reply; refused = e.refused; calm = e.calm; map = e.map; entries = e.entries; holding = e.holding; wanting = e.wanting; roomy = e.roomy }) c.args.steps.now)
+
+pub clone_volume-requires-clause-stands : goal.clone_volume-requires-clause-stands
+clone_volume-requires-clause-stands g c =
+    let fresh : IsNone c.args.self.now.failed = subst (λ (s : Session). IsNone s.failed) c.self.view_is (subst IsNone (sym c.in_default.is) refl) in
+    stands_ready (g.D.Disk.shown c.args.disk.now) _ _ c.self.view_is c.self.invariant.2 c.requires.stands fresh
 
 pub returns-in-Cp : goal.returns-in-Cp
 returns-in-Cp g c =
@@ -199,6 +179,7 @@ serve-requires-clause-served g c =
     let at = c.in_default-command in
     record {
       not_create = at.not-VolCreate;
+      not_clone = at.not-CloneCreate;
       not_destroy = at.not-VolDestroy;
       not_resize = at.not-VolResize;
       not_guarantee = at.not-VolGuarantee;

@@ -11,7 +11,9 @@ use Rattle.fv_aggregate.specs.Commands.{AsksNothing}
 use Rattle.fv_aggregate.specs.Answers.{answer}
 use Rattle.fv_aggregate.specs.declared.session.Session.{Session}
 use Rattle.fv_aggregate.specs.Calls.{Runs}
-use Rattle.fv_aggregate.proofs.Added.{accepted_for, done_allowed, refusal_allowed, refused_as, refused_for}
+use Rattle.fv_aggregate.proofs.Added.{done_allowed, refused_for}
+use Rattle.fv_aggregate.proofs.Created.{accepted_for, create_done, refused_as}
+use Rattle.fv_aggregate.proofs.Missing.{refused_allows}
 use Rattle.fv_aggregate.proofs.Calls.{rests_asks, rests_done}
 use Rattle.fv_aggregate.proofs.Holes.{kept_entries, no_holes}
 use Rattle.fv_aggregate.specs.Reclaiming.{MakesRoom}
@@ -28,7 +30,7 @@ returns-in-Ok-clause-reply g c = λ tells last m stands.
     let long = ap (λ (s : Session). length s.volumes) (sym c.self.view_is) ∙ (c.self.invariant.0 (subst (λ (s : Session). IsNone s.failed) (sym c.self.view_is) c.requires.fresh)).housed.long in
     let a = c.in-Ok.admitted in
     let admits = subst (λ (s : Session). Admits s.volumes s.pool.found.blocks c.args.name.now c.args.size c.args.kind a.slot a.span) c.self.view_is c.in-Ok.ensures.admitted in
-    done_allowed m c.args.name.now c.args.size c.args.kind (accepted_for (g.D.Disk.shown c.args.disk.now) c.args.self.now last m long stands c.args.name.now c.args.size c.args.kind a.slot a.span admits) (answer c.make.new.into c.make.result) c.make.ensures.reply
+    done_allowed m (VolCreate c.args.name.now c.args.size c.args.kind) refl (create_done m c.args.name.now c.args.size c.args.kind) (accepted_for (g.D.Disk.shown c.args.disk.now) c.args.self.now last m long stands c.args.name.now c.args.size c.args.kind a.slot a.span admits) (answer c.make.new.into c.make.result) c.make.ensures.reply
 
 pub returns-in-Err-clause-runs : goal.returns-in-Err-clause-runs
 returns-in-Err-clause-runs g c =
@@ -41,7 +43,7 @@ returns-in-Err-clause-runs g c =
       goes = rests_done (Refused r) (overhead (span_of c.args.size 0 0)) d s c.requires.fresh c.requires.stands;
       asks = rests_asks (overhead (span_of c.args.size 0 0)) d s;
       damage = tt;
-      goes_for = λ tells last m stands. refused_for d s last m c.args.name.now c.args.size c.args.kind r (g.met.D.Disk.laws c.args.disk.now) stands (refused_as d s last m long stands c.args.name.now c.args.size c.args.kind r why);
+      goes_for = λ tells last m stands. refused_for d s last m (VolCreate c.args.name.now c.args.size c.args.kind) r (g.met.D.Disk.laws c.args.disk.now) stands (refused_as d s last m long stands c.args.name.now c.args.size c.args.kind r why);
       numbers = λ alive k known. known;
     })
 
@@ -53,7 +55,7 @@ returns-in-Err-clause-reply g c = λ tells last m stands.
     let long = ap (λ (s : Session). length s.volumes) (sym c.self.view_is) ∙ (c.self.invariant.0 (subst (λ (s : Session). IsNone s.failed) (sym c.self.view_is) c.requires.fresh)).housed.long in
     let r = c.in-Err.refusal in
     let why = subst (λ (s : Session). Refuses s.volumes s.pool.found.blocks c.args.name.now c.args.size c.args.kind r) c.self.view_is c.in-Err.ensures.why in
-    subst (Allows m (VolCreate c.args.name.now c.args.size c.args.kind)) (sym c.refuse.ensures) (refusal_allowed m c.args.name.now c.args.size c.args.kind r (refused_as (g.D.Disk.shown c.args.disk.now) c.args.self.now last m long stands c.args.name.now c.args.size c.args.kind r why))
+    subst (Allows m (VolCreate c.args.name.now c.args.size c.args.kind)) (sym c.refuse.ensures) (refused_allows m (VolCreate c.args.name.now c.args.size c.args.kind) r (refused_as (g.D.Disk.shown c.args.disk.now) c.args.self.now last m long stands c.args.name.now c.args.size c.args.kind r why))
 
 pub returns-in-Err-clause-entries : goal.returns-in-Err-clause-entries
 returns-in-Err-clause-entries g c = λ few. no_holes c.args.self.now c.args.self.now (kept_entries c.args.self.now c.args.self.now refl)

@@ -13,10 +13,11 @@ use Rattle.fv_aggregate.specs.declared.fault.Fault.{Fault}
 use Rattle.fv_aggregate.specs.Answers.{answer}
 use Rattle.fv_aggregate.specs.Calls.{KeepsHolding, MakesNoHoles, Runs}
 use Rattle.fv_aggregate.proofs.Answered.{fails}
-use Rattle.fv_aggregate.proofs.Added.{added_asks, added_for, added_goes, made_files, made_map, room_for, unmade_for, wanting_for, wanting_goes}
+use Rattle.fv_aggregate.proofs.Added.{added_asks, added_for, added_goes, made_files, made_map, unmade_for, wanting_for, wanting_goes}
 use Rattle.fv_aggregate.proofs.Applied.{own_room}
 use Rattle.fv_aggregate.proofs.Applying.{rests_as, same_map}
 use Rattle.fv_aggregate.proofs.Calls.{fails_alike}
+use Rattle.fv_aggregate.proofs.Created.{created_becomes, room_for}
 use Rattle.fv_aggregate.proofs.Holes.{added_entries, kept_entries, no_holes}
 use Rattle.fv_aggregate.specs.Reclaiming.{HasMadeRoom}
 use Rattle.fv_aggregate.proofs.MadeRoom.{failed_roomy, made_room}
@@ -36,7 +37,7 @@ returns-in_err-make_room-clause-runs g c =
       goes = fails_alike f c.from-room.result AsksNothing old s mid n made.goes;
       asks = made.asks;
       damage = made.damage;
-      goes_for = λ tells last m stands. unmade_for old s mid n c.args.name.now c.args.size c.args.kind c.from-room.result last m f (made.goes_for tells last m stands);
+      goes_for = λ tells last m stands. unmade_for old s mid n c.from-room.result last m (next m (VolCreate c.args.name.now c.args.size c.args.kind)) f (made.goes_for tells last m stands);
       numbers = made.numbers;
     }))
 
@@ -62,10 +63,10 @@ returns-in_err-add-clause-runs g c =
     subst (λ (k : ℕ). Runs {T = Reply} k AsksNothing (λ m. next m (VolCreate c.args.name.now c.args.size c.args.kind)) old s mid c.add.new.self (answer c.args.into.now c.from_residual-in_err-add.result)) room
     (subst (λ (r : Result Reply Fault). Runs c.from-room.result AsksNothing (λ m. next m (VolCreate c.args.name.now c.args.size c.args.kind)) old s mid c.add.new.self r) (sym failed)
     (subst (λ (k : Session). Runs {T = Reply} c.from-room.result AsksNothing (λ m. next m (VolCreate c.args.name.now c.args.size c.args.kind)) old s mid k (Err Memory)) (sym c.in_err-add.ensures.same) (record {
-      goes = wanting_goes old s mid n c.args.name.now c.args.size c.args.kind c.from-room.result made.goes (λ low. rests_as g.D.Disk.shown c.args.disk.now c.make_room.new.disk (c.make_room.ensures.calm low).0);
+      goes = wanting_goes old s mid n c.from-room.result made.goes (λ low. rests_as g.D.Disk.shown c.args.disk.now c.make_room.new.disk (c.make_room.ensures.calm low).0);
       asks = made.asks;
       damage = tt;
-      goes_for = λ tells last m stands. wanting_for old s mid n c.args.name.now c.args.size c.args.kind c.from-room.result last m (made.goes_for tells last m stands);
+      goes_for = λ tells last m stands. wanting_for old s mid n c.from-room.result last m (next m (VolCreate c.args.name.now c.args.size c.args.kind)) (made.goes_for tells last m stands);
       numbers = made.numbers;
     })))
 
@@ -77,34 +78,33 @@ returns-in_err-add-clause-holding g c =
 pub returns-clause-runs : goal.returns-clause-runs
 returns-clause-runs g c =
     let old = g.D.Disk.shown c.args.disk.now in let mid = g.D.Disk.shown c.make_room.new.disk in let s = c.args.self.now in
-    let n = c.make_room.new.self in let made = c.in_ok-make_room.ensures in let runs = made.runs in let added = c.in_ok-add.ensures.added in
+    let n = c.make_room.new.self in let made = c.in_ok-make_room.ensures in let runs = made.runs in let created = c.in_ok-add.ensures.added in let x = created.volume in let added = created.added in
     let room : c.from-room.result ≡ overhead c.args.admitted.span = search rules in
     subst (λ (r : Reply). Runs (overhead c.args.admitted.span) AsksNothing (λ m. next m (VolCreate c.args.name.now c.args.size c.args.kind)) old s mid c.add.new.self (Ok r)) (sym c.done.ensures)
     (subst (λ (k : ℕ). Runs k AsksNothing (λ m. next m (VolCreate c.args.name.now c.args.size c.args.kind)) old s mid c.add.new.self (Ok Done)) room (record {
-      goes = added_goes old s mid n c.args.name.now c.args.size c.args.kind c.from-room.result runs.goes made.pending made.few c.add.new.self added c.in_ok-add.ensures.pending;
-      asks = added_asks old s mid n c.args.name.now c.args.size c.args.kind c.from-room.result runs.goes runs.asks made.few c.add.new.self added c.in_ok-add.ensures.pending;
+      goes = added_goes old s mid n c.from-room.result runs.goes made.pending x c.add.new.self added c.in_ok-add.ensures.pending;
+      asks = added_asks old s mid n c.from-room.result runs.goes runs.asks made.few x c.add.new.self added c.in_ok-add.ensures.pending;
       damage = tt;
       goes_for = λ tells last m stands.
           let fits : commits m + 2 * c.from-room.result ≤ capacity m.blocks = omega (arith, room, room_for old s last m c.requires.long stands c.args.name.now c.args.size c.args.kind c.args.admitted.slot c.args.admitted.span c.requires.admitted) in
-          added_for old s mid n c.args.name.now c.args.size c.args.kind c.from-room.result (subst IsTrue (sym runs.goes.ends.tells) tells) (runs.goes.stands runs.goes.done.goes_on).stands.cache
-          last m (runs.goes_for tells last m stands) (room ∙ ap overhead c.requires.admitted.span_is)
-          (made.room tells last m stands fits) c.add.new.self added c.in_ok-add.ensures.pending;
-      numbers = λ alive k known. keeps_added n c.args.name.now c.args.size c.args.kind c.from-room.result c.add.new.self added k (runs.numbers (subst IsNone added.failed alive) k known);
+          added_for old s mid n c.from-room.result last m (next m (VolCreate c.args.name.now c.args.size c.args.kind)) (runs.goes_for tells last m stands) (made.room tells last m stands fits) x c.add.new.self added c.in_ok-add.ensures.pending
+          (λ point is. created_becomes n c.args.name.now c.args.size c.args.kind c.from-room.result c.add.new.self created mid point m is (subst IsTrue (sym runs.goes.ends.tells) tells) (runs.goes.stands runs.goes.done.goes_on).stands.cache);
+      numbers = λ alive k known. keeps_added n x c.from-room.result c.add.new.self added k (runs.numbers (subst IsNone added.failed alive) k known);
     }))
 
 pub returns-clause-holding : goal.returns-clause-holding
 returns-clause-holding g c =
-    let added = c.in_ok-add.ensures.added in
+    let created = c.in_ok-add.ensures.added in
     let held = c.in_ok-make_room.ensures.holding in
     record {
-      files = λ tells none. made_files c.make_room.new.self c.args.name.now c.args.size c.args.kind c.from-room.result c.add.new.self added (g.D.Disk.shown c.make_room.new.disk) (held.files tells none);
-      same = λ tells same. same_map c.make_room.new.self c.add.new.self (made_map c.make_room.new.self c.args.name.now c.args.size c.args.kind c.from-room.result c.add.new.self added) (held.same tells same);
+      files = λ tells none. made_files c.make_room.new.self created.volume c.from-room.result c.add.new.self created.added (g.D.Disk.shown c.make_room.new.disk) (held.files tells none);
+      same = λ tells same. same_map c.make_room.new.self c.add.new.self (made_map c.make_room.new.self created.volume c.from-room.result c.add.new.self created.added) (held.same tells same);
     }
 
 pub returns-clause-map : goal.returns-clause-map
 returns-clause-map g c = λ few.
     let room : c.from-room.result ≡ overhead c.args.admitted.span = search rules in
-    made_map c.make_room.new.self c.args.name.now c.args.size c.args.kind c.from-room.result c.add.new.self c.in_ok-add.ensures.added
+    made_map c.make_room.new.self c.in_ok-add.ensures.added.volume c.from-room.result c.add.new.self c.in_ok-add.ensures.added.added
     ∙ ap (λ (s : Session). s.pool.map) (c.in_ok-make_room.ensures.calm (subst (λ (n : ℕ). c.args.self.now.pending + n ≤ 256) (sym room) few)).1
 
 pub returns-in_err-make_room-clause-entries : goal.returns-in_err-make_room-clause-entries
@@ -123,7 +123,7 @@ pub returns-clause-entries : goal.returns-clause-entries
 returns-clause-entries g c = λ few.
     let room : c.from-room.result ≡ overhead c.args.admitted.span = search rules in
     subst (λ (s : Session). MakesNoHoles s c.add.new.self) (c.in_ok-make_room.ensures.calm (subst (λ (n : ℕ). c.args.self.now.pending + n ≤ 256) (sym room) few)).1
-    (added_entries c.make_room.new.self c.args.name.now c.args.size c.args.kind c.from-room.result c.add.new.self c.in_ok-add.ensures.added)
+    (added_entries c.make_room.new.self c.in_ok-add.ensures.added.volume c.from-room.result c.add.new.self c.in_ok-add.ensures.added.added)
 
 pub returns-in_err-make_room-clause-roomy : goal.returns-in_err-make_room-clause-roomy
 returns-in_err-make_room-clause-roomy g c =

@@ -3,7 +3,7 @@ use Rattle.fv_volmap.specs.Slots.{Volume, active_of, slot_at}
 use Rattle.fv_pool.specs.DroppingLaws.{drops_itself}
 use Rattle.fv_pool.specs.Lending.{lent_by}
 use Rattle.fv_pool.proofs.PlaceShown.{gone_shown}
-use Rattle.fv_pool.proofs.Shows.{numbers_gone}
+use Rattle.fv_pool.proofs.Shows.{had_gone, numbers_gone}
 use Rattle.fv_pool.proofs.volume_drops.VolumeDropsBlocks.gone.Goals as goal
 
 pub invariant_of-self-clause-few : goal.invariant_of-self-clause-few
@@ -38,5 +38,6 @@ returns-clause-calls g c =
         span = ap (λ (m : Volume). m.span) c.drop_number.ensures.released;
         snapshots = λ s other. ap (λ (m : Volume). slot_at m s) c.drop_number.ensures.released ∙ get_or-set_other map.slots 0 s (Some (slice_set (active_of map) c.args.vvbn false)) None other;
         numbers = numbers_gone map c.drop_number.new.map c.args.vvbn c.drop_number.ensures.valid c.drop_number.ensures.released;
+        active = had_gone map c.drop_number.new.map c.args.vvbn c.drop_number.ensures.valid c.drop_number.ensures.released;
       },
     )

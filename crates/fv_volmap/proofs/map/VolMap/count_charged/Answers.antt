@@ -1,16 +1,13 @@
 use Rattle.std.proofs.Common.{◌≡◌, ◌≤◌, None, length, ap, sym, subst, ◌∙◌, arith}
 use Rattle.std.proofs.lemmas.List.{get_or_read_under}
-use Rattle.fv_volmap.specs.Kept.{union_or}
+use Rattle.fv_volmap.specs.Kept.{IsBare, union_or}
 use Rattle.fv_volmap.specs.Slots.{AreUnited, Volume, slot_of_base, slot_at, count_beside}
 use Rattle.fv_volmap.proofs.Counting.{beside_le}
-use Rattle.fv_volmap.proofs.Rows.{stored_long, front_bare, is_united}
+use Rattle.fv_volmap.proofs.Rows.{is_united}
 use Rattle.fv_volmap.proofs.map.VolMap.count_charged.Goals as goal
 
-pub unite-requires-clause-others : goal.unite-requires-clause-others
-unite-requires-clause-others c = stored_long c.self.inside.span c.self.inside.used c.deref.result.now c.self.inside.others.items c.self.inside.active c.deref.ensures.value c.self.invariant.others_long c.self.invariant.active_long
-
-pub unite-requires-clause-bare : goal.unite-requires-clause-bare
-unite-requires-clause-bare c = front_bare c.deref.result.now c.self.inside.others.items c.self.inside.used c.self.inside.union c.deref.ensures.value c.self.invariant.bare
+pub unite_stored-requires-clause-bare : goal.unite_stored-requires-clause-bare
+unite_stored-requires-clause-bare c = subst (IsBare c.self.inside.union) (sym c.deref.ensures.value) c.self.invariant.bare
 
 pub returns-clause-charged : goal.returns-clause-charged
 returns-clause-charged c =
@@ -22,7 +19,7 @@ returns-clause-charged c =
     get_or_read_under others 24 25 c.index.result.now None c.index.ensures (omega arith) (sym kept.count) ∙ ap (λ (volume : Volume). slot_at volume slot_of_base) c.self.view_is in
     record {
       union = union;
-      united = subst (AreUnited c.args.self.now) (sym c.union_or.ensures) (is_united c.args.self.now inside.span inside.active others c.deref.result.now inside.used (union_or inside.active c.unite.new.union) c.self.view_is c.deref.ensures.value kept.active_long kept.used_to c.unite.ensures.unites);
+      united = subst (AreUnited c.args.self.now) (sym c.union_or.ensures) (is_united c.args.self.now inside.span inside.active others c.deref.result.now (union_or inside.active c.unite_stored.new.union) c.self.view_is c.deref.ensures.value kept.active_long c.unite_stored.ensures.unites);
       count_is = c.count_beside.ensures ∙ ap (count_beside union) base;
     }
 
@@ -31,5 +28,5 @@ returns-clause-most c =
     let span : c.self.inside.span ≡ c.args.self.now.span = ap (λ (volume : Volume). volume.span) c.self.view_is in
     let union = c.union_or.result.now in
     let few : count_beside union c.index.result.now ≤ length union = beside_le union c.index.result.now in
-    let len : length union ≡ length c.self.inside.active = ap length c.union_or.ensures ∙ c.unite.ensures.unites.len in
+    let len : length union ≡ length c.self.inside.active = ap length c.union_or.ensures ∙ c.unite_stored.ensures.unites.len in
     omega (arith, c.count_beside.ensures, few, len, c.self.invariant.active_long, span)

@@ -12,6 +12,8 @@ use Rattle.fv_volume.specs.Slots.{committed_by, sum_of}
 use Rattle.fv_volume.specs.States.{States, ledger_of_empty, state_at, view_over, with_state}
 use Rattle.fv_volume.proofs.Committed.{sum_with}
 use Rattle.fv_volume.specs.Trees.{machine_in}
+use Rattle.fv_volumes.specs.Footing.{AreFooted}
+use Rattle.fv_volumes.proofs.MadeFooted.{added_footed}
 use Rattle.fv_volumes.proofs.Made.{IsAdded, accepted, added_by, added_states, is_new, each_made, made_next}
 use Rattle.fv_volumes.proofs.volumes.Volumes.create.Goals as goal
 
@@ -24,9 +26,13 @@ is_added c = added_by c.args.pool.now c.self.inside.states.items c.args.admitted
     (subst (λ (s : States). Admits s c.args.pool.now.found.blocks c.args.name.now c.args.size c.args.kind c.args.admitted.slot c.args.admitted.span) (sym c.self.view_is) c.requires.admitted)
     c.in_ok-state.ensures.slot c.in_ok-state.ensures.head c.in_ok-state.ensures.ledger c.in_ok-state.ensures.named c.in_ok-state.ensures.map c.in_ok-state.ensures.rests.fresh refl refl refl c.put.ensures.put
 
+-- the clones of the session stand on what it lies on
+footed_items : (c : goal.After-put) → AreFooted c.args.self.now c.args.pool.now.containers → AreFooted c.self.inside.states.items c.args.pool.now.containers
+footed_items c = subst (λ (s : States). AreFooted s c.args.pool.now.containers) (sym c.self.view_is)
+
 pub returns-clause-states : goal.returns-clause-states
-returns-clause-states c = λ trees i are. added_states c.args.pool.now c.self.inside.states.items c.args.admitted.slot c.args.name.now c.args.size c.args.kind c.in_ok-state.state (new_pool c) (is_added c) trees i
-    (subst (λ (s : States). AreStates (view_over c.args.pool.now s i) trees s) (sym c.self.view_is) are)
+returns-clause-states c = λ trees i footed are. added_states c.args.pool.now c.self.inside.states.items c.args.admitted.slot c.args.name.now c.args.size c.args.kind c.in_ok-state.state (new_pool c) (is_added c) trees i
+    (subst (λ (s : States). AreStates (view_over c.args.pool.now s i) trees s) (sym c.self.view_is) are) (footed_items c footed)
 
 pub returns-clause-accepted : goal.returns-clause-accepted
 returns-clause-accepted c = λ trees i are.
@@ -35,9 +41,13 @@ returns-clause-accepted c = λ trees i are.
     accepted c.args.pool.now states trees i long are c.args.name.now c.args.size c.args.kind c.args.admitted.slot c.args.admitted.span c.requires.admitted
 
 pub returns-clause-machine : goal.returns-clause-machine
-returns-clause-machine c = λ trees i are. made_next c.args.pool.now c.self.inside.states.items c.args.admitted.slot c.args.name.now c.args.size c.args.kind c.in_ok-state.state (new_pool c) (is_added c) trees i
-    (subst (λ (s : States). AreStates (view_over c.args.pool.now s i) trees s) (sym c.self.view_is) are)
+returns-clause-machine c = λ trees i footed are. made_next c.args.pool.now c.self.inside.states.items c.args.admitted.slot c.args.name.now c.args.size c.args.kind c.in_ok-state.state (new_pool c) (is_added c) trees i
+    (subst (λ (s : States). AreStates (view_over c.args.pool.now s i) trees s) (sym c.self.view_is) are) (footed_items c footed)
     ∙ ap (λ (s : States). next (machine_in c.args.pool.now s trees i) (VolCreate c.args.name.now c.args.size c.args.kind)) c.self.view_is
+
+pub returns-clause-footed : goal.returns-clause-footed
+returns-clause-footed c = λ footed. added_footed c.args.pool.now c.self.inside.states.items c.args.admitted.slot c.args.name.now c.args.size c.args.kind c.in_ok-state.state (new_pool c) (is_added c)
+    (subst (λ (xs : States). (s : ℕ) → IfSome (state_at xs s) (IsLabelled s)) (sym c.self.view_is) c.requires.each) (footed_items c footed)
 
 pub returns-clause-new : goal.returns-clause-new
 returns-clause-new c =

@@ -9,12 +9,16 @@ use Rattle.fv_volume.proofs.Committed.{sum_with}
 use Rattle.fv_volume.specs.Loading.{Houses}
 use Rattle.fv_volume.specs.Slots.{sum_of}
 use Rattle.fv_volume.specs.States.{States, state_at}
-use Rattle.fv_volumes.proofs.Destroyed.{cause_of, destroy_failed, destroy_missing, destroys}
+use Rattle.fv_volumes.proofs.Destroyed.{cause_of, destroy_failed, destroy_missing, destroy_used, destroys}
 use Rattle.fv_volumes.proofs.volumes.Volumes.destroy.Goals as goal
+
+pub returns-then-is_stood_on-clause-destroys : goal.returns-then-is_stood_on-clause-destroys
+returns-then-is_stood_on-clause-destroys g c =
+    destroy_used (g.D.Disk.shown c.args.disk.now) c.args.self.now c.args.pool.now c.args.name.now c.requires.housed.long c.in-Some.slot c.in-Some.ensures.some.0 c.in-Some.ensures.some.1 (sym c.is_stood_on.ensures ∙ c.if-is_stood_on.true)
 
 pub returns-in_err-marks-in-Some-clause-destroys : goal.returns-in_err-marks-in-Some-clause-destroys
 returns-in_err-marks-in-Some-clause-destroys g c =
-    destroy_failed (g.D.Disk.shown c.args.disk.now) c.args.self.now c.args.pool.now c.args.name.now c.in-Some.slot c.in-Some.ensures.some.0 c.in-Some.ensures.some.1
+    destroy_failed (g.D.Disk.shown c.args.disk.now) c.args.self.now c.args.pool.now c.args.name.now c.requires.housed.long c.in-Some.slot c.in-Some.ensures.some.0 c.in-Some.ensures.some.1 (sym c.is_stood_on.ensures ∙ c.if-is_stood_on.false)
     c.mark_slot.new.pool c.mark_slot.ensures.leaves c.in_err-marks-in-Some.field-0.0 c.in_err-marks-in-Some.ensures.fault c.from_residual.result (search rules)
 
 pub returns-in_err-marks-in-Some-clause-cause : goal.returns-in_err-marks-in-Some-clause-cause
@@ -40,8 +44,8 @@ empty_slot-requires-clause-labelled g c = c.requires.housed.volumes c.in-Some.sl
 
 pub returns-in_ok-marks-in-Some-clause-destroys : goal.returns-in_ok-marks-in-Some-clause-destroys
 returns-in_ok-marks-in-Some-clause-destroys g c =
-    destroys (g.D.Disk.shown c.args.disk.now) c.args.self.now c.args.pool.now c.args.name.now c.in-Some.slot c.in_ok-marks-in-Some.marks c.mark_slot.new.pool c.empty_slot.new.self c.empty_slot.new.pool
-    c.in-Some.ensures.some.0 c.requires.housed c.in-Some.ensures.some.1 c.mark_slot.ensures.leaves c.in_ok-marks-in-Some.ensures.marks c.empty_slot.ensures.empties
+    destroys (g.D.Disk.shown c.args.disk.now) c.args.self.now c.args.pool.now c.args.name.now c.requires.housed.long c.in-Some.slot c.in-Some.ensures.some.0 c.in-Some.ensures.some.1 (sym c.is_stood_on.ensures ∙ c.if-is_stood_on.false)
+    c.in_ok-marks-in-Some.marks c.mark_slot.new.pool c.empty_slot.new.self c.empty_slot.new.pool c.requires.housed c.mark_slot.ensures.leaves c.in_ok-marks-in-Some.ensures.marks c.empty_slot.ensures.empties
 
 pub returns-in_ok-marks-in-Some-clause-sum : goal.returns-in_ok-marks-in-Some-clause-sum
 returns-in_ok-marks-in-Some-clause-sum g c =

@@ -1,7 +1,8 @@
 use Rattle.std.proofs.Common.{◌≡◌, ℕ, length, refl, arith}
 use Rattle.std.specs.Prelude.{IsTrue}
 use Rattle.fv_volumes.proofs.Openings.{all_led, all_ready, all_standing, all_well}
-use Rattle.fv_volumes.proofs.Viewed.{loaded_machine, loaded_states, viewed}
+use Rattle.fv_volumes.proofs.LoadedStates.{loaded_states}
+use Rattle.fv_volumes.proofs.Viewed.{loaded_machine, viewed}
 use Rattle.fv_pool.specs.Calls.{Reads}
 use Rattle.fv_pool.specs.declared.pool.Pool.{Pool}
 use Rattle.fv_pool.specs.Opening.{IsAsFound}
@@ -21,13 +22,14 @@ returns g c =
     record {
       loaded = did.loaded;
       states = did.kept;
+      bases = did.bases;
       view = λ tells none. viewed left i states did.kept.long did.kept.few (did.loaded tells) (same none);
       machine = λ tells none m is. loaded_machine left i states did.kept (did.loaded tells) (same none) m is;
-      whole = λ tells none m is. loaded_states left i states did.kept (did.loaded tells) (same none) m is (whole tells);
+      whole = λ tells none m is. loaded_states disk left states did.kept (did.loaded tells) (same none) did.bases m is (whole tells);
       ready = λ size s. all_ready (g.D.Disk.shown c.load_states.new.disk) left states did.kept did.stands size s;
       led = λ tells none m is s. all_led disk (g.D.Disk.shown c.load_states.new.disk) left states reads did.kept tells (whole tells) (did.loaded tells) (same none) m is s;
       well = λ tells none m is s. all_well disk (g.D.Disk.shown c.load_states.new.disk) left states reads did.kept (whole tells) (did.loaded tells) (same none) m is s;
-      standing = λ tells none map m is s. all_standing disk (g.D.Disk.shown c.load_states.new.disk) left states reads did.kept tells (whole tells) (did.loaded tells) (same none) map m is s;
+      standing = λ tells none map m is s. all_standing disk (g.D.Disk.shown c.load_states.new.disk) left states reads did.kept did.bases tells (whole tells) (did.loaded tells) (same none) map m is s;
       map = refl;
       kept = refl;
       found = refl;

@@ -1,5 +1,5 @@
 -- What all roots of a volume reach has an id of its own under each VVBN.
-use Rattle.std.proofs.Common.{◌≡◌, ◌≢◌, ℕ, ◌≤◌, Bool, true, false, not, ◌&&◌, List, ◌++◌, flat_map, inl, inr, Option, Some, None, refl, sym, ap, subst, ◌∙◌, arith}
+use Rattle.std.proofs.Common.{◌≡◌, ◌≢◌, ℕ, ◌≤◌, Bool, true, false, not, ◌&&◌, List, [], ◌∷◌, ◌++◌, flat_map, inl, inr, Option, Some, None, refl, sym, ap, subst, ◌∙◌, arith}
 use Rattle.std.specs.Prelude.{◌==◌, All}
 use Rattle.std.specs.List.{list_all}
 use Rattle.std.specs.Option.{option_map_or}
@@ -9,7 +9,7 @@ use Rattle.fv_disk.specs.Shown.{Shown as Disk}
 use Rattle.fv_codec.specs.declared.inode.InodeRecord.{InodeRecord}
 use Rattle.fv_codec.specs.declared.pointer.Pointer.{Pointer}
 use Rattle.fv_model.specs.Places.{Id, InodeFile, OfFile, Owner}
-use Rattle.fv_laws.proofs.Lists.{In, from_flat_map, from_map, in_either}
+use Rattle.fv_laws.proofs.Lists.{In, from_flat_map, from_map, in_either, in_left, in_right}
 use Rattle.fv_laws.proofs.Tests.{from_all}
 use Rattle.fv_tables.specs.Ids.{id_of, owner_of}
 use Rattle.fv_tables.specs.Reached.{Item, items}
@@ -20,17 +20,21 @@ use Rattle.fv_tables.proofs.Listed.{IsOneToOne}
 use Rattle.fv_tables.proofs.TablePlaces as place
 use Rattle.fv_files.specs.Apart.{Trees, stored_trees}
 use Rattle.fv_files.specs.Sharing.{owner_in}
-use Rattle.fv_image.specs.Views.{Rooted, Snap as HeadSnap}
+use Rattle.fv_image.specs.Views.{Rooted as Table, Snap as HeadSnap}
+use Rattle.fv_tree.specs.Sources.{Use}
 use Rattle.fv_pool.specs.declared.pool.Pool.{Pool}
+use Rattle.fv_pool.specs.declared.rooted.Rooted.{Rooted}
+use Rattle.fv_volmap.specs.Slots.{Slot, slot_of_base}
+use Rattle.fv_volume.specs.declared.state.Base.{Base as StateBase}
 use Rattle.fv_volume.specs.declared.state.Snap.{Snap}
 use Rattle.fv_volume.specs.declared.state.VolumeState.{VolumeState}
-use Rattle.fv_volume.specs.OneVolume.{blocks_in, standing_kept, IsKeptTable, RootStands}
+use Rattle.fv_volume.specs.OneVolume.{base_table, blocks_in, standing_kept, tables_of, IsKeptTable, IsTableIn, RootStands}
 use Rattle.fv_volume.specs.Sharing.{differs_in, pointer_in, trees_kept, SharesWith}
 use Rattle.fv_volume.specs.States.{head_in, snap_in, snaps_in}
 use Rattle.fv_volume.proofs.EachRoot.{all_in}
 use Rattle.fv_volume.proofs.SettledTables.{few_levels}
 use Rattle.fv_volume.proofs.SharedRoots.{same_number, stored_place, stored_same}
-use Rattle.fv_snapshot.proofs.AllRoots.{active_root, roots, EachShares}
+use Rattle.fv_volume.proofs.AllRoots.{active_root, roots, EachShares}
 
 -- ---- what a table reaches, by its places
 
@@ -126,20 +130,50 @@ module _ (a b : Trees) (still : (o : Option ℕ) (level place : ℕ) → differs
       let one = is.same here.owner e.level e.place here.some (ap (λ (q : Pointer). q.stamp) at ∙ there.stamp ∙ stamp ∙ sym here.stamp) in
       sym here.vvbn ∙ one.first.vvbn ∙ sym one.second.vvbn ∙ ap (λ (q : Pointer). q.vvbn) at ∙ there.vvbn
 
+-- ---- one table
+
+-- Where a table that lies whole in a slot shares with itself as tables have to, the VVBNs and ids of what it reaches are one to one.
+pub one_table : (blocks : Under) (uses : ℕ → Option Use) (slot : Slot) (now : ℕ) (root : Rooted) → IsTableIn blocks uses slot now root
+    → SharesWith (stored_trees blocks root.levels root.root) (stored_trees blocks root.levels root.root) → IsOneToOne (items (standing_at blocks root.levels root.root))
+one_table blocks uses slot now root is shares = record {
+  ids = λ a b one two. one_id (stored_trees blocks root.levels root.root) (stored_trees blocks root.levels root.root) still still shares a b (stands a one) (stands b two);
+  vvbns = λ a b one two. one_vvbn (stored_trees blocks root.levels root.root) (stored_trees blocks root.levels root.root) still still shares a b (stands a one) (stands b two);
+}
+  where
+    still : (o : Option ℕ) (level place : ℕ) → differs_in (stored_trees blocks root.levels root.root o) level place ≡ false
+    still = stored_same blocks root.levels root.root
+
+    stands : (e : Item) → In e (items (standing_at blocks root.levels root.root)) → StandsAt (stored_trees blocks root.levels root.root) e
+    stands = stands_at blocks root.levels root.root (few_levels now blocks root.levels root.root is.table)
+
 -- ---- a volume
 
 -- what the root of a map slot reaches, over the blocks of that slot
-abbrev pub items_in : Disk → Pool → VolumeState → ℕ → Rooted → List Item
+abbrev pub items_in : Disk → Pool → VolumeState → ℕ → Table → List Item
 items_in d p x k r = items (standing_at (blocks_in d p x k) r.levels r.root)
 
 -- what all roots of a volume reach
 abbrev pub all_items : Disk → Pool → VolumeState → List Item
 all_items d p x = items_in d p x 0 (head_in x).active ++ flat_map (λ (q : HeadSnap). items_in d p x q.slot q.table) (snaps_in x.snapshots)
 
+-- the roots of a volume's own tables, the active one and those of its snapshots
+abbrev pub own_roots : VolumeState → List Snap
+own_roots x = active_root x ∷ x.snapshots
+
+-- they are among all
+pub own_root : (x : VolumeState) (q : Snap) → In q (own_roots x) → In q (roots x)
+own_root x q (inl same) = inl same
+own_root x q (inr there) = inr (in_right q (base_table x.base) x.snapshots there)
+
+-- what the base table of a volume reaches, over the blocks of the slot of its base
+abbrev pub out_of : Disk → Pool → VolumeState → Option StateBase → List Item
+out_of d p x None = []
+out_of d p x (Some b) = items (standing_at (blocks_in d p x slot_of_base) b.table.levels b.table.root)
+
 module _ (d : Disk) (p : Pool) (x : VolumeState) where
   -- an item that the roots of a volume reach is one of some root's
-  pub of_root : (e : Item) → In e (all_items d p x) → (q : Snap) × (In q (roots x) × In e (items (standing_kept (blocks_in d p x) q)))
-  of_root e there = elim (in_either e (items_in d p x 0 (head_in x).active) (flat_map (λ (q : HeadSnap). items_in d p x q.slot q.table) (snaps_in x.snapshots)) there) [
+  pub of_own : (e : Item) → In e (all_items d p x) → (q : Snap) × (In q (own_roots x) × In e (items (standing_kept (blocks_in d p x) q)))
+  of_own e there = elim (in_either e (items_in d p x 0 (head_in x).active) (flat_map (λ (q : HeadSnap). items_in d p x q.slot q.table) (snaps_in x.snapshots)) there) [
     | inl first ↦ (active_root x, (inl refl, first))
     | inr later ↦ (
         let head = from_flat_map (λ (q : HeadSnap). items_in d p x q.slot q.table) e (snaps_in x.snapshots) later in
@@ -147,11 +181,21 @@ module _ (d : Disk) (p : Pool) (x : VolumeState) where
         (snap.0, (inr snap.1, subst (λ (q : HeadSnap). In e (items_in d p x q.slot q.table)) (sym snap.2) head.2)))
   ]
 
-  module _ (root : RootStands d p x 0 x.active) (kept : All (IsKeptTable d p x) x.snapshots) where
+  pub of_table : (e : Item) → In e (all_items d p x ++ out_of d p x x.base) → (q : Snap) × (In q (roots x) × In e (items (standing_kept (blocks_in d p x) q)))
+  of_table e there = elim (in_either e (all_items d p x) (out_of d p x x.base) there) [
+    | inl own ↦ (let q = of_own e own in (q.0, (own_root x q.0 q.1.0, q.1.1)))
+    | inr out ↦ (let at = by x.base out in (at.0, (inr (in_left at.0 (base_table x.base) x.snapshots at.1.0), at.1.1)))
+  ]
+    where
+      by : (o : Option StateBase) → In e (out_of d p x o) → (q : Snap) × (In q (base_table o) × In e (items (standing_kept (blocks_in d p x) q)))
+      by None none = absurd none
+      by (Some b) out = (record { slot = slot_of_base; name = b.snapshot; table = b.table }, (inl refl, out))
+
+  module _ (root : RootStands d p x 0 x.active) (kept : All (IsKeptTable d p x) (tables_of x)) where
     -- the table of each root lies whole in its slot
     pub root_lies : (q : Snap) → In q (roots x) → RootStands d p x q.slot q.table
     root_lies q (inl e) = subst (λ (s : Snap). RootStands d p x s.slot s.table) e root
-    root_lies q (inr there) = (all_in (IsKeptTable d p x) x.snapshots kept q there).1
+    root_lies q (inr there) = (all_in (IsKeptTable d p x) (tables_of x) kept q there).1
 
     stands_in : (q : Snap) → In q (roots x) → (e : Item) → In e (items (standing_kept (blocks_in d p x) q)) → StandsAt (trees_kept (blocks_in d p x) q) e
     stands_in q here = stands_at (blocks_in d p x q.slot) q.table.levels q.table.root (few_levels x.now (blocks_in d p x q.slot) q.table.levels q.table.root (root_lies q here).table)
@@ -160,10 +204,10 @@ module _ (d : Disk) (p : Pool) (x : VolumeState) where
     still_in q = stored_same (blocks_in d p x q.slot) q.table.levels q.table.root
 
     -- Where each root shares with each, VVBNs and ids are one to one.
-    pub own_ids : EachShares d p x (roots x) → IsOneToOne (all_items d p x)
+    pub own_ids : EachShares d p x (roots x) → IsOneToOne (all_items d p x ++ out_of d p x x.base)
     own_ids each = record {
-      ids = λ a b one two. let q = of_root a one in let r = of_root b two in
+      ids = λ a b one two. let q = of_table a one in let r = of_table b two in
           one_id (trees_kept (blocks_in d p x) q.0) (trees_kept (blocks_in d p x) r.0) (still_in q.0) (still_in r.0) (each q.0 r.0 q.1.0 r.1.0) a b (stands_in q.0 q.1.0 a q.1.1) (stands_in r.0 r.1.0 b r.1.1);
-      vvbns = λ a b one two. let q = of_root a one in let r = of_root b two in
+      vvbns = λ a b one two. let q = of_table a one in let r = of_table b two in
           one_vvbn (trees_kept (blocks_in d p x) q.0) (trees_kept (blocks_in d p x) r.0) (still_in q.0) (still_in r.0) (each q.0 r.0 q.1.0 r.1.0) a b (stands_in q.0 q.1.0 a q.1.1) (stands_in r.0 r.1.0 b r.1.1);
     }

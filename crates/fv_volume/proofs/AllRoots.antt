@@ -18,17 +18,18 @@ use Rattle.fv_files.specs.Sharing.{owner_in}
 use Rattle.fv_files.specs.Tables.{AreReached}
 use Rattle.fv_files.proofs.Beside.{same_or}
 use Rattle.fv_pool.specs.declared.pool.Pool.{Pool}
-use Rattle.fv_volmap.specs.Slots.{slot_at}
+use Rattle.fv_volmap.specs.Slots.{slot_at, slot_of_base}
 use Rattle.fv_pool.specs.declared.rooted.Rooted.{Rooted}
 use Rattle.fv_volume.specs.declared.state.Snap.{Snap}
 use Rattle.fv_volume.specs.declared.state.VolumeState.{VolumeState}
-use Rattle.fv_volume.specs.OneVolume.{blocks_in, shows, table_for, trees_for, uses_in, RootStands}
+use Rattle.fv_volume.specs.OneVolume.{base_table, base_told_by, blocks_in, shows, table_for, tables_of, trees_for, uses_in, IsKeptTable, RootStands}
 use Rattle.fv_volume.specs.Sharing.{pointer_in, trees_kept, AreShared, IsOnePlace, SharesWith, StandsInBlock}
 use Rattle.fv_pool.specs.Tables.{trees_by}
 use Rattle.fv_volume.proofs.ActiveRoot.{agrees, root_table}
 use Rattle.fv_volume.proofs.EachRoot.{all_among, all_in}
 use Rattle.fv_pool.proofs.OverBlocks.{same_place}
-use Rattle.fv_volume.proofs.SlotMoves.{blocks_move}
+use Rattle.fv_volume.proofs.SlotMoves.{blocks_move, root_moves}
+use Rattle.fv_volume.proofs.TablesOf.{base_all, base_slot}
 use Rattle.fv_volume.proofs.Shared.{shares_back, shares_by, IsAlike}
 use Rattle.fv_volume.proofs.SharedRoots.{stored_place, stored_same}
 
@@ -80,17 +81,17 @@ active_root x = record { slot = 0; name = []; table = x.active }
 
 -- it and those of the snapshots
 abbrev pub roots : VolumeState → List Snap
-roots x = active_root x ∷ x.snapshots
+roots x = active_root x ∷ tables_of x
 
 -- each of some roots shares with each, over the blocks of their slots
 abbrev pub EachShares : Disk → Pool → VolumeState → List Snap → Type 0
 EachShares d p x some = (q r : Snap) → In q some → In r some → SharesWith (trees_kept (blocks_in d p x) q) (trees_kept (blocks_in d p x) r)
 
 -- so do those of the snapshots, whatever of the active table is in memory
-pub kept_share : (d : Disk) (p : Pool) (x : VolumeState) → AreShared (trees_for d p x) (blocks_in d p x) x.snapshots → EachShares d p x x.snapshots
+pub kept_share : (d : Disk) (p : Pool) (x : VolumeState) → AreShared (trees_for d p x) (blocks_in d p x) (tables_of x) → EachShares d p x (tables_of x)
 kept_share d p x is q r one two =
-    all_in (λ (s : Snap). SharesWith (trees_kept (blocks_in d p x) q) (trees_kept (blocks_in d p x) s)) x.snapshots
-    (all_in (λ (s : Snap). All (λ (t : Snap). SharesWith (trees_kept (blocks_in d p x) s) (trees_kept (blocks_in d p x) t)) x.snapshots) x.snapshots is.kept q one) r two
+    all_in (λ (s : Snap). SharesWith (trees_kept (blocks_in d p x) q) (trees_kept (blocks_in d p x) s)) (tables_of x)
+    (all_in (λ (s : Snap). All (λ (t : Snap). SharesWith (trees_kept (blocks_in d p x) s) (trees_kept (blocks_in d p x) t)) (tables_of x)) (tables_of x) is.kept q one) r two
 
 module _ (d : Disk) (p : Pool) (x : VolumeState) (none : x.files ≡ None) (root : RootStands d p x 0 x.active) where
   abbrev held : Under
@@ -126,11 +127,11 @@ module _ (d : Disk) (p : Pool) (x : VolumeState) (none : x.files ≡ None) (root
       (shares_by (kept (active_root x)) b over_held is (λ o level place. inr (inr (record { pointer = sym (alike o level place).pointer; differs = sym (alike o level place).differs }))))
 
   -- Where the tables of a volume share as they have to, each root shares with each,
-  pub each_shares : AreShared (trees_for d p x) (blocks_in d p x) x.snapshots → EachShares d p x (roots x)
+  pub each_shares : AreShared (trees_for d p x) (blocks_in d p x) (tables_of x) → EachShares d p x (roots x)
   each_shares is q r one two = by one two
     where
-      with_active : (r : Snap) → In r x.snapshots → SharesWith (kept (active_root x)) (kept r)
-      with_active r there = to_slot (kept r) (all_in (λ (q : Snap). SharesWith (trees_for d p x) (kept q)) x.snapshots is.active r there)
+      with_active : (r : Snap) → In r (tables_of x) → SharesWith (kept (active_root x)) (kept r)
+      with_active r there = to_slot (kept r) (all_in (λ (q : Snap). SharesWith (trees_for d p x) (kept q)) (tables_of x) is.active r there)
 
       by : In q (roots x) → In r (roots x) → SharesWith (kept q) (kept r)
       by (inl e) (inl f) = subst (λ (s : Snap). SharesWith (kept s) (kept r)) e
@@ -140,11 +141,11 @@ module _ (d : Disk) (p : Pool) (x : VolumeState) (none : x.files ≡ None) (root
       by (inr here) (inr there) = kept_share d p x is q r here there
 
   -- and where each root does, the tables do.
-  pub are_shared : EachShares d p x (roots x) → AreShared (trees_for d p x) (blocks_in d p x) x.snapshots
+  pub are_shared : EachShares d p x (roots x) → AreShared (trees_for d p x) (blocks_in d p x) (tables_of x)
   are_shared each = record {
-    active = all_among (λ (q : Snap). SharesWith (trees_for d p x) (kept q)) x.snapshots (λ q there. from_slot (kept q) (each (active_root x) q (inl refl) (inr there)));
-    kept = all_among (λ (q : Snap). All (λ (r : Snap). SharesWith (kept q) (kept r)) x.snapshots) x.snapshots
-        (λ q one. all_among (λ (r : Snap). SharesWith (kept q) (kept r)) x.snapshots (λ r two. each q r (inr one) (inr two)));
+    active = all_among (λ (q : Snap). SharesWith (trees_for d p x) (kept q)) (tables_of x) (λ q there. from_slot (kept q) (each (active_root x) q (inl refl) (inr there)));
+    kept = all_among (λ (q : Snap). All (λ (r : Snap). SharesWith (kept q) (kept r)) (tables_of x)) (tables_of x)
+        (λ q one. all_among (λ (r : Snap). SharesWith (kept q) (kept r)) (tables_of x) (λ r two. each q r (inr one) (inr two)));
   }
 
 -- ---- roots that were a volume's before
@@ -165,10 +166,10 @@ module _ (d : Disk) (p : Pool) (x y : VolumeState) (same : y.slot ≡ x.slot) (s
         ∙ ap (λ (u : Under). stored_trees u r.table.levels r.table.root) (blocks_move d p x y same q.slot r.slot at);
   }
 
-  -- So each is, where the active one is and those of the snapshots are.
-  pub roots_moved : WasRoot d p x y some (active_root y) → All (WasRoot d p x y some) y.snapshots → (q : Snap) → In q (roots y) → WasRoot d p x y some q
+  -- So each is, where the active one is and those of the tables that are kept are.
+  pub roots_moved : WasRoot d p x y some (active_root y) → All (WasRoot d p x y some) (tables_of y) → (q : Snap) → In q (roots y) → WasRoot d p x y some q
   roots_moved first later q (inl e) = subst (WasRoot d p x y some) e first
-  roots_moved first later q (inr there) = all_in (WasRoot d p x y some) y.snapshots later q there
+  roots_moved first later q (inr there) = all_in (WasRoot d p x y some) (tables_of y) later q there
 
 -- Where no file is in memory, a volume with the same active root, whose slot 0 has the same numbers, has the same table.
 pub table_moves : (d : Disk) (p : Pool) (x y : VolumeState) → y.slot ≡ x.slot → y.active ≡ x.active → x.files ≡ None → y.files ≡ None → RootStands d p x 0 x.active → RootStands d p y 0 y.active → slot_at y.map 0 ≡ slot_at x.map 0
@@ -186,3 +187,19 @@ shares_again d p x y some was each q r one two =
     let second = was r two in
     subst (λ (t : Trees). SharesWith t (trees_kept (blocks_in d p y) r)) (sym first.trees)
     (subst (λ (t : Trees). SharesWith (trees_kept (blocks_in d p x) first.root) t) (sym second.trees) (each first.root second.root first.there second.there))
+
+-- ---- the base
+
+-- Where the slot of the base has the same numbers, the base table lies in it as before, and is told as before.
+module _ (d : Disk) (p : Pool) (x y : VolumeState) (same : y.slot ≡ x.slot) (now : y.now ≡ x.now) (at : slot_at y.map slot_of_base ≡ slot_at x.map slot_of_base) where
+  pub base_kept : All (IsKeptTable d p x) (tables_of x) → All (IsKeptTable d p y) (base_table x.base)
+  base_kept all = base_slot (IsKeptTable d p x) (IsKeptTable d p y) (λ q here is. (is.0, root_moves d p x y same q.slot q.slot (ap (slot_at y.map) here ∙ at ∙ sym (ap (slot_at x.map) here)) now q.table is.1))
+      x.base (base_all (IsKeptTable d p x) x all)
+
+  pub base_told : base_told_by (blocks_in d p y) x.base ≡ base_told_by (blocks_in d p x) x.base
+  base_told = ap (λ (u : Under). base_told_by (λ k. u) x.base) (blocks_move d p x y same slot_of_base slot_of_base at)
+
+  pub base_was : (some : List Snap) → ((q : Snap) → In q (base_table x.base) → In q some) → All (WasRoot d p x y some) (base_table x.base)
+  base_was some among = base_slot (λ (q : Snap). In q (base_table x.base)) (WasRoot d p x y some)
+      (λ q here one. root_moved d p x y same some q q refl (among q one) (ap (slot_at y.map) here ∙ at ∙ sym (ap (slot_at x.map) here)))
+      x.base (all_among (λ (q : Snap). In q (base_table x.base)) (base_table x.base) (λ q one. one))

@@ -1,0 +1,9 @@
+pub mod Asked
+pub mod Refused
+pub mod Made
+pub mod Placed
+pub mod Machine
+pub mod Held
+pub mod Next
+pub mod Spaced
+pub mod StillAdmitted

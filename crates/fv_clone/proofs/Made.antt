@@ -1,0 +1,71 @@
+-- A clone that was admitted is made of its parent.
+use Rattle.std.proofs.Common.{◌≡◌, ◌<◌, ℕ, List, Some, sym, ap, subst, ◌∙◌}
+use Rattle.std.specs.Prelude.{IfSome, IsSome, OnOk, Result, Ok, Err}
+use Rattle.std.specs.declared.alloc.AllocError.{AllocError}
+use Rattle.std.proofs.lemmas.Option.{same_Some}
+use Rattle.fv_container.specs.Chains.{paged_at, parent_at}
+use Rattle.fv_container.specs.Paged.{empty_paged}
+use Rattle.fv_image.specs.Views.{Head, entry_count}
+use Rattle.fv_model.specs.declared.commands.Kind.{Kind}
+use Rattle.fv_volmap.specs.Slots.{slot_at}
+use Rattle.fv_pool.specs.declared.pool.Pool.{Pool}
+use Rattle.fv_volume.specs.declared.state.Base.{Base}
+use Rattle.fv_volume.specs.declared.state.Snap.{Snap}
+use Rattle.fv_volume.specs.declared.state.VolumeState.{VolumeState}
+use Rattle.fv_volume.specs.Cloning.{IsCloneOf}
+use Rattle.fv_volume.specs.Files.{IsLabelled}
+use Rattle.fv_volume.specs.States.{States, state_at, with_state}
+use Rattle.fv_volumes.specs.Creating.{with_holes_on}
+use Rattle.fv_clone.specs.declared.admitting.Admitted.{Admitted}
+use Rattle.fv_clone.specs.Admitting.{CanMake}
+use Rattle.fv_clone.specs.Creating.{IsCloned}
+use Rattle.fv_clone.proofs.Asked.{base_inside, base_used, labelled_at}
+
+module _ (states : States) (pool : Pool) (name : List ℕ) (size : ℕ) (kind : Kind) (a : Admitted) (admits : CanMake states pool.found.blocks name size kind a) (each : (s : ℕ) → IfSome (state_at states s) (IsLabelled s)) where
+  -- its parent, and the snapshot
+  abbrev pub parent : VolumeState
+  parent = admits.asked.source.home.volume
+
+  abbrev pub snap : Snap
+  snap = admits.asked.source.snap
+
+  pub parent_labelled : IsLabelled admits.asked.source.home.slot parent
+  parent_labelled = labelled_at states each admits.asked.source.home.slot parent admits.asked.source.home.there
+
+  -- The base leads to the parent's slot.
+  pub home_is : a.base.parent ≡ admits.asked.source.home.slot
+  home_is = ap (λ (b : Base). b.parent) admits.base_is ∙ parent_labelled.slot_is
+
+  pub parent_there : state_at states a.base.parent ≡ Some parent
+  parent_there = ap (state_at states) home_is ∙ admits.asked.source.home.there
+
+  pub snap_slot : a.base.slot ≡ snap.slot
+  snap_slot = ap (λ (b : Base). b.slot) admits.base_is
+
+  module _ (y : VolumeState) (there : state_at states a.base.parent ≡ Some y) where
+    same : parent ≡ y
+    same = same_Some parent y (sym parent_there ∙ there)
+
+    pub inside_of : a.base.slot < 26
+    inside_of = subst (λ (n : ℕ). n < 26) (sym snap_slot) (base_inside parent admits.asked.source.home.slot a.base.snapshot snap parent_labelled admits.asked.source.found)
+
+    pub used_of : IsSome (slot_at y.map a.base.slot)
+    used_of = subst (λ (z : VolumeState). IsSome (slot_at z.map a.base.slot)) same
+        (subst (λ (n : ℕ). IsSome (slot_at parent.map n)) (sym snap_slot) (base_used parent admits.asked.source.home.slot a.base.snapshot snap parent_labelled admits.asked.source.found))
+
+    -- Once it is put in its slot it is made.
+    pub cloned_by : (state : VolumeState) → IsCloneOf y a.base a.slot name size kind a.span state → (new : States) (r : Result (Unit {0}) AllocError) → OnOk r (new ≡ with_state states state.slot (Some state))
+        → (left : Pool) → OnOk r (left ≡ with_holes_on pool state.slot state.span (Some a.base.parent))
+        → OnOk r (paged_at left.containers state.slot ≡ Some (empty_paged (entry_count state.span))) → OnOk r (parent_at left.containers state.slot ≡ Some a.base.parent) → OnOk r (IsCloned states pool name size kind a new left)
+    cloned_by state is new (Ok done) row left holes container parent_is =
+        let span : state.span ≡ a.span = ap (λ (h : Head). h.span) is.head in
+        record {
+          admits = admits;
+          state = state;
+          is = subst (λ (z : VolumeState). IsCloneOf z a.base a.slot name size kind a.span state) (sym same) is;
+          row = row ∙ ap (λ (n : ℕ). with_state states n (Some state)) is.slot_is;
+          holes = holes ∙ (λ i. with_holes_on pool (is.slot_is i) (span i) (Some a.base.parent));
+          container = ap (paged_at left.containers) (sym is.slot_is) ∙ container ∙ ap (λ (n : ℕ). Some (empty_paged (entry_count n))) span;
+          parent = ap (parent_at left.containers) (sym is.slot_is) ∙ parent_is;
+        }
+    cloned_by state is new (Err e) row left holes container parent_is = tt

@@ -1,0 +1,62 @@
+use Rattle.std.proofs.Common.{rules, ◌≡◌, ◌≤◌, ◌+◌, ℕ, IfErr, Err, true, sym, subst}
+use Rattle.fv_model.specs.Machines.{capacity}
+use Rattle.fv_model.specs.Numbers.{is_size}
+use Rattle.fv_volume.specs.Slots.{NoneHasName, sum_of}
+use Rattle.fv_volumes.specs.Creating.{LacksPlace}
+use Rattle.fv_clone.specs.Admitting.{Refuses}
+use Rattle.fv_clone.proofs.Asked.{home_of, no_base}
+use Rattle.fv_clone.proofs.Refused.{admits_by, inside_by, named_by, parent_by, place_by, source_by}
+use Rattle.fv_clone.proofs.admitting.admit.Goals as goal
+
+pub returns-in_default-base_at-clause-refused : goal.returns-in_default-base_at-clause-refused
+returns-in_default-base_at-clause-refused c =
+    let sized : is_size c.args.size ≡ true = search rules in (
+      sized,
+      (
+        home_of c.args.volumes.now c.in-Some.home c.args.parent.now c.args.snapshot.now c.in-Some.ensures.some.0 c.in-Some.ensures.some.1 c.in-Some-get.state.now (sym c.in-Some-get.ensures),
+        no_base c.in-Some-get.state.now c.args.snapshot.now c.in_default-base_at.ensures,
+      ),
+    )
+
+pub returns-then-is_some-clause-refused : goal.returns-then-is_some-clause-refused
+returns-then-is_some-clause-refused c =
+    let sized : is_size c.args.size ≡ true = search rules in (
+      sized,
+      (
+        source_by c.args.volumes.now c.in-Some.home c.args.parent.now c.args.snapshot.now c.in-Some.ensures.some.0 c.in-Some.ensures.some.1 c.in-Some-get.state.now (sym c.in-Some-get.ensures) c.in-Some-base_at.base c.in-Some-base_at.ensures,
+        search rules,
+      ),
+    )
+
+pub judge_parent-requires : goal.judge_parent-requires
+judge_parent-requires c = inside_by c.args.volumes.now c.in-Some.home c.args.parent.now c.args.snapshot.now c.in-Some.ensures.some.0 c.in-Some.ensures.some.1 c.in-Some-get.state.now (sym c.in-Some-get.ensures) c.in-Some-base_at.base c.in-Some-base_at.ensures c.requires.each
+
+pub returns-in_err-span-clause-refused : goal.returns-in_err-span-clause-refused
+returns-in_err-span-clause-refused c =
+    let sized : is_size c.args.size ≡ true = search rules in
+    let none : NoneHasName c.args.volumes.now c.args.name.now = search rules in
+    let failed : c.from_residual.result ≡ Err c.in_err-span.field-0.0 = search rules in
+    subst (λ r. IfErr r (Refuses c.args.volumes.now c.args.blocks c.args.parent.now c.args.snapshot.now c.args.name.now c.args.size c.args.kind)) (sym failed)
+    (parent_by c.args.volumes.now c.in-Some.home c.args.parent.now c.args.snapshot.now c.in-Some.ensures.some.0 c.in-Some.ensures.some.1 c.in-Some-get.state.now (sym c.in-Some-get.ensures) c.in-Some-base_at.base c.in-Some-base_at.ensures
+    c.args.blocks c.args.name.now c.args.size c.args.kind sized none c.in_err-span.field-0.0 c.in_err-span.ensures.refused)
+
+pub returns-in_err-slot-clause-refused : goal.returns-in_err-slot-clause-refused
+returns-in_err-slot-clause-refused c =
+    let sized : is_size c.args.size ≡ true = search rules in
+    let none : NoneHasName c.args.volumes.now c.args.name.now = search rules in
+    let failed : c.from_residual-in_err-slot.result ≡ Err c.in_err-slot.field-0.0 = search rules in
+    subst (λ r. IfErr r (Refuses c.args.volumes.now c.args.blocks c.args.parent.now c.args.snapshot.now c.args.name.now c.args.size c.args.kind)) (sym failed)
+    (place_by c.args.volumes.now c.in-Some.home c.args.parent.now c.args.snapshot.now c.in-Some.ensures.some.0 c.in-Some.ensures.some.1 c.in-Some-get.state.now (sym c.in-Some-get.ensures) c.in-Some-base_at.base c.in-Some-base_at.ensures
+    c.args.blocks c.args.name.now c.args.size c.args.kind sized none c.in_ok-span.span c.in_ok-span.ensures.can c.in_err-slot.field-0.0
+    (subst (λ (n : ℕ). LacksPlace c.args.volumes.now c.args.blocks n c.in_err-slot.field-0.0) c.commit_of.ensures c.in_err-slot.ensures.refused))
+
+pub returns-clause-admitted : goal.returns-clause-admitted
+returns-clause-admitted c =
+    let sized : is_size c.args.size ≡ true = search rules in
+    let none : NoneHasName c.args.volumes.now c.args.name.now = search rules in
+    admits_by c.args.volumes.now c.in-Some.home c.args.parent.now c.args.snapshot.now c.in-Some.ensures.some.0 c.in-Some.ensures.some.1 c.in-Some-get.state.now (sym c.in-Some-get.ensures) c.in-Some-base_at.base c.in-Some-base_at.ensures
+    c.args.blocks c.args.name.now c.args.size c.args.kind sized none c.in_ok-span.span c.in_ok-span.ensures.can c.in_ok-slot.slot c.in_ok-slot.ensures.free
+    (subst (λ (n : ℕ). sum_of c.args.volumes.now + n ≤ capacity c.args.blocks) c.commit_of.ensures c.in_ok-slot.ensures.room)
+
+pub returns-clause-named : goal.returns-clause-named
+returns-clause-named c = named_by c.args.volumes.now c.in-Some.home c.args.parent.now c.args.snapshot.now c.in-Some.ensures.some.0 c.in-Some.ensures.some.1 c.in-Some-get.state.now (sym c.in-Some-get.ensures) c.in-Some-base_at.base c.in-Some-base_at.ensures

@@ -1,0 +1,49 @@
+//! What a volume stands on, once its parent was read.
+
+ghost use Rattle.std.specs.Prelude.{◌≡◌, ◌==◌, find, OnOk, option_copied};
+ghost use Rattle.fv_volume.specs.Files.{IsLabelled};
+ghost use Rattle.fv_volume.specs.KnownBase.{KeepsRest, KnowsBase};
+
+use crate::state::{Base, Snap, Snapshots, VolumeState};
+use std::alloc::AllocError;
+
+impl Snapshots {
+    /// The snapshot of a map slot; `None` exactly where none has it. Costs a step for each snapshot.
+    fn of_slot(&self, slot: u8) -> Option<&Snap>
+        ensures { option_copied result ≡ find (λ snap. snap.slot == slot) self.entry.now }
+    {
+        self.as_slice().iter().find(|snap| snap.slot == slot)
+    }
+}
+
+impl VolumeState {
+    /// Learns from `parent`, the volume in the slot of its base, what it stands on: the names of that and of its snapshot, the snapshot's
+    /// table, and the numbers that this reaches. Where `parent` has no such snapshot, or is wider, nothing changes: no sound image says so.
+    ///
+    /// The one error is want of memory; nothing changes then. Costs a step for each snapshot of `parent` and for each word of 64 numbers
+    /// of the span, and reads no block.
+    pub fn learn_base(&mut self, parent: &VolumeState) -> Result<(), AllocError>
+        requires labelled { IsLabelled self.old.slot self.old }
+        requires parent { IsLabelled parent.now.slot parent.now }
+        ensures rest { KeepsRest self.old self.new }
+        ensures knows { OnOk result (KnowsBase parent.entry.now self.new) }
+    {
+        let Some(base) = self.base else {
+            return Ok(());
+        };
+        let Some(snap) = parent.snapshots.of_slot(base.slot) else {
+            return Ok(());
+        };
+        if self.span < parent.span {
+            return Ok(());
+        }
+        self.map.stand_on(&parent.map, base.slot)?;
+        self.base = Some(Base {
+            name: parent.name,
+            snapshot: snap.name,
+            table: snap.table,
+            ..base
+        });
+        Ok(())
+    }
+}
