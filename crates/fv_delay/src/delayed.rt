@@ -11,7 +11,7 @@ ghost use Rattle.fv_delay.specs.Delay.{HoldsAlone, IsKnownIn, IsSureIn, delayed_
 
 use fv_container::Container;
 use fv_model::{map_blocks, map_slot};
-use fv_volmap::VolMap;
+use fv_volmap::{MapSlot, VolMap};
 
 /// The slots whose maps stand on the disk: the active one and 24 for snapshots.
 const STORED: u32 = 25;
@@ -104,7 +104,7 @@ pub(crate) fn is_held(map: &VolMap, vvbn: u32) -> bool
 }
 
 /// Whether a slot is in use whose map stands on the disk; that of the active table always is.
-fn is_used(map: &VolMap, slot: u8) -> bool
+fn is_used(map: &VolMap, slot: MapSlot) -> bool
     requires { slot < stored_count }
     ensures { result ≡ is_used map.now slot }
 {

@@ -2,7 +2,7 @@
 
 ghost use Rattle.std.specs.Prelude.{◌≡◌, ℕ, ◌<◌, ◌||◌, true, is_some, length, take, All, Some, IfSome, OnOk, OnErr};
 ghost use Rattle.fv_bits.specs.Members.{is_member};
-ghost use Rattle.fv_volmap.specs.Slots.{has, taken_in};
+ghost use Rattle.fv_volmap.specs.Slots.{slot_of_base, has, taken_in};
 ghost use Rattle.fv_volmap.specs.Kept.{AreUsedTo, IsBare, IsLong, Unites, union_or, with_number};
 
 use crate::slots::copy;
@@ -93,7 +93,7 @@ pub(crate) fn unite_stored(
     others: &[Option<BitMap>],
     used: usize,
 )
-    requires count { length others.now ≡ 25 }
+    requires count { length others.now ≡ slot_of_base }
     requires used { AreUsedTo used others.now }
     requires long { IsLong (length active.now) union.old }
     requires others { All (IsLong (length active.now)) others.now }

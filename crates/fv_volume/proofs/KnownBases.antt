@@ -42,6 +42,16 @@ head_found n (q ∷ qs) = by (head_found n qs) (q.slot == n)
     by rest true = refl
     by rest false = rest
 
+-- so the head has the snapshot that is found
+snap_there : (parent : VolumeState) (n : ℕ) (q : Snap) → find (λ (p : Snap). p.slot == n) parent.snapshots ≡ Some q → snap_at (head_in parent) n ≡ Some (snap_in q)
+unfolding snap_at
+snap_there parent n q found = head_found n parent.snapshots ∙ ap (option_map snap_in) found
+
+-- and doesn't lack it
+pub lacks_not : (P : Type 0) (parent x : VolumeState) (b : Base) (q : Snap) → x.base ≡ Some b → find (λ (p : Snap). p.slot == b.slot) parent.snapshots ≡ Some q → IfSome x.base (λ b. snap_at (head_in parent) b.slot ≡ None → P)
+lacks_not P parent x b q based found = subst (λ (o : Option Base). IfSome o (λ b. snap_at (head_in parent) b.slot ≡ None → P)) (sym based)
+    (λ none. absurd (none-some (snap_in q) (sym none ∙ snap_there parent b.slot q found)))
+
 module _ (parent : VolumeState) (slot : ℕ) (labelled : IsLabelled slot parent) where
   -- a slot that a snapshot has is one of those that stand on the disk beside the active one,
   pub snap_inside : (n : ℕ) (p : HeadSnap) → snap_at (head_in parent) n ≡ Some p → (1 ≤ n) × (n < stored_count)
@@ -56,9 +66,8 @@ module _ (parent : VolumeState) (slot : ℕ) (labelled : IsLabelled slot parent)
 
   -- and it is used.
   pub snap_used : (n : ℕ) (q : Snap) → find (λ (p : Snap). p.slot == n) parent.snapshots ≡ Some q → (n < slot_count) × IsSome (slot_at parent.map n)
-  unfolding snap_at
   snap_used n q found =
-      let at : snap_at (head_in parent) n ≡ Some (snap_in q) = head_found n parent.snapshots ∙ ap (option_map snap_in) found in
+      let at = snap_there parent n q found in
       let inside = snap_inside n (snap_in q) at in
       let least = inside.0 in
       let greatest = inside.1 in

@@ -7,13 +7,11 @@ ghost use Rattle.fv_volume.specs.Asking.{snap_named};
 ghost use Rattle.fv_volume.specs.Cloning.{base_on, count_in, AreMapsOn, IsCloneOf};
 
 use crate::known::known_name;
-use crate::state::{Base, Snapshots, VolumeState, new_ledger};
+use crate::slots::BASE;
+use crate::state::{Base, VolumeState};
 use fv_model::{Kind, Name};
 use fv_volmap::VolMap;
 use std::alloc::{AllocError, Global};
-
-/// The slot of a base among a volume's maps.
-const BASE: u8 = 25;
 
 impl VolumeState {
     /// What a clone of the snapshot of a name stands on: this volume, and the snapshot's map slot, name and table. `None` exactly where no
@@ -63,32 +61,27 @@ impl VolumeState {
         parent: &VolumeState,
     ) -> Result<VolumeState, AllocError>
         requires size { size ≤ 500000 }
-        requires slot { base.slot < slot_count }
+        requires base { base.slot < slot_count }
         requires used { IsSome (slot_at parent.now.map base.slot) }
         requires span { parent.now.map.span ≤ span }
         ensures { IfOk result (IsCloneOf parent.entry.now base slot name.now size kind span) }
     {
         known_name(name);
-        Ok(VolumeState {
+        let now = parent.now;
+        let active = base.table;
+        let map = maps_on(alloc, span, &parent.map, base.slot)?;
+        Ok(VolumeState::made(
+            alloc,
             slot,
-            name: *name,
-            kind,
+            name,
             size,
-            most: 2 * size,
+            kind,
             span,
-            now: parent.now,
-            known: true,
-            base: Some(base),
-            active: base.table,
-            snapshots: Snapshots::new(alloc),
-            map: maps_on(alloc, span, &parent.map, base.slot)?,
-            ledger: new_ledger(size, kind, span),
-            files: None,
-            numbers: None,
-            label: 0,
-            changed: true,
-            fresh: [false; 25],
-        })
+            now,
+            Some(base),
+            active,
+            map,
+        ))
     }
 }
 

@@ -15,6 +15,7 @@ ghost use Rattle.fv_volume.specs.Loading.{IsBadLabel, form_in};
 ghost use Rattle.fv_volume.specs.SnapRecords.{record_said, records_said, snap_said};
 ghost use Rattle.fv_volume.specs.States.{footing_in, snap_in, snaps_in};
 
+use crate::slots::SNAPSHOTS;
 use crate::state::{Base, Snap};
 use fv_codec::{Label, Pointer, SnapRecord};
 use fv_disk::{Block, BlockFault, Disk, ZERO};
@@ -139,11 +140,11 @@ fn record_at(snaps: &[Snap], slot: u8) -> SnapRecord
 }
 
 /// The records of the map slots from 1 to 24.
-pub(crate) fn records_of(snaps: &[Snap]) -> [SnapRecord; 24]
+pub(crate) fn records_of(snaps: &[Snap]) -> [SnapRecord; SNAPSHOTS]
     ensures { result ≡ records_said (snaps_in snaps.entry.now) }
 {
-    let mut records = [FREE; 24];
-    for at in 0..24 {
+    let mut records = [FREE; SNAPSHOTS];
+    for at in 0..SNAPSHOTS {
         records[at] = record_at(snaps, at as u8 + 1);
     }
     records

@@ -7,6 +7,7 @@ ghost use Rattle.fv_model.specs.Numbers.{greatest_span};
 ghost use Rattle.fv_model.specs.Space.{map_blocks};
 ghost use Rattle.fv_volmap.specs.Slots.{stored_count};
 
+use crate::slots::STORED;
 use fv_model::map_blocks;
 
 /// How many entries the container of a volume of this span has: one for each VVBN of the span and for each block of 25 maps, 1,049,376 at
@@ -16,7 +17,7 @@ pub fn entry_count(span: u32) -> u32
     ensures value { result ≡ entry_count span }
     ensures most { result ≤ most_entries }
 {
-    span + 25 * map_blocks(span)
+    span + STORED as u32 * map_blocks(span)
 }
 
 /// The VVBN of block `index` of the map of a slot below 25: behind the span the blocks of the maps lie slot by slot, slot 0 that of the

@@ -1,8 +1,10 @@
 //! What a volume stands on, once its parent was read.
 
-ghost use Rattle.std.specs.Prelude.{◌≡◌, ◌==◌, find, OnOk, option_copied};
+ghost use Rattle.std.specs.Prelude.{◌≡◌, ◌==◌, ◌<◌, find, None, IfSome, OnErr, OnOk, option_copied};
+ghost use Rattle.fv_image.specs.Volumes.{snap_at};
 ghost use Rattle.fv_volume.specs.Files.{IsLabelled};
 ghost use Rattle.fv_volume.specs.KnownBase.{KeepsRest, KnowsBase};
+ghost use Rattle.fv_volume.specs.States.{head_in};
 
 use crate::state::{Base, Snap, Snapshots, VolumeState};
 use std::alloc::AllocError;
@@ -25,6 +27,9 @@ impl VolumeState {
     pub fn learn_base(&mut self, parent: &VolumeState) -> Result<(), AllocError>
         requires labelled { IsLabelled self.old.slot self.old }
         requires parent { IsLabelled parent.now.slot parent.now }
+        ensures failed { OnErr result (self.new ≡ self.old) }
+        ensures lacking { IfSome self.old.base (λ base. snap_at (head_in parent.entry.now) base.slot ≡ None → self.new ≡ self.old) }
+        ensures wider { self.old.span < parent.entry.now.span → self.new ≡ self.old }
         ensures rest { KeepsRest self.old self.new }
         ensures knows { OnOk result (KnowsBase parent.entry.now self.new) }
     {

@@ -1,6 +1,6 @@
 //! One volume, as it is kept in memory.
 
-ghost use Rattle.std.specs.Prelude.{◌≡◌, ◌<◌, ◌≤◌, ◌+◌, ◌*◌, ◌-◌, ◌∷◌, ◌++◌, [], false, true, nat_lt, length, position, take, drop, All, None, IfSome, IfNone, IfOk, OnOk, OnErr, option_copied, replicate};
+ghost use Rattle.std.specs.Prelude.{◌≡◌, ◌==◌, ◌<◌, ◌≤◌, ◌+◌, ◌*◌, ◌-◌, ◌∷◌, ◌++◌, [], false, true, nat_lt, length, position, take, drop, All, None, IfSome, IfNone, IfOk, OnOk, OnErr, option_copied, replicate};
 ghost use Rattle.std.specs.List.{position_or_len};
 ghost use Rattle.fv_model.specs.Numbers.{greatest_span, most_snapshots, most_asked};
 ghost use Rattle.fv_codec.specs.Blocks.{IsLabel, IsSnapRecord};
@@ -23,6 +23,7 @@ use crate::known::known_name;
 use crate::label::{
     HOLE, base_fields, base_of, kind_number, kind_of, name_field, name_of, records_of, snap_of,
 };
+use crate::slots::{BASE, SNAPSHOTS, STORED};
 use fv_charge::{Ledger, overhead};
 use fv_codec::{Label, SnapRecord};
 use fv_files::{FileNumbers, Files};
@@ -87,13 +88,16 @@ impl Snapshots {
 
     /// The snapshots that the used ones of a label's 24 records say, of the map slots from 1 on: record 0 is that of slot 1. The one error
     /// is want of memory. Costs a step for each record, and memory for each snapshot. `docs/FORMAT.md` has the records.
-    pub fn of_records(alloc: Global, records: &[SnapRecord; 24]) -> Result<Snapshots, AllocError>
+    pub fn of_records(
+        alloc: Global,
+        records: &[SnapRecord; SNAPSHOTS],
+    ) -> Result<Snapshots, AllocError>
         requires { All IsSnapRecord records.now }
         ensures said { IfOk result (λ snaps. snaps_in snaps ≡ snaps_from 1 records.entry.now) }
         ensures long { length records.entry.now ≡ 24 }
     {
         let mut snaps = Snapshots::new(alloc);
-        for at in 0..24 {
+        for at in 0..SNAPSHOTS {
             snaps.add_said(&records[at], at as u8 + 1)?;
         }
         Ok(snaps)
@@ -164,7 +168,7 @@ impl Snapshots {
         ensures free { IfSome result (IsLeastFree self.now) }
         ensures full { IfNone result (AreSlotsFull self.now) }
     {
-        for slot in 1..25 {
+        for slot in 1..BASE {
             if !self.has_slot(slot) {
                 return Some(slot);
             }
@@ -251,7 +255,7 @@ pub struct VolumeState {
     /// Whether the next consistency point has something to write.
     pub(crate) changed: bool,
     /// Whether the map of each slot waits to be written: a snapshot's that was kept since the last consistency point.
-    pub(crate) fresh: [bool; 25],
+    pub(crate) fresh: [bool; STORED],
 }
 
 impl VolumeState {
@@ -279,29 +283,12 @@ impl VolumeState {
         ensures named { is_name name.now ≡ true }
     {
         known_name(name);
-        Ok(VolumeState {
-            slot,
-            name: *name,
-            kind,
-            size,
-            most: 2 * size,
-            span,
-            now: 0,
-            known: true,
-            base: None,
-            active: Rooted {
-                levels: 0,
-                root: HOLE,
-            },
-            snapshots: Snapshots::new(alloc),
-            map: VolMap::new(alloc, span)?,
-            ledger: new_ledger(size, kind, span),
-            files: None,
-            numbers: None,
-            label: 0,
-            changed: true,
-            fresh: [false; 25],
-        })
+        let active = Rooted {
+            levels: 0,
+            root: HOLE,
+        };
+        let map = VolMap::new(alloc, span)?;
+        Ok(VolumeState::made(alloc, slot, name, size, kind, span, 0, None, active, map))
     }
 
     /// The volume that a label at this PVBN says, for a slot below 64, with its snapshots and the maps of its tables. It hasn't changed,
@@ -351,14 +338,13 @@ impl VolumeState {
             numbers: None,
             label: place,
             changed: false,
-            fresh: [false; 25],
+            fresh: [false; STORED],
         }
     }
 
     /// Whether it keeps no table beside the active one, neither that of a snapshot nor that of a base. Costs one step.
-    #[tactic(auto, using(crate::proofs::TablesOf::no_tables))]
     pub(crate) fn has_one_table(&self) -> bool
-        ensures { result ≡ true → tables_of self.entry.now ≡ [] }
+        ensures { result ≡ (length (tables_of self.entry.now) == 0) }
     {
         self.base.is_none() && self.snapshots.len() == 0
     }
@@ -393,7 +379,7 @@ impl VolumeState {
         ensures most { result ≤ 24 }
     {
         let mut count = 0;
-        for slot in 1..25 {
+        for slot in 1..STORED {
             if self.fresh[slot] {
                 count += 1;
             }
@@ -462,7 +448,7 @@ impl VolumeState {
     {
         self.label = label;
         self.changed = false;
-        self.fresh = [false; 25];
+        self.fresh = [false; STORED];
     }
 }
 

@@ -234,16 +234,15 @@ fn read_container<D: Disk>(
 
 /// Makes the slot of the base used where the label says one. It has no number yet: the maps of its parent say those, once they were read.
 #[tactic(auto, using(crate::proofs::SlotReads::holds_none, crate::proofs::SlotReads::holds_where))]
-fn hold_base(alloc: Global, map: &mut VolMap, label: &Label) -> Result<(), AllocError>
-    requires span { map.old.span ≡ label.now.span }
+fn hold_base(map: &mut VolMap, label: &Label) -> Result<(), AllocError>
+    requires least { 1 ≤ map.old.span }
     requires free { is_some (slot_at map.old slot_of_base) ≡ false }
     ensures { OnOk result (HoldsBase (footing_of label.entry.now) map.old map.new) }
 {
     if label.parent == 0 {
         return Ok(());
     }
-    let none = VolMap::new(alloc, label.span)?;
-    map.stand_on(&none, 0)
+    take_zeros(map, 25, 0)
 }
 
 /// The slot of the volume that a volume stands on; `None` without a base.
@@ -290,7 +289,7 @@ fn load_volume<D: Disk>(
     let container = read_container(alloc, store, disk, &label)?;
     let snapshots = Snapshots::of_records(alloc, &label.snapshots)?;
     let mut map = read_map(alloc, store, disk, &container, &snapshots, label.span)?;
-    hold_base(alloc, &mut map, &label)?;
+    hold_base(&mut map, &label)?;
     let state = VolumeState::of_label(slot, place, &label, snapshots, map);
     containers.put(slot, container, parent_of(&state));
     Ok(Some(state))

@@ -5,7 +5,6 @@ ghost use Rattle.std.specs.Option.{is_some, option_map, option_copied_mut};
 ghost use Rattle.fv_disk.specs.Shown.{Image};
 ghost use Rattle.fv_container.specs.Chains.{paged_at, slot_count, with_container, with_parent};
 ghost use Rattle.fv_container.specs.Paged.{empty_paged};
-ghost use Rattle.fv_image.specs.Views.{entry_count};
 ghost use Rattle.fv_model.specs.declared.commands.Command.TheVariants.{VolCreate};
 ghost use Rattle.fv_model.specs.Numbers.{greatest_span};
 ghost use Rattle.fv_model.specs.Refusals.{refusal, next};
@@ -27,10 +26,10 @@ use crate::admit::{Admitted, admit, find_place};
 use crate::load::load_states;
 use crate::search::{find_name, free_slot, sum_commits};
 use crate::standing::{is_snap_stood_on, is_stood_on};
-use fv_container::{Container, Containers};
+use fv_container::Containers;
 use fv_disk::{BlockFault, Disk};
 use fv_model::{Kind, Name, Refusal};
-use fv_volume::{Pool, VolumeFault, VolumeState, entry_count};
+use fv_volume::{Pool, VolumeFault, VolumeState};
 use std::alloc::{AllocError, Global};
 use std::marker::Model;
 
@@ -229,14 +228,8 @@ impl Volumes {
         ensures same { OnErr result ((self.new ≡ self.old) × (pool.new ≡ pool.old)) }
     {
         let Admitted { slot, span } = admitted;
-        let container = Container::new(self.alloc, entry_count(span))?;
         let state = VolumeState::empty(self.alloc, slot, name, size, kind, span)?;
-        // It was admitted, so all commit no more than the aggregate has blocks.
-        *commits = commits
-            .saturating_add(state.ledger.commit())
-            .min(u64::from(pool.found.blocks));
-        self.states[slot as usize] = Some(state);
-        pool.containers.put(slot, container, None);
+        self.put(pool, commits, state, None)?;
         Ok(slot)
     }
 
