@@ -76,9 +76,9 @@ module _ (disk : Shown) (pool : Pool) (states : States) (long : length states �
   refused_held name size kind VolumeExists is = tried name size kind ∙ (λ j. chain (not (is.0 j)) (taken name is.1.0 is.1.1 j) (has_all_volumes m) (is_aggregate_full (effect m (VolCreate name size kind))))
   refused_held name size kind TooMany is = tried name size kind ∙ (λ j. chain (not (is.0 j)) (is_free name is.1.0 j) (no_more is.1.1 j) (is_aggregate_full (effect m (VolCreate name size kind))))
   refused_held name size kind AggregateFull is =
-      let full : is_aggregate_full (effect m (VolCreate name size kind)) ≡ true = grind (arith, nat_tests, after name size kind is.name_is, size_after name size kind, is.full) in
-      tried name size kind ∙ (λ j. chain (not (is.size_is j)) (is_free name is.name_is j) (some_more is.slot is.free j) (full j))
-  refused_held name size kind r is = absurd is
+      let full : is_aggregate_full (effect m (VolCreate name size kind)) ≡ true = grind (arith, nat_tests, after name size kind is.1.0, size_after name size kind, is.1.1.1.1) in
+      tried name size kind ∙ (λ j. chain (not (is.0 j)) (is_free name is.1.0 j) (some_more is.1.1.0 is.1.1.1.0 j) (full j))
+  refused_held name size kind r is = absurd is.1.1
 
   pub accepted_held : (name : List ℕ) (size : ℕ) (kind : Kind) (slot span : ℕ) → Admits states pool.found.blocks name size kind slot span → refusal m (VolCreate name size kind) ≡ None
   unfolding chain

@@ -21,9 +21,11 @@ use Rattle.fv_aggregate.specs.declared.fault.Fault.TheVariants.{Memory}
 use Rattle.fv_aggregate.specs.declared.session.Session.{Session}
 use Rattle.fv_aggregate.specs.Calls.{Goes, GoesFor, IsForWant, IsNoDamage, IsPlain, IsUnpointed, KeepsAsking}
 use Rattle.fv_aggregate.specs.Commands.{asked_by, AsksNothing, AsksPoint, Replies, RepliesBy, volume_asked, changed_by, is_built, machine_after, managed_by, reads_files, room_by, room_with, snapped_by}
+use Rattle.fv_aggregate.specs.Deciding.{makes_volume}
 use Rattle.fv_aggregate.specs.Standing.{StandsAfter, StandsFor}
 use Rattle.fv_aggregate.specs.Telling.{names_from}
 use Rattle.fv_aggregate.proofs.Calls.{reads_itself}
+use Rattle.fv_aggregate.proofs.Decided.{undecided}
 use Rattle.fv_aggregate.proofs.Standing.{rests_for_last, stays_for}
 use Rattle.fv_aggregate.proofs.Telling.{names_are}
 
@@ -72,6 +74,7 @@ fault_plain command shown disk session f damage built whole snap names = record 
   removed = λ fresh name its. absurd (whole fresh name (ap managed_by its));
   snapped = λ fresh name of. absurd (snap fresh name of);
   snapshots = λ fresh name list. absurd (names fresh name list);
+  made = tt;
 }
 
 -- ---- a volume that is made
@@ -137,6 +140,7 @@ list_done command is shown disk session names told = record {
   removed = λ fresh name its. list_no_whole _ command is name (ap managed_by its);
   snapped = λ fresh name of. list_no_snap _ command is name of;
   snapshots = λ fresh name names. list_no_names _ command is name names;
+  made = undecided session.volumes session.pool.found.blocks command (ap makes_volume is) (Ok (Names names));
 }
 
 -- ---- cp

@@ -1,6 +1,6 @@
 -- A new volume beside those of a session between points: all of them are what they were, and the machine has one more.
-use Rattle.std.proofs.Common.{◌≡◌, ◌≢◌, ℕ, zero, suc, ◌+◌, ◌<◌, ◌≤◌, Bool, true, false, List, [], length, Option, Some, None, true≢false, refl, sym, ap, subst, ◌∙◌, ⊎_elim, arith, length-set}
-use Rattle.std.specs.Prelude.{cond, IfSome, IsTrue, replicate, ◌||◌, ◌⊎◌}
+use Rattle.std.proofs.Common.{◌≡◌, ◌≢◌, ℕ, ◌+◌, ◌<◌, ◌≤◌, true, false, List, length, Option, Some, None, true≢false, refl, sym, ap, subst, ◌∙◌, ⊎_elim, arith, length-set}
+use Rattle.std.specs.Prelude.{cond, IfSome, ◌⊎◌}
 use Rattle.std.specs.Option.{is_some, option_map}
 use Rattle.std.specs.Ordering.{eq_by_cmp}
 use Rattle.std.specs.FinMap as fin
@@ -22,15 +22,13 @@ use Rattle.fv_container.specs.declared.entry.Entry.{Entry}
 use Rattle.fv_image.specs.Views.{entry_count}
 use Rattle.fv_charge.specs.Ledgers.{committed}
 use Rattle.fv_container.proofs.Clean.{clean_none}
-use Rattle.fv_container.proofs.Leading.{any_in_range}
-use Rattle.fv_container.proofs.Named.{at_none}
-use Rattle.fv_container.specs.Mapped.{Mapped, empty_map, entry_under, node_count}
-use Rattle.fv_container.specs.Spelled.{is_at, names}
+use Rattle.fv_container.specs.Mapped.{Mapped, empty_map, node_count}
+use Rattle.fv_container.specs.Spelled.{names}
 use Rattle.fv_container.specs.Clean.{IsCleanOn}
 use Rattle.fv_container.specs.Paged.{Paged, empty_paged}
-use Rattle.fv_container.specs.Chains.{AreCleanOn, IsSlots, Slots, container_at, map_in, own_entry, paged_at, parent_at}
+use Rattle.fv_container.specs.Chains.{AreCleanOn, IsSlots, container_at, map_in, own_entry, paged_at, parent_at}
 use Rattle.fv_store.specs.Held.{StandsOn}
-use Rattle.fv_volmap.specs.Slots.{has, slot_at, slot_of_base, stored_count}
+use Rattle.fv_volmap.specs.Slots.{has, slot_at, slot_of_base}
 use Rattle.fv_pool.specs.declared.pool.Pool.{Pool}
 use Rattle.fv_pool.specs.BlocksOver.{entries_in}
 use Rattle.fv_volume.specs.declared.state.Base.{Base}
@@ -41,12 +39,13 @@ use Rattle.fv_volume.specs.OneVolume.{volume_for, IsReady}
 use Rattle.fv_volume.specs.Placing.{StaysBeside}
 use Rattle.fv_volume.specs.Slots.{committed_by, is_named, sum_of, NoneHasName}
 use Rattle.fv_volume.specs.States.{States, parent_in, state_at, with_state}
-use Rattle.fv_volume.specs.Stored.{AreSpacedIn, has_block, has_stored_map, is_of, leads, place_in}
+use Rattle.fv_volume.specs.Stored.{AreSpacedIn, has_block, has_stored_map, place_in}
 use Rattle.fv_volumes.specs.Creating.{with_holes_on}
 use Rattle.fv_volumes.specs.Footing.{AreFooted, IsFooted, IsOnBase}
 use Rattle.fv_volumes.specs.Housed.{AreHoused}
 use Rattle.fv_volumes.proofs.AddedClone.{footed_added}
 use Rattle.fv_volumes.proofs.Beside.{beside_off, StandOff}
+use Rattle.fv_volumes.proofs.HoleContainers.{none_led, none_named_in, none_of, none_under}
 use Rattle.fv_volumes.proofs.Made.{from_pairs, to_pair}
 use Rattle.fv_volumes.proofs.Told.{find_set, is_inside, named_from, none_named as none_found, same_named}
 use Rattle.fv_cp.proofs.CameIn.{lent_clean}
@@ -56,30 +55,6 @@ use Rattle.fv_cp.specs.Placing.{AreReady, HaveNoFiles, IsReadyIn}
 use Rattle.fv_aggregate.specs.Adding.{IsYetToWrite}
 use Rattle.fv_aggregate.proofs.HeldMachine.{at_name, one}
 use Rattle.fv_aggregate.proofs.YetToWrite.{none_stored}
-
--- ---- a container of holes
-
-pub no_entry : (n v : ℕ) → entry_under (empty_map n) v ≡ None
-no_entry zero v = refl
-no_entry (suc n) zero = refl
-no_entry (suc n) (suc v) = no_entry n v
-
-none_named : (n b : ℕ) → names (replicate n 0) b ≡ false
-none_named zero b = refl
-none_named (suc n) b = (λ i. at_none b i || none_named n b i)
-
-none_led : (n entries b : ℕ) → leads (empty_map n) entries b ≡ false
-unfolding leads
-none_led n entries b = so (leads (empty_map n) entries b) refl
-  where
-    so : (r : Bool) → leads (empty_map n) entries b ≡ r → r ≡ false
-    so false e = refl
-    so true e =
-        let one = any_in_range (λ v. is_at b (place_in (entry_under (empty_map n) v))) 0 entries e in
-        absurd (both_ways _ (ap (λ o. is_at b (place_in o)) (no_entry n one.0) ∙ at_none b) one.3)
-
-none_of : (x : VolumeState) (n b : ℕ) → x.label ≡ 0 → is_of x x.label (empty_map n) b ≡ false
-none_of x n b none = (λ i. is_at b (none i) || (names (empty_map n).tree b || leads (empty_map n) (entry_count x.span) b)) ∙ (λ i. at_none b i || (none_named (node_count n) b i || none_led n (entry_count x.span) b i))
 
 -- ---- what calls need of it
 
@@ -269,11 +244,11 @@ module _ (disk : Shown) (pool : Pool) (states : States) (x : VolumeState) (fit :
     slot_new : IsLentSlot disk.reads pool.found slot x (empty_paged (entry_count x.span))
     slot_new = record {
       label = λ some. absurd (some is.label);
-      nodes = λ b named. absurd (both_ways (names (empty_map (entry_count x.span)).tree b) (none_named (node_count (entry_count x.span)) b) named);
+      nodes = λ b named. absurd (both_ways (names (empty_map (entry_count x.span)).tree b) (none_named_in (node_count (entry_count x.span)) b) named);
       clean = clean_none disk.reads (entry_count x.span);
       apart = record {
-        some = λ v. subst (λ o. IfSome o (λ e. 1 ≤ e.pvbn)) (sym (no_entry (entry_count x.span) v)) tt;
-        entries = λ v w lt within some same. some (ap place_in (no_entry (entry_count x.span) v));
+        some = λ v. subst (λ o. IfSome o (λ e. 1 ≤ e.pvbn)) (sym (none_under (entry_count x.span) v)) tt;
+        entries = λ v w lt within some same. some (ap place_in (none_under (entry_count x.span) v));
         nodes = λ b named. none_led (entry_count x.span) (entry_count x.span) b;
         label = none_led (entry_count x.span) (entry_count x.span) x.label;
       };

@@ -11,6 +11,7 @@ use Rattle.fv_disk.specs.Shown.{Image}
 use Rattle.fv_bits.proofs.Counts.{passing, passing-add, passing-suc, passing_same, none_pass}
 use Rattle.fv_laws.proofs.Lists.{in_range}
 use Rattle.fv_laws.proofs.Tests.{from_all}
+use Rattle.fv_model.specs.Numbers.{most_snapshots}
 use Rattle.fv_model.specs.Space.{charge, map_blocks}
 use Rattle.fv_image.specs.HintRules.{is_splitting}
 use Rattle.fv_image.specs.Mapped.{AreInSlots}
@@ -60,12 +61,12 @@ active_count h =
     let m = map_blocks h.span in
     let below = none_between p 0 h.span (λ k low high. let test : nat_le h.span k ≡ false = grind (arith, nat_tests, high) in ap (λ (t : Bool). t && nat_lt k (h.span + m)) test) in
     let inside = all_pass p h.span m (λ k low high. let least : nat_le h.span k ≡ true = grind (arith, nat_tests, low) in let most : nat_lt k (h.span + m) ≡ true = grind (arith, nat_tests, high) in and_from (nat_le h.span k) _ least most) in
-    let above = none_pass p (h.span + m) (24 * m) (λ k from. let test : nat_lt k (h.span + m) ≡ false = grind (arith, nat_tests, from) in and_right (nat_le h.span k) _ test) in
-    let sizes : entry_count h.span ≡ h.span + (m + 24 * m) = omega arith in
-    let whole : count_by p (vvbns h.span) ≡ passing p 0 (h.span + (m + 24 * m)) = ap (passing p 0) sizes in
+    let above = none_pass p (h.span + m) (most_snapshots * m) (λ k from. let test : nat_lt k (h.span + m) ≡ false = grind (arith, nat_tests, from) in and_right (nat_le h.span k) _ test) in
+    let sizes : entry_count h.span ≡ h.span + (m + most_snapshots * m) = omega arith in
+    let whole : count_by p (vvbns h.span) ≡ passing p 0 (h.span + (m + most_snapshots * m)) = ap (passing p 0) sizes in
     let start : 0 + h.span ≡ h.span = omega arith in
-    let moved = ap (λ (a : ℕ). passing p a (m + 24 * m)) start in
-    omega (arith, whole, moved, passing-add p 0 h.span (m + 24 * m), passing-add p h.span m (24 * m), below, inside, above)
+    let moved = ap (λ (a : ℕ). passing p a (m + most_snapshots * m)) start in
+    omega (arith, whole, moved, passing-add p 0 h.span (m + most_snapshots * m), passing-add p h.span m (most_snapshots * m), below, inside, above)
 
 -- ---- one volume
 

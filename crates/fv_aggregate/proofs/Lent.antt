@@ -18,6 +18,7 @@ use Rattle.fv_image.specs.Whole.{is_held_by}
 use Rattle.fv_image.specs.Reclaimed.{IsEntryPlace, entry_at}
 use Rattle.fv_image.specs.SoundSlots.{AreDifferent}
 use Rattle.fv_image.specs.WholeMachine.{Tells}
+use Rattle.fv_image.proofs.Heads.{head_told}
 use Rattle.fv_image.proofs.Different.{different_when_once}
 use Rattle.fv_image.proofs.HeldPlaces.{block_is_held}
 use Rattle.fv_image.proofs.RootTables.{root_reach}
@@ -189,7 +190,7 @@ module _ (i : Image) (found : Found) (m : Machine) (tells : Tells (layout_at (ro
       so : (o : Option VolumeState) → state_at states s ≡ o → IfSome o (λ x. HaveBits (view_at t i) s x.span x.map) → IfSome o HasOwnSlots → IfSome o (ReachesAll (view_at t i) s)
       so None there bits slots = tt
       so (Some x) there bits slots = λ k r at v.
-          let here : (view_at t i).head s ≡ Some (head_in x) = sym (loaded.each s inside).head ∙ ap (option_map head_in) there in
+          let here : (view_at t i).head s ≡ Some (head_in x) = head_told t i s ∙ sym (loaded.each s inside).head ∙ ap (option_map head_in) there in
           let one = root_there (head_in x) k r at in
           root_bits (view_at t i) s (head_in x) x.map slots.0 slots.1 bits k r one v
           ∙ root_reach (view_at t i) s (head_in x) inside here tells.sound.tables k r one (root_few (head_in x) (numbers_at t i whole s (head_in x) here) k r one) tells.sound.maps v

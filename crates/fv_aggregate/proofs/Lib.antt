@@ -24,6 +24,7 @@ mod UnderEntries
 mod HeldEntries
 mod Opened
 mod Whole
+mod Decided
 mod Applied
 mod Missing
 mod Called

@@ -1,8 +1,10 @@
 -- `vol create` and `clone create` as `apply` has them: each makes a volume, for which it may ask for room.
-use Rattle.std.proofs.Common.{◌≡◌, ◌≢◌, ◌≤◌, ◌<◌, ◌+◌, ◌⊎◌, ⊎_elim, ℕ, Bool, true, false, List, Option, Some, None, Result, true≢false, refl, sym, ap, subst, ◌∙◌, arith}
-use Rattle.std.specs.Prelude.{IfErr, IfOk, IsNone, IsTrue, if◌then◌else◌}
+use Rattle.std.proofs.Common.{◌≡◌, ◌≢◌, ◌≤◌, ◌<◌, ◌+◌, ⊎_elim, ℕ, Bool, true, false, List, Option, Some, None, Result, Ok, true≢false, refl, sym, ap, subst, ◌∙◌, arith}
+use Rattle.std.specs.Prelude.{IfOk, IsNone, IsTrue, if◌then◌else◌}
 use Rattle.fv_disk.specs.Shown.{Shown}
+use Rattle.fv_model.specs.declared.answers.Refusal.{Refusal}
 use Rattle.fv_model.specs.declared.answers.Reply.{Reply}
+use Rattle.fv_model.specs.declared.answers.Reply.TheVariants.{Refused}
 use Rattle.fv_model.specs.declared.commands.Command.{Command}
 use Rattle.fv_model.specs.declared.commands.Command.TheVariants.{VolCreate, VolDestroy, VolList, SnapList, CloneCreate, Cp}
 use Rattle.fv_model.specs.declared.commands.Kind.{Kind}
@@ -11,16 +13,19 @@ use Rattle.fv_model.specs.Refusals.{next}
 use Rattle.fv_model.specs.Replies.{Allows}
 use Rattle.fv_model.specs.Space.{overhead, span_of}
 use Rattle.fv_aggregate.specs.declared.fault.Fault.{Fault}
-use Rattle.fv_aggregate.specs.declared.fault.Fault.TheVariants.{Memory}
 use Rattle.fv_aggregate.specs.declared.session.Session.{Session}
 use Rattle.fv_aggregate.specs.Applying.{HasApplied}
-use Rattle.fv_aggregate.specs.Calls.{Goes, GoesFor, IsWithinLimit, KeepsHolding, MakesNoHoles, Runs}
+use Rattle.fv_aggregate.specs.Calls.{Goes, GoesFor, IsWithinLimit}
 use Rattle.fv_aggregate.specs.Commands.{asked_by, Asked, AsksNothing, dirty_limit, is_built, is_refusal, machine_after, managed_by, reads_files, room_by, room_with, snapped_by, Replies, RepliesBy}
-use Rattle.fv_aggregate.specs.Reclaiming.{MakesRoom}
-use Rattle.fv_aggregate.specs.Standing.{StandsFor}
+use Rattle.fv_aggregate.specs.Deciding.{DecidesMaking}
+use Rattle.fv_aggregate.specs.Making.{MakesVolume}
+use Rattle.fv_aggregate.specs.Standing.{StandsFor, StandsReady}
 use Rattle.fv_aggregate.proofs.Applied.{own_room}
 use Rattle.fv_aggregate.proofs.Applying.{no_step, not_dead, rests_as}
+use Rattle.fv_aggregate.proofs.Calls.{rests_asks, rests_done}
+use Rattle.fv_aggregate.proofs.Holes.{kept_entries, no_holes}
 use Rattle.fv_aggregate.proofs.Keeping.{keeps_but}
+use Rattle.fv_aggregate.proofs.MadeRoom.{refused_roomy}
 
 -- a command that makes a volume, and is none of the others
 pub record IsMaking (c : Command) : Type 0 where
@@ -68,40 +73,40 @@ making_clone clone parent snapshot size kind = record {
   some_room = λ s. none_left _ (own_room _);
 }
 
--- What a call that makes a volume does, for the room of its command.
+-- What a command that makes a volume does.
 pub record HasMade {D : Type 0} (shown : D → Shown) (c : Command) (before : D) (old : Session) (after : D) (new : Session) (result : Result Reply Fault) : Type 0 where
   pub fresh : IsNone old.failed
-  pub runs : Runs (room_by old.volumes c) AsksNothing (λ m. next m c) (shown before) old (shown after) new result
+  pub makes : MakesVolume shown (room_by old.volumes c) (λ m. next m c) before old after new result
   pub reply : IsTrue (shown before).tells → (last m : Machine) → StandsFor (shown before) old last m → IfOk result (Allows m c)
+  pub decides : IfOk result (DecidesMaking old.volumes old.pool.found.blocks c)
   pub refused : IfOk result (λ reply. IsTrue (is_refusal reply) → (after ≡ before) × (new ≡ old))
-  pub calm : old.pending + room_by old.volumes c ≤ dirty_limit → after ≡ before
-  pub map : old.pending + room_by old.volumes c ≤ dirty_limit → new.pool.map ≡ old.pool.map
-  pub entries : old.pending + room_by old.volumes c ≤ dirty_limit → MakesNoHoles old new
-  pub holding : KeepsHolding (shown before) old new result
-  pub wanting : old.pending + room_by old.volumes c ≤ dirty_limit → IfErr result (λ e. e ≡ Memory → new ≡ old)
-  pub roomy : MakesRoom (room_by old.volumes c) (shown before) old (shown after) result
 
--- what `vol create` does, for the overhead of its span
-pub create_made : {D : Type 0} (shown : D → Shown) (name : List ℕ) (size : ℕ) (kind : Kind) (before : D) (old : Session) (after : D) (new : Session) (result : Result Reply Fault) → IsNone old.failed
-    → Runs (overhead (span_of size 0 0)) AsksNothing (λ m. next m (VolCreate name size kind)) (shown before) old (shown after) new result
-    → (IsTrue (shown before).tells → (last m : Machine) → StandsFor (shown before) old last m → IfOk result (Allows m (VolCreate name size kind)))
-    → IfOk result (λ reply. IsTrue (is_refusal reply) → (after ≡ before) × (new ≡ old)) → (old.pending + overhead (span_of size 0 0) ≤ dirty_limit → after ≡ before)
-    → (old.pending + overhead (span_of size 0 0) ≤ dirty_limit → new.pool.map ≡ old.pool.map) → (old.pending + overhead (span_of size 0 0) ≤ dirty_limit → MakesNoHoles old new)
-    → KeepsHolding (shown before) old new result → (old.pending + overhead (span_of size 0 0) ≤ dirty_limit → IfErr result (λ e. e ≡ Memory → new ≡ old))
-    → MakesRoom (overhead (span_of size 0 0)) (shown before) old (shown after) result → HasMade shown (VolCreate name size kind) before old after new result
-unfolding room_with
-create_made shown name size kind before old after new result fresh runs reply refused calm map entries holding wanting roomy = record {
-  fresh = fresh;
-  runs = runs;
-  reply = reply;
-  refused = refused;
-  calm = calm;
-  map = map;
-  entries = entries;
-  holding = holding;
-  wanting = wanting;
-  roomy = roomy;
+-- a refusal leaves the disk and the session
+pub refused_makes : {D : Type 0} (shown : D → Shown) (room : ℕ) (next : Machine → Machine) (at : D) (s : Session) (r : Refusal) → IsNone s.failed → StandsReady (shown at) s
+    → (IsTrue (shown at).tells → (last m : Machine) → StandsFor (shown at) s last m → GoesFor (shown at) last m (next m) (shown at) s (Ok (Refused r)))
+    → MakesVolume shown room next at s at s (Ok (Refused r))
+refused_makes shown room next at s r fresh stands goes_for = record {
+  runs = record {
+    goes = rests_done (Refused r) room (shown at) s fresh stands;
+    asks = rests_asks room (shown at) s;
+    damage = tt;
+    goes_for = goes_for;
+    numbers = λ alive k known. known;
+  };
+  calm = λ few. refl;
+  map = λ few. refl;
+  entries = λ few. no_holes s s (kept_entries s s refl);
+  holding = record { files = λ tells without. without; same = λ tells same. same };
+  wanting = λ few. tt;
+  roomy = refused_roomy room (shown at) s (shown at) r;
 }
+
+-- the room of `vol create` is the overhead of its span
+pub create_makes : {D : Type 0} (shown : D → Shown) (name : List ℕ) (size : ℕ) (kind : Kind) (before : D) (old : Session) (after : D) (new : Session) (result : Result Reply Fault)
+    → MakesVolume shown (overhead (span_of size 0 0)) (λ m. next m (VolCreate name size kind)) before old after new result
+    → MakesVolume shown (room_by old.volumes (VolCreate name size kind)) (λ m. next m (VolCreate name size kind)) before old after new result
+unfolding room_with
+create_makes shown name size kind before old after new result makes = makes
 
 module _ {D : Type 0} (shown : D → Shown) (c : Command) (is : IsMaking c) (before : D) (s : Session) (after : D) (n : Session) (result : Result Reply Fault) (made : HasMade shown c before s after n result) (steps : ℕ) where
   low : IsWithinLimit s c → s.pending + room_by s.volumes c ≤ dirty_limit
@@ -120,17 +125,17 @@ module _ {D : Type 0} (shown : D → Shown) (c : Command) (is : IsMaking c) (bef
   -- So it is as commands are applied.
   pub made_applied : HasApplied c (shown before) before s steps (shown after) after n steps result
   made_applied = record {
-    goes = subst (λ (k : Asked). Goes (room_by s.volumes c) k (shown before) s (shown after) n result) (sym (is.asks s)) made.runs.goes;
-    asks = λ none. made.runs.asks;
-    goes_for = λ tells last m stands. subst (λ (k : Machine). GoesFor (shown before) last m k (shown after) n result) (next_is m) (made.runs.goes_for tells last m stands);
+    goes = subst (λ (k : Asked). Goes (room_by s.volumes c) k (shown before) s (shown after) n result) (sym (is.asks s)) made.makes.runs.goes;
+    asks = λ none. made.makes.runs.asks;
+    goes_for = λ tells last m stands. subst (λ (k : Machine). GoesFor (shown before) last m k (shown after) n result) (next_is m) (made.makes.runs.goes_for tells last m stands);
     reply = λ tells last m stands. replies m (made.reply tells last m stands);
     plain = λ plain. record {
       refused = made.refused;
-      calm = λ other idle few. made.calm (low few);
-      idle = λ other stays none few. made.calm (low few);
-      map = λ other stays places few. made.map (low few);
-      wanting = λ other idle few. made.wanting (low few);
-      damage = made.runs.damage;
+      calm = λ other idle few. made.makes.calm (low few);
+      idle = λ other stays none few. made.makes.calm (low few);
+      map = λ other stays places few. made.makes.map (low few);
+      wanting = λ other idle few. made.makes.wanting (low few);
+      damage = made.makes.runs.damage;
       unbuilt = λ fresh none. absurd (true≢false (sym is.built ∙ none));
       listed = λ list. absurd (is.no_list list);
       untouched = λ list. absurd (is.no_list list);
@@ -140,16 +145,17 @@ module _ {D : Type 0} (shown : D → Shown) (c : Command) (is : IsMaking c) (bef
       removed = λ fresh name its. absurd (is.no_removal name its);
       snapped = λ fresh name of. none_some _ name (snapped_by c) is.no_snap of;
       snapshots = λ fresh name names. absurd (is.no_names name names);
+      made = made.decides;
     };
     on_files = λ files. absurd (true≢false (sym files ∙ is.no_files));
     point = λ tells last m stands cp. absurd (is.no_point cp);
     sides = λ tells last m stands cp. absurd (is.no_point cp);
-    roomy = made.roomy;
-    calm = λ other few. rests_as shown before after (made.calm (low few));
-    entries = λ other few stays. made.entries (low few);
-    files = λ tells none without. made.holding.files tells without;
-    same = λ tells none stays places same. made.holding.same tells same;
+    roomy = made.makes.roomy;
+    calm = λ other few. rests_as shown before after (made.makes.calm (low few));
+    entries = λ other few stays. made.makes.entries (low few);
+    files = λ tells none without. made.makes.holding.files tells without;
+    same = λ tells none stays places same. made.makes.holding.same tells same;
     steps = record { other = λ none. refl; known = λ tells last m stands. no_step result steps; dead = λ failed. refl };
-    numbers = λ alive. keeps_but _ s.volumes n.volumes (made.runs.numbers alive);
+    numbers = λ alive. keeps_but _ s.volumes n.volumes (made.makes.runs.numbers alive);
     dead = λ failed. not_dead _ s made.fresh failed;
   }

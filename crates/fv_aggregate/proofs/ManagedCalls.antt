@@ -13,8 +13,10 @@ use Rattle.fv_root.specs.Finding.{root_found}
 use Rattle.fv_aggregate.specs.declared.session.Session.{Session}
 use Rattle.fv_aggregate.specs.Calls.{Goes, GoesFor, IsPlain, KeepsAsking}
 use Rattle.fv_aggregate.specs.Commands.{Asked, changes_volume, machine_after, removes_volume, snapped_by}
+use Rattle.fv_aggregate.specs.Deciding.{makes_volume}
 use Rattle.fv_aggregate.specs.Standing.{StandsFor, StandsReady}
 use Rattle.fv_aggregate.proofs.Calls.{same_counts, same_ends}
+use Rattle.fv_aggregate.proofs.Decided.{undecided}
 use Rattle.fv_aggregate.proofs.Managed.{IsManagedOver}
 use Rattle.fv_aggregate.proofs.Standing.{rests_for_last}
 
@@ -46,8 +48,8 @@ module _ (disk : Shown) (old : Session) (c : Command) (new : Session) (reply : R
     whole = tt;
   }
 
-  pub managed_plain : {D : Type 0} (at : D) → removes_volume c ≡ false → c ≢ VolList → c ≢ Cp → ((name : List ℕ) → c ≢ SnapList name) → snapped_by c ≡ None → IsPlain c disk at old disk at new (Ok reply)
-  managed_plain at stays no_list no_point no_names no_snap = record {
+  pub managed_plain : {D : Type 0} (at : D) → removes_volume c ≡ false → c ≢ VolList → c ≢ Cp → ((name : List ℕ) → c ≢ SnapList name) → snapped_by c ≡ None → makes_volume c ≡ false → IsPlain c disk at old disk at new (Ok reply)
+  managed_plain at stays no_list no_point no_names no_snap no_making = record {
     refused = λ refused. (refl, over.refused refused);
     calm = λ other idle few. refl;
     idle = λ other gone none few. refl;
@@ -63,4 +65,5 @@ module _ (disk : Shown) (old : Session) (c : Command) (new : Session) (reply : R
     managed = λ fresh name of kept. record { reply = reply; is = refl; managed = over.managed name of };
     snapped = λ fresh name of. absurd (some_none name (sym of ∙ no_snap));
     snapshots = λ fresh name is. absurd (no_names name is);
+    made = undecided old.volumes old.pool.found.blocks c no_making (Ok reply);
   }

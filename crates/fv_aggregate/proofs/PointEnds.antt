@@ -17,6 +17,7 @@ use Rattle.fv_image.specs.Held.{label_place, layout_at, view_at}
 use Rattle.fv_image.specs.Volumes.{told_with}
 use Rattle.fv_image.specs.Seen.{seen}
 use Rattle.fv_image.specs.VolumeRules.{commits_seen}
+use Rattle.fv_image.proofs.Heads.{head_told}
 use Rattle.fv_image.proofs.Committed.{commits_told}
 use Rattle.fv_root.specs.declared.find.Found.{Found}
 use Rattle.fv_root.specs.Commits.{IsFoundOn}
@@ -368,7 +369,7 @@ module _ (old : Shown) (pool : Pool) (states : States) (new : Shown) (left : Poo
 
   pub overheads_stay : overheads (view_over left stay new.reads) ≡ overheads (view_at (root_found left.found) new.reads)
   unfolding view_over view_at
-  overheads_stay = same_overheads (view_over left stay new.reads) (view_at (root_found left.found) new.reads) (λ s inside. (all_loaded s inside).head)
+  overheads_stay = same_overheads (view_over left stay new.reads) (view_at (root_found left.found) new.reads) (λ s inside. (all_loaded s inside).head ∙ sym (head_told (root_found left.found) new.reads s))
 
   module _ (session : Session) (last m : Machine) (stands : StandsFor old session last m) (same_pool : session.pool ≡ pool) (same_states : session.volumes ≡ states) where
     pub machine_is : machine_held old pool states ≡ m

@@ -47,6 +47,7 @@ use Rattle.fv_aggregate.specs.declared.fault.Fault.TheVariants.{DiskFault, Damag
 use Rattle.fv_aggregate.specs.declared.session.Session.{Session}
 use Rattle.fv_aggregate.specs.Applying.{HasApplied}
 use Rattle.fv_aggregate.specs.Calls.{Goes, GoesFor, HasLostLeaf, IsForWant, IsPlain, IsUntouched, KeepsAsking, Removes}
+use Rattle.fv_aggregate.proofs.Decided.{undecided}
 use Rattle.fv_aggregate.specs.Commands.{asked_by, AsksLeaves, is_built, is_refusal, machine_after, room_by, slot_named, Replies}
 use Rattle.fv_aggregate.specs.Known.{KeepsNumbersBut, MayLose}
 use Rattle.fv_aggregate.specs.Looking.{done_as, Replied}
@@ -341,6 +342,7 @@ module _ {D : Type 0} (name : List ℕ) (d e : Shown) (at left : D) (s n : Sessi
     removed = λ fresh v is. subst (λ (k : List ℕ). Removes d s k e n r) (destroy_same name v is) (record { managed = did.managed; undone = did.undone; only_reads = only });
     snapped = λ fresh v of. absurd (none_snapped v of);
     snapshots = λ fresh v is. absurd (no_names name v is);
+    made = undecided s.volumes s.pool.found.blocks (VolDestroy name) refl r;
   }
 
   dropped_applied : IsNone s.failed → (steps : ℕ) → IsDropped d at s name e left n r → OnlyReads d e → IfOk r (λ reply. IsTrue (is_refusal reply) → IsUntouched at s left n) → HasApplied (VolDestroy name) d at s steps e left n steps r

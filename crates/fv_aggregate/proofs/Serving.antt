@@ -36,6 +36,7 @@ use Rattle.fv_aggregate.proofs.Keeping.{keeps_but, keeps_managed, knows_named, m
 use Rattle.fv_aggregate.proofs.Looked.{was_unread}
 use Rattle.fv_aggregate.proofs.Managed.{manages_over}
 use Rattle.fv_aggregate.proofs.MadeRoom.{managed_room, none_roomy}
+use Rattle.fv_aggregate.proofs.Decided.{managed_undecided}
 use Rattle.fv_aggregate.proofs.ManagedCalls.{managed_asks, managed_for, managed_goes, managed_plain}
 use Rattle.fv_aggregate.proofs.SnapApplied.{applied_for, applied_plain, applied_reply}
 use Rattle.fv_aggregate.proofs.SnapCommands.{snap_changes, snap_other, snap_reads}
@@ -133,7 +134,7 @@ managed_applied c d laws at old fit fresh stands steps new reply stays either ma
       asks = managed_asks d old c new reply over (room_by old.volumes c);
       goes_for = λ tells last m held. managed_for d old c new reply over laws stands last m held;
       reply = λ tells last m held. over.replies last m held;
-      plain = λ plain. managed_plain d old c new reply over at stays no_list no_point no_names snaps;
+      plain = λ plain. managed_plain d old c new reply over at stays no_list no_point no_names snaps (managed_undecided c either);
       on_files = λ files. absurd (true≢false (sym files ∙ reads));
       point = λ tells last m held cp. absurd (no_point cp);
       sides = λ tells last m held cp. absurd (no_point cp);

@@ -19,9 +19,10 @@ use Rattle.fv_aggregate.specs.Calls.{GoesFor, IsPlain, NeedsSnapshot}
 use Rattle.fv_aggregate.specs.Commands.{machine_after, managed_by, places_files, removes_volume, snapped_by, Replies}
 use Rattle.fv_aggregate.specs.Looking.{HasSnapped, IsSnapAimed}
 use Rattle.fv_aggregate.specs.Standing.{StandsFor}
+use Rattle.fv_aggregate.proofs.Decided.{undecided}
 use Rattle.fv_aggregate.proofs.HeldMachine.{not_there}
 use Rattle.fv_aggregate.proofs.Returned.{named_there}
-use Rattle.fv_aggregate.proofs.SnapCommands.{snap_after, snap_built, snap_missing, snap_other, snap_replies, snap_whole}
+use Rattle.fv_aggregate.proofs.SnapCommands.{snap_after, snap_built, snap_missing, snap_other, snap_replies, snap_undecided, snap_whole}
 
 -- the command is aimed at the volume that its name finds
 pub snap_aimed_at : (states : States) (slot : ℕ) (name : List ℕ) (c : Command) → slot < 64 → HasName states slot name → snapped_by c ≡ Some name → IsSnapAimed states slot c
@@ -76,4 +77,5 @@ module _ {D : Type 0} (c : Command) (v : List ℕ) (of : snapped_by c ≡ Some v
     removed = λ fresh name its. absurd (none_some name (sym (snap_whole v c of) ∙ ap managed_by its));
     snapped = λ fresh name its. record { missing = λ none. missing (subst (NoneHasName s.volumes) (same_names name v (sym its ∙ of)) none); needs = needs };
     snapshots = λ fresh name list. absurd (snap_other v c of (SnapList name) refl list);
+    made = undecided s.volumes s.pool.found.blocks c (snap_undecided v c of) r;
   }

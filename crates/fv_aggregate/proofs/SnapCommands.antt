@@ -14,6 +14,7 @@ use Rattle.fv_image.specs.Views.{slots}
 use Rattle.fv_volume.specs.declared.state.VolumeState.{VolumeState}
 use Rattle.fv_volume.specs.States.{state_at, States}
 use Rattle.fv_aggregate.specs.Commands.{changes_volume, is_built, machine_after, managed_by, reads_files, map_among, map_at, most_room, room_by, room_with, snapped_by, Replies, RepliesBy}
+use Rattle.fv_aggregate.specs.Deciding.{makes_volume}
 use Rattle.fv_aggregate.specs.Looking.{IsSnapAimed}
 use Rattle.fv_aggregate.specs.Snapping.{snap_blocks}
 use Rattle.fv_aggregate.proofs.Rooms.{map_there}
@@ -39,6 +40,9 @@ module _ (v : List ℕ) (c : Command) (is : snapped_by c ≡ Some v) where
 
   pub snap_changes : changes_volume c ≡ true
   snap_changes = snap_cases (λ (k : Command). changes_volume k ≡ true) (λ w name. refl) (λ w name. refl) (λ w name. refl) v c is
+
+  pub snap_undecided : makes_volume c ≡ false
+  snap_undecided = snap_cases (λ (k : Command). makes_volume k ≡ false) (λ w name. refl) (λ w name. refl) (λ w name. refl) v c is
 
   pub snap_whole : managed_by c ≡ None
   snap_whole = snap_cases (λ (k : Command). managed_by k ≡ None) (λ w name. refl) (λ w name. refl) (λ w name. refl) v c is

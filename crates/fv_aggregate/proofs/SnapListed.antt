@@ -26,6 +26,8 @@ use Rattle.fv_volume.proofs.SnapNames.{names_told}
 use Rattle.fv_aggregate.specs.declared.fault.Fault.TheVariants.{Memory}
 use Rattle.fv_aggregate.specs.declared.session.Session.{Session}
 use Rattle.fv_aggregate.specs.Calls.{IsPlain, TellsSnapshots}
+use Rattle.fv_aggregate.specs.Deciding.{makes_volume}
+use Rattle.fv_aggregate.proofs.Decided.{undecided}
 use Rattle.fv_aggregate.specs.Commands.{is_built, machine_after, managed_by, snapped_by, Replies}
 use Rattle.fv_aggregate.specs.Standing.{StandsFor}
 use Rattle.fv_aggregate.proofs.Asked.{answer_allows}
@@ -132,6 +134,7 @@ module _ (command : Command) (v : List ℕ) (is : command ≡ SnapList v) where
     removed = λ fresh name its. no_whole _ name (ap managed_by its);
     snapped = λ fresh name of. no_snap _ name of;
     snapshots = λ fresh name also. ((refl, refl), tt);
+    made = tt;
   }
 
   pub snaps_done : {D : Type 0} (shown : Shown) (disk : D) (s : Session) (reply : Reply) → TellsSnapshots s v reply → IsPlain command shown disk s shown disk s (Ok reply)
@@ -151,4 +154,5 @@ module _ (command : Command) (v : List ℕ) (is : command ≡ SnapList v) where
     removed = λ fresh name its. no_whole _ name (ap managed_by its);
     snapped = λ fresh name of. no_snap _ name of;
     snapshots = λ fresh name also. ((refl, refl), subst (λ (n : List ℕ). TellsSnapshots s n reply) (its_name name also) told);
+    made = undecided s.volumes s.pool.found.blocks command (ap makes_volume is) (Ok reply);
   }

@@ -1,6 +1,6 @@
 -- A command that removes or restores a snapshot is refused for want of it exactly where its volume lacks that snapshot, and one that removes a snapshot
--- as in use exactly where a clone stands on that.
-use Rattle.std.proofs.Common.{◌≡◌, ◌≢◌, ◌<◌, ◌⊎◌, ⊎_elim, ℕ, true, false, true≢false, List, [], Option, Some, None, Result, Ok, Err, is_some, refl, sym, ap, subst, ◌∙◌}
+-- as in use exactly where a clone stands on that; that one is refused for nothing else but want of the volume.
+use Rattle.std.proofs.Common.{◌≡◌, ◌≢◌, ◌<◌, ◌⊎◌, inl, inr, ⊎_elim, ℕ, true, false, true≢false, List, [], Option, Some, None, Result, Ok, Err, is_some, refl, sym, ap, subst, ◌∙◌}
 use Rattle.std.specs.Prelude.{IfErr, IfOk}
 use Rattle.fv_disk.specs.Shown.{Shown}
 use Rattle.fv_model.specs.declared.answers.Refusal.{Refusal}
@@ -22,7 +22,7 @@ use Rattle.fv_volume.specs.Slots.{HasName, NoneHasName}
 use Rattle.fv_volume.specs.States.{States, state_at}
 use Rattle.fv_aggregate.specs.declared.fault.Fault.{Fault}
 use Rattle.fv_aggregate.specs.declared.session.Session.{Session}
-use Rattle.fv_aggregate.specs.Calls.{HasInUse, LacksKept, NeedsSnapshot}
+use Rattle.fv_aggregate.specs.Calls.{HasInUse, LacksKept, NeedsSnapshot, RefusesDelete}
 use Rattle.fv_aggregate.specs.Commands.{is_refusal, snapped_by, snapshot_needed}
 use Rattle.fv_aggregate.specs.Looking.{done_as, Replied, SnapsState}
 use Rattle.fv_aggregate.specs.Snapping.{snap_blocks, JudgesSnap}
@@ -56,6 +56,7 @@ needs_none states c result none = record {
   only = λ name snapshot needs. absurd (no_pair name snapshot (sym none ∙ needs));
   used = λ name snapshot its. absurd (no_pair name snapshot (sym none ∙ ap snapshot_needed its));
   only_used = λ name snapshot its. absurd (no_pair name snapshot (sym none ∙ ap snapshot_needed its));
+  only_refused = λ name snapshot its. absurd (no_pair name snapshot (sym none ∙ ap snapshot_needed its));
 }
 
 -- a snapshot that is made is none that is needed
@@ -76,6 +77,7 @@ needs_volume states v c of none = record {
   only = λ name snapshot needs is. absurd (no_volume is);
   used = λ name snapshot its in_use. not_none _ states in_use.slot name in_use.within in_use.named (subst (NoneHasName states) (of_volume v name snapshot c of (ap snapshot_needed its)) none);
   only_used = λ name snapshot its is. absurd (not_used is);
+  only_refused = λ name snapshot its r is. subst (RefusesDelete states name snapshot) (refused_so r is) (subst (NoneHasName states) (of_volume v name snapshot c of (ap snapshot_needed its)) none);
 }
   where
     no_volume : ◌≡◌ {A = Result Reply Fault} (Ok (Refused NoVolume)) (Ok (Refused NoSnapshot)) → ⊥
@@ -83,6 +85,9 @@ needs_volume states v c of none = record {
 
     not_used : ◌≡◌ {A = Result Reply Fault} (Ok (Refused NoVolume)) (Ok (Refused SnapshotInUse)) → ⊥
     not_used e = cc
+
+    refused_so : (r : Refusal) → ◌≡◌ {A = Result Reply Fault} (Ok (Refused NoVolume)) (Ok (Refused r)) → NoVolume ≡ r
+    refused_so r e = cc
 
     same : (a b : List ℕ) → ◌≡◌ {A = Option (List ℕ)} (Some a) (Some b) → a ≡ b
     same a b e = cc
@@ -103,20 +108,20 @@ module _ (s : Session) (slot : ℕ) (x : VolumeState) (there : state_at s.volume
     only : r ≡ Err (volume.Refused NoSnapshot) → snap_named x.snapshots name ≡ None
     used : (w snapshot : List ℕ) → c ≡ SnapDelete w snapshot → is_used s.volumes slot snapshot ≡ true → r ≡ Err (volume.Refused SnapshotInUse)
     only_used : (w snapshot : List ℕ) → c ≡ SnapDelete w snapshot → r ≡ Err (volume.Refused SnapshotInUse) → is_used s.volumes slot snapshot ≡ true
+    only_refused : (w snapshot : List ℕ) → c ≡ SnapDelete w snapshot → (k : Refusal) → r ≡ Err (volume.Refused k) → (k ≡ NoSnapshot) ⊎ (k ≡ SnapshotInUse)
 
   -- so does the session's answer
   by_call : (c : Command) (v name : List ℕ) → snapshot_needed c ≡ Some (v, name) → v ≡ x.name → (r : Result Unit VolumeFault) → Says c name r
       → (e : Shown) (before new : Session) (result : Result Reply Fault) → Replied e (done_as r) before new result → NeedsSnapshot s.volumes c result
   by_call c v name is its r says e before new result replied = record {
     lost = λ w snapshot needs lacks. (replied_as NoSnapshot e (done_as r) before new result (ap done_as (says.lost (gone w snapshot needs lacks))) replied).0;
-    only = λ w snapshot needs refused. lacking w snapshot needs (says.only (told_so r NoSnapshot (replied_only_as NoSnapshot e (done_as r) before new result (told r) replied refused)));
+    only = λ w snapshot needs refused. lacking w snapshot needs (says.only (back NoSnapshot refused));
     used = λ w snapshot removes in_use. (replied_as SnapshotInUse e (done_as r) before new result (ap done_as (says.used w snapshot removes (used_here w snapshot removes in_use))) replied).0;
-    only_used = λ w snapshot removes refused. record {
-      slot = slot;
-      within = within;
-      named = subst (HasName s.volumes slot) (volume_is w snapshot (ap snapshot_needed removes)) named;
-      used = says.only_used w snapshot removes (told_so r SnapshotInUse (replied_only_as SnapshotInUse e (done_as r) before new result (told r) replied refused));
-    };
+    only_used = λ w snapshot removes refused. standing w snapshot removes (back SnapshotInUse refused);
+    only_refused = λ w snapshot removes k refused. ⊎_elim
+        (λ (gone : k ≡ NoSnapshot). subst (RefusesDelete s.volumes w snapshot) (sym gone) (lacking w snapshot (ap snapshot_needed removes) (says.only (subst Answered gone (back k refused)))))
+        (λ (used : k ≡ SnapshotInUse). subst (RefusesDelete s.volumes w snapshot) (sym used) (standing w snapshot removes (subst Answered used (back k refused))))
+        (says.only_refused w snapshot removes k (back k refused));
   }
     where
       volume_is : (w snapshot : List ℕ) → snapshot_needed c ≡ Some (w, snapshot) → x.name ≡ w
@@ -145,6 +150,17 @@ module _ (s : Session) (slot : ℕ) (x : VolumeState) (there : state_at s.volume
         none = subst (λ (n : List ℕ). snap_named x.snapshots n ≡ None) (snapshot_is w snapshot needs) none;
       }
 
+      Answered : Refusal → Type 0
+      Answered k = r ≡ Err (volume.Refused k)
+
+      standing : (w snapshot : List ℕ) → c ≡ SnapDelete w snapshot → Answered SnapshotInUse → HasInUse s.volumes w snapshot
+      standing w snapshot removes is = record {
+        slot = slot;
+        within = within;
+        named = subst (HasName s.volumes slot) (volume_is w snapshot (ap snapshot_needed removes)) named;
+        used = says.only_used w snapshot removes is;
+      }
+
       used_here : (w snapshot : List ℕ) → c ≡ SnapDelete w snapshot → HasInUse s.volumes w snapshot → is_used s.volumes slot snapshot ≡ true
       used_here w snapshot removes in_use =
           let found : HasName s.volumes slot w = subst (HasName s.volumes slot) (volume_is w snapshot (ap snapshot_needed removes)) named in
@@ -164,6 +180,9 @@ module _ (s : Session) (slot : ℕ) (x : VolumeState) (there : state_at s.volume
           same_fault : ◌≡◌ {A = Result Reply VolumeFault} (Err f) (Err (volume.Refused w)) → f ≡ volume.Refused w
           same_fault e = cc
 
+      back : (k : Refusal) → result ≡ Ok (Refused k) → Answered k
+      back k refused = told_so r k (replied_only_as k e (done_as r) before new result (told r) replied refused)
+
   -- what removing the snapshot says,
   removes_says : (v name : List ℕ) (r : Result Unit VolumeFault) → RefusesRemoval x.snapshots (is_used s.volumes slot name) name r → Says (SnapDelete v name) name r
   removes_says v name r refuses = record {
@@ -171,6 +190,7 @@ module _ (s : Session) (slot : ℕ) (x : VolumeState) (there : state_at s.volume
     only = λ is. only_lost r is refuses.only;
     used = λ w snapshot same is. refuses.used (there_used snapshot is (removed_name v name w snapshot same)) (ap (is_used s.volumes slot) (removed_name v name w snapshot same) ∙ is);
     only_used = λ w snapshot same is. ap (is_used s.volumes slot) (sym (removed_name v name w snapshot same)) ∙ only_stood r is refuses.only;
+    only_refused = λ w snapshot same k is. only_two r k is refuses.only;
   }
     where
       Only : Result Unit VolumeFault → Type 0
@@ -184,6 +204,9 @@ module _ (s : Session) (slot : ℕ) (x : VolumeState) (there : state_at s.volume
 
       only_stood : (r : Result Unit VolumeFault) → r ≡ Err (volume.Refused SnapshotInUse) → Only r → is_used s.volumes slot name ≡ true
       only_stood r is only = ⊎_elim (λ gone. absurd (lost_used (sym gone.0))) (λ used. used.1.1) (subst Only is only SnapshotInUse refl)
+
+      only_two : (r : Result Unit VolumeFault) (k : Refusal) → r ≡ Err (volume.Refused k) → Only r → (k ≡ NoSnapshot) ⊎ (k ≡ SnapshotInUse)
+      only_two r k is only = ⊎_elim (λ gone. inl gone.0) (λ used. inr used.0) (subst Only is only k refl)
 
       removed_name : (v name w snapshot : List ℕ) → SnapDelete v name ≡ SnapDelete w snapshot → name ≡ snapshot
       removed_name v name w snapshot e = second_same v name w snapshot (ap snapshot_needed e)
@@ -202,6 +225,7 @@ module _ (s : Session) (slot : ℕ) (x : VolumeState) (there : state_at s.volume
     only = λ is. (subst (λ (r : Result Unit VolumeFault). IfErr r (λ e. (w : Refusal) → e ≡ volume.Refused w → (w ≡ NoSnapshot) × (snap_named x.snapshots name ≡ None))) is refuses.only NoSnapshot refl).1;
     used = λ w snapshot same. absurd (other w snapshot same);
     only_used = λ w snapshot same. absurd (other w snapshot same);
+    only_refused = λ w snapshot same. absurd (other w snapshot same);
   }
     where
       other : (w snapshot : List ℕ) → SnapRestore v name ≡ SnapDelete w snapshot → ⊥

@@ -25,6 +25,7 @@ use Rattle.fv_image.specs.Held.{is_held, label_in, label_place, layout_at, lying
 use Rattle.fv_image.specs.SoundSlots.{IsSoundSlot, IsSoundVolume}
 use Rattle.fv_image.specs.Soundness.{IsSound}
 use Rattle.fv_image.specs.WholeMachine.{Tells, has_form, machine_of}
+use Rattle.fv_image.proofs.Heads.{head_told}
 use Rattle.fv_image.proofs.Counted.{image_has_heads}
 use Rattle.fv_image.proofs.HeldPlaces.{label_some, node_lies}
 use Rattle.fv_image.proofs.LoneTables.{built_forms}
@@ -147,7 +148,7 @@ module _ (i : Image) (found : Found) (m : Machine) (tells : Tells (layout_at (ro
   -- the label of a slot has a form that there is
   built_label : (s : ℕ) (l : Label) → label_of found i s ≡ Some l → has_form (head_of l) ≡ true
   unfolding layout_at view_at
-  built_label s l there = built_forms (view_at (root_found found) i) tells.built s (head_of l) (slot_inside (root_found found) i s l there) (ap (option_map head_of) there)
+  built_label s l there = built_forms (view_at (root_found found) i) tells.built s (head_of l) (slot_inside (root_found found) i s l there) (head_told (root_found found) i s ∙ ap (option_map head_of) there)
 
   no_form : (l : Label) → IsLabel l → has_form (head_of l) ≡ true → form_in l ≡ None
   unfolding form_in head_of
@@ -208,7 +209,7 @@ module _ (i : Image) (found : Found) (m : Machine) (tells : Tells (layout_at (ro
       let w : View = view_at (root_found found) i in
       let h = head_of l in
       let inside = slot_inside (root_found found) i s l lies in
-      let there : w.head s ≡ Some h = ap (option_map head_of) lies in
+      let there : w.head s ≡ Some h = head_told (root_found found) i s ∙ ap (option_map head_of) lies in
       let numbers = numbers_at (root_found found) i whole s h there in
       let root = root_used h k used in
       let led = root_led w s h inside there sound.tables k root.0 root.1 (root_few h numbers k root.0 root.1) sound.maps v set in

@@ -3,6 +3,7 @@ use Rattle.std.specs.Prelude.{◌≡◌, ◌≢◌, ◌<◌, ◌≤◌, ◌+◌,
 use Rattle.fv_disk.specs.Shown.{Shown, Rose}
 use Rattle.fv_disk.specs.Crash.{Leaves}
 use Rattle.fv_disk.specs.DiskCalls.{OnlyReads}
+use Rattle.fv_model.specs.declared.answers.Refusal.{Refusal}
 use Rattle.fv_model.specs.declared.answers.Refusal.TheVariants.{NoSnapshot, NoVolume, Range, SnapshotInUse, Syntax}
 use Rattle.fv_model.specs.declared.answers.Reply.{Reply}
 use Rattle.fv_model.specs.declared.answers.Reply.TheVariants.{Names, Refused}
@@ -26,6 +27,7 @@ use Rattle.fv_aggregate.specs.Asking.{AsksWithin}
 use Rattle.fv_aggregate.specs.Causes.{KeepsEnds}
 use Rattle.fv_aggregate.specs.Commands.{Asked, changed_by, dirty_limit, finds_file, has_range, is_built, is_get, is_refusal, managed_by, places_files, reads_leaves, removes_volume, room_by, snapped_by, snapshot_asked, snapshot_needed, volume_asked}
 pub use Rattle.fv_aggregate.specs.Damages.{HasDamage, HasFilesToPlace, HasLoaded, HasLostLeaf, LacksBlocks}
+use Rattle.fv_aggregate.specs.Deciding.{DecidesMaking}
 use Rattle.fv_aggregate.specs.Failing.{IsUnmadeIn}
 use Rattle.fv_aggregate.specs.Known.{KeepsNumbers, KnowsNamed}
 use Rattle.fv_aggregate.specs.Managing.{IsManaged}
@@ -197,13 +199,21 @@ pub record HasInUse (states : States) (name snapshot : List ℕ) : Type 0 where
   pub named : HasName states slot name
   pub used : is_used states slot snapshot ≡ true
 
+-- what each refusal to remove a snapshot comes from
+abbrev pub RefusesDelete : States → List ℕ → List ℕ → Refusal → Type 0
+RefusesDelete states name snapshot NoVolume = NoneHasName states name
+RefusesDelete states name snapshot NoSnapshot = LacksKept states name snapshot
+RefusesDelete states name snapshot SnapshotInUse = HasInUse states name snapshot
+RefusesDelete states name snapshot other = ⊥
+
 -- A command that removes or restores a snapshot is refused for want of it exactly where its volume lacks that snapshot, and one that removes a snapshot
--- is refused as in use exactly where a clone stands on that.
+-- is refused as in use exactly where a clone stands on that. One that removes a snapshot is refused for nothing else but want of the volume.
 pub record NeedsSnapshot (states : States) (command : Command) (result : Result Reply Fault) : Type 0 where
   pub lost : (name snapshot : List ℕ) → snapshot_needed command ≡ Some (name, snapshot) → LacksKept states name snapshot → result ≡ Ok (Refused NoSnapshot)
   pub only : (name snapshot : List ℕ) → snapshot_needed command ≡ Some (name, snapshot) → result ≡ Ok (Refused NoSnapshot) → LacksKept states name snapshot
   pub used : (name snapshot : List ℕ) → command ≡ SnapDelete name snapshot → HasInUse states name snapshot → result ≡ Ok (Refused SnapshotInUse)
   pub only_used : (name snapshot : List ℕ) → command ≡ SnapDelete name snapshot → result ≡ Ok (Refused SnapshotInUse) → HasInUse states name snapshot
+  pub only_refused : (name snapshot : List ℕ) → command ≡ SnapDelete name snapshot → (refusal : Refusal) → result ≡ Ok (Refused refusal) → RefusesDelete states name snapshot refusal
 
 -- A command that makes, removes or restores a snapshot of the volume of a name is refused without the volume, without the snapshot that it needs, and
 -- where it would remove one on which a clone stands.
@@ -218,7 +228,8 @@ pub record FindsVolume (states : States) (command : Command) (name : List ℕ) (
 -- that is done leaves nothing pending and no file in memory; one that isn't, in a session that goes on, only read, and left all but leaves where no file
 -- was in memory. Damage comes for want of blocks or of a leaf alone. A command on a whole volume that stays is answered, without a fault, and a volume is
 -- removed, or nothing changed. One on snapshots is refused without its volume, one that removes or restores a snapshot exactly where that isn't
--- there, and one that removes a snapshot exactly where a clone stands on that, too.
+-- there, and one that removes a snapshot exactly where a clone stands on that, too. What is answered where a volume is to be
+-- made is decided by the volumes and the blocks of the aggregate before it; a fault may come in its place.
 pub record IsPlain {D : Type 0} (command : Command) (shown : Shown) (before : D) (old : Session) (shown_after : Shown) (after : D) (new : Session) (result : Result Reply Fault) : Type 0 where
   pub refused : IfOk result (λ reply. IsTrue (is_refusal reply) → IsUntouched before old after new)
   pub calm : command ≢ Cp → reads_leaves command ≡ false → IsWithinLimit old command → after ≡ before
@@ -236,6 +247,7 @@ pub record IsPlain {D : Type 0} (command : Command) (shown : Shown) (before : D)
   pub removed : IsNone old.failed → (name : List ℕ) → command ≡ VolDestroy name → Removes shown old name shown_after new result
   pub snapped : IsNone old.failed → (name : List ℕ) → snapped_by command ≡ Some name → FindsVolume old.volumes command name result
   pub snapshots : IsNone old.failed → (name : List ℕ) → command ≡ SnapList name → IsUntouched before old after new × IfOk result (TellsSnapshots old name)
+  pub made : IfOk result (DecidesMaking old.volumes old.pool.found.blocks command)
 
 -- the volume of a name hasn't the snapshot that a command asks
 pub record LacksSnapshot (states : States) (name : List ℕ) (command : Command) : Type 0 where

@@ -12,6 +12,8 @@ pub mod Calls
 pub mod Looking
 pub mod Managing
 pub mod Numbering
+pub mod Making
+pub mod Deciding
 pub mod Delayed
 pub mod Opening
 pub mod Adding

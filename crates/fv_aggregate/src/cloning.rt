@@ -1,6 +1,6 @@
 //! The clones that a session makes.
 
-ghost use Rattle.std.specs.Prelude.{◌≡◌, ◌≤◌, ◌+◌, length, max, IsTrue, IsNone, IfErr, IfOk, OnOk, OnErr};
+ghost use Rattle.std.specs.Prelude.{◌≡◌, ◌≤◌, ◌+◌, length, max, IsTrue, IsNone, IfOk, OnOk, OnErr};
 ghost use Rattle.fv_container.specs.Chains.{slot_count};
 ghost use Rattle.fv_model.specs.Machines.{Machine};
 ghost use Rattle.fv_model.specs.Space.{overhead};
@@ -9,12 +9,11 @@ ghost use Rattle.fv_model.specs.Replies.{Allows};
 ghost use Rattle.fv_model.specs.declared.answers.Reply.TheVariants.{Done};
 ghost use Rattle.fv_model.specs.declared.commands.Command.TheVariants.{CloneCreate};
 ghost use Rattle.fv_clone.specs.Admitting.{Admits, CanMake};
-ghost use Rattle.fv_aggregate.specs.declared.fault.Fault.TheVariants.{Memory};
 ghost use Rattle.fv_aggregate.specs.Adding.{IsCloned};
 ghost use Rattle.fv_aggregate.specs.Answers.{answer};
-ghost use Rattle.fv_aggregate.specs.Calls.{KeepsHolding, MakesNoHoles, Runs};
-ghost use Rattle.fv_aggregate.specs.Commands.{AsksNothing, dirty_limit, is_refusal, most_overhead, room_by};
-ghost use Rattle.fv_aggregate.specs.Reclaiming.{MakesRoom};
+ghost use Rattle.fv_aggregate.specs.Commands.{dirty_limit, is_refusal, most_overhead, room_by};
+ghost use Rattle.fv_aggregate.specs.Deciding.{DecidesMaking};
+ghost use Rattle.fv_aggregate.specs.Making.{MakesVolume};
 ghost use Rattle.fv_aggregate.specs.Standing.{StandsFor, StandsReady};
 
 use crate::fault::Fault;
@@ -42,20 +41,13 @@ impl Session {
     ) -> Result<(), Fault>
         requires fresh { IsNone self.old.failed }
         requires stands { StandsReady (D.shown disk.old) self.old }
-        ensures runs { Runs (room_by self.old.volumes (CloneCreate name.now parent.now snapshot.now size kind)) AsksNothing
-            (λ m. next m (CloneCreate name.now parent.now snapshot.now size kind))
-            (D.shown disk.old) self.old (D.shown disk.new) self.new (answer into.new result) }
+        ensures made { MakesVolume D.shown (room_by self.old.volumes (CloneCreate name.now parent.now snapshot.now size kind))
+            (λ m. next m (CloneCreate name.now parent.now snapshot.now size kind)) disk.old self.old disk.new self.new (answer into.new result) }
         ensures reply { IsTrue (D.shown disk.old).tells → (last m : Machine) → StandsFor (D.shown disk.old) self.old last m
             → IfOk (answer into.new result) (Allows m (CloneCreate name.now parent.now snapshot.now size kind)) }
+        ensures decides { IfOk (answer into.new result)
+            (DecidesMaking self.old.volumes self.old.pool.found.blocks (CloneCreate name.now parent.now snapshot.now size kind)) }
         ensures refused { IfOk (answer into.new result) (λ reply. IsTrue (is_refusal reply) → (disk.new ≡ disk.old) × (self.new ≡ self.old)) }
-        ensures calm { self.old.pending + room_by self.old.volumes (CloneCreate name.now parent.now snapshot.now size kind) ≤ dirty_limit → disk.new ≡ disk.old }
-        ensures map { self.old.pending + room_by self.old.volumes (CloneCreate name.now parent.now snapshot.now size kind) ≤ dirty_limit → self.new.pool.map ≡ self.old.pool.map }
-        ensures entries { self.old.pending + room_by self.old.volumes (CloneCreate name.now parent.now snapshot.now size kind) ≤ dirty_limit → MakesNoHoles self.old self.new }
-        ensures holding { KeepsHolding (D.shown disk.old) self.old self.new (answer into.new result) }
-        ensures wanting { self.old.pending + room_by self.old.volumes (CloneCreate name.now parent.now snapshot.now size kind) ≤ dirty_limit
-            → IfErr (answer into.new result) (λ e. e ≡ Memory → self.new ≡ self.old) }
-        ensures roomy { MakesRoom (room_by self.old.volumes (CloneCreate name.now parent.now snapshot.now size kind))
-            (D.shown disk.old) self.old (D.shown disk.new) (answer into.new result) }
     {
         let blocks = self.pool.found.blocks;
         match admit(
@@ -90,15 +82,9 @@ impl Session {
         requires stands { StandsReady (D.shown disk.old) self.old }
         requires long { length self.old.volumes ≡ slot_count }
         requires admitted { Admits self.old.volumes self.old.pool.found.blocks name.now size kind admitted }
-        ensures runs { Runs (overhead admitted.span) AsksNothing (λ m. next m (CloneCreate name.now admitted.base.name admitted.base.snapshot size kind))
-            (D.shown disk.old) self.old (D.shown disk.new) self.new (answer into.new result) }
+        ensures made { MakesVolume D.shown (overhead admitted.span)
+            (λ m. next m (CloneCreate name.now admitted.base.name admitted.base.snapshot size kind)) disk.old self.old disk.new self.new (answer into.new result) }
         ensures reply { IfOk (answer into.new result) (λ reply. reply ≡ Done) }
-        ensures calm { self.old.pending + overhead admitted.span ≤ dirty_limit → disk.new ≡ disk.old }
-        ensures map { self.old.pending + overhead admitted.span ≤ dirty_limit → self.new.pool.map ≡ self.old.pool.map }
-        ensures entries { self.old.pending + overhead admitted.span ≤ dirty_limit → MakesNoHoles self.old self.new }
-        ensures holding { KeepsHolding (D.shown disk.old) self.old self.new (answer into.new result) }
-        ensures wanting { self.old.pending + overhead admitted.span ≤ dirty_limit → IfErr (answer into.new result) (λ e. e ≡ Memory → self.new ≡ self.old) }
-        ensures roomy { MakesRoom (overhead admitted.span) (D.shown disk.old) self.old (D.shown disk.new) (answer into.new result) }
     {
         let room = u64::from(overhead(admitted.span));
         self.make_room(disk, room)?;

@@ -128,7 +128,8 @@ impl Session {
     /// these, and costs nothing for the others, unless a file was made or removed since, for whose number memory can lack.
     /// Where room has to be made the command is judged first, which costs its reads twice, from the cache where they fit there. `vol create`
     /// costs a step for each VVBN of the new volume, and holds a bit for each. `clone create` costs a step for each word of 64 VVBNs of the clone,
-    /// and for each region of its container, however many files its table has; it reads nothing, and holds two bits for each VVBN. `vol stat`, `vol resize` and `vol guarantee` take no memory
+    /// and for each region of its container, and reads no file, however many the snapshot has; it takes memory for three bits for each VVBN of the
+    /// clone's span: for two maps, which it holds, and for their union. `vol stat`, `vol resize` and `vol guarantee` take no memory
     /// and walk nothing but the slots; `vol destroy` costs a read for each leaf of the volume's container that isn't in memory, a step for each
     /// entry and each node of it, and memory for a bit for each block that an aggregate can have. `snap create`, `snap delete` and
     /// `snap restore` cost what the calls of `fv_snapshot` do, where the first two read the leaves of what they place, and `snap list` memory for

@@ -9,7 +9,7 @@ use Rattle.fv_model.specs.declared.commands.Kind.{Kind}
 use Rattle.fv_model.specs.Machines.{capacity}
 use Rattle.fv_model.specs.Numbers.{is_size}
 use Rattle.fv_laws.proofs.Changes.{same_name}
-use Rattle.fv_volmap.specs.Slots.{slot_at}
+use Rattle.fv_volmap.specs.Slots.{slot_at, slot_count as map_slot_count}
 use Rattle.fv_volume.specs.declared.state.Base.{Base}
 use Rattle.fv_volume.specs.declared.state.Snap.{Snap}
 use Rattle.fv_volume.specs.declared.state.VolumeState.{VolumeState}
@@ -77,7 +77,7 @@ module _ (states : States) (slot : ℕ) (parent snapshot : List ℕ) (within : s
       })
 
 -- the map slot of a base that is asked is one of its parent's snapshots, and is used
-pub base_inside : (y : VolumeState) (slot : ℕ) (name : List ℕ) (q : Snap) → IsLabelled slot y → snap_named y.snapshots name ≡ Some q → q.slot < 26
+pub base_inside : (y : VolumeState) (slot : ℕ) (name : List ℕ) (q : Snap) → IsLabelled slot y → snap_named y.snapshots name ≡ Some q → q.slot < map_slot_count
 base_inside y slot name q labelled found = let low = (slot_inside y slot labelled q (named_there name y.snapshots q found).0).1 in omega (arith, low)
 
 pub base_used : (y : VolumeState) (slot : ℕ) (name : List ℕ) (q : Snap) → IsLabelled slot y → snap_named y.snapshots name ≡ Some q → IsSome (slot_at y.map q.slot)

@@ -4,6 +4,3 @@ pub mod Made
 pub mod Placed
 pub mod Machine
 pub mod Held
-pub mod Next
-pub mod Spaced
-pub mod StillAdmitted

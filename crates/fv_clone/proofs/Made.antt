@@ -7,7 +7,7 @@ use Rattle.fv_container.specs.Chains.{paged_at, parent_at}
 use Rattle.fv_container.specs.Paged.{empty_paged}
 use Rattle.fv_image.specs.Views.{Head, entry_count}
 use Rattle.fv_model.specs.declared.commands.Kind.{Kind}
-use Rattle.fv_volmap.specs.Slots.{slot_at}
+use Rattle.fv_volmap.specs.Slots.{slot_at, slot_count as map_slot_count}
 use Rattle.fv_pool.specs.declared.pool.Pool.{Pool}
 use Rattle.fv_volume.specs.declared.state.Base.{Base}
 use Rattle.fv_volume.specs.declared.state.Snap.{Snap}
@@ -46,8 +46,8 @@ module _ (states : States) (pool : Pool) (name : List ℕ) (size : ℕ) (kind : 
     same : parent ≡ y
     same = same_Some parent y (sym parent_there ∙ there)
 
-    pub inside_of : a.base.slot < 26
-    inside_of = subst (λ (n : ℕ). n < 26) (sym snap_slot) (base_inside parent admits.asked.source.home.slot a.base.snapshot snap parent_labelled admits.asked.source.found)
+    pub inside_of : a.base.slot < map_slot_count
+    inside_of = subst (λ (n : ℕ). n < map_slot_count) (sym snap_slot) (base_inside parent admits.asked.source.home.slot a.base.snapshot snap parent_labelled admits.asked.source.found)
 
     pub used_of : IsSome (slot_at y.map a.base.slot)
     used_of = subst (λ (z : VolumeState). IsSome (slot_at z.map a.base.slot)) same

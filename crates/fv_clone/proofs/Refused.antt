@@ -1,24 +1,26 @@
 -- Why a clone is refused by its parent, or for want of a place; and what is known of one that stands on a base which was found.
-use Rattle.std.proofs.Common.{◌≡◌, ◌<◌, ◌≤◌, ◌+◌, ℕ, true, List, Some, inr, sym, ap, subst}
+use Rattle.std.proofs.Common.{arith, ◌≡◌, ◌<◌, ◌≤◌, ◌+◌, ◌∙◌, ℕ, true, List, Some, inr, refl, sym, ap, subst}
 use Rattle.std.specs.Prelude.{IfSome}
 use Rattle.std.specs.Option.{option_map}
 use Rattle.fv_charge.specs.Ledgers.{committed}
 use Rattle.fv_model.specs.declared.answers.Refusal.{Refusal}
-use Rattle.fv_model.specs.declared.answers.Refusal.TheVariants.{AggregateFull, Range, TooMany, VolumeInUse, ParentNotClean}
+use Rattle.fv_model.specs.declared.answers.Refusal.TheVariants.{AggregateFull, Range, TooMany, VolumeFull, VolumeInUse, ParentNotClean}
 use Rattle.fv_model.specs.declared.commands.Kind.{Kind}
 use Rattle.fv_model.specs.Machines.{capacity}
-use Rattle.fv_model.specs.Numbers.{is_size}
+use Rattle.fv_model.specs.Numbers.{greatest_span, is_size}
 use Rattle.fv_container.specs.Chains.{slot_count}
+use Rattle.fv_volmap.specs.Slots.{slot_count as map_slot_count}
 use Rattle.fv_volume.specs.declared.state.Base.{Base}
 use Rattle.fv_volume.specs.declared.state.Snap.{Snap}
 use Rattle.fv_volume.specs.declared.state.VolumeState.{VolumeState}
 use Rattle.fv_volume.specs.Asking.{snap_named}
 use Rattle.fv_volume.specs.Cloning.{base_on}
 use Rattle.fv_volume.specs.Files.{IsLabelled}
-use Rattle.fv_volume.specs.Slots.{HasName, IsFirstFree, NoneHasName, sum_of}
+use Rattle.fv_volume.specs.Slots.{HasName, NoneHasName, sum_of}
 use Rattle.fv_volume.specs.States.{States, ledger_of_empty, state_at}
-use Rattle.fv_volumes.specs.Creating.{LacksPlace}
-use Rattle.fv_clone.specs.Admitting.{Admits, CanStand, HasSource, IsAsked, IsBaseNamed, Refuses, RefusesParent}
+use Rattle.fv_volumes.specs.declared.admit.Wanted.{Wanted}
+use Rattle.fv_volumes.specs.Creating.{FindsPlace, LacksPlace, RefusesWanted, commit_wanted, ledger_wanted, span_wanted, use_wanted}
+use Rattle.fv_clone.specs.Admitting.{Admits, CanStand, HasSource, IsAsked, IsBaseNamed, IsWantedOn, Refuses, RefusesParent}
 use Rattle.fv_clone.proofs.Asked.{admits_now, asked_of, base_inside, labelled_at, named_of, of_base, source_of}
 
 module _ (states : States) (blocks : ℕ) (parent snapshot name : List ℕ) (size : ℕ) (kind : Kind) (asked : IsAsked states parent snapshot name size) where
@@ -49,8 +51,8 @@ module _ (states : States) (slot : ℕ) (parent snapshot : List ℕ) (within : s
   pub named_by : IsBaseNamed parent snapshot b
   named_by = subst (IsBaseNamed parent snapshot) (sym its.1.1) (named_of states slot parent snapshot within has y there its.0 its.1.0)
 
-  pub inside_by : ((s : ℕ) → IfSome (state_at states s) (IsLabelled s)) → b.slot < 26
-  inside_by each = subst (λ (n : ℕ). n < 26) (sym its_slot) (base_inside y slot snapshot its.0 (labelled_at states each slot y there) its.1.0)
+  pub inside_by : ((s : ℕ) → IfSome (state_at states s) (IsLabelled s)) → b.slot < map_slot_count
+  inside_by each = subst (λ (n : ℕ). n < map_slot_count) (sym its_slot) (base_inside y slot snapshot its.0 (labelled_at states each slot y there) its.1.0)
 
   module _ (blocks : ℕ) (name : List ℕ) (size : ℕ) (kind : Kind) (sized : is_size size ≡ true) (none : NoneHasName states name) where
     abbrev asked_by : IsAsked states parent snapshot name size
@@ -59,12 +61,32 @@ module _ (states : States) (slot : ℕ) (parent snapshot : List ℕ) (within : s
     pub parent_by : (r : Refusal) → RefusesParent y b.slot size r → Refuses states blocks parent snapshot name size kind r
     parent_by r is = of_parent states blocks parent snapshot name size kind asked_by r (subst (λ (n : ℕ). RefusesParent y n size r) its_slot is)
 
-    module _ (span : ℕ) (can : CanStand y b.slot size span) where
-      can_by : CanStand y its.0.slot size span
-      can_by = subst (λ (n : ℕ). CanStand y n size span) its_slot can
+    -- what is wanted of the clone decides, where the parent doesn't refuse it
+    module _ (wanted : Wanted) (is : IsWantedOn y b.slot size kind wanted) where
+      can_by : (span : ℕ) → span ≡ span_wanted wanted → span ≤ greatest_span → CanStand y b.slot size span
+      can_by span span_is most = record { whole = is.whole; known = is.known; maps = is.maps; span_is = span_is ∙ ap span_wanted is.wanted_is; most = most }
 
-      pub place_by : (r : Refusal) → LacksPlace states blocks (committed (ledger_of_empty size kind span)) r → Refuses states blocks parent snapshot name size kind r
-      place_by = of_place states blocks parent snapshot name size kind asked_by span can_by
+      can_there : (span : ℕ) → CanStand y b.slot size span → CanStand y its.0.slot size span
+      can_there span can = subst (λ (n : ℕ). CanStand y n size span) its_slot can
 
-      pub admits_by : (place : ℕ) → IsFirstFree states place → sum_of states + committed (ledger_of_empty size kind span) ≤ capacity blocks → Admits states blocks name size kind (record { slot = place; span = span; base = b })
-      admits_by place free room = admits_now states slot parent snapshot within has y there its.0 its.1.0 name size sized none blocks kind place span b its.1.1 can_by free room
+      commits : (span : ℕ) → span ≡ span_wanted wanted → commit_wanted wanted ≡ committed (ledger_of_empty size kind span)
+      commits span span_is = (λ j. committed (ledger_wanted wanted (sym span_is j))) ∙ ap (λ (w : Wanted). committed (ledger_wanted w span)) is.wanted_is
+
+      place_by : (r : Refusal) → span_wanted wanted ≤ greatest_span → LacksPlace states blocks (commit_wanted wanted) r → Refuses states blocks parent snapshot name size kind r
+      place_by r most lacks =
+          of_place states blocks parent snapshot name size kind asked_by (span_wanted wanted) (can_there (span_wanted wanted) (can_by (span_wanted wanted) refl most)) r
+          (subst (λ (n : ℕ). LacksPlace states blocks n r) (commits (span_wanted wanted) refl) lacks)
+
+      pub refused_by : (r : Refusal) → RefusesWanted states blocks wanted r → Refuses states blocks parent snapshot name size kind r
+      refused_by Range wide = parent_by Range (record { whole = is.whole; known = is.known; maps = is.maps; wide = subst (λ (w : Wanted). greatest_span < span_wanted w) is.wanted_is wide })
+      refused_by TooMany why = place_by TooMany why.0 why.1
+      refused_by VolumeFull why =
+          let over : size < 0 = subst (λ (w : Wanted). w.size < use_wanted w) is.wanted_is why.1.1.1 in
+          absurd (omega (arith, over))
+      refused_by AggregateFull why = place_by AggregateFull why.0 why.1.1
+      refused_by r why = absurd why
+
+      pub admits_by : (place span : ℕ) → FindsPlace states blocks wanted place span → Admits states blocks name size kind (record { slot = place; span = span; base = b })
+      admits_by place span found =
+          admits_now states slot parent snapshot within has y there its.0 its.1.0 name size sized none blocks kind place span b its.1.1 (can_there span (can_by span found.span_is found.most)) found.free
+          (subst (λ (n : ℕ). sum_of states + n ≤ capacity blocks) (commits span found.span_is) found.room)

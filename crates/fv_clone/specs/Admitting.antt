@@ -17,6 +17,7 @@ use Rattle.fv_volume.specs.Asking.{snap_named}
 use Rattle.fv_volume.specs.Cloning.{base_on, count_in}
 use Rattle.fv_volume.specs.Slots.{HasName, IsFirstFree, NoneHasName, sum_of}
 use Rattle.fv_volume.specs.States.{States, ledger_of_empty, state_at}
+use Rattle.fv_volumes.specs.declared.admit.Wanted.{Wanted}
 use Rattle.fv_volumes.specs.Creating.{LacksPlace}
 use Rattle.fv_clone.specs.declared.admitting.Admitted.{Admitted}
 
@@ -59,6 +60,14 @@ pub record CanStand (y : VolumeState) (slot size span : ℕ) : Type 0 where
   pub maps : IsVolume y.map
   pub span_is : span ≡ span_for y slot size
   pub most : span ≤ greatest_span
+
+-- What is wanted of a clone of this size and kind that can stand on it: the snapshot's ids are counted, and the span is no less than the volume's. It
+-- is charged for nothing.
+pub record IsWantedOn (y : VolumeState) (slot size : ℕ) (kind : Kind) (wanted : Wanted) : Type 0 where
+  pub whole : is_split y.base ≡ false
+  pub known : y.known ≡ true
+  pub maps : IsVolume y.map
+  pub wanted_is : wanted ≡ record { size = size; kind = kind; ids = count_in y slot; at_least = y.span; charge = 0; need = 0 }
 
 -- It would be too wide.
 pub record IsTooWide (y : VolumeState) (slot size : ℕ) : Type 0 where

@@ -1,19 +1,17 @@
 //! Whether a clone is admitted.
 
-ghost use Rattle.std.specs.Prelude.{◌≡◌, ◌<◌, ◌≤◌, ℕ, IfErr, IfOk, IfSome};
-ghost use Rattle.fv_charge.specs.Ledgers.{committed};
-ghost use Rattle.fv_model.specs.Numbers.{greatest_span};
+ghost use Rattle.std.specs.Prelude.{◌≡◌, ◌<◌, ℕ, IfErr, IfOk, IfSome};
 ghost use Rattle.fv_root.specs.Formatted.{IsSize};
 ghost use Rattle.fv_volmap.specs.Slots.{slot_count};
 ghost use Rattle.fv_volume.specs.Files.{IsLabelled};
 ghost use Rattle.fv_volume.specs.Slots.{sum_of};
-ghost use Rattle.fv_volume.specs.States.{ledger_of_empty, state_at};
-ghost use Rattle.fv_clone.specs.Admitting.{is_split, span_for, Admits, CanStand, IsBaseNamed, RefusesParent, Refuses};
+ghost use Rattle.fv_volume.specs.States.{state_at};
+ghost use Rattle.fv_clone.specs.Admitting.{is_split, Admits, IsBaseNamed, IsWantedOn, RefusesParent, Refuses};
 
-use fv_charge::span_of;
 use fv_model::{Kind, Name, Refusal, in_size};
-use fv_volume::{Base, VolumeState, new_ledger};
-use fv_volumes::Volumes;
+use fv_volmap::MapSlot;
+use fv_volume::{Base, VolumeState};
+use fv_volumes::{Volumes, Wanted};
 
 /// Where a clone goes and what it stands on: what `admit` hands out and `make` takes.
 #[derive(Clone, Copy, Debug)]
@@ -69,15 +67,24 @@ pub fn admit(
     if volumes.find(name).is_some() {
         return Err(Refusal::VolumeExists);
     }
-    let span = judge_parent(state, base.slot, size)?;
-    let slot = volumes.find_place(blocks, commits, commit_of(size, kind, span))?;
-    Ok(Admitted { slot, span, base })
+    let wanted = judge_parent(state, base.slot, size, kind)?;
+    let place = volumes.judge(blocks, commits, &wanted)?;
+    Ok(Admitted {
+        slot: place.slot(),
+        span: place.span(),
+        base,
+    })
 }
 
-/// How many VVBNs a clone of this size has that stands on the snapshot of a map slot of this volume, or why it can't stand on it.
-fn judge_parent(state: &VolumeState, slot: u8, size: u32) -> Result<u32, Refusal>
+/// What is wanted of a clone of this size and kind that stands on the snapshot of a map slot of this volume, or why none can stand on it.
+fn judge_parent(
+    state: &VolumeState,
+    slot: MapSlot,
+    size: u32,
+    kind: Kind,
+) -> Result<Wanted, Refusal>
     requires { slot < slot_count }
-    ensures can { IfOk result (CanStand state.entry.now slot size) }
+    ensures wanted { IfOk result (IsWantedOn state.entry.now slot size kind) }
     ensures refused { IfErr result (RefusesParent state.entry.now slot size) }
 {
     if is_split(state.base) {
@@ -86,10 +93,14 @@ fn judge_parent(state: &VolumeState, slot: u8, size: u32) -> Result<u32, Refusal
     if !state.known {
         return Err(Refusal::ParentNotClean);
     }
-    match span_of(size, state.count_in(slot), state.span) {
-        Some(span) => Ok(span),
-        None => Err(Refusal::Range),
-    }
+    Ok(Wanted {
+        size,
+        kind,
+        ids: state.count_in(slot),
+        at_least: state.span,
+        charge: 0,
+        need: 0,
+    })
 }
 
 /// Whether a volume with this base is being split from it.
@@ -100,12 +111,4 @@ fn is_split(base: Option<Base>) -> bool
         Some(base) => base.splitting,
         None => false,
     }
-}
-
-/// What a volume commits that is charged for nothing.
-fn commit_of(size: u32, kind: Kind, span: u32) -> u64
-    requires { span ≤ greatest_span }
-    ensures { result ≡ committed (ledger_of_empty size kind span) }
-{
-    new_ledger(size, kind, span).commit()
 }

@@ -76,7 +76,7 @@ fn write_tree<B: Blocks>(alloc: Global, blocks: &mut B) -> Result<Pointer, TreeF
     tree.put(blocks, 0, &[1; 4096], 1)?;
     tree.put(blocks, 128, &[2; 4096], 2)?;
     tree.put(blocks, 16_384, &[3; 4096], 3)?;
-    tree.flush(blocks)
+    tree.flush(blocks, false)
 }
 
 /// The first byte of a cell; 0 for a hole.

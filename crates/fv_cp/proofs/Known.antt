@@ -8,6 +8,7 @@ use Rattle.fv_model.specs.Machines.{Machine}
 use Rattle.fv_image.specs.Views.{Head, View, entry_count}
 use Rattle.fv_image.specs.Views as views
 use Rattle.fv_image.specs.Held.{view_at}
+use Rattle.fv_image.proofs.Heads.{head_told}
 use Rattle.fv_container.specs.Chains.{map_in, paged_at}
 use Rattle.fv_container.specs.Paged.{Paged}
 use Rattle.fv_root.specs.declared.find.Found.{Found}
@@ -52,8 +53,7 @@ module _ (disk : Shown) (pool : Pool) (states : States) (before : Machine) (lent
   w = view_at (root_found pool.found) disk.reads
 
   head_shown : (s : ℕ) (x : VolumeState) (map : Paged) → IsLoaded disk.reads pool.found s (Some x) (Some map) → w.head s ≡ Some (head_in x)
-  unfolding view_at
-  head_shown s x map is = sym is.head
+  head_shown s x map is = head_told (root_found pool.found) disk.reads s ∙ sym is.head
 
   -- of a volume that hasn't changed and isn't marked
   none_here : (s : ℕ) → s < 64 → get_or delays s true ≡ false → (x : VolumeState) (paged : Paged) → IsLabelled s x → IsLoaded disk.reads pool.found s (Some x) (Some paged) → counts_in s (held_by x.map paged.map) ≡ []

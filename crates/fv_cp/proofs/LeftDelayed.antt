@@ -11,6 +11,7 @@ use Rattle.fv_codec.specs.declared.label.Label.{Label}
 use Rattle.fv_image.specs.Views.{Head, View, entry_count, head_of}
 use Rattle.fv_image.specs.Held.{view_at}
 use Rattle.fv_image.specs.Mapped.{AreInSlots}
+use Rattle.fv_image.proofs.Heads.{head_told}
 use Rattle.fv_container.specs.declared.entry.Entry.{Entry}
 use Rattle.fv_container.specs.Chains.{Slots, container_at, map_in, paged_at}
 use Rattle.fv_container.specs.Paged.{Paged}
@@ -120,8 +121,7 @@ module _ (found : Found) (i : Image) (s : ℕ) (h : Head) where
   w = view_at (root_found found) i
 
   head_of_label : w.head s ≡ Some h → option_map head_of (label_of found i s) ≡ Some h
-  unfolding view_at
-  head_of_label is = is
+  head_of_label is = sym (head_told (root_found found) i s) ∙ is
 
   entry_there : (m : Mapped) → IsContainerOf i (label_of found i s) (Some m) → (v : ℕ) → w.entry s v ≡ placed_in fin.empty i (entry_under m v)
   unfolding view_at
@@ -152,9 +152,8 @@ module _ (found : Found) (i : Image) (s : ℕ) (h : Head) where
 
 -- A slot that the image shows without a volume has none.
 none_shown : (found : Found) (i : Image) (s : ℕ) → (view_at (root_found found) i).head s ≡ None → (o : Option VolumeState) (c : Option Mapped) → option_map head_in o ≡ option_map head_of (label_of found i s) → holding_with o c ≡ None
-unfolding view_at
 none_shown found i s none None c head = refl
-none_shown found i s none (Some x) c head = absurd (none-some (head_in x) (sym (head ∙ none)))
+none_shown found i s none (Some x) c head = absurd (none-some (head_in x) (sym (head ∙ sym (head_told (root_found found) i s) ∙ none)))
 
 -- So all volumes are, where those of all slots are loaded.
 pub holdings_shown : (found : Found) (i : Image) (now : ℕ → Option VolumeState) (container : ℕ → Option Paged) → ((s : ℕ) → s < 64 → IsLoaded i found s (now s) (container s))

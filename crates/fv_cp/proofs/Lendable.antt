@@ -1,10 +1,10 @@
 -- Volumes that are held, with no file in memory and stored well, can be lent to a point, and volumes that could be lent are held.
-use Rattle.std.proofs.Common.{◌≡◌, ℕ, ◌<◌, Bool, true, not, Option, Some, None, refl, subst, arith, length, false}
+use Rattle.std.proofs.Common.{◌≡◌, ℕ, ◌<◌, Bool, true, Option, Some, None, refl, subst, arith, length, false}
 use Rattle.std.specs.Prelude.{IfSome, ◌==◌, IsTrue}
 use Rattle.std.specs.List.{list_all}
 use Rattle.std.specs.Option.{option_map, option_map_or}
 use Rattle.std.specs.FinMap as fin
-use Rattle.std.proofs.lemmas.Bool.{le-leb, and_from, and_parts}
+use Rattle.std.proofs.lemmas.Bool.{le-leb, and_from}
 use Rattle.fv_disk.specs.Shown.{Shown}
 use Rattle.fv_codec.specs.declared.inode.InodeRecord.{InodeRecord}
 use Rattle.fv_codec.specs.declared.pointer.Pointer.{Pointer}
@@ -12,7 +12,7 @@ use Rattle.fv_model.specs.Machines.{Machine, capacity}
 use Rattle.fv_model.specs.Spelling.{name_cmp}
 use Rattle.fv_laws.proofs.Lists.{In}
 use Rattle.fv_tables.proofs.Lists.{all_of_range, same_parts}
-use Rattle.fv_image.specs.HintRules.{has_known_places, has_split_places, has_true_hints, is_splitting, leads_unknown, leaves_base, rests_on_base}
+use Rattle.fv_image.specs.HintRules.{has_known_places, has_split_places, has_true_hints, leads_unknown, leaves_base, rests_on_base}
 use Rattle.fv_image.specs.ReachRules.{all_volumes, has_distinct_files, has_pointers_in_range, has_reached_kinds, has_reached_positions, has_reached_shapes, reaches_once}
 use Rattle.fv_image.specs.Seen.{Root, VolumeSeen, roots_of, seen, volume_seen}
 use Rattle.fv_image.specs.Soundness.{AreTables}
@@ -73,7 +73,7 @@ module _ (disk : Shown) (pool : Pool) (states : States) (before : Machine) (held
     whole = subst HasWholeMap e (maps x.slot)
 
     form : has_form (head_in x) ≡ true
-    form = let parts = and_parts x.known (not (is_splitting (head_in x).base)) one.ready.labelled.form in and_from (not (is_splitting (head_in x).base)) x.known parts.1 parts.0
+    form = one.ready.labelled.form
 
     abbrev led : ℕ → Rooted → Option ℕ → ℕ → ℕ → Pointer
     led = alone.led disk pool states fit.housed held.spaced held.footed held.each maps x e one no_files whole

@@ -9,6 +9,7 @@ use Rattle.std.proofs.lemmas.Bool.Decides.{nat_tests}
 use Rattle.std.proofs.lemmas.List.{length-map}
 use Rattle.std.proofs.lemmas.Nat.{div-mul-add, mod_below}
 use Rattle.fv_bits.proofs.Counts.{passing, passing-add, passing-suc, passing_same}
+use Rattle.fv_model.specs.Numbers.{most_snapshots}
 use Rattle.fv_model.specs.Space.{map_blocks, charge, need, use_of}
 use Rattle.fv_laws.proofs.Lists.{In, in_map, in_range, from_map}
 use Rattle.fv_laws.proofs.Tests.{from_all, from_any, to_none}
@@ -319,16 +320,16 @@ module _ (w : View) (s : ℕ) (h : Head) (small : s < 64) (there : w.head s ≡ 
   lone_charge = charge_by_three w s h small there numbers parents tables.snapshots tables.ids tables.ranges
       ∙ ap (λ (n : ℕ). n + map_blocks h.span * length h.snapshots) (sym (passing_same (is_own w s h) (is_charged (own_items w s h) (out_items w h.base)) 0 0 h.span (λ j lt. own_listed (0 + j) (omega (arith, lt)))))
 
-  snaps_whole : passing (is_own w s h) h.span (25 * map_blocks h.span) ≡ map_blocks h.span * length h.snapshots
+  snaps_whole : passing (is_own w s h) h.span (stored_slots * map_blocks h.span) ≡ map_blocks h.span * length h.snapshots
   snaps_whole =
-      passing_same (is_own w s h) (λ v. list_any (λ slot. slot == map_slot h.span v) snap_slots) h.span h.span (25 * map_blocks h.span) (λ j lt. own_high (h.span + j) (omega arith))
-      ∙ slots_whole h.span (map_blocks h.span) snap_slots (25 * map_blocks h.span) some_blocks order.rising (λ k one. fits k (map_blocks h.span) (bounds k one).1)
+      passing_same (is_own w s h) (λ v. list_any (λ slot. slot == map_slot h.span v) snap_slots) h.span h.span (stored_slots * map_blocks h.span) (λ j lt. own_high (h.span + j) (omega arith))
+      ∙ slots_whole h.span (map_blocks h.span) snap_slots (stored_slots * map_blocks h.span) some_blocks order.rising (λ k one. fits k (map_blocks h.span) (bounds k one).1)
       ∙ ap (λ (k : ℕ). map_blocks h.span * k) (length-map h.snapshots (λ (p : Snap). p.slot))
     where
-      fits : (k m : ℕ) → k < stored_slots → k * m + m ≤ 25 * m
+      fits : (k m : ℕ) → k < stored_slots → k * m + m ≤ stored_slots * m
       fits k m low =
-          let parts : (k + 1 + (24 - k)) * m ≡ k * m + m + (24 - k) * m = shared k (24 - k) m in
-          let all : (k + 1 + (24 - k)) * m ≡ 25 * m = ap (λ (n : ℕ). n * m) (let e : k + 1 + (24 - k) ≡ 25 = omega (arith, low) in e) in
+          let parts : (k + 1 + (most_snapshots - k)) * m ≡ k * m + m + (most_snapshots - k) * m = shared k (most_snapshots - k) m in
+          let all : (k + 1 + (most_snapshots - k)) * m ≡ stored_slots * m = ap (λ (n : ℕ). n * m) (let e : k + 1 + (most_snapshots - k) ≡ stored_slots = omega (arith, low) in e) in
           omega (arith, parts, all)
         where
           shared : (a b m : ℕ) → (a + 1 + b) * m ≡ a * m + m + b * m
@@ -338,9 +339,9 @@ module _ (w : View) (s : ℕ) (h : Head) (small : s < 64) (there : w.head s ≡ 
   pub own_charged : count_by (is_own w s h) (vvbns h.span) ≡ charge (volume_told w s h)
   unfolding vvbns
   own_charged =
-      let whole : count_by (is_own w s h) (vvbns h.span) ≡ passing (is_own w s h) 0 (h.span + 25 * map_blocks h.span) = refl in
-      let start : passing (is_own w s h) (0 + h.span) (25 * map_blocks h.span) ≡ passing (is_own w s h) h.span (25 * map_blocks h.span) = ap (λ (k : ℕ). passing (is_own w s h) k (25 * map_blocks h.span)) (let e : 0 + h.span ≡ h.span = omega arith in e) in
-      whole ∙ passing-add (is_own w s h) 0 h.span (25 * map_blocks h.span) ∙ ap (λ (k : ℕ). passing (is_own w s h) 0 h.span + k) (start ∙ snaps_whole) ∙ sym lone_charge
+      let whole : count_by (is_own w s h) (vvbns h.span) ≡ passing (is_own w s h) 0 (h.span + stored_slots * map_blocks h.span) = refl in
+      let start : passing (is_own w s h) (0 + h.span) (stored_slots * map_blocks h.span) ≡ passing (is_own w s h) h.span (stored_slots * map_blocks h.span) = ap (λ (k : ℕ). passing (is_own w s h) k (stored_slots * map_blocks h.span)) (let e : 0 + h.span ≡ h.span = omega arith in e) in
+      whole ∙ passing-add (is_own w s h) 0 h.span (stored_slots * map_blocks h.span) ∙ ap (λ (k : ℕ). passing (is_own w s h) 0 h.span + k) (start ∙ snaps_whole) ∙ sym lone_charge
 
 -- ---- all volumes
 

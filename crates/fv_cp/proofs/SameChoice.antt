@@ -12,7 +12,7 @@ use Rattle.fv_image.specs.Views.{entry_count, slots}
 use Rattle.fv_image.proofs.Counts.{same_sum}
 use Rattle.fv_container.specs.Chains.{container_at, own_entry}
 use Rattle.fv_container.specs.Mapped.{Mapped, entry_under}
-use Rattle.fv_volmap.specs.Slots.{IsVolume, Slot, Volume, active_of, has, stored_count, taken_in}
+use Rattle.fv_volmap.specs.Slots.{IsVolume, Slot, Volume, active_of, has, stored_count, taken_in, snapshot_count}
 use Rattle.fv_delay.specs.declared.counts.Count.{Count}
 use Rattle.fv_delay.specs.Choice.{chosen, regions_counted, total}
 use Rattle.fv_delay.specs.Delay.{is_delayed, is_held}
@@ -45,7 +45,7 @@ unheld m v is free = ⊎_elim
 
     first : (ss : List Slot) → taken_in (take stored_count ss) v ≡ false → has v (slice_index_or ss 0 None) ≡ false
     first [] none = refl
-    first (s ∷ ss) none = left (has v s) (taken_in (take 24 ss) v) none
+    first (s ∷ ss) none = left (has v s) (taken_in (take snapshot_count ss) v) none
 
 and_true : (b : Bool) → b ≡ (b && true)
 and_true true = refl

@@ -11,10 +11,7 @@ ghost use Rattle.fv_delay.specs.Delay.{HoldsAlone, IsKnownIn, IsSureIn, delayed_
 
 use fv_container::Container;
 use fv_model::{map_blocks, map_slot};
-use fv_volmap::VolMap;
-
-/// The slots whose maps stand on the disk: the active one and 24 for snapshots.
-const STORED: u32 = 25;
+use fv_volmap::{MapSlot, STORED_SLOTS, VolMap};
 
 /// How many entries of a region of a volume's container are delayed: they aren't holes, and their VVBNs are held neither by the active map nor
 /// by a snapshot's. The VVBN of a block of a map is held exactly while its slot is in use. The container has an entry for each VVBN
@@ -73,7 +70,7 @@ fn is_held_alone(map: &VolMap, region: u32) -> bool
 /// How many regions a volume's container has, which has an entry for each VVBN of the map's span and for each block of 25 maps. From that
 /// number on no region has an entry.
 #[tactic(auto, using(crate::proofs::Parts::regions_are))]
-pub fn region_count(map: &VolMap) -> u32
+fn region_count(map: &VolMap) -> u32
     requires { map.now.span ≤ greatest_span }
     ensures { result ≡ level_width (entry_count map.now.span) 0 }
 {
@@ -104,7 +101,7 @@ pub(crate) fn is_held(map: &VolMap, vvbn: u32) -> bool
 }
 
 /// Whether a slot is in use whose map stands on the disk; that of the active table always is.
-fn is_used(map: &VolMap, slot: u8) -> bool
+fn is_used(map: &VolMap, slot: MapSlot) -> bool
     requires { slot < stored_count }
     ensures { result ≡ is_used map.now slot }
 {
@@ -126,7 +123,7 @@ pub(crate) fn entry_count(map: &VolMap) -> u32
     ensures most { result ≤ most_entries }
 {
     let span = span_of(map);
-    span + STORED * map_blocks(span)
+    span + STORED_SLOTS as u32 * map_blocks(span)
 }
 
 /// The first VVBN of a region, or the number of entries where the region lies behind them.

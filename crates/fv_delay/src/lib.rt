@@ -16,7 +16,7 @@ mod threshold;
 
 pub use choosing::choose_regions;
 pub use counts::{Count, Counts};
-pub use delayed::{delayed_by_region, region_count};
+pub use delayed::delayed_by_region;
 pub use listed::Listed;
 pub use reclaiming::reclaim;
 pub use regions::{Region, Regions};

@@ -16,6 +16,7 @@ use Rattle.fv_image.specs.BlockRules.{is_place}
 use Rattle.fv_image.specs.Seen.{volume_seen, seen}
 use Rattle.fv_image.specs.ReachRules.{are_distinct}
 use Rattle.fv_image.specs.VolumeRules.{share_name, comes_to_end, has_footing, has_bases, has_distinct_names, has_distinct_snapshots}
+use Rattle.fv_image.proofs.Heads.{head_told}
 use Rattle.fv_image.proofs.Counted.{HasHeads, image_has_heads}
 use Rattle.fv_faults.specs.declared.fault.Fault.{Fault}
 use Rattle.fv_faults.specs.Lines.{leads}
@@ -66,8 +67,7 @@ module _ (t : Taken) (i : Image) (long : (b : ℕ) → length (i b) ≡ 4096) (s
   read_as s x l lies reads = ap label_in lies ∙ ap shaped reads
 
   pub head_is : (s : ℕ) (l : Label) → label_in (label_lying t i s) ≡ Some l → w.head s ≡ Some (head_of l)
-  unfolding view_at
-  head_is s l there = ap (option_map head_of) there
+  head_is s l there = head_told t i s ∙ ap (option_map head_of) there
 
   -- the label of a head
   pub record HasLabel (s : ℕ) (h : Head) : Type 0 where
@@ -78,8 +78,8 @@ module _ (t : Taken) (i : Image) (long : (b : ℕ) → length (i b) ≡ 4096) (s
     pub head : head_of label ≡ h
 
   pub labelled : (s : ℕ) (h : Head) → w.head s ≡ Some h → HasLabel s h
-  unfolding label_in layout_at view_at
-  labelled s h head = so (label_lying t i s) refl head
+  unfolding label_in layout_at
+  labelled s h head = so (label_lying t i s) refl (sym (head_told t i s) ∙ head)
     where
       shape : (x : Lying) → label_lying t i s ≡ Some x → (r : Result Label Shape) → label_at x.block ≡ r → option_map head_of (shaped r) ≡ Some h → HasLabel s h
       shape x lies (Err fault) reads e = absurd cc

@@ -29,8 +29,7 @@ use Rattle.fv_inode.proofs.Readied.{holds_there}
 use Rattle.fv_inode.proofs.Alike.{alike_itself}
 use Rattle.fv_inode.proofs.Placed.{KeepsOthers, keeps_others}
 use Rattle.fv_files.specs.declared.files.Files.{Files}
-use Rattle.fv_files.specs.Apart.{LeadsIn, LeadsFrom, StandsIn, StoredIn}
-use Rattle.fv_tree.specs.Stored.{IsStoredWell}
+use Rattle.fv_files.specs.Apart.{LeadsIn, LeadsFrom, StandsIn, StoredIn, IsAsSaid}
 use Rattle.fv_files.specs.Tables.{table_in, tree_in, file_loaded, loaded_trees, AreStanding, IsLed, IsStored, IsTold}
 use Rattle.fv_files.specs.Calls.{Becomes, SparesOthers}
 use Rattle.fv_files.proofs.Looked.{Held}
@@ -77,7 +76,7 @@ owned_stands source f n t is sound =
     subst (StandsIn source.used) (kept_tree_is (under source) f n t there.file is there.is) (sound.trees (Some n))
 
 -- and leads to what its pointers say
-pub owned_stored : (source : Shown) (f : Files) (n : ℕ) (t : Tree) → tree_in f n ≡ Some t → AreStanding source f → IsStored source f → IsStoredWell (loaded source t)
+pub owned_stored : (source : Shown) (f : Files) (n : ℕ) (t : Tree) → tree_in f n ≡ Some t → AreStanding source f → IsStored source f → IsAsSaid (loaded source t)
 owned_stored source f n t is sound well =
     let there = has_record (file_at (rooted source f.inode) n) (sound.owners n t is).1 in
     subst StoredIn (kept_tree_is (under source) f n t there.file is there.is) (well.trees (Some n))
@@ -148,7 +147,7 @@ module _ (old new : Shown) (f : Files) (m : maps.BTreeMap ℕ Tree) (n : ℕ) (t
     now_tree : loaded_trees (under new) g (Some n) ≡ Some (loaded new u)
     now_tree = kept_tree_is (under new) g n u was_there.file becomes.now (files_same old new f g n refl becomes.others sound own_spares n ∙ was_there.is)
 
-    pub kept_stored : IsStoredWell (loaded new u) → IsStored old f → IsStored new g
+    pub kept_stored : IsAsSaid (loaded new u) → IsStored old f → IsStored new g
     kept_stored well = file_stored old new f g n refl becomes.others sound own_spares (subst StoredIn (sym now_tree) well)
 
     -- what happens to the places of that tree happens to the table's
@@ -267,7 +266,7 @@ module _ (source : Shown) (f : Files) (i : InodeFile) (n s : ℕ) (u : Tree) (ke
       (loading_spares source source (LeadsTo (loaded source f.inode.tree)) (LeadsTo (loaded source i.tree)) refl refl (λ v led. record { level = led.level; place = led.place; leads = no_more led.level led.place v led.leads }))
       own_same
 
-  pub record_stored : IsStoredWell (loaded source i.tree) → (NamesIndexes (rooted source f.inode) → NamesIndexes (rooted source i)) → LeadsNoMore (loaded source f.inode.tree) (loaded source i.tree) → AreStanding source f → IsStored source f → IsStored source h
+  pub record_stored : IsAsSaid (loaded source i.tree) → (NamesIndexes (rooted source f.inode) → NamesIndexes (rooted source i)) → LeadsNoMore (loaded source f.inode.tree) (loaded source i.tree) → AreStanding source f → IsStored source f → IsStored source h
   record_stored well named no_more sound =
       inode_stored source source f h n (λ k differs. refl) other_records sound
       (loading_spares source source (LeadsTo (loaded source f.inode.tree)) (LeadsTo (loaded source i.tree)) refl refl (λ v led. record { level = led.level; place = led.place; leads = no_more led.level led.place v led.leads }))
@@ -299,8 +298,8 @@ module _ (old new : Shown) (f : Files) (m : maps.BTreeMap ℕ Tree) (n : ℕ) (t
       record_led new (with_trees f m) i n s u becomes.now change (rewrites (under new)).files (leads (under new)) (keeps (under new)) (kept_stands old new f m n t u becomes sound spares same stands)
       (kept_led old new f m n t u becomes sound spares lets_go no_more led)
 
-  pub both_stored : AreStanding old f → Spares old new (LeadsTo (loaded old t)) (LeadsTo (loaded new u)) → u.owner ≡ t.owner → Stands new u → ((blocks : Under) → IsStoredWell (loaded_over blocks f.inode.tree) → IsStoredWell (loaded_over blocks i.tree))
-      → IsStoredWell (loaded new u) → IsStored old f → IsStored new (record { inode = i; trees = m; alloc = f.alloc })
+  pub both_stored : AreStanding old f → Spares old new (LeadsTo (loaded old t)) (LeadsTo (loaded new u)) → u.owner ≡ t.owner → Stands new u → ((blocks : Under) → IsAsSaid (loaded_over blocks f.inode.tree) → IsAsSaid (loaded_over blocks i.tree))
+      → IsAsSaid (loaded new u) → IsStored old f → IsStored new (record { inode = i; trees = m; alloc = f.alloc })
   both_stored sound spares same stands record_well well was =
       let half = kept_stored old new f m n t u becomes sound spares well was in
       record_stored new (with_trees f m) i n s u becomes.now change (rewrites (under new)).files (record_well (under new) (half.trees None)) (rewritten_indexes (rooted new f.inode) (rooted new i) n s _ (rewrites (under new))) (leads (under new)) (kept_stands old new f m n t u becomes sound spares same stands) half

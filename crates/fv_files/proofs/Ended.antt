@@ -1,5 +1,5 @@
 -- The end of a table's flush: the inode file is placed, and nothing is in memory.
-use Rattle.std.proofs.Common.{◌≡◌, ℕ, inl, Ok, Err, Result, refl, sym, ap, subst, ◌∙◌, arith}
+use Rattle.std.proofs.Common.{◌≡◌, ℕ, false, inl, Ok, Err, Result, refl, sym, ap, subst, ◌∙◌, arith}
 use Rattle.std.specs.Prelude.{Option, Some, None, is_some, IfOk, IfErr, OnOk}
 use Rattle.std.specs.Option.{option_map}
 use Rattle.std.specs.BTreeMap as maps
@@ -14,7 +14,8 @@ use Rattle.fv_tree.specs.Sources.{Shown, Counts, HasCause}
 use Rattle.fv_tree.specs.Standing.{standing, under}
 use Rattle.fv_tree.specs.Costs.{pending, Fits, IsEnough}
 use Rattle.fv_tree.specs.Flushing.{Flushes, IsLeft, ReachesOnce, Stands, loaded}
-use Rattle.fv_tree.specs.Stored.{HasPlaces, IsStoredWell, KeepsPlaces}
+use Rattle.fv_tree.specs.Stored.{HasPlaces, IsStoredWell, KeepsPlaces, TellsPlaces}
+use Rattle.fv_tree.specs.Unknown.{KnowsRoots}
 use Rattle.fv_tree.specs.Beside.{unread}
 use Rattle.fv_tree.proofs.Beside.{unread_reaches}
 use Rattle.fv_inode.specs.declared.file.InodeFile.{InodeFile}
@@ -28,7 +29,8 @@ use Rattle.fv_files.specs.Calls.{KeepsStored, SparesOthers}
 use Rattle.fv_files.specs.Flushing.{FlushesTable, LaysTrees}
 use Rattle.fv_files.specs.Pending.{FitsTable}
 use Rattle.fv_files.proofs.Tables.{placed_alike}
-use Rattle.fv_files.proofs.Stored.{places_of, reread_stored}
+use Rattle.fv_files.proofs.Stored.{both_kept, places_of, reread_stored}
+use Rattle.fv_files.proofs.Roots.{table_roots}
 use Rattle.fv_files.proofs.Kept.{moved_tree, same_trees, records_told, inode_led, inode_spares, inode_stands, inode_stored, rest_leave}
 use Rattle.fv_files.proofs.Changed.{with_inode}
 use Rattle.fv_files.proofs.Beside.{reread_leads, unread_leads}
@@ -41,8 +43,9 @@ use Rattle.fv_files.proofs.Altered.{leaves_places, none_laid}
 
 -- what the flush of an inode file answers and does
 pub record Places (told : Type 0) (old new : Shown) (i j : InodeFile) (r : Result Pointer BlockFault) : Type 0 where
-  pub flushes : told → Stands old i.tree → Flushes (loaded old i.tree) old.used (loaded new j.tree) new.used
-  pub stored_well : told → Stands old i.tree → HasPlaces new.used → IsStoredWell (loaded old i.tree) → IsStoredWell (loaded new j.tree)
+  pub flushes : told → Stands old i.tree → Flushes false (loaded old i.tree) old.used (loaded new j.tree) new.used
+  pub stored_well : told → Stands old i.tree → IsStoredWell (loaded old i.tree) → IsStoredWell (loaded new j.tree)
+  pub tells : told → Stands old i.tree → HasPlaces new.used → KnowsRoots (loaded old i.tree) → TellsPlaces (loaded old i.tree) → TellsPlaces (loaded new j.tree)
   pub strays : told → Stands old i.tree → new.strays ≡ old.strays
   pub left : IsLeft i.tree j.tree
   pub fits : told → Stands old i.tree → Fits old i.tree new j.tree
@@ -81,7 +84,7 @@ module _ (told : Type 0) (old new : Shown) (f : Files) (i : InodeFile) (r : Resu
     pub last_stored : KeepsPlaces old new → IsLed old f → IsStored old f → IsStored new h
     last_stored places led was = inode_stored old new f h 0 (λ k differs. refl) (λ k differs. files k) sound (flushed_spares old new f.inode.tree i.tree (sound.trees None) (is.flushes tells (sound.trees None)))
         (same_trees (under old) (under new) f h 0 refl (files 0))
-        (is.stored_well tells (sound.trees None) (places (places_of old f sound led was)) (was.trees None))
+        (both_kept (loaded old f.inode.tree) (loaded new i.tree) (is.stored_well tells (sound.trees None)) (is.tells tells (sound.trees None) (places (places_of old f sound led was)) (table_roots old f (no_trees f empty) was)) (was.trees None))
         (alike_indexes (rooted old f.inode) (rooted new i) (is.flushes tells (sound.trees None)).alike) was
 
     last_fits : FitsTable old f new h

@@ -39,7 +39,7 @@ use Rattle.fv_files.specs.Flushing.{FlushesKept, HasRoot, LaysTrees, KeptAnew, K
 use Rattle.fv_files.specs.Pending.{pending_trees, tree_cost, FitsTable}
 use Rattle.fv_files.proofs.Looked.{Held, counts_done, counts_failed}
 use Rattle.fv_files.proofs.Tables.{placed_then}
-use Rattle.fv_files.proofs.Stored.{places_of}
+use Rattle.fv_files.proofs.Stored.{both_kept, places_of}
 use Rattle.fv_files.proofs.Changed.{with_trees, with_inode, owned_stands, owned_stored, has_record, kept_laid, kept_place, kept_there}
 use Rattle.fv_files.proofs.Prepared.{readied_led, readied_placed, readied_spares, readied_stands, readied_stored, readied_laid, readied_leave}
 use Rattle.fv_files.proofs.Sums.{most_cost}
@@ -92,7 +92,7 @@ module _ {T : Type 0} (told : Type 0) (old new : Shown) (f : Files) (i : InodeFi
   }
 
   pub ready_stores : told → KeepsStored old new f h
-  ready_stores tells sound led = readied_stored old new f h loads.looks.untouched (alike tells) (λ k. refl) (loads.stored_well tells) (loads.leads tells) sound
+  ready_stores tells sound led = readied_stored old new f h loads.looks.untouched (alike tells) (λ k. refl) (both_kept (loaded old f.inode.tree) (loaded new i.tree) (loads.stored_well tells) (loads.tells tells)) (loads.leads tells) sound
 
 -- the inode file was only read
 pub look_lays : {T : Type 0} (told : Type 0) (old new : Shown) (f : Files) (r : Result T BlockFault) → inodes.Looks told (rooted old f.inode) old new r → (told → AreStanding old f → IfErr r (λ e. e ≡ Memory)) → LaysTrees told old new f f r
@@ -217,7 +217,7 @@ module _ (told : Type 0) (old mid : Shown) (f : Files) (m : maps.BTreeMap ℕ Tr
   kept_stores tells places sound led was =
       let stood = owned_stands old f n kept.tree kept.becomes.was sound in
       kept_flush_stored old mid f m n kept.tree kept.next kept.becomes sound stood (kept.flushes tells stood)
-      (kept.stored_well tells stood (places (places_of old f sound led was)) (owned_stored old f n kept.tree kept.becomes.was sound was)) was
+      (both_kept (loaded old kept.tree) (loaded mid kept.next) (kept.stored_well tells stood) (kept.tells tells stood (sound.owners n kept.tree kept.becomes.was).0 (places (places_of old f sound led was))) (owned_stored old f n kept.tree kept.becomes.was sound was)) was
 
 -- its root was laid, and it goes from memory
 module _ (told : Type 0) (old mid new : Shown) (f : Files) (m last : maps.BTreeMap ℕ Tree) (i : InodeFile) (n levels : ℕ) (root : Pointer) (kept : FlushesKept told old mid f.trees m n (Ok root)) (levels_is : (t : Tree) → maps.get nat_cmp f.trees n ≡ Some t → levels ≡ t.levels)
@@ -290,7 +290,7 @@ module _ (told : Type 0) (old mid new : Shown) (f : Files) (m last : maps.BTreeM
 
     all_stored : KeepsPlaces old mid → IsLed old f → IsStored old f → IsStored new four
     all_stored places led was = gone_stored new three last n levels root kept.next kept.becomes.now gone placed_three own spelled reached
-        (root_stored mid new two i n levels root kept.next kept.becomes.now loads.looks.untouched sets (loads.stored_well tells) (loads.leads tells) placed_two
+        (root_stored mid new two i n levels root kept.next kept.becomes.now loads.looks.untouched sets (both_kept (loaded mid f.inode.tree) (loaded new i.tree) (loads.stored_well tells) (loads.tells tells)) (loads.leads tells) placed_two
         (kept_stores told old mid f m n (Ok root) kept tells places sound led was))
 
     all_fits : FitsTable old f new four

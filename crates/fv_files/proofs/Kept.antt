@@ -21,9 +21,8 @@ use Rattle.fv_inode.proofs.Indexed.{alike_indexes}
 use Rattle.fv_inode.proofs.Slots.{alike_files}
 use Rattle.fv_inode.proofs.Placed.{KeepsOthers}
 use Rattle.fv_files.specs.declared.files.Files.{Files}
-use Rattle.fv_files.specs.Apart.{LeadsFrom, StandsIn, StoredIn, AreLed}
+use Rattle.fv_files.specs.Apart.{LeadsFrom, StandsIn, StoredIn, AreLed, IsAsSaid}
 use Rattle.fv_files.specs.Tables.{table_in, tree_in, file_loaded, loaded_trees, AreSound, AreStanding, IsLed, IsStored, IsStoredOn}
-use Rattle.fv_tree.specs.Stored.{IsStoredWell}
 use Rattle.fv_files.specs.Altering.{LeavesIn}
 use Rattle.fv_files.specs.Calls.{SparesOthers}
 use Rattle.fv_files.proofs.Stored.{stored_still}
@@ -178,7 +177,7 @@ module _ (old new : Shown) (f g : Files) (n : ℕ) (trees : (k : ℕ) → k ≢ 
     pub inode_spares : SparesOthers old new f g
     inode_spares = spares_all old new (loaded_trees (under old) f) (loaded_trees (under new) g) None (trees_laid (under old) f) sound.trees sound.apart spares rest
 
-    pub inode_stored : IsStoredWell (loaded new g.inode.tree) → (NamesIndexes (rooted old f.inode) → NamesIndexes (rooted new g.inode)) → IsStored old f → IsStored new g
+    pub inode_stored : IsAsSaid (loaded new g.inode.tree) → (NamesIndexes (rooted old f.inode) → NamesIndexes (rooted new g.inode)) → IsStored old f → IsStored new g
     inode_stored own named was = record {
       trees = stored_still old new (loaded_trees (under old) f) (loaded_trees (under new) g) None (trees_laid (under old) f) sound.trees sound.apart spares rest own was.trees;
       inodes = named was.inodes;

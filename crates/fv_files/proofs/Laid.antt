@@ -1,5 +1,5 @@
 -- A file's tree is placed, its root laid into an inode block, and the tree goes from memory.
-use Rattle.std.proofs.Common.{◌≡◌, ◌≢◌, ℕ, true, false, cond, nat_eq, inl, inr, Ok, Result, refl, sym, ap, subst, ◌∙◌, ⊎_elim, arith, ◌/◌}
+use Rattle.std.proofs.Common.{◌≡◌, ◌≢◌, ℕ, true, false, cond, nat_eq, inl, inr, Ok, Result, refl, sym, ap, subst, ◌∙◌, ⊎_elim, arith, ◌/◌, Bool}
 use Rattle.std.specs.Prelude.{Option, Some, None, is_some}
 use Rattle.std.specs.Option.{option_map}
 use Rattle.std.specs.Ordering.{nat_cmp}
@@ -19,7 +19,6 @@ use Rattle.fv_tree.specs.Sources.{Shown, HasCause, IsCalm, IsUntouched}
 use Rattle.fv_tree.specs.Standing.{standing, under}
 use Rattle.fv_tree.specs.Flushing.{ReachesOnce, Flushes, IsPlaced, Stands, loaded, loaded_over, changed_of}
 use Rattle.fv_tree.specs.Leading.{LeadsNoMore}
-use Rattle.fv_tree.specs.Stored.{IsStoredWell}
 use Rattle.fv_tree.specs.Readying.{KeepsReady}
 use Rattle.fv_tree.specs.Beside.{unread, LeadsTo, Spares, loaded_on}
 use Rattle.fv_tree.proofs.Beside.{flush_spares, loading_spares, unread_sound}
@@ -34,7 +33,7 @@ use Rattle.fv_inode.proofs.Alike.{alike_itself}
 use Rattle.fv_inode.proofs.Indexed.{rooted_indexes}
 use Rattle.fv_inode.proofs.Placed.{keeps_others, rooted_table}
 use Rattle.fv_files.specs.declared.files.Files.{Files}
-use Rattle.fv_files.specs.Apart.{LeadsAny, LeadsIn, LeadsFrom, StandsIn, StoredIn}
+use Rattle.fv_files.specs.Apart.{LeadsAny, LeadsIn, LeadsFrom, StandsIn, StoredIn, IsAsSaid}
 use Rattle.fv_files.specs.Tables.{table_in, tree_in, file_loaded, loaded_trees, AreStanding, IsLed, IsStored}
 use Rattle.fv_files.specs.Calls.{Becomes, KeepsStored, SparesOthers}
 use Rattle.fv_files.specs.Failing.{FilesFail}
@@ -57,12 +56,12 @@ use Rattle.fv_files.proofs.Altered.{laid_by, leaves_as, leaves_in_itself, leaves
 
 -- ---- a tree is flushed
 
-pub flushed_spares : (old new : Shown) (t u : Tree) → Stands old t → Flushes (loaded old t) old.used (loaded new u) new.used → Spares old new (LeadsTo (loaded old t)) (LeadsTo (loaded new u))
+pub flushed_spares : {hides : Bool} (old new : Shown) (t u : Tree) → Stands old t → Flushes hides (loaded old t) old.used (loaded new u) new.used → Spares old new (LeadsTo (loaded old t)) (LeadsTo (loaded new u))
 flushed_spares old new t u stands flushes = flush_spares old new (loaded old t) (loaded new u) refl refl flushes
     (λ level place v led. ⊎_elim (λ placed. inl placed) (λ was. inr was.0) (flush_leads old new t u stands flushes level place v led))
 
 -- a block that was placed is led to
-placed_led : (old new : Shown) (t u : Tree) → Flushes (loaded old t) old.used (loaded new u) new.used → (v : ℕ) → IsPlaced (loaded old t) (loaded new u) v → LeadsTo (loaded new u) v
+placed_led : {hides : Bool} (old new : Shown) (t u : Tree) → Flushes hides (loaded old t) old.used (loaded new u) new.used → (v : ℕ) → IsPlaced (loaded old t) (loaded new u) v → LeadsTo (loaded new u) v
 placed_led old new t u flushes v placed =
     let some : (pointer_at (loaded new u).tree placed.level placed.place).stamp ≢ 0 = (λ none. placed.flushed.some (sym (flushes.stamps placed.level placed.place) ∙ none)) in record {
       level = placed.level;
@@ -75,17 +74,17 @@ placed_led old new t u flushes v placed =
     }
 
 -- and one that was replaced, and isn't led to, is out of use
-pub flush_goes : (old new : Shown) (t u : Tree) → Stands old t → Flushes (loaded old t) old.used (loaded new u) new.used → LetsGo new (LeadsTo (loaded old t)) (LeadsTo (loaded new u))
+pub flush_goes : {hides : Bool} (old new : Shown) (t u : Tree) → Stands old t → Flushes hides (loaded old t) old.used (loaded new u) new.used → LetsGo new (LeadsTo (loaded old t)) (LeadsTo (loaded new u))
 flush_goes old new t u stood flushes v none some led = ⊎_elim
     (λ now. none (record { level = led.level; place = led.place; leads = now }))
     (λ replaced. none_some (new.used v) (flushes.gone v replaced (λ placed. none (placed_led old new t u flushes v placed))) some)
     (flush_keeps old new t u stood flushes led.level led.place v led.leads)
 
-pub flush_uses : (old new : Shown) (t u : Tree) → Flushes (loaded old t) old.used (loaded new u) new.used → UsesNoMore old new (LeadsTo (loaded old t)) (LeadsTo (loaded new u))
+pub flush_uses : {hides : Bool} (old new : Shown) (t u : Tree) → Flushes hides (loaded old t) old.used (loaded new u) new.used → UsesNoMore old new (LeadsTo (loaded old t)) (LeadsTo (loaded new u))
 flush_uses old new t u flushes v was now none =
     (flushes.others v (λ replaced. was (record { level = replaced.level; place = replaced.place; leads = replaced.leads })) (λ placed. now (placed_led old new t u flushes v placed))).1 ∙ none
 
-module _ (old new : Shown) (f : Files) (m : maps.BTreeMap ℕ Tree) (n : ℕ) (t u : Tree) (becomes : Becomes f.trees m n t u) (sound : AreStanding old f) (stood : Stands old t) (flushes : Flushes (loaded old t) old.used (loaded new u) new.used) where
+module _ {hides : Bool} (old new : Shown) (f : Files) (m : maps.BTreeMap ℕ Tree) (n : ℕ) (t u : Tree) (becomes : Becomes f.trees m n t u) (sound : AreStanding old f) (stood : Stands old t) (flushes : Flushes hides (loaded old t) old.used (loaded new u) new.used) where
   pub kept_placed : IsPlacedTable (table_in old f) (table_in new (with_trees f m))
   kept_placed = placed_alike (table_in old f) (table_in new (with_trees f m)) n (kept_inode old new f m n t u becomes sound (flushed_spares old new t u stood flushes))
       (kept_others old new f m n t u becomes sound (flushed_spares old new t u stood flushes)) (λ r at. own_told old new f m n t u becomes flushes.alike r)
@@ -96,7 +95,7 @@ module _ (old new : Shown) (f : Files) (m : maps.BTreeMap ℕ Tree) (n : ℕ) (t
   pub kept_flush_spares : SparesOthers old new f (with_trees f m)
   kept_flush_spares = kept_spares old new f m n t u becomes sound (flushed_spares old new t u stood flushes)
 
-  pub kept_flush_stored : IsStoredWell (loaded new u) → IsStored old f → IsStored new (with_trees f m)
+  pub kept_flush_stored : IsAsSaid (loaded new u) → IsStored old f → IsStored new (with_trees f m)
   kept_flush_stored = kept_stored old new f m n t u becomes sound (flushed_spares old new t u stood flushes)
 
   pub kept_stood : u.owner ≡ t.owner → AreStanding new (with_trees f m)
@@ -144,7 +143,7 @@ module _ (old new : Shown) (f : Files) (i : InodeFile) (n levels : ℕ) (root : 
       (subst (λ (m : Held). LeadsNoMore (loaded_over (λ v. fin.get m v) f.inode.tree) (loaded new i.tree)) (sym untouched.held) no_more)
       (sound_on f old new untouched.held untouched.used sound))
 
-  pub root_stored : (IsStoredWell (loaded old f.inode.tree) → IsStoredWell (loaded new i.tree)) → LeadsNoMore (loaded old f.inode.tree) (loaded new i.tree) → AreStanding old f → IsStored old f → IsStored new h
+  pub root_stored : (IsAsSaid (loaded old f.inode.tree) → IsAsSaid (loaded new i.tree)) → LeadsNoMore (loaded old f.inode.tree) (loaded new i.tree) → AreStanding old f → IsStored old f → IsStored new h
   root_stored well no_more sound was =
       record_stored new f i n 0 u kept (with_root levels root)
       (λ k. subst (λ (m : Held). file_at (rooted new i) k ≡ cond (nat_eq k n) (option_map (with_root levels root) (file_at (standing (λ v. fin.get m v) f.inode.tree) n)) (file_at (standing (λ v. fin.get m v) f.inode.tree) k)) (sym untouched.held) (sets.files k))

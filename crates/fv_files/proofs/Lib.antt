@@ -6,6 +6,7 @@ pub mod Whole
 pub mod Wrote
 pub mod Beside
 pub mod Stored
+pub mod Roots
 pub mod Kept
 pub mod Changed
 pub mod Made

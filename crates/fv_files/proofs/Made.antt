@@ -26,9 +26,8 @@ use Rattle.fv_inode.proofs.Indexed.{rewritten_indexes}
 use Rattle.fv_inode.proofs.Placed.{keeps_others}
 use Rattle.fv_inode.proofs.Told.{created_told}
 use Rattle.fv_files.specs.declared.files.Files.{Files}
-use Rattle.fv_files.specs.Apart.{LeadsIn}
+use Rattle.fv_files.specs.Apart.{LeadsIn, IsAsSaid}
 use Rattle.fv_files.specs.Tables.{table_in, tree_in, file_loaded, loaded_trees, AreStanding, IsLed, IsStored}
-use Rattle.fv_tree.specs.Stored.{IsStoredWell}
 use Rattle.fv_files.proofs.Beside.{IsBare, loading_lets_go, loading_uses}
 use Rattle.fv_files.proofs.Kept.{inode_led, inode_stands, inode_stored, records_leave}
 use Rattle.fv_files.proofs.Whole.{not_some}
@@ -86,7 +85,7 @@ module _ (old now : Shown) (f : Files) (i : InodeFile) (name : List ℕ) (reserv
       (loading_spares old now (LeadsTo (loaded old f.inode.tree)) (LeadsTo (loaded now i.tree)) held used (λ v led. record { level = led.level; place = led.place; leads = no_more led.level led.place v led.leads }))
       (inr bare) owner inode (λ t at. absurd (not_some (tree_in f n) t none at)) (λ k there. keeps_ready (k / records_each) (sound.ready k there))
 
-  pub made_stored : now.used ≡ old.used → IsStoredWell (loaded now i.tree) → LeadsNoMore (loaded old f.inode.tree) (loaded now i.tree) → IsStored old f → IsStored now g
+  pub made_stored : now.used ≡ old.used → IsAsSaid (loaded now i.tree) → LeadsNoMore (loaded old f.inode.tree) (loaded now i.tree) → IsStored old f → IsStored now g
   made_stored used well no_more = inode_stored old now f g n (λ k differs. refl) others sound
       (loading_spares old now (LeadsTo (loaded old f.inode.tree)) (LeadsTo (loaded now i.tree)) held used (λ v led. record { level = led.level; place = led.place; leads = no_more led.level led.place v led.leads }))
       (inr bare) well (rewritten_indexes (rooted old f.inode) (rooted now i) n s _ makes.rewrites)

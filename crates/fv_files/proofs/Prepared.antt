@@ -36,8 +36,7 @@ use Rattle.fv_inode.proofs.Indexed.{alike_indexes}
 use Rattle.fv_inode.proofs.Placed.{keeps_others}
 use Rattle.fv_inode.proofs.Slots.{alike_files}
 use Rattle.fv_files.specs.declared.files.Files.{Files}
-use Rattle.fv_files.specs.Apart.{LeadsIn, LeadsFrom, StandsIn, StoredIn}
-use Rattle.fv_tree.specs.Stored.{IsStoredWell}
+use Rattle.fv_files.specs.Apart.{LeadsIn, LeadsFrom, StandsIn, StoredIn, IsAsSaid}
 use Rattle.fv_files.specs.Tables.{table_in, tree_in, tree_known, file_loaded, loaded_trees, AreStanding, IsInfoOf, IsLed, IsStored, IsTold}
 use Rattle.fv_files.specs.Failing.{FilesFail, Looks}
 use Rattle.fv_laws.specs.Positions.{taken_by_rm}
@@ -47,7 +46,7 @@ use Rattle.fv_files.proofs.Looked.{Held, counts_failed, counts_done, handed_on, 
 use Rattle.fv_tree.proofs.Brought.{some_same}
 use Rattle.fv_files.proofs.Tables.{file_tree, kept_known, placed_alike, same_placed, stored_known}
 use Rattle.fv_files.proofs.Kept.{own_tree_is, moved_tree, same_trees, file_led, file_stands, file_stored, inode_led, inode_spares, inode_stands, inode_stored, rest_leave}
-use Rattle.fv_files.proofs.Stored.{unread_stored}
+use Rattle.fv_files.proofs.Stored.{both_kept, unread_stored}
 use Rattle.fv_files.proofs.Changed.{with_trees, with_inode, kept_tree_is}
 use Rattle.fv_files.proofs.Steps.{same_room}
 use Rattle.fv_tree.specs.Altering.{Leaves}
@@ -201,7 +200,7 @@ module _ (old new : Shown) (f g : Files) (untouched : IsUntouched old new) (alik
       (loading_spares old new (LeadsTo (loaded old f.inode.tree)) (LeadsTo (loaded new g.inode.tree)) untouched.held untouched.used (λ v led. record { level = led.level; place = led.place; leads = no_more led.level led.place v led.leads }))
       (same_trees (under old) (under new) f g 0 (trees 0) (files 0))
 
-  pub readied_stored : (IsStoredWell (loaded old f.inode.tree) → IsStoredWell (loaded new g.inode.tree)) → LeadsNoMore (loaded old f.inode.tree) (loaded new g.inode.tree) → AreStanding old f → IsStored old f → IsStored new g
+  pub readied_stored : (IsAsSaid (loaded old f.inode.tree) → IsAsSaid (loaded new g.inode.tree)) → LeadsNoMore (loaded old f.inode.tree) (loaded new g.inode.tree) → AreStanding old f → IsStored old f → IsStored new g
   readied_stored well no_more sound was =
       let files = alike_files (rooted old f.inode) (rooted new g.inode) alike in
       inode_stored old new f g 0 (λ k differs. trees k) (λ k differs. files k) sound
@@ -283,7 +282,7 @@ module _ (source : Shown) (f : Files) (m : maps.BTreeMap ℕ Tree) (info : Info)
 
   pub held_stored : AreStanding source f → IsStored source f → IsStored source g
   held_stored sound well =
-      let was : IsStoredWell (unread (stored (under source) n is.file.levels is.file.root)) = subst StoredIn was_tree (well.trees (Some n)) in
+      let was : IsAsSaid (unread (stored (under source) n is.file.levels is.file.root)) = subst StoredIn was_tree (well.trees (Some n)) in
       file_stored source source f g n refl others sound
       (loading_spares source source (LeadsFrom (loaded_trees (under source) f) (Some n)) (LeadsFrom (loaded_trees (under source) g) (Some n)) refl refl
       (λ v led. subst (λ o. LeadsIn o v) (sym was_tree) (unread_leads (under source) t (stored (under source) n is.file.levels is.file.root) (own_stored (under source)) v (subst (λ o. LeadsIn o v) now_tree led))))
@@ -367,7 +366,7 @@ module _ {T : Type 0} (told : Type 0) (old new : Shown) (f : Files) (i : InodeFi
   half_stands tells = readied_stands old new f half loads.looks.untouched (alike tells) trees loads.owner (loads.stands tells) (loads.leads tells) loads.keeps_ready
 
   pub half_stored : told → AreStanding old f → IsStored old f → IsStored new half
-  half_stored tells = readied_stored old new f half loads.looks.untouched (alike tells) trees (loads.stored_well tells) (loads.leads tells)
+  half_stored tells = readied_stored old new f half loads.looks.untouched (alike tells) trees (both_kept (loaded old f.inode.tree) (loaded new i.tree) (loads.stored_well tells) (loads.tells tells)) (loads.leads tells)
 
   pub half_led : told → KeepsLed old new f half
   half_led tells sound led = readied_led old new f half loads.looks.untouched (alike tells) trees (loads.leads tells) (loads.keeps tells) sound led

@@ -20,6 +20,7 @@ use Rattle.fv_tree.specs.Writing.{IsAlike}
 use Rattle.fv_tree.specs.Erasing.{HoldsCells, IsGrownFrom}
 use Rattle.fv_tree.specs.Costs.{pending}
 use Rattle.fv_tree.specs.Flushing.{loaded, Stands}
+use Rattle.fv_files.proofs.Stored.{both_kept}
 use Rattle.fv_tree.specs.Beside.{LeadsTo, Spares}
 use Rattle.fv_tree.specs.Readying.{IsReady}
 use Rattle.fv_inode.specs.Readying.{IsReadyFile}
@@ -38,8 +39,7 @@ use Rattle.fv_inode.proofs.Slots.{alike_files}
 use Rattle.fv_inode.proofs.Told.{inode_told}
 use Rattle.fv_files.specs.declared.files.Files.{Files}
 use Rattle.fv_files.specs.Tables.{table_in, tree_in, file_loaded, loaded_trees, AreStanding, IsLed, IsStored}
-use Rattle.fv_tree.specs.Stored.{IsStoredWell}
-use Rattle.fv_files.specs.Apart.{LeadsFrom}
+use Rattle.fv_files.specs.Apart.{LeadsFrom, IsAsSaid}
 use Rattle.fv_files.specs.Pending.{pending_in, pending_trees, tree_cost}
 use Rattle.fv_files.specs.Calls.{Becomes, Changes, CutsKept, KeptFails, RemovesFile, TakesByRemoval}
 use Rattle.fv_files.proofs.Beside.{IsBare, LetsGo, UsesNoMore}
@@ -112,7 +112,7 @@ module _ (old mid new : Shown) (f : Files) (m last : maps.BTreeMap ℕ Tree) (i 
         not_some o w none some = let wrong : false ≡ true = sym (ap is_some none) ∙ ap is_some some in cc
 
     -- what they lead to is as their pointers say,
-    pub removed_stored : IsStoredWell (loaded new i.tree) → IsStored mid g → IsStored new h
+    pub removed_stored : IsAsSaid (loaded new i.tree) → IsStored mid g → IsStored new h
     removed_stored well = inode_stored mid new g h n other_trees other_files middle second (inr (subst IsBare (sym nothing) tt)) well taken.indexes
 
     -- what is in use is led to,
@@ -182,9 +182,9 @@ module _ (told cut_calls take_calls : Type 0) (old mid new : Shown) (f : Files) 
 
     remove_stored : HoldsCells (rooted old f.inode) → IsStored old f → IsStored new (record { inode = i; trees = last; alloc = f.alloc })
     remove_stored holds was =
-        let half = kept_stored old mid f m n cuts.tree cuts.next cuts.becomes sound first (cuts.removal.stored_well tells stood (owned_stored old f n cuts.tree cuts.becomes.was sound was)) was in
+        let half = kept_stored old mid f m n cuts.tree cuts.next cuts.becomes sound first (both_kept (loaded old cuts.tree) (loaded mid cuts.next) (cuts.removal.stored_well tells stood) (cuts.removal.tells tells stood) (owned_stored old f n cuts.tree cuts.becomes.was sound was)) was in
         removed_stored old mid new f m last i n s cuts.tree cuts.next cuts.becomes sound first cuts.removal.owner (cuts.removal.stands tells stood) gone second (takes.removed tells) holds
-        (takes.stored_well tells (half_way.trees None) (half.trees None)) half
+        (both_kept (loaded mid f.inode.tree) (loaded new i.tree) (takes.stored_well tells (half_way.trees None)) (takes.tells tells (half_way.trees None)) (half.trees None)) half
 
     remove_alters : HoldsCells (rooted old f.inode) → AltersTrees s (loaded_trees (under old) f) (loaded_trees (under new) (record { inode = i; trees = last; alloc = f.alloc }))
     remove_alters holds b =

@@ -10,7 +10,8 @@ use Rattle.fv_tables.specs.Told.{file_at, records_each}
 use Rattle.fv_tree.specs.declared.kept.Tree.{Tree}
 use Rattle.fv_tree.specs.Sources.{Shown, IsUntouched}
 use Rattle.fv_tree.specs.Standing.{standing, under, Fails}
-use Rattle.fv_tree.specs.Flushing.{Stands, loaded, changed_of}
+use Rattle.fv_tree.specs.Flushing.{Stands, loaded, loaded_over, changed_of}
+use Rattle.fv_files.proofs.Stored.{both_kept}
 use Rattle.fv_tree.specs.Leading.{LeadsNoMore}
 use Rattle.fv_tree.specs.Removal.{Removal}
 use Rattle.fv_tree.specs.Erasing.{HoldsCells}
@@ -75,7 +76,7 @@ module _ (told well : Type 0) (old new : Shown) (f : Files) (m : maps.BTreeMap �
     stands = λ tells asked sound. kept_stands old new f m n puts.tree puts.next puts.becomes sound (loaded_spares old new puts.tree puts.next puts.untouched (puts.leads tells)) puts.owner
         (puts.stands tells (owned_stands old f n puts.tree puts.becomes.was sound));
     stored = λ tells asked sound was. kept_stored old new f m n puts.tree puts.next puts.becomes sound (loaded_spares old new puts.tree puts.next puts.untouched (puts.leads tells))
-        (puts.stored_well tells (owned_stored old f n puts.tree puts.becomes.was sound was)) was;
+        (both_kept (loaded old puts.tree) (loaded new puts.next) (puts.stored_well tells) (puts.tells tells) (owned_stored old f n puts.tree puts.becomes.was sound was)) was;
     strays = λ tells sound. puts.untouched.strays;
     room = same_room old new puts.untouched;
     counts = puts.counts;
@@ -90,7 +91,7 @@ module _ (told well : Type 0) (old new : Shown) (f : Files) (m : maps.BTreeMap �
     stands = λ tells asked sound. both_stand old new f m n puts.tree puts.next puts.becomes i s change is.rewrites is.alters.owner is.alters.sound is.alters.leads is.alters.keeps_ready sound (loaded_spares old new puts.tree puts.next puts.untouched (puts.leads tells)) puts.owner
         (puts.stands tells (owned_stands old f n puts.tree puts.becomes.was sound));
     stored = λ tells asked sound was. both_stored old new f m n puts.tree puts.next puts.becomes i s change is.rewrites is.alters.owner is.alters.sound is.alters.leads is.alters.keeps_ready sound (loaded_spares old new puts.tree puts.next puts.untouched (puts.leads tells)) puts.owner
-        (puts.stands tells (owned_stands old f n puts.tree puts.becomes.was sound)) is.alters.stored_well (puts.stored_well tells (owned_stored old f n puts.tree puts.becomes.was sound was)) was;
+        (puts.stands tells (owned_stands old f n puts.tree puts.becomes.was sound)) (λ blocks. both_kept (loaded_over blocks f.inode.tree) (loaded_over blocks i.tree) (is.alters.stored_well blocks) (is.alters.tells blocks)) (both_kept (loaded old puts.tree) (loaded new puts.next) (puts.stored_well tells) (puts.tells tells) (owned_stored old f n puts.tree puts.becomes.was sound was)) was;
     strays = λ tells sound. puts.untouched.strays;
     room = same_room old new puts.untouched;
     counts = puts.counts;
@@ -146,7 +147,7 @@ module _ (told calls well : Type 0) (old new : Shown) (f : Files) (m : maps.BTre
         kept_stands old new f m n cuts.tree cuts.next cuts.becomes sound (loaded_spares old new cuts.tree cuts.next is.untouched (is.leads tells stood)) is.owner (is.stands tells stood);
     stored = λ tells asked sound was.
         let stood = owned_stands old f n cuts.tree cuts.becomes.was sound in
-        kept_stored old new f m n cuts.tree cuts.next cuts.becomes sound (loaded_spares old new cuts.tree cuts.next is.untouched (is.leads tells stood)) (is.stored_well tells stood (owned_stored old f n cuts.tree cuts.becomes.was sound was)) was;
+        kept_stored old new f m n cuts.tree cuts.next cuts.becomes sound (loaded_spares old new cuts.tree cuts.next is.untouched (is.leads tells stood)) (both_kept (loaded old cuts.tree) (loaded new cuts.next) (is.stored_well tells stood) (is.tells tells stood) (owned_stored old f n cuts.tree cuts.becomes.was sound was)) was;
     strays = λ tells sound. is.untouched.strays;
     room = is.room;
     counts = counts_failed {S = ℕ} old new (Err e) e is.counts;
@@ -167,7 +168,8 @@ module _ (told calls well : Type 0) (old new : Shown) (f : Files) (m : maps.BTre
     untouched = tt;
     stands = λ tells asked sound. both_stand old new f m n cuts.tree cuts.next cuts.becomes i s change is.rewrites is.alters.owner is.alters.sound is.alters.leads is.alters.keeps_ready sound (cut_spares count cuts tells sound) cuts.removal.owner (cuts.removal.stands tells (cut_stood count cuts tells sound));
     stored = λ tells asked sound was. both_stored old new f m n cuts.tree cuts.next cuts.becomes i s change is.rewrites is.alters.owner is.alters.sound is.alters.leads is.alters.keeps_ready sound (cut_spares count cuts tells sound) cuts.removal.owner (cuts.removal.stands tells (cut_stood count cuts tells sound))
-        is.alters.stored_well (cuts.removal.stored_well tells (cut_stood count cuts tells sound) (owned_stored old f n cuts.tree cuts.becomes.was sound was)) was;
+        (λ blocks. both_kept (loaded_over blocks f.inode.tree) (loaded_over blocks i.tree) (is.alters.stored_well blocks) (is.alters.tells blocks))
+        (both_kept (loaded old cuts.tree) (loaded new cuts.next) (cuts.removal.stored_well tells (cut_stood count cuts tells sound)) (cuts.removal.tells tells (cut_stood count cuts tells sound)) (owned_stored old f n cuts.tree cuts.becomes.was sound was)) was;
     strays = λ tells sound. cuts.removal.strays tells (cut_stood count cuts tells sound);
     room = cuts.removal.room;
     counts = cuts.removal.counts;

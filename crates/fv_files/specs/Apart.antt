@@ -11,7 +11,7 @@ use Rattle.fv_tables.specs.Told.{file_at}
 use Rattle.fv_tree.specs.Sources.{Use}
 use Rattle.fv_tree.specs.Flushing.{Loaded, IsSound}
 use Rattle.fv_tree.specs.Beside.{unread, LeadsTo}
-use Rattle.fv_tree.specs.Stored.{IsStoredWell}
+use Rattle.fv_tree.specs.Stored.{IsStoredWell, TellsPlaces}
 
 -- the trees of a table as they stand to their blocks
 abbrev pub Trees : Type 0
@@ -43,10 +43,14 @@ AreApart x = (a b : Option ℕ) (v : ℕ) → a ≢ b → LeadsFrom x a v → Le
 abbrev pub AreLed : (ℕ → Option Use) → Trees → Type 0
 AreLed used x = (v : ℕ) → ((a : Option ℕ) → LeadsFrom x a v → ⊥) → used v ≡ None
 
--- what a tree, where there is one, leads to is as its pointers say
+-- What a tree leads to is as its pointers say: the block of each node names its position, and each pointer tells its place.
+abbrev pub IsAsSaid : Loaded → Type 0
+IsAsSaid s = IsStoredWell s × TellsPlaces s
+
+-- so it is of a tree, where there is one
 abbrev pub StoredIn : Option Loaded → Type 0
 StoredIn None = Unit {0}
-StoredIn (Some s) = IsStoredWell s
+StoredIn (Some s) = IsAsSaid s
 
 -- so it is of each tree of a table
 abbrev pub AreStoredWell : Trees → Type 0

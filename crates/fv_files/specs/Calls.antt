@@ -17,7 +17,7 @@ use Rattle.fv_tree.specs.Writing.{IsAlike, Writes, Remains}
 use Rattle.fv_tree.specs.Flushing.{IsSound, ReachesOnce, Stands, loaded, loaded_over}
 use Rattle.fv_tree.specs.Altering.{Alters, Leaves}
 use Rattle.fv_tree.specs.Leading.{LeadsNoMore}
-use Rattle.fv_tree.specs.Stored.{IsStoredWell}
+use Rattle.fv_tree.specs.Stored.{IsStoredWell, TellsPlaces}
 use Rattle.fv_tree.specs.Removal.{Removal}
 use Rattle.fv_tree.specs.Erasing.{HoldsCells}
 use Rattle.fv_tree.specs.Costs.{pending, way_cost, Rises}
@@ -186,6 +186,7 @@ pub record PutsKept (told : Type 0) (old new : Shown) (m n : maps.BTreeMap ℕ T
   pub leads : told → LeadsNoMore (loaded old tree) (loaded new next)
   pub keeps : told → LeadsNoMore (loaded new next) (loaded old tree)
   pub stored_well : told → IsStoredWell (loaded old tree) → IsStoredWell (loaded new next)
+  pub tells : told → TellsPlaces (loaded old tree) → TellsPlaces (loaded new next)
   -- each place got the stamp, or is as before; after a fault nothing changed
   pub alters : told → Alters s (loaded old tree) (loaded new next)
   pub leaves : told → OnErr result (Leaves (loaded old tree) (loaded new next))

@@ -1,5 +1,5 @@
 -- What a flush of a table leaves.
-use Rattle.std.specs.Prelude.{◌≡◌, ◌⊎◌, ℕ, List, Option, Some, None, Result, IfOk, IfErr, OnOk}
+use Rattle.std.specs.Prelude.{◌≡◌, ◌⊎◌, ℕ, false, List, Option, Some, None, Result, IfOk, IfErr, OnOk}
 use Rattle.std.specs.Ordering.{nat_cmp}
 use Rattle.std.specs.BTreeMap as maps
 use Rattle.std.specs.FinMap as fin
@@ -17,7 +17,7 @@ use Rattle.fv_tree.specs.Costs.{pending, Fits, IsEnough}
 use Rattle.fv_tree.specs.Flushing.{Flushes, IsLeft, IsPlaced, ReachesOnce, Stands, loaded}
 use Rattle.fv_tree.specs.Altering.{PlacesAnew}
 use Rattle.fv_files.specs.declared.files.Files.{Files}
-use Rattle.fv_tree.specs.Stored.{HasPlaces, IsStoredWell}
+use Rattle.fv_tree.specs.Stored.{HasPlaces, IsStoredWell, TellsPlaces}
 use Rattle.fv_files.specs.Apart.{AreLed, stored_trees}
 use Rattle.fv_files.specs.Tables.{table_in, tree_in, AreReached, AreStanding, IsLed}
 use Rattle.fv_files.specs.Failing.{FilesFail}
@@ -88,8 +88,9 @@ pub record FlushesKept (told : Type 0) (old new : Shown) (m n : maps.BTreeMap �
   pub tree : Tree
   pub next : Tree
   pub becomes : Becomes m n number tree next
-  pub flushes : told → Stands old tree → Flushes (loaded old tree) old.used (loaded new next) new.used
-  pub stored_well : told → Stands old tree → HasPlaces new.used → IsStoredWell (loaded old tree) → IsStoredWell (loaded new next)
+  pub flushes : told → Stands old tree → Flushes false (loaded old tree) old.used (loaded new next) new.used
+  pub stored_well : told → Stands old tree → IsStoredWell (loaded old tree) → IsStoredWell (loaded new next)
+  pub tells : told → Stands old tree → tree.owner ≡ number → HasPlaces new.used → TellsPlaces (loaded old tree) → TellsPlaces (loaded new next)
   pub strays : told → Stands old tree → new.strays ≡ old.strays
   pub fits : told → Stands old tree → Fits old tree new next
   pub enough : told → Stands old tree → IsEnough (pending tree) old.room result

@@ -45,7 +45,7 @@ impl Files {
         ensures calls { B.goes blocks.old blocks.new }
     {
         flush_trees(self, blocks)?;
-        self.inode.flush(blocks)
+        self.inode.flush(blocks, false)
     }
 }
 
@@ -168,7 +168,7 @@ fn flush_kept<B: Blocks>(
     match trees.by_number.get_mut(&number) {
         Some(tree) => {
             let before = cost_of(tree);
-            let result = tree.flush(blocks);
+            let result = tree.flush(blocks, false);
             trees.cost = recounted(trees.cost, before, cost_of(tree));
             result
         }

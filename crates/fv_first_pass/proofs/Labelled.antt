@@ -13,6 +13,7 @@ use Rattle.fv_image.specs.Containers.{shaped}
 use Rattle.fv_image.specs.NewerRoot.{Taken}
 use Rattle.fv_image.specs.Views.{head_of}
 use Rattle.fv_image.specs.Held.{Lying, lying_at, label_in, label_lying, label_place, layout_at, view_at}
+use Rattle.fv_image.proofs.Heads.{head_told}
 use Rattle.fv_first_pass.specs.Heads.{IsReadLabel, HasLabels, head_in, label_read, labels_under}
 
 pub one_label : (i : Image) (root : Root) (n : ℕ) (labels now : List (Option (Result Label Shape))) (read : Option (Result Label Shape))
@@ -31,11 +32,11 @@ one_range labels now read each one pushed s = subst (λ ls. IsReadLabel (get_or 
 
 -- they are those of the layout
 pub has_labels : (t : Taken) (i : Image) (labels : List (Option (Result Label Shape))) → labels ≡ labels_under i t.root 64 → HasLabels (layout_at t i) labels
-unfolding layout_at view_at label_place label_in
+unfolding layout_at label_place label_in
 has_labels t i labels is = record {
   long = ap length is ∙ length-map-range_with_len (λ s. label_read (lying_at i (get_or t.root.labels s 0))) 0 64;
   reads = at;
-  heads = λ s low. head (label_lying t i s) ∙ ap head_in (sym (at s low));
+  heads = λ s low. head_told t i s ∙ head (label_lying t i s) ∙ ap head_in (sym (at s low));
 }
   where
     at : (s : ℕ) → s < 64 → get_or labels s None ≡ label_read (label_lying t i s)

@@ -14,6 +14,7 @@ use Rattle.fv_image.specs.Containers.{height_of, shaped}
 use Rattle.fv_image.specs.NewerRoot.{Taken}
 use Rattle.fv_image.specs.Views.{head_of, entry_count}
 use Rattle.fv_image.specs.Held.{Lying, Layout, lying_at, label_in, label_lying, label_place, entry_from, layout_at, view_at}
+use Rattle.fv_image.proofs.Heads.{head_told}
 use Rattle.fv_faults.specs.declared.fault.Fault.{Fault}
 use Rattle.fv_faults.specs.declared.lines.Lines.{Lines}
 use Rattle.fv_faults.specs.Lines.{or_next}
@@ -65,7 +66,7 @@ module _ (t : Taken) (i : Image) (labels : List (Option (Result Label Shape))) (
 
   pub label_in_slot : IsLabelIn y labels site.blocks site.slot l
   unfolding layout_at view_at
-  label_in_slot = record { are = here.are; size = here.of.blocks; head = ap (option_map head_of) here.of.label }
+  label_in_slot = record { are = here.are; size = here.of.blocks; head = head_told t i site.slot ∙ ap (option_map head_of) here.of.label }
 
   module _ (old mid : Lines) (base : Adds (base_lines y site.slot at (head_of l)) old mid) (clean : Bool) (told : IsTrue clean ↔ (label_stops y site.slot at l ≡ [])) where
     -- where a line stops the pass

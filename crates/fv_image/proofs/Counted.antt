@@ -15,9 +15,10 @@ use Rattle.fv_model.specs.Space.{map_blocks, overhead}
 use Rattle.fv_image.specs.NewerRoot.{Taken}
 use Rattle.fv_image.specs.Containers.{shaped, level_width, height_of}
 use Rattle.fv_image.specs.Views.{Placed, Head, View, head_of, slots, entry_count, vvbns, is_held_in, is_active_map, is_delayed, is_own, own, delayed, overheads}
-use Rattle.fv_image.specs.Held.{Lying, Layout, layout_at, view_at, label_in, place_lying, place_of, at_positions, held_by_container, held_by, held}
+use Rattle.fv_image.specs.Held.{Lying, Layout, layout_at, label_in, place_lying, place_of, at_positions, held_by_container, held_by, held}
 use Rattle.fv_image.specs.BlockRules.{are_in_range, has_shapes, is_place, all_labels, all_lying}
 use Rattle.fv_image.specs.Soundness.{AreBlocks}
+use Rattle.fv_image.proofs.Heads.{head_told}
 use Rattle.fv_image.proofs.Kept.{at_number}
 use Rattle.fv_image.proofs.Counts.{parts_of_one, none_between}
 use Rattle.fv_image.proofs.Overheads.{node_count, overhead_holds}
@@ -27,8 +28,8 @@ pub record HasHeads (y : Layout) : Type 0 where
   pub heads : (s : ℕ) → y.view.head s ≡ option_map head_of (label_in (y.label s))
 
 pub image_has_heads : (t : Taken) (i : Image) → HasHeads (layout_at t i)
-unfolding layout_at view_at
-image_has_heads t i = record { heads = λ s. refl }
+unfolding layout_at
+image_has_heads t i = record { heads = head_told t i }
 
 -- ---- the nodes of a container
 

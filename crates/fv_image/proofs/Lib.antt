@@ -1,3 +1,4 @@
+pub mod Heads
 pub mod SameContainers
 pub mod Named
 pub mod SameLayout

@@ -12,7 +12,7 @@ use Rattle.fv_image.specs.Layout.{area_blocks, area_place}
 use Rattle.fv_image.specs.NewerRoot.{Taken, root_of}
 use Rattle.fv_image.specs.Maps.{area_bits, map_bit}
 use Rattle.fv_image.specs.Containers.{level_width, container_entry, node_of}
-use Rattle.fv_image.specs.Views.{Placed, entry_count, head_of, slots}
+use Rattle.fv_image.specs.Views.{Placed, entry_count, head_at_slot, label_records, slots}
 use Rattle.fv_image.specs.Held.{AgreeOnHeld, AgreeOnNamed, Keeps, Layout, Lying, entry_from, held, held_by, held_by_container, is_held, label_in, label_lying, label_place, layout_at, lying_at, node_from, place_lying, placed, view_at, with_bits}
 use Rattle.fv_image.proofs.SameContainers.{AgreeOnTree, same_node, same_entries}
 use Rattle.fv_image.proofs.Named.{label_held, node_held, entry_held}
@@ -103,7 +103,7 @@ module _ (t : Taken) (i j : Image) (agree : AgreeOnHeld t i j) where
   same_view = λ k. record {
     blocks = t.blocks;
     version = t.root.version;
-    head = λ s. ap (λ (x : Option Lying). option_map head_of (label_in x)) (same_label s) k;
+    head = λ s. ap (λ (x : Option Lying). option_map (λ l. head_at_slot t.root.version l (label_records l)) (label_in x)) (same_label s) k;
     entry = λ s v. entries s v k;
   }
     where

@@ -1,6 +1,6 @@
 -- The machine of a sound image is well-formed: what its labels and blocks give.
 use Rattle.std.proofs.Common.{◌≡◌, ℕ, zero, suc, ◌+◌, ◌<◌, ◌≤◌, Bool, true, false, not, List, [], ◌∷◌, length, refl, sym, ap, subst, ◌∙◌, arith, Result, Ok, Err}
-use Rattle.std.specs.Prelude.{Option, Some, None, ◌==◌, take, drop, if◌then◌else◌}
+use Rattle.std.specs.Prelude.{Option, Some, None, ◌==◌, take, if◌then◌else◌}
 use Rattle.std.specs.List.{list_all, range_with_len}
 use Rattle.std.specs.Option.{option_map, option_and_then}
 use Rattle.std.proofs.lemmas.Bool.{not-true}
@@ -8,8 +8,7 @@ use Rattle.fv_disk.specs.Shown.{Image}
 use Rattle.fv_codec.specs.declared.shape.Shape.{Shape}
 use Rattle.fv_codec.specs.declared.label.SnapRecord.{SnapRecord}
 use Rattle.fv_codec.specs.declared.label.Label.{Label}
-use Rattle.fv_codec.specs.Fields.{Verdict, reading, verdicts}
-use Rattle.fv_codec.specs.Blocks.{label_fields, label_at, snap_of, IsLabel}
+use Rattle.fv_codec.specs.Blocks.{label_at, IsLabel}
 use Rattle.fv_codec.proofs.Decoded.{label_in_range}
 use Rattle.fv_model.specs.Machines.{Machine}
 use Rattle.fv_laws.specs.WellFormed.{IsWell, IsWellVolume}
@@ -24,22 +23,14 @@ use Rattle.fv_image.specs.Seen.{seen}
 use Rattle.fv_image.specs.Soundness.{AreTables}
 use Rattle.fv_image.specs.WholeMachine.{machine_at, machine_of, Tells}
 use Rattle.fv_image.specs.WellMachines.{MachinesAreWell}
+use Rattle.fv_image.proofs.Heads.{few_records, head_told}
 use Rattle.fv_image.proofs.LabelNumbers.{label_numbers}
 use Rattle.fv_image.proofs.SoundTests.{tells_from}
-use Rattle.fv_image.proofs.WellNodes.{length_items}
 use Rattle.fv_image.proofs.OwnUses.{HasLabelNumbers}
 use Rattle.fv_image.proofs.WellVolumes.{IsNumbered, well_volume}
 use Rattle.fv_image.proofs.WellImages.{well_machine}
 
 -- ---- a label
-
-read_as : {X Y : Type 0} (f : X → Y) (v : Verdict) (x y : X) → reading v x ≡ Ok y → f x ≡ f y
-read_as f (Ok fine) x y e = let same : x ≡ y = cc in ap f same
-read_as f (Err fault) x y e = absurd cc
-
-few_records : (block : List ℕ) (l : Label) → label_at block ≡ Ok l → length l.snapshots ≡ 24
-unfolding label_at
-few_records block l e = sym (read_as (λ (l : Label). length l.snapshots) (verdicts (label_fields block) block) _ l e) ∙ length_items 24 128 snap_of (drop 256 block)
 
 few_snaps : (j : ℕ) (rs : List SnapRecord) → length (snaps_from j rs) ≤ length rs
 unfolding snaps_from
@@ -82,12 +73,10 @@ module _ (t : Taken) (i : Image) (long : (b : ℕ) → length (i b) ≡ 4096) wh
       so (Err fault) is e = absurd cc
 
   pub numbered_at : (s : ℕ) (h : Head) → s < 64 → (view_at t i).head s ≡ Some h → IsNumbered h
-  unfolding view_at
-  numbered_at s h small e = of_lying IsNumbered numbered_label (label_place t s) h e
+  numbered_at s h small e = of_lying IsNumbered numbered_label (label_place t s) h (sym (head_told t i s) ∙ e)
 
   pub numbers_at : (s : ℕ) (h : Head) → (view_at t i).head s ≡ Some h → HasLabelNumbers h
-  unfolding view_at
-  numbers_at s h e = of_lying HasLabelNumbers (λ block l long is. label_numbers l (label_in_range block (Ok l) long (sym is))) (label_place t s) h e
+  numbers_at s h e = of_lying HasLabelNumbers (λ block l long is. label_numbers l (label_in_range block (Ok l) long (sym is))) (label_place t s) h (sym (head_told t i s) ∙ e)
 
   entry_long : (o : Option Label) (v : ℕ) (p : Placed) → entry_from o i v ≡ Some p → length p.block ≡ 4096
   unfolding entry_from

@@ -9,7 +9,7 @@ use Rattle.fv_image.specs.Layout.{area_blocks, area_place}
 use Rattle.fv_image.specs.NewerRoot.{Taken, root_of}
 use Rattle.fv_image.specs.Maps.{map_bit}
 use Rattle.fv_image.specs.Containers.{shaped, level_width, node_of, container_entry}
-use Rattle.fv_image.specs.Views.{Placed, View, head_of, slots, entry_count, vvbns}
+use Rattle.fv_image.specs.Views.{Placed, View, head_at_slot, label_records, slots, entry_count, vvbns}
 
 -- a block with its place in the aggregate
 pub record Lying : Type 0 where
@@ -66,7 +66,7 @@ unfoldable pub view_at : Taken → Image → View
 view_at t i = record {
   blocks = t.blocks;
   version = t.root.version;
-  head = λ s. option_map head_of (label_in (label_lying t i s));
+  head = λ s. option_map (λ l. head_at_slot t.root.version l (label_records l)) (label_in (label_lying t i s));
   entry = λ s v. entry_from (label_in (label_lying t i s)) i v;
 }
 

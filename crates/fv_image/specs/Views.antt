@@ -1,8 +1,8 @@
 -- What an aggregate holds, as functions of numbers alone: the head of the volume in each slot, and what each VVBN
 -- of it leads to, with the block itself. Images with equal views are told apart by nothing that is said of views.
-use Rattle.std.specs.Prelude.{ℕ, ◌+◌, ◌-◌, ◌*◌, max, Bool, not, ◌&&◌, List, [], ◌∷◌, map, take, sum_by, count_by, Option, Some, None, nat_lt, nat_le, ◌==◌, if◌then◌else◌}
-use Rattle.std.specs.List.{list_any, range_with_len}
-use Rattle.std.specs.Option.{is_some, option_map_or}
+use Rattle.std.specs.Prelude.{ℕ, zero, suc, ◌+◌, ◌-◌, ◌*◌, max, Bool, cond, not, ◌&&◌, List, [], ◌∷◌, map, take, filter_map, sum_by, count_by, Option, Some, None, nat_lt, nat_le, ◌==◌, if◌then◌else◌}
+use Rattle.std.specs.List.{list_any, range_with_len, slice_get}
+use Rattle.std.specs.Option.{is_some, option_map, option_map_or, option_and_then}
 use Rattle.fv_bits.specs.Bits.{bit_of_area}
 use Rattle.fv_codec.specs.declared.pointer.Pointer.{Pointer}
 use Rattle.fv_codec.specs.declared.label.SnapRecord.{SnapRecord}
@@ -26,7 +26,16 @@ pub record Rooted : Type 0 where
   pub levels : ℕ
   pub root : Pointer
 
--- a snapshot, with its map slot from 1 to 24
+-- what is said of the snapshot in a map slot
+pub record SnapSaid : Type 0 where
+  pub name : List ℕ
+  pub table : Rooted
+
+-- what is said of a volume's snapshots, by map slot; none where the map slot has no snapshot
+abbrev pub SnapsSaid : Type 0
+SnapsSaid = ℕ → Option SnapSaid
+
+-- a snapshot, with its map slot from 1 on
 pub record Snap : Type 0 where
   pub slot : ℕ
   pub name : List ℕ
@@ -38,7 +47,7 @@ pub record Footing : Type 0 where
   pub slot : ℕ
   pub splitting : Bool
 
--- what a label says of its volume. Where its container lies isn't part of it.
+-- what is said of a volume. Where its container lies isn't part of it.
 pub record Head : Type 0 where
   pub name : List ℕ
   pub kind : Kind
@@ -62,7 +71,7 @@ pub record View : Type 0 where
   -- by slot and VVBN; none for a hole
   pub entry : ℕ → ℕ → Option Placed
 
--- ---- the head that a label spells
+-- ---- the head of a slot
 
 -- the kind of a space guarantee by its number
 abbrev pub kind_named : ℕ → Kind
@@ -72,15 +81,9 @@ kind_named n = if n == 0 then Whole else (if n == 1 then ByFile else Thin)
 abbrev pub footing_of : Label → Option Footing
 footing_of l = if l.parent == 0 then None else Some (record { parent = l.parent - 1; slot = l.base_slot; splitting = l.splitting == 1 })
 
--- the used ones of the records from a map slot on
-unfoldable pub snaps_from : ℕ → List SnapRecord → List Snap
-snaps_from j [] = []
-snaps_from j (r ∷ rs) = if r.name_length == 0 then snaps_from (j + 1) rs
-    else record { slot = j; name = take r.name_length r.name; table = record { levels = r.levels; root = r.root } } ∷ snaps_from (j + 1) rs
-
--- what the label says, with its name's own bytes alone
-unfoldable pub head_of : Label → Head
-head_of l = record {
+-- what a label says, with its name's own bytes alone, and with these snapshots
+abbrev pub label_head : Label → List Snap → Head
+label_head l snapshots = record {
   name = take l.name_length l.name;
   kind = kind_named l.kind;
   size = l.size;
@@ -90,8 +93,46 @@ head_of l = record {
   base = footing_of l;
   known = l.known == 1;
   active = record { levels = l.levels; root = l.root };
-  snapshots = snaps_from 1 l.snapshots;
+  snapshots = snapshots;
 }
+
+-- the map slots that a version of the format has for snapshots are those from 1 to this number
+abbrev pub snapshot_slots : ℕ → ℕ
+snapshot_slots version = cond (nat_lt 1 version) 255 24
+
+-- a snapshot of which this is said, in its map slot
+abbrev pub snap_told : ℕ → SnapSaid → Snap
+snap_told slot x = record { slot = slot; name = x.name; table = x.table }
+
+-- the snapshots that are told of, by map slots from 1 on
+unfoldable pub snaps_told : ℕ → SnapsSaid → List Snap
+snaps_told version said = filter_map (λ slot. option_map (snap_told slot) (said slot)) (range_with_len 1 (snapshot_slots version))
+
+-- The head of a slot: what its label says, with the snapshots told of by map slot. Where a snapshot's name and root stand is
+-- the version's affair; in version 1 it is the label, too.
+unfoldable pub head_at_slot : ℕ → Label → SnapsSaid → Head
+head_at_slot version l said = label_head l (snaps_told version said)
+
+-- ---- version 1: a label with the records of its snapshots
+
+-- what a record says. One that isn't used says nothing; its name has no byte.
+abbrev pub said_by : SnapRecord → Option SnapSaid
+said_by r = if r.name_length == 0 then None else Some (record { name = take r.name_length r.name; table = record { levels = r.levels; root = r.root } })
+
+-- the label's first record is that of map slot 1, its last that of map slot 24
+abbrev pub label_records : Label → SnapsSaid
+label_records l zero = None
+label_records l (suc j) = option_and_then said_by (slice_get l.snapshots j)
+
+-- the snapshots of the used ones among the records from a map slot on
+unfoldable pub snaps_from : ℕ → List SnapRecord → List Snap
+snaps_from j [] = []
+snaps_from j (r ∷ rs) = if r.name_length == 0 then snaps_from (j + 1) rs
+    else record { slot = j; name = take r.name_length r.name; table = record { levels = r.levels; root = r.root } } ∷ snaps_from (j + 1) rs
+
+-- the same head record by record: `head_at_slot` of a label with its own records (law `own_head`)
+unfoldable pub head_of : Label → Head
+head_of l = label_head l (snaps_from 1 l.snapshots)
 
 -- ---- slots and VVBNs
 

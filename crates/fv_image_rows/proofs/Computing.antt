@@ -11,7 +11,7 @@ use Rattle.fv_tables.specs.Told.{listed, spots, tree_told, cells_told, records_i
 use Rattle.fv_tables.specs.Reached.{tree_items, items as table_items}
 use Rattle.fv_image.specs.NewerRoot.{root_of}
 use Rattle.fv_image.specs.Containers.{node_below, container_entry, leaf_for, inner_for}
-use Rattle.fv_image.specs.Views.{volume_bit, is_held_in, own, delayed, vvbns, head_of, snaps_from, slots}
+use Rattle.fv_image.specs.Views.{volume_bit, is_held_in, own, delayed, vvbns, head_at_slot, snaps_told, head_of, snaps_from, slots}
 use Rattle.fv_image.specs.Held.{view_at, layout_at, node_from, at_positions, label_place, label_in, entry_from, held_by_container, held_by, held}
 use Rattle.fv_image.specs.Chains.{along, place, under}
 use Rattle.fv_image.specs.Volumes.{snap_at, volume_with, volumes_with, told_with}
@@ -36,7 +36,7 @@ roots_compute = tt
 
 -- the heads of a view
 unfoldable pub heads_compute : Unit {0}
-unfolding blocks_compute view_at label_place label_in head_of snaps_from slots
+unfolding blocks_compute view_at label_place label_in head_at_slot snaps_told head_of snaps_from slots
 heads_compute = tt
 
 -- the volumes that rules look at, by their heads

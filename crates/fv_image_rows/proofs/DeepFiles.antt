@@ -22,7 +22,7 @@ use Rattle.fv_tables.specs.Spelled.{Rooted, hole, stored}
 use Rattle.fv_tables.specs.Told.{Standing, tree_told, cells_told, file_told, file_in, records, table_told}
 use Rattle.fv_tables.specs.Reached.{Item, tree_items, items as table_items, is_listed}
 use Rattle.fv_image.specs.NewerRoot.{Taken}
-use Rattle.fv_image.specs.Views.{Head, View, head_of}
+use Rattle.fv_image.specs.Views.{Head, View, head_at_slot, label_records}
 use Rattle.fv_image.specs.Held.{layout_at, view_at, lying_at, label_place, label_in}
 use Rattle.fv_image.specs.Chains.{under}
 use Rattle.fv_image.specs.Volumes.{standing_of, volume_with, volumes_with, told_with, volume_told, told}
@@ -198,7 +198,7 @@ no_place s = so (nat_lt (suc s) 64)
 
 no_head : (i : Image) (s : ℕ) → head_at (view_of i) (suc s) ≡ None
 unfolding view_at label_in
-no_head i s = ap (λ (p : ℕ). if nat_lt (suc s) 64 then option_map head_of (label_in (lying_at i p)) else None) (no_place s) ∙ so (nat_lt (suc s) 64)
+no_head i s = ap (λ (p : ℕ). if nat_lt (suc s) 64 then option_map (λ l. head_at_slot 1 l (label_records l)) (label_in (lying_at i p)) else None) (no_place s) ∙ so (nat_lt (suc s) 64)
   where
     so : (inside : Bool) → ◌≡◌ {A = Option Head} (if inside then None else None) None
     so true = refl

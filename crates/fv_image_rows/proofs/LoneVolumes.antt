@@ -12,6 +12,7 @@ use Rattle.fv_model.specs.Space.{use_of, map_blocks}
 use Rattle.fv_image.specs.Layout.{block_bits}
 use Rattle.fv_image.specs.NewerRoot.{Taken}
 use Rattle.fv_image.specs.Volumes.{empty_volume_of}
+use Rattle.fv_image.proofs.Heads.{head_told}
 use Rattle.fv_image.proofs.Uses.{uses_nothing}
 use Rattle.fv_image.proofs.Empty.{all_of_range}
 use Rattle.fv_image.specs.Maps.{map_bit}
@@ -132,8 +133,8 @@ is_meant t i given bits are same = λ k. record {
   bit = λ b. same b k;
 }
   where
-    heads : (s : ℕ) → option_map head_of (label_in (label_lying t i s)) ≡ head_meant (given s)
-    heads s = ap (option_map head_of) (said_is t i s (given s) (are s)) ∙ head_is (given s)
+    heads : (s : ℕ) → (view_at t i).head s ≡ head_meant (given s)
+    heads s = head_told t i s ∙ ap (option_map head_of) (said_is t i s (given s) (are s)) ∙ head_is (given s)
 
     entries : (s v : ℕ) → entry_from (label_in (label_lying t i s)) i v ≡ entry_meant (given s) v
     entries s v = ap (λ (o : Option Label). entry_from o i v) (said_is t i s (given s) (are s)) ∙ entry_is t i s (given s) (are s) v

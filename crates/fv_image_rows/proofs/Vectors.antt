@@ -8,7 +8,7 @@ use Rattle.fv_codec.specs.Blocks.{super_at, gate_open, root_at, open_gate, label
 use Rattle.fv_model.specs.declared.commands.Kind.TheVariants.{Volume as Whole}
 use Rattle.fv_image.specs.NewerRoot.{Taken, root_of}
 use Rattle.fv_image.specs.Containers.{node_below, container_entry}
-use Rattle.fv_image.specs.Views.{Head, head_of, snaps_from}
+use Rattle.fv_image.specs.Views.{Head, head_at_slot, snaps_told}
 use Rattle.fv_image.specs.Held.{view_at, label_place, label_in, entry_from}
 
 -- ---- blocks
@@ -77,7 +77,7 @@ abbrev pub head_a : Head
 head_a = record { name = name_a; kind = Whole; size = 100; most = 200; span = 4096; now = 0; base = None; known = true; active = record { levels = 0; root = record { vvbn = 0; pvbn = 0; stamp = 0 } }; snapshots = [] }
 
 first_head : (view_at (root_of_slot 1024 1 2 10 0 0) one_volume).head 0 ≡ Some head_a
-unfolding view_at label_place label_in label_at head_of snaps_from word_at word zeros all_zero each items all_name name_filled asks_snap snap_of asks_pointer pointer_of open_gate
+unfolding view_at label_place label_in label_at head_at_slot snaps_told word_at word zeros all_zero each items all_name name_filled asks_snap snap_of asks_pointer pointer_of open_gate
 first_head = refl
 
 map_entry : (view_at (root_of_slot 1024 1 2 10 0 0) one_volume).entry 0 4096 ≡ Some (record { pvbn = 7; kind = 8; block = zeros 4096 })

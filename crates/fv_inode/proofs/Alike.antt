@@ -118,6 +118,7 @@ takes_then told before calls old mid new t u w n s count x first alike leaves ca
       (λ v. drops_as old t u w v less) (λ v. drops_as old u t w v more);
   leads = λ is sound level place v led. first.leads is level place v (second.leads is (first.stands is sound) level place v led);
   stored_well = λ is sound was. second.stored_well is (first.stands is sound) (first.stored_well is was);
+  tells = λ is sound was. second.tells is (first.stands is sound) (first.tells is was);
   lets_go = λ is sound level place v led. second.lets_go is (first.stands is sound) level place v (first.keeps is level place v led);
   alters = λ is sound. leaves_alters s (loaded old t) (loaded mid u) (loaded new w) (leaves is) (second.alters is (first.stands is sound));
   leaves = λ is. tt;
@@ -140,6 +141,7 @@ takes_failed told calls old new t u n s e first called = record {
   released = λ is. tt;
   leads = λ is sound. first.leads is;
   stored_well = λ is sound. first.stored_well is;
+  tells = λ is sound. first.tells is;
   lets_go = λ is sound level place v led. inl (first.keeps is level place v led);
   alters = λ is sound. only_leaves s (loaded old t) (loaded new u) (first.leaves is);
   leaves = first.leaves;
@@ -162,6 +164,7 @@ takes_none told calls old new t u n s x first silent called = record {
   released = λ is. absurd (silent is);
   leads = λ is sound. first.leads is;
   stored_well = λ is sound. first.stored_well is;
+  tells = λ is sound. first.tells is;
   lets_go = λ is sound level place v led. inl (first.keeps is level place v led);
   alters = λ is sound. absurd (silent is);
   leaves = λ is. tt;

@@ -17,3 +17,4 @@ pub mod Readied
 pub mod Alike
 pub mod Lost
 pub mod Single
+pub mod Blanking

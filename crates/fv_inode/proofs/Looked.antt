@@ -15,7 +15,7 @@ use Rattle.fv_tree.specs.Standing.{standing, under, Fails}
 use Rattle.fv_tree.specs.Reading.{cell_read_at}
 use Rattle.fv_tree.specs.Writing.{Remains}
 use Rattle.fv_tree.specs.Flushing.{Loaded, IsSound, changed_of, placed_of, loaded, loaded_over, Stands}
-use Rattle.fv_tree.specs.Stored.{IsStoredWell}
+use Rattle.fv_tree.specs.Stored.{IsStoredWell, TellsPlaces}
 use Rattle.fv_tree.specs.Leading.{LeadsNoMore}
 use Rattle.fv_tree.specs.Releasing.{IsDropped, Releases}
 use Rattle.fv_tree.specs.Altering.{AltersHeld, Leaves}
@@ -125,7 +125,7 @@ looks_judged told t old new r cell at block untouched calm lies place damage = r
 pub loads_at : {T : Type 0} {told reading : Type 0} {t u : Tree} {old new : Shown} {more brought : ℕ} {r : Result T BlockFault} → (told → OnErr r (Remains (standing (under old) t) (standing (under new) u))) → (told → OnErr r (Leaves (loaded old t) (loaded new u)))
     → Steady told reading old new t u more brought r → OnlyLoads told old new t u r
 loads_at {told = told} {t = t} {old = old} {new = new} {r = r} failed leaves did =
-    record { failed = failed; leaves = leaves; owner = did.owner; stands = did.stands; leads = did.leads; keeps = did.keeps; stored_well = did.stored_well; keeps_ready = did.keeps_ready; looks = looks_at told (standing (under old) t) old new r did.untouched did.counts did.cause }
+    record { failed = failed; leaves = leaves; owner = did.owner; stands = did.stands; leads = did.leads; keeps = did.keeps; stored_well = did.stored_well; tells = did.tells; keeps_ready = did.keeps_ready; looks = looks_at told (standing (under old) t) old new r did.untouched did.counts did.cause }
 
 -- a tree that is said of over the blocks of a source, as what it leads to
 abbrev pub loaded_as : Tree → Rooted → Loaded
@@ -145,6 +145,7 @@ loads_none told t old new r looks = record {
   leads = λ is. later (λ v. LeadsNoMore (loaded old t) (loaded_as t v)) t old new looks.untouched.held (λ level place v leads. leads);
   keeps = λ is. later (λ v. LeadsNoMore (loaded_as t v) (loaded old t)) t old new looks.untouched.held (λ level place v leads. leads);
   stored_well = λ is. later (λ v. IsStoredWell (loaded old t) → IsStoredWell (loaded_as t v)) t old new looks.untouched.held (λ was. was);
+  tells = λ is. later (λ v. TellsPlaces (loaded old t) → TellsPlaces (loaded_as t v)) t old new looks.untouched.held (λ was. was);
   keeps_ready = λ i ready. ready;
   looks = looks;
 }
@@ -159,6 +160,7 @@ loads_then told t u old mid new x r first second = record {
   leads = λ is. earlier (λ v. LeadsNoMore (loaded_as t v) (loaded new u)) t old mid first.untouched.held (second.leads is);
   keeps = λ is. earlier (λ v. LeadsNoMore (loaded new u) (loaded_as t v)) t old mid first.untouched.held (second.keeps is);
   stored_well = λ is. earlier (λ v. IsStoredWell (loaded_as t v) → IsStoredWell (loaded new u)) t old mid first.untouched.held (second.stored_well is);
+  tells = λ is. earlier (λ v. TellsPlaces (loaded_as t v) → TellsPlaces (loaded new u)) t old mid first.untouched.held (second.tells is);
   keeps_ready = second.keeps_ready;
   looks = looks_then told t old mid new x r first second.looks;
 }
@@ -171,7 +173,7 @@ loads_none_failed told t old new e looks = loads_none told t old new (Err e) (lo
 loads_as : {S T : Type 0} {told : Type 0} {t u : Tree} {old new : Shown} {r : Result S BlockFault} {s : Result T BlockFault} → (told → OnErr s (Remains (standing (under old) t) (standing (under new) u))) → (told → OnErr s (Leaves (loaded old t) (loaded new u)))
     → Looks told (standing (under old) t) old new s → OnlyLoads told old new t u r → OnlyLoads told old new t u s
 loads_as failed leaves looks did =
-    record { failed = failed; leaves = leaves; owner = did.owner; stands = did.stands; leads = did.leads; keeps = did.keeps; stored_well = did.stored_well; keeps_ready = did.keeps_ready; looks = looks }
+    record { failed = failed; leaves = leaves; owner = did.owner; stands = did.stands; leads = did.leads; keeps = did.keeps; stored_well = did.stored_well; tells = did.tells; keeps_ready = did.keeps_ready; looks = looks }
 
 pub loads_failed : {S T : Type 0} (told : Type 0) (t u : Tree) (old new : Shown) (e : BlockFault) → OnlyLoads {T = S} told old new t u (Err e) → OnlyLoads {T = T} told old new t u (Err e)
 loads_failed told t u old new e loads = loads_as loads.failed loads.leaves (looks_failed told (standing (under old) t) old new e loads.looks) loads
@@ -189,6 +191,7 @@ loads_more told t u w old new stamp x y first second = record {
   leads = λ is. leads_then (loaded old t) (loaded new u) (loaded new w) (first.leads is) (second.leads (under new));
   keeps = λ is. leads_then (loaded new w) (loaded new u) (loaded old t) (second.keeps (under new)) (first.keeps is);
   stored_well = λ is was. second.stored_well (under new) (first.stored_well is was);
+  tells = λ is was. second.tells (under new) (first.tells is was);
   keeps_ready = λ i ready. second.keeps_ready i (first.keeps_ready i ready);
   looks = looks_done told (standing (under old) t) old new x y first.looks;
 }

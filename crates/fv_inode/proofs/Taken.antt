@@ -168,6 +168,7 @@ takes_last told calls old new t u n s count fs r long are free all removal = rec
   released = removal.released;
   leads = removal.leads;
   stored_well = removal.stored_well;
+  tells = removal.tells;
   lets_go = removal.lets_go;
   alters = removal.alters;
   leaves = λ is. tt;
@@ -194,6 +195,7 @@ takes_with told calls source t u n s fs r long are free some wrote ready held ca
       (untouched_itself source) (calm_itself source);
   leads = λ is stands. held.leads (under source);
   stored_well = λ is stands. held.stored_well (under source);
+  tells = λ is stands. held.tells (under source);
   lets_go = λ is stands level place v led. inl (held.keeps (under source) level place v led);
   alters = λ is stands. held.alters (under source);
   leaves = λ is. tt;

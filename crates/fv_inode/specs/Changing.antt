@@ -17,7 +17,7 @@ use Rattle.fv_tree.specs.Releasing.{IsDropped, Releases}
 use Rattle.fv_tree.specs.Flushing.{Leads, loaded, Stands}
 use Rattle.fv_tree.specs.Altering.{Alters, Leaves}
 use Rattle.fv_tree.specs.Leading.{LeadsNoMore}
-use Rattle.fv_tree.specs.Stored.{IsStoredWell}
+use Rattle.fv_tree.specs.Stored.{IsStoredWell, TellsPlaces}
 use Rattle.fv_tree.specs.Counting.{positions_of}
 use Rattle.fv_inode.specs.declared.info.Info.{Info}
 use Rattle.fv_inode.specs.Files.{info_of, new_record, with_root, IsLeastFree, NamesIndexes}
@@ -71,6 +71,7 @@ pub record TakesFile (told calls : Type 0) (old new : Shown) (t u : Tree) (n s :
   pub released : told → OnOk result (Releases old new (IsDropped (under old) t u))
   pub leads : told → Stands old t → LeadsNoMore (loaded old t) (loaded new u)
   pub stored_well : told → Stands old t → IsStoredWell (loaded old t) → IsStoredWell (loaded new u)
+  pub tells : told → Stands old t → TellsPlaces (loaded old t) → TellsPlaces (loaded new u)
   -- what the tree doesn't lead to any more is out of use
   pub lets_go : told → Stands old t → (level place v : ℕ) → Leads (loaded old t) level place v → Leads (loaded new u) level place v ⊎ (new.used v ≡ None)
   -- each place that still stands got the stamp, or is as before; after a fault nothing changed

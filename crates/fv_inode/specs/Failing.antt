@@ -13,7 +13,7 @@ use Rattle.fv_tree.specs.Writing.{Remains}
 use Rattle.fv_tree.specs.Flushing.{loaded, Stands}
 use Rattle.fv_tree.specs.Altering.{Leaves}
 use Rattle.fv_tree.specs.Leading.{LeadsNoMore}
-use Rattle.fv_tree.specs.Stored.{IsStoredWell}
+use Rattle.fv_tree.specs.Stored.{IsStoredWell, TellsPlaces}
 use Rattle.fv_tree.specs.Readying.{KeepsReady}
 
 -- A block hasn't the shape of an inode block: the place where it was read, and its first field that isn't as said. Where content is
@@ -50,5 +50,6 @@ pub record OnlyLoads {T : Type 0} (told : Type 0) (old new : Shown) (t u : Tree)
   pub keeps : told → LeadsNoMore (loaded new u) (loaded old t)
   -- and what that is stays as its pointers say
   pub stored_well : told → IsStoredWell (loaded old t) → IsStoredWell (loaded new u)
+  pub tells : told → TellsPlaces (loaded old t) → TellsPlaces (loaded new u)
   pub keeps_ready : KeepsReady t u
   pub looks : Looks told (standing (under old) t) old new result

@@ -4,3 +4,4 @@ pub mod Changing
 pub mod Listing
 pub mod Readying
 pub mod Losing
+pub mod Blanking

@@ -1,6 +1,6 @@
 //! An inode file as a tree of inode blocks.
 
-ghost use Rattle.std.specs.Prelude.{◌≡◌, ◌≤◌, ℕ, Option, IfOk, OnOk};
+ghost use Rattle.std.specs.Prelude.{◌≡◌, ◌≤◌, ℕ, false, Option, IfOk, OnOk};
 ghost use Rattle.std.specs.FinMap as fin;
 ghost use Rattle.fv_codec.specs.Blocks.{IsPointer, greatest_word};
 ghost use Rattle.fv_tables.specs.Spelled.{Under, hole, stored};
@@ -8,7 +8,8 @@ ghost use Rattle.fv_tables.specs.Told.{file_at};
 ghost use Rattle.fv_tree.specs.Sources.{Use};
 ghost use Rattle.fv_tree.specs.Standing.{standing, under, Shows};
 ghost use Rattle.fv_tree.specs.Writing.{Remains};
-ghost use Rattle.fv_tree.specs.Stored.{HasPlaces, IsStoredWell};
+ghost use Rattle.fv_tree.specs.Stored.{HasPlaces, IsStoredWell, TellsPlaces};
+ghost use Rattle.fv_tree.specs.Unknown.{KnowsRoots};
 ghost use Rattle.fv_tree.specs.Costs.{pending};
 ghost use Rattle.fv_tree.specs.Flushing.{loaded, loaded_over, IsSound, ReachesOnce, Stands};
 ghost use Rattle.fv_tree.specs.Calls.{PlacesChanged};
@@ -74,24 +75,28 @@ impl InodeFile {
     }
 
     /// Places each inode block and each node that changed since the last `flush` once, a node after all that it
-    /// leads to, and names each block that one of them replaces once to `gone`. Answers the root, and then nothing
-    /// is in memory. All files stay as they are, also after a fault, and a later flush then goes on where this one
-    /// ended. All this is so for an inode file that stands on its blocks. It takes no memory and loads nothing.
+    /// leads to, and names each block that one of them replaces once to `gone`. What holds an unknown pointer, or the
+    /// unknown root of a file, gets an unknown pointer itself; where the flush `hides` places, each new block does.
+    /// Answers the root, and then nothing is in memory. All files stay as they are, also after a fault, and a later flush
+    /// then goes on where this one ended. All this is so for an inode file that stands on its blocks. It takes no memory
+    /// and loads nothing.
     ///
     /// # Errors
     ///
     /// As `place` of the `Blocks` answers them.
-    pub fn flush<B: Blocks>(&mut self, blocks: &mut B) -> Result<Pointer, InodeFault>
+    pub fn flush<B: Blocks>(&mut self, blocks: &mut B, hides: bool) -> Result<Pointer, InodeFault>
         ensures remains { B.told → Stands (B.shown blocks.old) self.old.tree → Remains (rooted (B.shown blocks.old) self.old) (rooted (B.shown blocks.new) self.new) }
         ensures files { B.told → Stands (B.shown blocks.old) self.old.tree → (n : ℕ) → file_at (rooted (B.shown blocks.new) self.new) n ≡ file_at (rooted (B.shown blocks.old) self.old) n }
-        ensures stored_well { B.told → Stands (B.shown blocks.old) self.old.tree → HasPlaces (B.shown blocks.new).used → IsStoredWell (loaded (B.shown blocks.old) self.old.tree) → IsStoredWell (loaded (B.shown blocks.new) self.new.tree) }
+        ensures stored_well { B.told → Stands (B.shown blocks.old) self.old.tree → IsStoredWell (loaded (B.shown blocks.old) self.old.tree) → IsStoredWell (loaded (B.shown blocks.new) self.new.tree) }
+        ensures tells { B.told → Stands (B.shown blocks.old) self.old.tree → hides ≡ false → HasPlaces (B.shown blocks.new).used → KnowsRoots (loaded (B.shown blocks.old) self.old.tree)
+            → TellsPlaces (loaded (B.shown blocks.old) self.old.tree) → TellsPlaces (loaded (B.shown blocks.new) self.new.tree) }
         ensures pending { OnOk result (pending self.new.tree ≡ 0) }
         ensures root { IfOk result (λ root. root ≡ self.new.tree.root) }
         ensures pointer { IfOk result IsPointer }
         ensures stored { IfOk result (λ root. rooted (B.shown blocks.new) self.new ≡ stored (under (B.shown blocks.new)) self.old.tree.owner self.old.tree.levels root) }
         ensures reaches { B.told → IfOk result (λ root. Stands (B.shown blocks.old) self.old.tree → ReachesOnce (B.shown blocks.new).used (stored (under (B.shown blocks.new)) self.old.tree.owner self.old.tree.levels root)) }
-        ensures flushing { PlacesChanged B.told B.known B.shown B.goes B.keeps blocks.old blocks.new self.old.tree self.new.tree result }
+        ensures flushing { PlacesChanged hides B.told B.known B.shown B.goes B.keeps blocks.old blocks.new self.old.tree self.new.tree result }
     {
-        self.tree.flush(blocks)
+        self.tree.flush(blocks, hides)
     }
 }

@@ -1,6 +1,7 @@
 //! Inode files: the files of a table by their names, as records in the cells of a tree.
 #![tactic(auto)]
 
+mod blank;
 mod change;
 mod create;
 mod file;

@@ -18,7 +18,7 @@ use Rattle.fv_places.specs.Steps.{is_clear_under}
 use Rattle.fv_places.proofs.InBlocks.{stands_inside, all_inside}
 
 -- what holds of no pointer of a list holds of none at an index
-unknown_got : (ps : List Pointer) (i : ℕ) → list_any is_unknown ps ≡ false → is_unknown (get_or ps i hole) ≡ false
+pub unknown_got : (ps : List Pointer) (i : ℕ) → list_any is_unknown ps ≡ false → is_unknown (get_or ps i hole) ≡ false
 unknown_got [] zero none = refl
 unknown_got [] (suc i) none = refl
 unknown_got (p ∷ ps) zero none = so (is_unknown p) none

@@ -20,3 +20,11 @@ pub mod Reheaded
 pub mod HeadEffects
 pub mod Counts
 pub mod Lowers
+pub mod InRange
+pub mod Stays
+pub mod Firsts
+pub mod Forms
+pub mod Positions
+pub mod Alikes
+pub mod Holding
+pub mod Rows

@@ -5,3 +5,6 @@ pub mod Origins
 pub mod Steps
 pub mod Mirrors
 pub mod Reheads
+pub mod ByKind
+pub mod Changed
+pub mod Firsts

@@ -12,7 +12,7 @@ use Rattle.fv_container.specs.declared.entry.Entry.{Entry}
 use Rattle.fv_container.specs.Chains.{Slots, chain_entry}
 use Rattle.fv_pool.specs.Keeping.{Blocks, seen}
 use Rattle.fv_pool.specs.BlocksOver.{block_of, held_entry, place_of, place_or, place_read, place_told, steps_by, IsLooseFault, IsRightPlace, TellsEntries}
-use Rattle.fv_volmap.specs.Slots.{Volume, IsVolume, Slot, Allocates, stored_count, has, slot_at, active_of, map_or_empty, taken_in, with_slot}
+use Rattle.fv_volmap.specs.Slots.{Volume, IsVolume, Slot, Allocates, stored_count, slot_of_base, has, slot_at, active_of, map_or_empty, taken_in, with_slot}
 
 either_again : (a b c : Bool) → ((a || b) || c) ≡ (a || (b || c))
 either_again true b c = refl
@@ -28,8 +28,8 @@ any_last f or zero (x ∷ []) long = either_false (f x)
 any_last f or zero (x ∷ (y ∷ ys)) long = absurd (omega (arith, long))
 any_last f or (suc n) (x ∷ xs) long = either_again (f x) (list_any f (take n xs)) (f (slice_index_or xs n or)) ∙ ap (λ t. f x || t) (any_last f or n xs (omega (arith, long)))
 
-pub taken_anywhere : (map : Volume) (v : ℕ) → IsVolume map → (taken_in (take stored_count map.slots) v || has v (slot_at map 25)) ≡ taken_in map.slots v
-taken_anywhere map v is = any_last (has v) None 25 map.slots is.count
+pub taken_anywhere : (map : Volume) (v : ℕ) → IsVolume map → (taken_in (take stored_count map.slots) v || has v (slot_at map slot_of_base)) ≡ taken_in map.slots v
+taken_anywhere map v is = any_last (has v) None slot_of_base map.slots is.count
 
 -- ---- where a pointer's block lies
 

@@ -15,10 +15,9 @@ use Rattle.fv_tables.proofs.Tables.{same_record}
 use Rattle.fv_tree.specs.Beside.{unread}
 use Rattle.fv_tree.specs.Flushing.{Leads, IsNodeOf, ReachesOnce}
 use Rattle.fv_tree.specs.Sources.{Use}
-use Rattle.fv_tree.specs.Stored.{IsStoredWell}
 use Rattle.fv_tree.proofs.Beside.{beside_alike, beside_keeps, beside_leads, beside_pointers, beside_sound, unread_laid, unread_reaches, unread_sound}
 use Rattle.fv_inode.proofs.Indexed.{alike_indexes}
-use Rattle.fv_files.specs.Apart.{LeadsFrom, LeadsIn, StoredIn, stored_trees}
+use Rattle.fv_files.specs.Apart.{LeadsFrom, LeadsIn, IsAsSaid, StoredIn, stored_trees}
 use Rattle.fv_files.specs.Tables.{AreReached, IsStoredUnder}
 
 -- ---- a tree
@@ -40,11 +39,11 @@ module _ (m n : Under) (owner levels : ℕ) (root : Pointer) (agree : AgreeOnTre
   tree_reached uses is = unread_reaches uses (stored n owner levels root)
       (beside_sound (unread own) n (unread_laid own) stay uses uses (λ level place v leads. refl) (unread_sound uses own (λ level place. refl) (λ index. refl) is))
 
-  tree_stored : IsStoredWell (unread own) → IsStoredWell (unread (stored n owner levels root))
-  tree_stored is = record {
-    nodes = λ level place v low led. let was = tree_leads level place v led in subst (IsNodeOf owner level place) (sym (stay level place v was)) (is.nodes level place v low was);
-    known = λ level place v led none. is.known level place v (tree_leads level place v led) (ap (λ (p : Pointer). p.pvbn) (sym (beside_pointers (unread own) n (unread_laid own) stay level place)) ∙ none);
-  }
+  tree_stored : IsAsSaid (unread own) → IsAsSaid (unread (stored n owner levels root))
+  tree_stored is = (
+    (λ level place v low led. let was = tree_leads level place v led in subst (IsNodeOf owner level place) (sym (stay level place v was)) (is.0 level place v low was)),
+    (λ level place v led none. is.1 level place v (tree_leads level place v led) (ap (λ (p : Pointer). p.pvbn) (sym (beside_pointers (unread own) n (unread_laid own) stay level place)) ∙ none)),
+  )
 
 -- ---- a table
 

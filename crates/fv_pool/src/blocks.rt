@@ -28,14 +28,11 @@ use fv_disk::{Block, BlockFault, Disk};
 use fv_root::root_place;
 use fv_store::Store;
 use fv_tree::Placed;
-use fv_volmap::VolMap;
+use fv_volmap::{BASE_SLOT, VolMap};
 use std::sync::ledger::Ledger;
 
 /// The greatest VVBN.
 const LAST: u64 = 1_048_575;
-
-/// The slot of a volume's maps that has what a clone's base reaches.
-const BASE: u8 = 25;
 
 /// The volume whose blocks are meant.
 #[derive(Clone, Copy, Debug, PartialEq, Eq)]
@@ -427,7 +424,7 @@ fn is_taken(map: &VolMap, vvbn: u32) -> bool
     ensures { result ≡ taken_in map.now.slots vvbn }
 {
     known_maps(map);
-    map.held(vvbn) || has_number(map.snapshot(BASE), vvbn)
+    map.held(vvbn) || has_number(map.snapshot(BASE_SLOT), vvbn)
 }
 
 /// Whether the slot has a VVBN.

@@ -124,6 +124,7 @@ plain_over show command before session after next reply tells is = record {
   };
   snapped = is.snapped;
   snapshots = λ fresh name list. let told = is.snapshots fresh name list in (untouched_over show before session after next told.0, told.1);
+  made = is.made;
 }
   where
     slots : Slots

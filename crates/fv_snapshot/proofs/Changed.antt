@@ -4,11 +4,12 @@ use Rattle.std.specs.List.{list_any}
 use Rattle.std.proofs.lemmas.Bool.{true≢false}
 use Rattle.fv_disk.specs.Shown.{Shown as Disk}
 use Rattle.fv_codec.specs.Blocks.{last_place, IsLabel}
+use Rattle.fv_image.specs.WholeMachine.{has_form}
 use Rattle.fv_model.specs.Numbers.{greatest_span}
 use Rattle.fv_model.specs.Spelling.{is_name}
 use Rattle.fv_pool.specs.declared.pool.Pool.{Pool}
 use Rattle.fv_volume.specs.declared.state.VolumeState.{VolumeState}
-use Rattle.fv_volume.specs.Files.{HasSlotsOf, IsLabelled, has_form}
+use Rattle.fv_volume.specs.Files.{HasSlotsOf, IsLabelled}
 use Rattle.fv_volume.specs.Labels.{label_said}
 use Rattle.fv_pool.specs.Lending.{CanLend}
 use Rattle.fv_volume.specs.OneVolume.{IsBooked, IsReady}

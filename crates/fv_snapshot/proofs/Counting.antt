@@ -11,6 +11,7 @@ use Rattle.std.proofs.lemmas.List.{length-map}
 use Rattle.fv_disk.specs.Shown.{Shown as Disk}
 use Rattle.fv_bits.specs.Members.{count_of, is_member}
 use Rattle.fv_bits.proofs.Counts.{passing, passing_same}
+use Rattle.fv_image.specs.Mapped.{stored_slots}
 use Rattle.fv_model.specs.Spelling.{is_same_name, name_cmp}
 use Rattle.fv_model.specs.Places.{Id, Ids, id_cmp, ids_of}
 use Rattle.fv_model.specs.Space.{charge, ids_in_any, ids_left_out, kept_ids, map_blocks}
@@ -155,7 +156,7 @@ module _ (d : Disk) (p : Pool) (x : VolumeState) (root : RootStands d p x 0 x.ac
       low : (q : Snap) → In q (own_roots x) → q.slot < stored_count
       low q (inl same) = let at : 0 ≡ q.slot = ap (λ (r : Snap). r.slot) same in omega (arith, at)
       low q (inr there) =
-          let bounds = and_parts (nat_le 1 q.slot) _ (from_all (λ (h : HeadSnap). nat_le 1 h.slot && nat_lt h.slot 25) (head_in x).snapshots labelled.snapshots.slots.within (snap_in q) (in_map snap_in q x.snapshots there)) in
+          let bounds = and_parts (nat_le 1 q.slot) _ (from_all (λ (h : HeadSnap). nat_le 1 h.slot && nat_lt h.slot stored_slots) (head_in x).snapshots labelled.snapshots.slots.within (snap_in q) (in_map snap_in q x.snapshots there)) in
           grind (arith, nat_tests, bounds.1)
 
   -- so it lies below the span

@@ -4,6 +4,7 @@ use Rattle.std.specs.Prelude.{slice_index_or}
 use Rattle.std.specs.FinMap as fin
 use Rattle.fv_disk.specs.Shown.{Shown as Disk}
 use Rattle.std.proofs.lemmas.Bool.{true≢false}
+use Rattle.fv_model.specs.Numbers.{most_snapshots}
 use Rattle.fv_model.specs.declared.answers.Refusal.{Refusal}
 use Rattle.fv_model.specs.declared.answers.Refusal.TheVariants.{NoSnapshot, SnapshotInUse}
 use Rattle.fv_model.specs.declared.commands.Command.TheVariants.{SnapDelete}
@@ -16,7 +17,7 @@ use Rattle.fv_model.specs.Volumes.{Volume}
 use Rattle.fv_laws.proofs.Release.{use_without_snapshot}
 use Rattle.fv_charge.specs.declared.ledger.Ledger.{Ledger}
 use Rattle.fv_charge.specs.Ledgers.{IsLedgerOf}
-use Rattle.fv_volmap.specs.Slots.{IsVolume}
+use Rattle.fv_volmap.specs.Slots.{IsVolume, stored_count}
 use Rattle.fv_pool.specs.declared.fault.VolumeFault.{VolumeFault}
 use Rattle.fv_pool.specs.declared.fault.VolumeFault.TheVariants.{Refused}
 use Rattle.fv_pool.specs.declared.pool.Pool.{Pool}
@@ -53,7 +54,7 @@ fewer (q ∷ qs) zero = omega arith
 fewer (q ∷ qs) (suc at) = let rest = fewer qs at in omega (arith, rest)
 
 -- so there are at most 24
-pub few_left : (x a : VolumeState) (at n : ℕ) → IsLabelled x.slot x → a ≡ without_snapshot x at n → length a.snapshots ≤ 24
+pub few_left : (x a : VolumeState) (at n : ℕ) → IsLabelled x.slot x → a ≡ without_snapshot x at n → length a.snapshots ≤ most_snapshots
 few_left x a at n labelled now =
     let few = few_snaps (head_in x) x.snapshots refl labelled.snapshots.slots in
     let less = fewer x.snapshots at in
@@ -63,11 +64,11 @@ few_left x a at n labelled now =
 
 -- A snapshot that was found stands in a slot from 1 to 24, also where files were placed since.
 pub index_slot : (d e : Disk) (p : Pool) (x : VolumeState) (name : List ℕ) (left : Pool) (mid : VolumeState) → IsPlacedAs d p x e left mid → (at : ℕ) → FindsSnap x.snapshots name (Some at) → (snaps : List Snap) → snaps ≡ mid.snapshots
-    → (some : Snap) → (0 < (slice_index_or snaps at some).slot) × ((slice_index_or snaps at some).slot < 25)
+    → (some : Snap) → (0 < (slice_index_or snaps at some).slot) × ((slice_index_or snaps at some).slot < stored_count)
 index_slot d e p x name left mid placed at finds snaps same some =
     let its : FindsSnap mid.snapshots name (Some at) = subst (λ (l : List Snap). FindsSnap l name (Some at)) (sym (ap (λ (z : VolumeState). z.snapshots) placed.keeps)) finds in
     let bounds = slot_there mid.snapshots at some placed.ready.labelled.snapshots.slots.within (found_within name mid.snapshots at its) in
-    subst (λ (l : List Snap). (0 < (slice_index_or l at some).slot) × ((slice_index_or l at some).slot < 25)) (sym same) (bounds.0, bounds.1)
+    subst (λ (l : List Snap). (0 < (slice_index_or l at some).slot) × ((slice_index_or l at some).slot < stored_count)) (sym same) (bounds.0, bounds.1)
 
 module _ (d : Disk) (p : Pool) (x : VolumeState) (stood : Bool) (name : List ℕ) (ready : IsReady d p x) where
   -- no snapshot has the name,
@@ -182,7 +183,7 @@ module _ (d : Disk) (p : Pool) (x : VolumeState) (stood : Bool) (name : List ℕ
         counted_left : IsCountOf left_volume ledger
         counted_left = subst (λ (z : VolumeState). IsCountOf z ledger) (sym same) counted
 
-        few : length left_volume.snapshots ≤ 24
+        few : length left_volume.snapshots ≤ most_snapshots
         few = few_snaps (head_in left_volume) left_volume.snapshots refl
             (without.unsnapped_labelled mid whole labelled at some within ledger (ap (λ (l : Ledger). l.span) counted_left.ledger_is)).snapshots.slots
 

@@ -10,7 +10,7 @@ use Rattle.fv_laws.proofs.Orders.{name_total}
 use Rattle.fv_image.specs.Mapped.{stored_slots}
 use Rattle.fv_image.specs.Views.{Snap as HeadSnap}
 use Rattle.fv_image.specs.Volumes.{snap_at}
-use Rattle.fv_volmap.specs.Slots.{slot_at}
+use Rattle.fv_volmap.specs.Slots.{slot_at, stored_count}
 use Rattle.fv_volume.specs.declared.state.Snap.{Snap}
 use Rattle.fv_volume.specs.declared.state.VolumeState.{VolumeState}
 use Rattle.fv_volume.specs.Asking.{snap_named}
@@ -127,12 +127,12 @@ module _ (name : List ℕ) where
       by false found rest = later (s.slot == q.slot) _ (rest found)
 
 -- So its map is used, and its slot is from 1 to 24.
-pub slot_used : (x : VolumeState) (name : List ℕ) (q : Snap) → IsLabelled x.slot x → snap_named x.snapshots name ≡ Some q → (1 ≤ q.slot) × (q.slot < 25) × (is_some (slot_at x.map q.slot) ≡ true)
+pub slot_used : (x : VolumeState) (name : List ℕ) (q : Snap) → IsLabelled x.slot x → snap_named x.snapshots name ≡ Some q → (1 ≤ q.slot) × (q.slot < stored_count) × (is_some (slot_at x.map q.slot) ≡ true)
 unfolding snap_at
 slot_used x name q labelled found =
     let bounds = and_parts (nat_le 1 q.slot) (nat_lt q.slot stored_slots) (named_within name x.snapshots q found labelled.snapshots.slots.within) in
     let least = bounds.0 in
     let most = bounds.1 in
     let above : 1 ≤ q.slot = grind (arith, nat_tests, least) in
-    let below : q.slot < 25 = grind (arith, nat_tests, most) in
+    let below : q.slot < stored_count = grind (arith, nat_tests, most) in
     (above, below, labelled.slots.each q.slot (λ same. absurd (omega (arith, above, same))) (λ same. absurd (omega (arith, below, same))) ∙ named_listed name x.snapshots q found)

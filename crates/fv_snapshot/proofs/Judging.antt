@@ -105,7 +105,7 @@ module _ (m : Machine) (v : List ℕ) (x : Volume) (there : fin.get m.volumes v 
 
 -- each slot is one's, where the test says so,
 all_slots : (snaps : List Snap) → AreSlotsFull snaps → are_full snaps ≡ true
-all_slots snaps full = to_all (λ k. has_slot snaps k) (range_with_len 1 24) (λ k among. let low = from_range 1 24 k among in full.full k (omega (arith, low.0)) (omega (arith, low.1)))
+all_slots snaps full = to_all (λ k. has_slot snaps k) (range_with_len 1 most_snapshots) (λ k among. let low = from_range 1 most_snapshots k among in full.full k (omega (arith, low.0)) (omega (arith, low.1)))
 
 -- and not where one is free
 some_free : (snaps : List Snap) (slot : ℕ) → IsLeastFree snaps slot → are_full snaps ≡ false
@@ -116,7 +116,7 @@ some_free snaps slot free = by (are_full snaps) refl
     by true e =
         let above = free.above in
         let stored = free.stored in
-        absurd (true≢false (sym (from_all (λ k. has_slot snaps k) (range_with_len 1 24) e slot (in_range 1 24 slot (omega (arith, above)) (omega (arith, stored)))) ∙ free.free))
+        absurd (true≢false (sym (from_all (λ k. has_slot snaps k) (range_with_len 1 most_snapshots) e slot (in_range 1 most_snapshots slot (omega (arith, above)) (omega (arith, stored)))) ∙ free.free))
 
 -- ---- a volume
 
@@ -199,7 +199,7 @@ module _ (x : VolumeState) (name : List ℕ) where
           let slots = some_slots x.snapshots labelled.snapshots.slots.within in
           let least = full_many x.snapshots labelled.snapshots.slots.rising slots.0 full in
           let same = many b distinct in
-          let past : nat_le 24 (fin.len (snaps_by b x.snapshots)) ≡ true = (let enough : 24 ≤ fin.len (snaps_by b x.snapshots) = omega (arith, least, same) in grind (arith, nat_tests, enough)) in
+          let past : nat_le most_snapshots (fin.len (snaps_by b x.snapshots)) ≡ true = (let enough : most_snapshots ≤ fin.len (snaps_by b x.snapshots) = omega (arith, least, same) in grind (arith, nat_tests, enough)) in
           create_by m x.name (volume_as x (content_by a b x)) has.there name
           ∙ ap₂ (λ (s t : Bool). create_chain m x.name (volume_as x (content_by a b x)) has.there name s t) (ap (λ (o : Option Table). is_some o) (none_by b none)) past;
       same = sym (by_count none (are_full x.snapshots) (all_slots x.snapshots full));
@@ -236,7 +236,7 @@ module _ (x : VolumeState) (name : List ℕ) where
           let slots = some_slots x.snapshots labelled.snapshots.slots.within in
           let few = free_few x.snapshots slot labelled.snapshots.slots.rising slots.0 slots.1 free in
           let same = many b distinct in
-          let low : nat_le 24 (fin.len (snaps_by b x.snapshots)) ≡ false = (let less : fin.len (snaps_by b x.snapshots) < 24 = omega (arith, few, same) in grind (arith, nat_tests, less)) in
+          let low : nat_le most_snapshots (fin.len (snaps_by b x.snapshots)) ≡ false = (let less : fin.len (snaps_by b x.snapshots) < most_snapshots = omega (arith, few, same) in grind (arith, nat_tests, less)) in
           create_by m x.name (volume_as x (content_by a b x)) has.there name
           ∙ ap₂ (λ (s t : Bool). create_chain m x.name (volume_as x (content_by a b x)) has.there name s t) (ap (λ (o : Option Table). is_some o) (none_by b none)) low
           ∙ said r (first_of (space m (SnapCreate x.name name) x.name)) (says m (SnapCreate x.name name) x.name more moved

@@ -4,7 +4,7 @@ use Rattle.std.specs.Option.{option_map}
 use Rattle.std.specs.Prelude.{All, IfSome, if◌then◌else◌}
 use Rattle.std.proofs.lemmas.List.Elements.{All-head}
 use Rattle.fv_disk.specs.Shown.{Shown as Disk}
-use Rattle.fv_model.specs.Numbers.{greatest_span}
+use Rattle.fv_model.specs.Numbers.{greatest_span, most_snapshots}
 use Rattle.fv_laws.specs.Positions.{HasNoReserve}
 use Rattle.fv_laws.proofs.PathCharges.{no_need}
 use Rattle.fv_charge.specs.declared.ledger.Ledger.{Ledger}
@@ -29,7 +29,7 @@ use Rattle.fv_volume.proofs.OwnIds.{own_ids}
 use Rattle.fv_snapshot.proofs.Told.{distinct_told}
 
 -- the numbers of a ledger that was counted are those of its volume
-pub counted_booked : (y : VolumeState) → IsCountOf y y.ledger → y.map.span ≡ y.span → y.span ≤ greatest_span → length y.snapshots ≤ 24 → IsBooked y
+pub counted_booked : (y : VolumeState) → IsCountOf y y.ledger → y.map.span ≡ y.span → y.span ≤ greatest_span → length y.snapshots ≤ most_snapshots → IsBooked y
 counted_booked y counted same most few = record {
   size = ap (λ (l : Ledger). l.size) counted.ledger_is;
   kind = ap (λ (l : Ledger). l.kind) counted.ledger_is;

@@ -20,7 +20,7 @@ use Rattle.fv_image.specs.ReachRules.{are_distinct}
 use Rattle.fv_image.specs.Views.{Snap as HeadSnap}
 use Rattle.fv_image.specs.Volumes.{snap_at}
 use Rattle.fv_image.proofs.SnapLists.{distinct_without}
-use Rattle.fv_volmap.specs.Slots.{IsVolume, has, slot_at, slot_of_base, taken_in, with_slot}
+use Rattle.fv_volmap.specs.Slots.{IsVolume, has, slot_at, slot_of_base, taken_in, with_slot, stored_count}
 use Rattle.fv_pool.specs.declared.pool.Pool.{Pool}
 use Rattle.fv_volume.specs.declared.state.Snap.{Snap}
 use Rattle.fv_volume.specs.declared.state.VolumeState.{VolumeState}
@@ -83,7 +83,7 @@ module _ (x : VolumeState) (whole : IsVolume x.map) (labelled : IsLabelled x.slo
   y = record x { snapshots = left_of at x.snapshots; map = with_slot x.map gone.slot None; ledger = ledger; fresh = slice_set x.fresh gone.slot false; changed = true }
 
   -- it has a slot from 1 to 24
-  pub bounds : (1 ≤ gone.slot) × (gone.slot < 25)
+  pub bounds : (1 ≤ gone.slot) × (gone.slot < stored_count)
   bounds = slot_there x.snapshots at d labelled.snapshots.slots.within within
 
   -- the maps have the slot

@@ -4,6 +4,7 @@ use Rattle.std.specs.List.{list_all, range_with_len}
 use Rattle.fv_disk.specs.Shown.{Rose, Shown as Disk}
 use Rattle.fv_charge.specs.declared.ledger.Ledger.{Ledger}
 use Rattle.fv_charge.specs.Changes.{admission}
+use Rattle.fv_model.specs.Numbers.{most_snapshots}
 use Rattle.fv_model.specs.declared.answers.Refusal.{Refusal}
 use Rattle.fv_model.specs.declared.answers.Refusal.TheVariants.{SnapshotExists, TooMany}
 use Rattle.fv_model.specs.declared.commands.Command.TheVariants.{SnapCreate}
@@ -34,7 +35,7 @@ refusal_in (Err r) = Some r
 
 -- whether each slot that a snapshot can have is one's
 abbrev pub are_full : List Snap → Bool
-are_full snaps = list_all (λ k. has_slot snaps k) (range_with_len 1 24)
+are_full snaps = list_all (λ k. has_slot snaps k) (range_with_len 1 most_snapshots)
 
 -- The refusal of a snapshot of a name, by what a volume has in memory: the list of its snapshots, and its ledger. The aggregate has so many blocks,
 -- of which the other volumes commit so many.

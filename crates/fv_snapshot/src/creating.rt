@@ -19,13 +19,14 @@ use fv_charge::{Delta, Ledger};
 use fv_disk::Disk;
 use fv_model::{Name, Refusal, map_blocks};
 use fv_root::capacity;
+use fv_volmap::MapSlot;
 use fv_volume::{Pool, VolumeFault, VolumeState};
 
 /// What a snapshot gets that isn't refused.
 #[derive(Clone, Copy, Debug, PartialEq, Eq)]
 pub struct Granted {
     /// The map slot, from 1 to 24.
-    pub slot: u8,
+    pub slot: MapSlot,
     /// How many blocks the map has, from 1 to 32.
     pub room: u64,
 }

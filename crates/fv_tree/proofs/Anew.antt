@@ -1,5 +1,5 @@
 -- What a flush does to the places of a tree, step by step.
-use Rattle.std.proofs.Common.{◌≡◌, ℕ, inl, inr, Option, refl, sym, ap, subst, ◌∙◌, arith, None}
+use Rattle.std.proofs.Common.{◌≡◌, ℕ, Bool, inl, inr, Option, refl, sym, ap, subst, ◌∙◌, arith, None}
 use Rattle.std.specs.FinMap as fin
 use Rattle.std.proofs.lemmas.Bool.{cases_eq}
 use Rattle.fv_codec.specs.declared.pointer.Pointer.{Pointer}
@@ -61,7 +61,7 @@ module _ {B : Type 0} (shown : B → Shown) (goes : B → B → Type 0) (goes_on
 
 -- ---- a flush
 
-pub flush_anew : (old : Loaded) (used : ℕ → Option Use) (new : Loaded) (uses : ℕ → Option Use) (free : ℕ → Type 0) → Flushes old used new uses → ((v : ℕ) → IsPlaced old new v → free v) → PlacesAnew old free new
+pub flush_anew : {hides : Bool} (old : Loaded) (used : ℕ → Option Use) (new : Loaded) (uses : ℕ → Option Use) (free : ℕ → Type 0) → Flushes hides old used new uses → ((v : ℕ) → IsPlaced old new v → free v) → PlacesAnew old free new
 flush_anew old used new uses free is fresh level place = elim (cases_eq (pointer_at new.tree level place).stamp 0) [
   | inl none ↦ inl none
   | inr some ↦ inr (elim (bit (new.changed level place)) [

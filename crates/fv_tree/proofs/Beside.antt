@@ -2,7 +2,7 @@
 --
 -- An example: a file's tree is cut, and VVBN 7 goes out of use. The tree of another file of the table never leads to 7, so it has all its
 -- blocks, and each is in use as it was.
-use Rattle.std.proofs.Common.{◌≡◌, ◌≢◌, ◌≤◌, ℕ, ◌+◌, ◌/◌, ◌%◌, ◌⊎◌, inl, inr, true, false, List, Option, Some, None, get_or, is_some, refl, sym, ap, subst, ◌∙◌, arith}
+use Rattle.std.proofs.Common.{◌≡◌, ◌≢◌, ◌≤◌, ℕ, ◌+◌, ◌/◌, ◌%◌, ◌⊎◌, inl, inr, Bool, true, false, List, Option, Some, None, get_or, is_some, refl, sym, ap, subst, ◌∙◌, arith}
 use Rattle.std.specs.BTreeMap as tree
 use Rattle.std.specs.FinMap as fin
 use Rattle.std.specs.Ordering.{nat_cmp}
@@ -23,11 +23,13 @@ use Rattle.fv_tree.specs.Releasing.{IsDropped, Releases}
 use Rattle.fv_tree.specs.Altering.{Leaves}
 use Rattle.fv_tree.specs.Beside.{IsLaid, loaded_on, unread, LeadsTo, Spares, LieApart}
 use Rattle.fv_tree.specs.Flushing.{Loaded, Leads, IsSound, ReachesOnce, IsRight, Flushes, IsPlaced, IsReplaced, loaded, loaded_over, node_placed, cell_placed, kind_for}
+use Rattle.fv_tree.specs.Unknown.{LeadsUnknown}
 use Rattle.fv_tree.proofs.Below.{no_pointers, kept_pointers, read_pointers}
 use Rattle.fv_tree.proofs.Cases.{false_is_true, some_none, none_some}
 use Rattle.fv_tree.proofs.Gone.{cell_led, spot_led}
 use Rattle.fv_tree.proofs.Hints.{right_as}
 use Rattle.fv_tree.proofs.Released.{block_read}
+use Rattle.fv_tree.proofs.Unknown.{alike_contents, leaves_unknown}
 use Rattle.fv_tree.proofs.Ways.{IsWay, own_way, way_pointers}
 use Rattle.fv_tree.proofs.Writes.{block_none, block_here}
 
@@ -194,7 +196,7 @@ removal_spares old new t u released no_more = record {
 }
 
 -- a flush; where the tree leads afterwards a block was placed, or the tree led there
-module _ (old new : Shown) (s t : Loaded) (before : s.tree.under ≡ under old) (after : t.tree.under ≡ under new) (flushes : Flushes s old.used t new.used) (from : (level place v : ℕ) → Leads t level place v → IsPlaced s t v ⊎ Leads s level place v) where
+module _ {hides : Bool} (old new : Shown) (s t : Loaded) (before : s.tree.under ≡ under old) (after : t.tree.under ≡ under new) (flushes : Flushes hides s old.used t new.used) (from : (level place v : ℕ) → Leads t level place v → IsPlaced s t v ⊎ Leads s level place v) where
   abbrev Not : ℕ → Type 0
   Not v = LeadsTo s v → ⊥
 
@@ -234,6 +236,10 @@ module _ (old new : Shown) (before after : ℕ → Type 0) (r : Loaded) (spares 
   -- by the same pointers,
   pub other_leaves : Leaves r (loaded_on (under new) r)
   other_leaves = record { levels = refl; root = refl; places = λ level place. inr (record { pointer = beside_pointers r (under new) laid stay level place; changed = refl }) }
+
+  -- with the unknown ones where they may stand,
+  pub other_unknown : LeadsUnknown r → LeadsUnknown (loaded_on (under new) r)
+  other_unknown = leaves_unknown r (loaded_on (under new) r) refl (alike_contents r (loaded_on (under new) r) other_alike) other_leaves
 
   -- leads to the same blocks,
   pub other_leads : (v : ℕ) → LeadsTo (loaded_on (under new) r) v → LeadsTo r v

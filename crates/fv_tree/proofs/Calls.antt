@@ -35,7 +35,7 @@ use Rattle.fv_tree.proofs.KeptUnder.{keeps_then as stays_then}
 use Rattle.fv_tree.proofs.Leading.{carries_same, carries_then, carries_cells, carries_untouched}
 use Rattle.fv_tree.proofs.Released.{keeps_brought, keeps_self, keeps_then}
 use Rattle.fv_tree.proofs.StillReady.{ready_then, cells_same}
-use Rattle.fv_tree.proofs.Stored.{stored_on}
+use Rattle.fv_tree.proofs.Stored.{stored_on, tells_on}
 use Rattle.fv_tree.proofs.Ways.{keeps_same, same_then}
 
 -- ---- counts and causes
@@ -158,7 +158,8 @@ steady_from told reading a b t u more brought result owner carries ready rises u
   leads = λ tells. (carries tells).leads;
   keeps = λ tells. (carries tells).keeps;
   hints = λ tells. (carries tells).hints;
-  stored_well = λ tells. stored_on (loaded a t) (loaded b u) owner (ap (λ h v. fin.get h v) untouched.held) (carries tells).leads (carries tells).hints;
+  stored_well = λ tells. stored_on (loaded a t) (loaded b u) owner (ap (λ h v. fin.get h v) untouched.held) (carries tells).leads;
+  tells = λ tells. tells_on (loaded a t) (loaded b u) (carries tells).leads (carries tells).hints;
   keeps_ready = ready;
   rises = rises;
   untouched = untouched;
@@ -248,9 +249,9 @@ pub one_err : {T U : Type 0} {told known going : Type 0} {a b : Shown} {e : Bloc
 one_err did =
     record { places = did.places; room = tt; enough = did.enough; spent = did.spent; untouched = did.untouched; calls = did.calls; counts = counts_err did.counts; cause = did.cause }
 
-module _ {B : Type 0} {told known : Type 0} {shown : B → Shown} {goes : B → B → Type 0} {stays : ℕ → B → B → Type 0} where
+module _ {B : Type 0} {hides : Bool} {told known : Type 0} {shown : B → Shown} {goes : B → B → Type 0} {stays : ℕ → B → B → Type 0} where
   -- nothing was placed
-  pub flushes_none : {T : Type 0} (b : B) (t : Tree) (x : T) → goes b b → ((v : ℕ) → stays v b b) → PlacesChanged told known shown goes stays b b t t (Ok x)
+  pub flushes_none : {T : Type 0} (b : B) (t : Tree) (x : T) → goes b b → ((v : ℕ) → stays v b b) → PlacesChanged hides told known shown goes stays b b t t (Ok x)
   flushes_none b t x calls keeps = record {
     flushes = λ _ stands. flushes_still (shown b) (shown b) t t refl refl refl stands;
     anew = λ _ _. anew_itself (loaded (shown b) t) (WasFree shown goes b b);
@@ -268,7 +269,7 @@ module _ {B : Type 0} {told known : Type 0} {shown : B → Shown} {goes : B → 
 
   -- a block wasn't placed
   pub flushes_failed : {T : Type 0} {old new : B} {t u : Tree} {e : BlockFault} → PlacesOne {T = T} told known (goes old new) (shown old) (shown new) (Err e) → u ≡ t
-      → (told → Stands (shown old) t → (v : ℕ) → (IsPlaced (loaded (shown old) t) (loaded (shown new) u) v → ⊥) → stays v old new) → pending t ≢ 0 → PlacesChanged {T = T} told known shown goes stays old new t u (Err e)
+      → (told → Stands (shown old) t → (v : ℕ) → (IsPlaced (loaded (shown old) t) (loaded (shown new) u) v → ⊥) → stays v old new) → pending t ≢ 0 → PlacesChanged {T = T} hides told known shown goes stays old new t u (Err e)
   flushes_failed {old = old} {new = new} {t = t} {u = u} did same keeps some = record {
     flushes = λ _ stands. flushes_still (shown old) (shown new) t u did.untouched.held did.untouched.used same stands;
     anew = λ _ _. anew_still (shown old) (shown new) t u (WasFree shown goes old new) did.untouched.held same;
@@ -285,22 +286,22 @@ module _ {B : Type 0} {told known : Type 0} {shown : B → Shown} {goes : B → 
   }
 
   -- for another result
-  flushes_as : {T U : Type 0} {old new : B} {t u : Tree} {r : Result T BlockFault} (result : Result U BlockFault) → PlacesChanged told known shown goes stays old new t u r → (told → Stands (shown old) t → IsEnough (pending t) (shown old).room result)
-      → Counts (shown old) (shown new) result → IfErr result (HasCause (shown old) (shown new)) → PlacesChanged told known shown goes stays old new t u result
+  flushes_as : {T U : Type 0} {old new : B} {t u : Tree} {r : Result T BlockFault} (result : Result U BlockFault) → PlacesChanged hides told known shown goes stays old new t u r → (told → Stands (shown old) t → IsEnough (pending t) (shown old).room result)
+      → Counts (shown old) (shown new) result → IfErr result (HasCause (shown old) (shown new)) → PlacesChanged hides told known shown goes stays old new t u result
   flushes_as result did enough counts cause = record { flushes = did.flushes; anew = did.anew; keeps = did.keeps; strays = did.strays; fits = did.fits; enough = enough; left = did.left; spent = did.spent; places = did.places; calls = did.calls; counts = counts; cause = cause }
 
-  pub flushes_ok : {T U : Type 0} {old new : B} {t u : Tree} {x : T} (y : U) → PlacesChanged told known shown goes stays old new t u (Ok x) → PlacesChanged told known shown goes stays old new t u (Ok y)
+  pub flushes_ok : {T U : Type 0} {old new : B} {t u : Tree} {x : T} (y : U) → PlacesChanged hides told known shown goes stays old new t u (Ok x) → PlacesChanged hides told known shown goes stays old new t u (Ok y)
   flushes_ok {old = old} {new = new} y did = flushes_as (Ok y) did (λ _ _ _. tt) (counts_calm (shown old) (shown new) (Ok y) did.counts.calm) tt
 
-  pub flushes_err : {T U : Type 0} {old new : B} {t u : Tree} {e : BlockFault} → PlacesChanged {T = T} told known shown goes stays old new t u (Err e) → PlacesChanged {T = U} told known shown goes stays old new t u (Err e)
+  pub flushes_err : {T U : Type 0} {old new : B} {t u : Tree} {e : BlockFault} → PlacesChanged {T = T} hides told known shown goes stays old new t u (Err e) → PlacesChanged {T = U} hides told known shown goes stays old new t u (Err e)
   flushes_err {e = e} did = flushes_as (Err e) did did.enough (counts_err did.counts) did.cause
 
-  pub flushes_failing : {T U : Type 0} {old new : B} {t u : Tree} {e : BlockFault} (result : Result U BlockFault) → IsErrAnd result (λ fault. fault ≡ e) → PlacesChanged {T = T} told known shown goes stays old new t u (Err e) → PlacesChanged told known shown goes stays old new t u result
+  pub flushes_failing : {T U : Type 0} {old new : B} {t u : Tree} {e : BlockFault} (result : Result U BlockFault) → IsErrAnd result (λ fault. fault ≡ e) → PlacesChanged {T = T} hides told known shown goes stays old new t u (Err e) → PlacesChanged hides told known shown goes stays old new t u result
   flushes_failing (Ok y) is did = absurd is
-  flushes_failing {U = U} {old = old} {new = new} {t = t} {u = u} (Err fault) is did = subst (λ e. PlacesChanged {T = U} told known shown goes stays old new t u (Err e)) (sym is) (flushes_err did)
+  flushes_failing {U = U} {old = old} {new = new} {t = t} {u = u} (Err fault) is did = subst (λ e. PlacesChanged {T = U} hides told known shown goes stays old new t u (Err e)) (sym is) (flushes_err did)
 
   pub flushes_on : {T U : Type 0} {old mid new : B} {t v u : Tree} {x : T} {result : Result U BlockFault} → ((old mid new : B) → goes old mid → goes mid new → goes old new) → ((w : ℕ) (old mid new : B) → stays w old mid → stays w mid new → stays w old new)
-      → PlacesChanged told known shown goes stays old mid t v (Ok x) → PlacesChanged told known shown goes stays mid new v u result → PlacesChanged told known shown goes stays old new t u result
+      → PlacesChanged hides told known shown goes stays old mid t v (Ok x) → PlacesChanged hides told known shown goes stays mid new v u result → PlacesChanged hides told known shown goes stays old new t u result
   flushes_on {old = old} {mid = mid} {new = new} {t = t} {v = v} {u = u} {result = result} goes_on stays_on was now = record {
     flushes = λ tells stands. let first = was.flushes tells stands in
         flushes_then (loaded (shown old) t) (loaded (shown mid) v) (loaded (shown new) u) (shown old).used (shown mid).used (shown new).used (is_memory (shown mid) v) first (now.flushes tells first.sound);

@@ -1,5 +1,5 @@
 -- A cell or node in memory of which the block is placed.
-use Rattle.std.proofs.Common.{◌≡◌, ◌≢◌, ◌≤◌, ◌<◌, ℕ, ◌+◌, ◌*◌, ◌-◌, ◌/◌, ◌%◌, ◌⊎◌, inl, inr, true, false, cond, ◌&&◌, List, Option, Some, None, get_or, length, is_some, slice_set, refl, sym, ap, subst, ◌∙◌, arith, ◌==◌, nat_eq, if◌then◌else◌}
+use Rattle.std.proofs.Common.{◌≡◌, ◌≢◌, ◌≤◌, ◌<◌, ℕ, ◌+◌, ◌*◌, ◌-◌, ◌/◌, ◌%◌, ◌⊎◌, inl, inr, Bool, true, false, cond, ◌&&◌, List, Option, Some, None, get_or, length, is_some, slice_set, refl, sym, ap, subst, ◌∙◌, arith, ◌==◌, nat_eq, if◌then◌else◌}
 use Rattle.std.proofs.lemmas.Bool.{cases_eq, cases_lt}
 use Rattle.std.proofs.lemmas.Bool.Decides.{nat_tests}
 use Rattle.std.proofs.lemmas.List.{get_or-set_same, get_or-set_other}
@@ -7,10 +7,10 @@ use Rattle.fv_codec.specs.declared.pointer.Pointer.{Pointer}
 use Rattle.fv_model.specs.Trees.{fan}
 use Rattle.fv_tree.specs.Sources.{Use}
 use Rattle.fv_tree.specs.Spelled.{hole, pointers_at, pointers_in, pointer_at, block_at}
-use Rattle.fv_tree.specs.Flushing.{Loaded, Leads, IsRight, IsSound, IsEmptyNode, IsFlushed, IsReplaced, IsPlaced, HoldsUnknown, IsNodeOf, NamesPosition, Flushes, kind_for, use_told, HasKind}
+use Rattle.fv_tree.specs.Flushing.{Loaded, Leads, IsRight, IsSound, IsEmptyNode, IsFlushed, IsReplaced, IsPlaced, HoldsUnknown, HoldsUnknownRoot, has_unknown_root, IsNodeOf, NamesPosition, Flushes, kind_for, use_told, HasKind}
 use Rattle.fv_tree.proofs.Below.{no_pointers, kept_pointers, read_pointers}
 use Rattle.fv_tree.proofs.Cases.{false_is_true, none_some, some_none, there}
-use Rattle.fv_tree.proofs.Hints.{HasUnknown, right_as, right_kind}
+use Rattle.fv_tree.proofs.Hints.{HasUnknown, HasUnknownRoot, right_as, right_kind, same_root}
 use Rattle.fv_tree.proofs.Spots.{here, elsewhere}
 use Rattle.fv_tree.proofs.Stamped.{apart}
 use Rattle.fv_tree.proofs.Unchanged.{IsMemory, block_read, changed_before}
@@ -18,7 +18,7 @@ use Rattle.fv_tree.proofs.Ways.{own_way, is_way, past, reached_within, spot_is, 
 use Rattle.fv_tree.proofs.Writes.{block_here, block_none}
 
 -- the pointer to a cell or node leads to a new block of it, and it goes out of memory
-pub record Replaces (s : Loaded) (used : ℕ → Option Use) (u : Loaded) (uses : ℕ → Option Use) (k q : ℕ) (p : Pointer) : Type 0 where
+pub record Replaces (hides : Bool) (s : Loaded) (used : ℕ → Option Use) (u : Loaded) (uses : ℕ → Option Use) (k q : ℕ) (p : Pointer) : Type 0 where
   pub was : s.changed k q ≡ true
   pub some : (pointer_at s.tree k q).stamp ≢ 0
   pub stamp : p.stamp ≡ (pointer_at s.tree k q).stamp
@@ -35,12 +35,13 @@ pub record Replaces (s : Loaded) (used : ℕ → Option Use) (u : Loaded) (uses 
   pub node : 1 ≤ k → (xs : List Pointer) × (s.tree.nodes k q ≡ Some xs) × (pointers_in (u.tree.under p.vvbn) ≡ xs)
       × ((slot : ℕ) → (get_or xs slot hole).stamp ≢ 0 → (get_or xs slot hole).pvbn ≡ 0 → p.pvbn ≡ 0)
   pub names : 1 ≤ k → IsNodeOf s.tree.owner k q (u.tree.under p.vvbn)
-  pub cell : k ≡ 0 → (block : List ℕ) × (s.tree.cells q ≡ Some block) × (u.tree.under p.vvbn ≡ Some block)
+  pub cell : k ≡ 0 → (block : List ℕ) × (s.tree.cells q ≡ Some block) × (u.tree.under p.vvbn ≡ Some block) × (has_unknown_root s.tree.owner block ≡ true → p.pvbn ≡ 0)
   pub fresh : s.tree.under p.vvbn ≡ None
   pub unused : used p.vvbn ≡ None
   pub now : is_some (u.tree.under p.vvbn) ≡ true
   pub taken : IsRight (kind_for s.tree.owner k) p (uses p.vvbn)
-  pub told : (uses p.vvbn ≡ Some (use_told p (kind_for s.tree.owner k))) ⊎ ((1 ≤ k) × HasUnknown (s.tree.nodes k q))
+  pub hidden : hides ≡ true → p.pvbn ≡ 0
+  pub told : hides ≡ false → (uses p.vvbn ≡ Some (use_told p (kind_for s.tree.owner k))) ⊎ (((1 ≤ k) × HasUnknown (s.tree.nodes k q)) ⊎ ((k ≡ 0) × HasUnknownRoot s.tree.owner (s.tree.cells q)))
   pub others : (v : ℕ) → v ≢ p.vvbn → (Leads s k q v → ⊥) → (u.tree.under v ≡ s.tree.under v) × (uses v ≡ used v)
   pub gone : (v : ℕ) → Leads s k q v → v ≢ p.vvbn → uses v ≡ None
   pub changed : u.changed k q ≡ false
@@ -60,7 +61,7 @@ moved_elsewhere : (f : ℕ → ℕ → Pointer) (k q : ℕ) (p : Pointer) (j c :
 unfolding moved_to
 moved_elsewhere f k q p j c other = ap (λ b. cond b p (f j c)) (elsewhere j c k q other)
 
-module _ (s : Loaded) (used : ℕ → Option Use) (u : Loaded) (uses : ℕ → Option Use) (k q : ℕ) (p : Pointer) (sound : IsSound used s) (memory : IsMemory s) (is : Replaces s used u uses k q p) where
+module _ {hides : Bool} (s : Loaded) (used : ℕ → Option Use) (u : Loaded) (uses : ℕ → Option Use) (k q : ℕ) (p : Pointer) (sound : IsSound used s) (memory : IsMemory s) (is : Replaces hides s used u uses k q p) where
   abbrev pub f : ℕ → ℕ → Pointer
   f = moved_to (pointer_at s.tree) k q p
 
@@ -422,13 +423,34 @@ module _ (s : Loaded) (used : ℕ → Option Use) (u : Loaded) (uses : ℕ → O
         unknown = ap (λ (p : Pointer). p.pvbn) child ∙ has.unknown;
       }
 
-  told : (j c : ℕ) → IsFlushed s u j c → (uses (pointer_at u.tree j c).vvbn ≡ Some (use_told (pointer_at u.tree j c) (kind_for u.tree.owner j))) ⊎ HoldsUnknown u.tree j c
-  told j c flushed =
+  -- the cell that was placed has the block that it had in memory
+  own_block : (c : ℕ) (block : List ℕ) → 0 ≡ k → c ≡ q → s.tree.cells q ≡ Some block → block_at u.tree c ≡ Some block
+  own_block c block level place held =
+      ap (block_at u.tree) place ∙ block_own (sym level) ∙ block_here s.tree q block (subst (λ (n : ℕ). (pointer_at s.tree n q).stamp ≢ 0) (sym level) is.some) held
+
+  unknown_roots : (c : ℕ) (block : List ℕ) → IsFlushed s u 0 c → block_at u.tree c ≡ Some block → has_unknown_root u.tree.owner block ≡ true → (pointer_at u.tree 0 c).pvbn ≡ 0
+  unknown_roots c block flushed holds root =
+      let at = only_flushed 0 c flushed in
+      let cell = is.cell (sym at.0) in
+      let same : Some cell.0 ≡ Some block = sym (own_block c cell.0 at.0 at.1 cell.1) ∙ holds in
+      ap (λ (p : Pointer). p.pvbn) ((λ i. pointer_at u.tree (at.0 i) (at.1 i)) ∙ pointer_here)
+      ∙ cell.3 (same_root s.tree.owner u.tree.owner cell.0 block is.owner same ∙ root)
+
+  hidden : hides ≡ true → (j c : ℕ) → IsFlushed s u j c → (pointer_at u.tree j c).pvbn ≡ 0
+  hidden hide j c flushed = let at = only_flushed j c flushed in ap (λ (p : Pointer). p.pvbn) ((λ i. pointer_at u.tree (at.0 i) (at.1 i)) ∙ pointer_here) ∙ is.hidden hide
+
+  holds_root : (j c : ℕ) → j ≡ k → c ≡ q → k ≡ 0 → HasUnknownRoot s.tree.owner (s.tree.cells q) → HoldsUnknownRoot u.tree j c
+  holds_root j c level place first has =
+      record { cell = level ∙ first; block = has.block; holds = own_block c has.block (sym first) place has.held; unknown = ap (λ (o : ℕ). has_unknown_root o has.block) is.owner ∙ has.unknown }
+
+  told : hides ≡ false → (j c : ℕ) → IsFlushed s u j c → (uses (pointer_at u.tree j c).vvbn ≡ Some (use_told (pointer_at u.tree j c) (kind_for u.tree.owner j))) ⊎ (HoldsUnknown u.tree j c ⊎ HoldsUnknownRoot u.tree j c)
+  told tells j c flushed =
       let at = only_flushed j c flushed in
       let own : pointer_at u.tree j c ≡ p = (λ i. pointer_at u.tree (at.0 i) (at.1 i)) ∙ pointer_here in
-      elim is.told [
+      elim (is.told tells) [
         | inl same ↦ inl (ap (λ (r : Pointer). uses r.vvbn) own ∙ same ∙ sym (λ i. Some (use_told (own i) (same_kind j at.0 i))))
-        | inr hidden ↦ inr (holds_unknown j c at.0 at.1 hidden.0 hidden.1)
+        | inr (inl node) ↦ inr (inl (holds_unknown j c at.0 at.1 node.0 node.1))
+        | inr (inr root) ↦ inr (inr (holds_root j c at.0 at.1 root.0 root.1))
       ]
 
   kinds : (j c : ℕ) → IsFlushed s u j c → HasKind (kind_for u.tree.owner j) (uses (pointer_at u.tree j c).vvbn)
@@ -453,7 +475,7 @@ module _ (s : Loaded) (used : ℕ → Option Use) (u : Loaded) (uses : ℕ → O
       let own : p.vvbn ≡ v = ap (λ (p : Pointer). p.vvbn) (sym ((λ i. pointer_at u.tree (at.0 i) (at.1 i)) ∙ pointer_here)) ∙ placed.vvbn in
       (ap s.tree.under (sym own) ∙ is.fresh, ap used (sym own) ∙ is.unused)
 
-  pub flushes_placed : Flushes s used u uses
+  pub flushes_placed : Flushes hides s used u uses
   flushes_placed = record {
     owner = is.owner;
     sound = stands;
@@ -466,6 +488,8 @@ module _ (s : Loaded) (used : ℕ → Option Use) (u : Loaded) (uses : ℕ → O
     fresh = λ v placed _. placed_fresh v placed;
     gone = gone;
     unknown = unknown;
+    unknown_roots = unknown_roots;
+    hidden = hidden;
     told = told;
     kinds = kinds;
     positions = positions;

@@ -1,11 +1,11 @@
 -- Several steps of a flush.
-use Rattle.std.proofs.Common.{Option, Some, None, ◌≡◌, ◌≢◌, ◌≤◌, ℕ, ◌+◌, ◌/◌, ◌⊎◌, inl, inr, true, false, refl, sym, ap, subst, ◌∙◌, arith}
+use Rattle.std.proofs.Common.{List, Option, Some, None, ◌≡◌, ◌≢◌, ◌≤◌, ℕ, ◌+◌, ◌/◌, ◌⊎◌, inl, inr, Bool, true, false, refl, sym, ap, subst, ◌∙◌, arith}
 use Rattle.fv_codec.specs.declared.pointer.Pointer.{Pointer}
 use Rattle.fv_model.specs.Trees.{fan}
 use Rattle.fv_tree.specs.Sources.{Use}
-use Rattle.fv_tree.specs.Spelled.{Rooted, pointer_at}
+use Rattle.fv_tree.specs.Spelled.{Rooted, block_at, pointer_at}
 use Rattle.fv_tree.specs.Writing.{IsAlike}
-use Rattle.fv_tree.specs.Flushing.{Loaded, Leads, IsSound, IsFlushed, IsReplaced, IsPlaced, HoldsUnknown, IsNodeOf, NamesPosition, Flushes, kind_for, use_told, HasKind}
+use Rattle.fv_tree.specs.Flushing.{Loaded, Leads, IsSound, IsFlushed, IsReplaced, IsPlaced, HoldsUnknown, HoldsUnknownRoot, has_unknown_root, IsNodeOf, NamesPosition, Flushes, kind_for, use_told, HasKind}
 use Rattle.fv_tree.proofs.Cases.{bit, there, some_none, false_is_true}
 use Rattle.fv_tree.proofs.Ways.{reached_within}
 use Rattle.fv_tree.proofs.Unchanged.{IsMemory, unchanged_placed}
@@ -21,7 +21,7 @@ alike_then t u v first second = record {
 none_flushed : {P : Type 0} (s : Loaded) (j c : ℕ) → IsFlushed s s j c → P
 none_flushed s j c flushed = false_is_true (s.changed j c) flushed.done flushed.was
 
-pub flushes_nothing : (s : Loaded) (used : ℕ → Option Use) → IsSound used s → Flushes s used s used
+pub flushes_nothing : {hides : Bool} (s : Loaded) (used : ℕ → Option Use) → IsSound used s → Flushes hides s used s used
 flushes_nothing s used sound = record {
   owner = refl;
   sound = sound;
@@ -34,12 +34,14 @@ flushes_nothing s used sound = record {
   fresh = λ v placed _. none_flushed s placed.level placed.place placed.flushed;
   gone = λ v replaced _. none_flushed s replaced.level replaced.place replaced.flushed;
   unknown = λ j c flushed _ _. none_flushed s (j + 1) (c / fan) flushed;
-  told = λ j c flushed. none_flushed s j c flushed;
+  unknown_roots = λ c block flushed _ _. none_flushed s 0 c flushed;
+  hidden = λ _ j c flushed. none_flushed s j c flushed;
+  told = λ _ j c flushed. none_flushed s j c flushed;
   kinds = λ j c flushed. none_flushed s j c flushed;
   positions = λ j c low flushed. none_flushed s j c flushed;
 }
 
-module _ (s t u : Loaded) (before between after : ℕ → Option Use) (memory : IsMemory t) (first : Flushes s before t between) (second : Flushes t between u after) where
+module _ {hides : Bool} (s t u : Loaded) (before between after : ℕ → Option Use) (memory : IsMemory t) (first : Flushes hides s before t between) (second : Flushes hides t between u after) where
   -- what was placed stays so
   still : (j c : ℕ) → t.changed j c ≡ false → u.changed j c ≡ false
   still j c done = elim (bit (u.changed j c)) [
@@ -173,28 +175,52 @@ module _ (s t u : Loaded) (before between after : ℕ → Option Use) (memory : 
       let v = (pointer_at t.tree j c).vvbn in
       (second.others v (not_again j c flushed) (λ p. some_none (between v) x (second.fresh v p (not_again j c flushed)).1 use_)).1
 
-  told_first : (j c : ℕ) → IsFlushed s t j c → (after (pointer_at u.tree j c).vvbn ≡ Some (use_told (pointer_at u.tree j c) (kind_for u.tree.owner j))) ⊎ HoldsUnknown u.tree j c
-  told_first j c flushed =
+  -- the blocks of cells stay
+  root_before : (c : ℕ) (block : List ℕ) → block_at u.tree c ≡ Some block → has_unknown_root u.tree.owner block ≡ true → (block_at t.tree c ≡ Some block) × (has_unknown_root t.tree.owner block ≡ true)
+  root_before c block holds is = (sym (second.alike.blocks c) ∙ holds, ap (λ (o : ℕ). has_unknown_root o block) (sym second.owner) ∙ is)
+
+  unknown_roots : (c : ℕ) (block : List ℕ) → IsFlushed s u 0 c → block_at u.tree c ≡ Some block → has_unknown_root u.tree.owner block ≡ true → (pointer_at u.tree 0 c).pvbn ≡ 0
+  unknown_roots c block flushed holds is = elim (bit (t.changed 0 c)) [
+    | inl done ↦
+        let was = root_before c block holds is in
+        ap (λ (p : Pointer). p.pvbn) (second.stays 0 c (inr done)) ∙ first.unknown_roots c block (record { was = flushed.was; done = done; some = flushed.some }) was.0 was.1
+    | inr changed ↦ second.unknown_roots c block (record { was = changed; done = flushed.done; some = λ e. flushed.some (sym (first.stamps 0 c) ∙ e) }) holds is
+  ]
+
+  hidden : hides ≡ true → (j c : ℕ) → IsFlushed s u j c → (pointer_at u.tree j c).pvbn ≡ 0
+  hidden hide j c flushed = elim (bit (t.changed j c)) [
+    | inl done ↦ ap (λ (p : Pointer). p.pvbn) (second.stays j c (inr done)) ∙ first.hidden hide j c (record { was = flushed.was; done = done; some = flushed.some })
+    | inr changed ↦ second.hidden hide j c (record { was = changed; done = flushed.done; some = λ e. flushed.some (sym (first.stamps j c) ∙ e) })
+  ]
+
+  told_first : hides ≡ false → (j c : ℕ) → IsFlushed s t j c → (after (pointer_at u.tree j c).vvbn ≡ Some (use_told (pointer_at u.tree j c) (kind_for u.tree.owner j))) ⊎ (HoldsUnknown u.tree j c ⊎ HoldsUnknownRoot u.tree j c)
+  told_first tells j c flushed =
       let same : pointer_at u.tree j c ≡ pointer_at t.tree j c = second.stays j c (inr flushed.done) in
-      elim (first.told j c flushed) [
+      elim (first.told tells j c flushed) [
         | inl use_ ↦ inl (ap (λ (p : Pointer). after p.vvbn) same ∙ same_use j c (use_told (pointer_at t.tree j c) (kind_for t.tree.owner j)) flushed use_ ∙ use_ ∙ sym (λ i. Some (use_told (same i) (kind_for (second.owner i) j))))
-        | inr holds ↦
+        | inr (inr root) ↦ inr (inr (record {
+          cell = root.cell;
+          block = root.block;
+          holds = second.alike.blocks c ∙ root.holds;
+          unknown = ap (λ (o : ℕ). has_unknown_root o root.block) second.owner ∙ root.unknown;
+        }))
+        | inr (inl holds) ↦
             let above : IsFlushed s t (holds.below + 1) (holds.child / fan) = subst (λ k. IsFlushed s t k (holds.child / fan)) (sym holds.up) (subst (IsFlushed s t j) (sym holds.over) flushed) in
             let child : pointer_at u.tree holds.below holds.child ≡ pointer_at t.tree holds.below holds.child = same_child holds.below holds.child above holds.some in
-            inr (record {
+            inr (inl (record {
               below = holds.below;
               child = holds.child;
               up = holds.up;
               over = holds.over;
               some = λ e. holds.some (sym (ap (λ (p : Pointer). p.stamp) child) ∙ e);
               unknown = ap (λ (p : Pointer). p.pvbn) child ∙ holds.unknown;
-            })
+            }))
       ]
 
-  told : (j c : ℕ) → IsFlushed s u j c → (after (pointer_at u.tree j c).vvbn ≡ Some (use_told (pointer_at u.tree j c) (kind_for u.tree.owner j))) ⊎ HoldsUnknown u.tree j c
-  told j c flushed = elim (bit (t.changed j c)) [
-    | inl done ↦ told_first j c (record { was = flushed.was; done = done; some = flushed.some })
-    | inr changed ↦ second.told j c (record { was = changed; done = flushed.done; some = λ e. flushed.some (sym (first.stamps j c) ∙ e) })
+  told : hides ≡ false → (j c : ℕ) → IsFlushed s u j c → (after (pointer_at u.tree j c).vvbn ≡ Some (use_told (pointer_at u.tree j c) (kind_for u.tree.owner j))) ⊎ (HoldsUnknown u.tree j c ⊎ HoldsUnknownRoot u.tree j c)
+  told tells j c flushed = elim (bit (t.changed j c)) [
+    | inl done ↦ told_first tells j c (record { was = flushed.was; done = done; some = flushed.some })
+    | inr changed ↦ second.told tells j c (record { was = changed; done = flushed.done; some = λ e. flushed.some (sym (first.stamps j c) ∙ e) })
   ]
 
   kinds_first : (j c : ℕ) → IsFlushed s t j c → HasKind (kind_for u.tree.owner j) (after (pointer_at u.tree j c).vvbn)
@@ -232,7 +258,7 @@ module _ (s t u : Loaded) (before between after : ℕ → Option Use) (memory : 
     | inr changed ↦ second.positions j c low (record { was = changed; done = flushed.done; some = λ e. flushed.some (sym (first.stamps j c) ∙ e) })
   ]
 
-  pub flushes_then : Flushes s before u after
+  pub flushes_then : Flushes hides s before u after
   flushes_then = record {
     owner = second.owner ∙ first.owner;
     sound = second.sound;
@@ -248,6 +274,8 @@ module _ (s t u : Loaded) (before between after : ℕ → Option Use) (memory : 
     fresh = fresh;
     gone = gone;
     unknown = unknown;
+    unknown_roots = unknown_roots;
+    hidden = hidden;
     told = told;
     kinds = kinds;
     positions = positions;

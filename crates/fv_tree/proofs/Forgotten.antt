@@ -1,5 +1,5 @@
 -- A cell or node that goes out of memory and needs no place: it didn't change, or nothing leads to it.
-use Rattle.std.proofs.Common.{◌≡◌, ◌≢◌, ◌≤◌, ◌<◌, ℕ, ◌+◌, ◌/◌, ◌%◌, ◌⊎◌, inl, inr, true, false, List, Option, Some, None, get_or, is_some, refl, sym, ap, ◌∙◌, arith, ◌==◌, if◌then◌else◌}
+use Rattle.std.proofs.Common.{◌≡◌, ◌≢◌, ◌≤◌, ◌<◌, ℕ, ◌+◌, ◌/◌, ◌%◌, ◌⊎◌, inl, inr, Bool, true, false, List, Option, Some, None, get_or, is_some, refl, sym, ap, ◌∙◌, arith, ◌==◌, if◌then◌else◌}
 use Rattle.std.proofs.lemmas.Bool.{cases_eq, cases_lt}
 use Rattle.fv_codec.specs.declared.pointer.Pointer.{Pointer}
 use Rattle.fv_model.specs.Trees.{fan}
@@ -171,7 +171,7 @@ module _ (s u : Loaded) (used : ℕ → Option Use) (k q : ℕ) (sound : IsSound
     | inr other ↦ false_is_true (s.changed j c) (sym (is.changed_others j c other) ∙ flushed.done) flushed.was
   ]
 
-  pub flushes_none : Flushes s used u used
+  pub flushes_none : {hides : Bool} → Flushes hides s used u used
   flushes_none = record {
     owner = is.owner;
     sound = stands;
@@ -184,7 +184,9 @@ module _ (s u : Loaded) (used : ℕ → Option Use) (k q : ℕ) (sound : IsSound
     fresh = λ v placed _. none_flushed placed.level placed.place placed.flushed;
     gone = λ v replaced _. none_flushed replaced.level replaced.place replaced.flushed;
     unknown = λ j c flushed _ _. none_flushed (j + 1) (c / fan) flushed;
-    told = λ j c flushed. none_flushed j c flushed;
+    unknown_roots = λ c block flushed _ _. none_flushed 0 c flushed;
+    hidden = λ _ j c flushed. none_flushed j c flushed;
+    told = λ _ j c flushed. none_flushed j c flushed;
     kinds = λ j c flushed. none_flushed j c flushed;
     positions = λ j c low flushed. none_flushed j c flushed;
   }

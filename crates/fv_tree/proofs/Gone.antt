@@ -1,5 +1,5 @@
 -- A cell or node of a tree that goes out of memory, and what the tree over its blocks is then.
-use Rattle.std.proofs.Common.{◌≡◌, ◌≢◌, ◌≤◌, ℕ, ◌⊎◌, inl, inr, true, false, List, Option, Some, None, refl, sym, ap, subst, ◌∙◌, arith, ◌==◌, if◌then◌else◌}
+use Rattle.std.proofs.Common.{◌≡◌, ◌≢◌, ◌≤◌, ℕ, ◌⊎◌, inl, inr, Bool, true, false, List, Option, Some, None, refl, sym, ap, subst, ◌∙◌, arith, ◌==◌, if◌then◌else◌}
 use Rattle.std.specs.Ordering.{nat_cmp}
 use Rattle.std.specs.Option.{option_map}
 use Rattle.std.specs.BTreeMap as tree
@@ -144,8 +144,8 @@ forgets_is old new t u k q held goes why = record {
   placed_others = other_led t u k q goes;
 }
 
-pub flushes_still : (old new : Shown) (t u : Tree) → new.held ≡ old.held → new.used ≡ old.used → u ≡ t → Stands old t → Flushes (loaded old t) old.used (loaded new u) new.used
-flushes_still old new t u held used same stands =
-    subst (λ v. Flushes (loaded old t) old.used (loaded new v) new.used) (sym same)
-    (subst (λ h. Flushes (loaded old t) old.used (record { tree = standing (λ v. fin.get h v) t; changed = changed_of t; placed = placed_of t }) new.used) (sym held)
-    (subst (λ w. Flushes (loaded old t) old.used (loaded old t) w) (sym used) (flushes_nothing (loaded old t) old.used stands)))
+pub flushes_still : {hides : Bool} (old new : Shown) (t u : Tree) → new.held ≡ old.held → new.used ≡ old.used → u ≡ t → Stands old t → Flushes hides (loaded old t) old.used (loaded new u) new.used
+flushes_still {hides = hides} old new t u held used same stands =
+    subst (λ v. Flushes hides (loaded old t) old.used (loaded new v) new.used) (sym same)
+    (subst (λ h. Flushes hides (loaded old t) old.used (record { tree = standing (λ v. fin.get h v) t; changed = changed_of t; placed = placed_of t }) new.used) (sym held)
+    (subst (λ w. Flushes hides (loaded old t) old.used (loaded old t) w) (sym used) (flushes_nothing (loaded old t) old.used stands)))

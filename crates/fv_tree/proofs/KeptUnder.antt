@@ -48,18 +48,18 @@ names_node old t k q node stands held low changed = names_used old t k q node.pl
 -- ---- a flush
 
 -- what came into use was placed
-pub came_placed : (old new : Shown) (t u : Tree) → Stands old t → Flushes (loaded old t) old.used (loaded new u) new.used → (v : ℕ) → (IsPlaced (loaded old t) (loaded new u) v → ⊥) → CameIntoUse old new v → ⊥
+pub came_placed : {hides : Bool} (old new : Shown) (t u : Tree) → Stands old t → Flushes hides (loaded old t) old.used (loaded new u) new.used → (v : ℕ) → (IsPlaced (loaded old t) (loaded new u) v → ⊥) → CameIntoUse old new v → ⊥
 came_placed old new t u stands flushes v not_placed came =
     let same = flushes.others v (λ (r : IsReplaced (loaded old t) (loaded new u) v).
     none_some (old.used v) came.unused (right_some (kind_for t.owner r.level) (pointer_at (loaded old t).tree r.level r.place) (old.used v) (stands.used r.level r.place v r.leads))) not_placed in
     none_some (new.used v) (same.1 ∙ came.unused) came.used
 
 -- what stays where nothing came into use stays where nothing was placed
-pub flush_keeps : (old new : Shown) (t u : Tree) (stays : ℕ → Type 0) → Stands old t → Flushes (loaded old t) old.used (loaded new u) new.used → KeepsOthers stays old new → (v : ℕ) → (IsPlaced (loaded old t) (loaded new u) v → ⊥) → stays v
+pub flush_keeps : {hides : Bool} (old new : Shown) (t u : Tree) (stays : ℕ → Type 0) → Stands old t → Flushes hides (loaded old t) old.used (loaded new u) new.used → KeepsOthers stays old new → (v : ℕ) → (IsPlaced (loaded old t) (loaded new u) v → ⊥) → stays v
 flush_keeps old new t u stays stands flushes keeps v not_placed = keeps v (came_placed old new t u stands flushes v not_placed)
 
 -- one flush after another
-pub keeps_then : (s t u : Loaded) (before between after : ℕ → Option Use) → IsMemory t → Flushes s before t between → Flushes t between u after → (sooner later stays : ℕ → Type 0) → ((v : ℕ) → sooner v → later v → stays v)
+pub keeps_then : {hides : Bool} (s t u : Loaded) (before between after : ℕ → Option Use) → IsMemory t → Flushes hides s before t between → Flushes hides t between u after → (sooner later stays : ℕ → Type 0) → ((v : ℕ) → sooner v → later v → stays v)
     → ((v : ℕ) → (IsPlaced s t v → ⊥) → sooner v) → ((v : ℕ) → (IsPlaced t u v → ⊥) → later v) → (v : ℕ) → (IsPlaced s u v → ⊥) → stays v
 keeps_then s t u before between after memory first second sooner later stays on keeps kept v not_placed =
     on v (keeps v (λ p. not_placed (placed_first s t u before between after memory first second v p))) (kept v (λ p. not_placed (placed_second s t u before between after memory first second v p)))

@@ -1,5 +1,5 @@
 -- What a tree leads to, over calls that drop nothing and over a flush.
-use Rattle.std.proofs.Common.{◌≡◌, ℕ, ◌⊎◌, inl, inr, true, false, refl, sym, ap, subst, ◌∙◌}
+use Rattle.std.proofs.Common.{◌≡◌, ℕ, ◌⊎◌, inl, inr, Bool, true, false, refl, sym, ap, subst, ◌∙◌}
 use Rattle.std.specs.Ordering.{nat_cmp}
 use Rattle.std.specs.BTreeMap as tree
 use Rattle.std.specs.FinMap as fin
@@ -79,7 +79,7 @@ carries_cells source t u same cells = let seen = cells_loaded (under source) t u
 
 -- ---- a flush
 
-module _ (old new : Shown) (t u : Tree) (stands : Stands old t) (is : Flushes (loaded old t) old.used (loaded new u) new.used) where
+module _ {hides : Bool} (old new : Shown) (t u : Tree) (stands : Stands old t) (is : Flushes hides (loaded old t) old.used (loaded new u) new.used) where
   abbrev s : Loaded
   s = loaded old t
 

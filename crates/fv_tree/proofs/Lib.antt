@@ -47,6 +47,7 @@ pub mod Stored
 pub mod Leading
 pub mod Right
 pub mod StoredFlush
+pub mod Unknown
 pub mod Within
 pub mod Grows
 pub mod Rewritten
@@ -69,3 +70,6 @@ pub mod Anew
 pub mod KeptUnder
 pub mod Taking
 pub mod Calls
+pub mod Blanked
+pub mod Blanking
+pub mod BlankedRoots

@@ -15,12 +15,12 @@ use Rattle.fv_tree.specs.declared.kept.KeptCell.{KeptCell}
 use Rattle.fv_tree.specs.Spelled.{Rooted, hole, pointers_of, pointers_in, pointer_at}
 use Rattle.fv_tree.specs.Sources.{Shown}
 use Rattle.fv_tree.specs.Standing.{standing, under, node_in, cell_in}
-use Rattle.fv_tree.specs.Flushing.{Leads, Stands, IsMoved, IsNodeOf, NamesUsed, loaded, changed_of, placed_of, changed_in, node_changed, cell_changed, cell_placed, pointer_in, is_unknown, all_known, kind_for}
+use Rattle.fv_tree.specs.Flushing.{Leads, Stands, IsMoved, has_unknown_root, IsNodeOf, NamesUsed, loaded, changed_of, placed_of, changed_in, node_changed, cell_changed, cell_placed, pointer_in, is_unknown, all_known, kind_for}
 use Rattle.fv_tree.proofs.Below.{no_pointers, kept_pointers}
 use Rattle.fv_tree.proofs.Cases.{there, bit, false_is_true, none_some}
 use Rattle.fv_tree.proofs.Flushed.{Replaces}
 use Rattle.fv_tree.proofs.Gone.{Goes, map_none, changed_cell, spot_changed, cell_led, spot_led, gone_changed, gone_led, other_changed, other_led, other_node, other_content, gone_node, gone_cell}
-use Rattle.fv_tree.proofs.Hints.{HasUnknown, find_unknown, right_some}
+use Rattle.fv_tree.proofs.Hints.{HasUnknown, HasUnknownRoot, find_unknown, right_some}
 use Rattle.fv_tree.proofs.Pointers.{both}
 use Rattle.fv_tree.proofs.Ways.{own_way, past}
 
@@ -128,10 +128,12 @@ names_used old t k q named stands was led e some =
 pub no_stray : (old new : Shown) (t mid : Tree) (k q : ℕ) (content : List ℕ) (named known : Bool) → Stands old t → changed_of t k q ≡ true → named ≡ placed_of t k q → IsMoved old t k q content named known new mid → new.strays ≡ old.strays
 no_stray old new t mid k q content named known stands was led moved = moved.swaps.strays (λ e. names_used old t k q named stands was led e moved.some)
 
-module _ (old new : Shown) (t mid u : Tree) (k q : ℕ) (content : List ℕ) (named known : Bool) (stands : Stands old t) (was : changed_of t k q ≡ true) (led : named ≡ placed_of t k q)
+module _ (hides : Bool) (old new : Shown) (t mid u : Tree) (k q : ℕ) (content : List ℕ) (named known : Bool) (stands : Stands old t) (was : changed_of t k q ≡ true) (led : named ≡ placed_of t k q)
     (first : (j c : ℕ) → j + 1 ≡ k → changed_of t j c ≡ false) (moved : IsMoved old t k q content named known new mid) (goes : Goes mid u k q)
     (node : 1 ≤ k → (xs : List Pointer) × (node_in t k q ≡ Some xs) × (pointers_in (Some content) ≡ xs) × ((slot : ℕ) → (get_or xs slot hole).stamp ≢ 0 → (get_or xs slot hole).pvbn ≡ 0 → known ≡ false))
-    (names : 1 ≤ k → IsNodeOf t.owner k q (Some content)) (cell : k ≡ 0 → cell_in t q ≡ Some content) (hidden : known ≡ false → (1 ≤ k) × HasUnknown (node_in t k q)) where
+    (names : 1 ≤ k → IsNodeOf t.owner k q (Some content)) (cell : k ≡ 0 → cell_in t q ≡ Some content)
+    (roots : k ≡ 0 → has_unknown_root t.owner content ≡ true → known ≡ false) (hide : hides ≡ true → known ≡ false)
+    (hidden : hides ≡ false → known ≡ false → ((1 ≤ k) × HasUnknown (node_in t k q)) ⊎ ((k ≡ 0) × HasUnknownRoot t.owner (cell_in t q))) where
   p : Pointer
   p = moved.pointer
 
@@ -200,7 +202,7 @@ module _ (old new : Shown) (t mid u : Tree) (k q : ℕ) (content : List ℕ) (na
   placed_now : fin.get new.held moved.pointer.vvbn ≡ Some content
   placed_now = moved.swaps.block apart
 
-  pub replaces_is : Replaces (loaded old t) old.used (loaded new u) new.used k q moved.pointer
+  pub replaces_is : Replaces hides (loaded old t) old.used (loaded new u) new.used k q moved.pointer
   replaces_is = record {
     was = was;
     some = some;
@@ -217,13 +219,14 @@ module _ (old new : Shown) (t mid u : Tree) (k q : ℕ) (content : List ℕ) (na
     cells = λ i differs. other_content mid u k q goes i differs ∙ ap (λ (cells : tree.BTreeMap ℕ KeptCell). option_map (λ (kept : KeptCell). kept.block.value) (tree.get nat_cmp cells i)) moved.points.cells;
     node = λ low. let is = node low in (is.0, is.1, ap pointers_in placed_now ∙ is.2, λ slot filled none. moved.swaps.unknown (is.3 slot filled none));
     names = λ low. subst (IsNodeOf t.owner k q) (sym placed_now) (names low);
-    cell = λ e. (content, cell e, placed_now);
+    cell = λ e. (content, cell e, placed_now, λ unknown. moved.swaps.unknown (roots e unknown));
     fresh = moved.swaps.fresh;
     unused = moved.swaps.unused;
     now = ap is_some placed_now;
     taken = moved.swaps.used apart;
-    told = elim (bit known) [
-      | inl not_known ↦ inr (hidden not_known)
+    hidden = λ hides. moved.swaps.unknown (hide hides);
+    told = λ tells. elim (bit known) [
+      | inl not_known ↦ inr (hidden tells not_known)
       | inr shown ↦ inl (moved.swaps.told shown apart)
     ];
     others = λ v differs not. moved.swaps.others v differs (other v not);

@@ -26,7 +26,7 @@ use Rattle.fv_tree.proofs.Erased.{nothing_erased, erased_then, erased_as, holds_
 use Rattle.fv_tree.proofs.Marks.{erases}
 use Rattle.fv_tree.proofs.Raised.{past_at}
 use Rattle.fv_tree.proofs.Writes.{no_stamp, same_alike}
-use Rattle.fv_tree.proofs.Stored.{stored_off}
+use Rattle.fv_tree.proofs.Stored.{stored_off, tells_on}
 use Rattle.fv_tree.specs.Altering.{Alters, Leaves}
 use Rattle.fv_tree.proofs.Altered.{alters_over, alters_then, leaves_blocks, only_leaves}
 use Rattle.fv_tree.proofs.Released.{nothing_released, released_then, released_as, keeps_then, led_before, moved_leads, moved_keeps, moved_pointers, blocks_stay, released_alike, released_sound, sound_used, erased_alike}
@@ -260,7 +260,8 @@ removal_after told calls r old new t u gone start s did = record {
   stands = λ tells. stands_after r old new t u gone start s (did.done tells) (did.stays tells);
   leads = λ tells. leads_after r old new t u gone start s (did.done tells) (did.stays tells);
   stored_well = λ tells stood. stored_off (loaded old t) (loaded new u) new.used (stands_after r old new t u gone start s (did.done tells) (did.stays tells) stood) did.owner
-      (λ v. may_go_after r old new t u gone start s (did.done tells) did.untouched v) (leads_after r old new t u gone start s (did.done tells) (did.stays tells) stood) (hints_after r old new t u gone start s (did.done tells) (did.stays tells) stood);
+      (λ v. may_go_after r old new t u gone start s (did.done tells) did.untouched v) (leads_after r old new t u gone start s (did.done tells) (did.stays tells) stood);
+  tells = λ tells stood. tells_on (loaded old t) (loaded new u) (leads_after r old new t u gone start s (did.done tells) (did.stays tells) stood) (hints_after r old new t u gone start s (did.done tells) (did.stays tells) stood);
   lets_go = λ tells. lets_go_after r old new t u gone start s (did.done tells) (did.stays tells);
   count = λ tells. count_after r old new t u gone start s (did.done tells) (did.count tells);
   alters = λ tells. alters_after r old new t u gone start s (did.done tells) (did.leaves tells);

@@ -8,7 +8,7 @@ use Rattle.fv_tree.specs.Spelled.{Under, pointer_at}
 use Rattle.fv_tree.specs.Sources.{Use}
 use Rattle.fv_tree.specs.Flushing.{Loaded, loaded_over, IsSound}
 use Rattle.fv_tree.specs.Leading.{LeadsNoMore}
-use Rattle.fv_tree.specs.Stored.{IsStoredWell}
+use Rattle.fv_tree.specs.Stored.{IsStoredWell, TellsPlaces}
 use Rattle.fv_tree.specs.Readying.{KeepsReady}
 
 -- nothing leads to a place
@@ -43,6 +43,7 @@ pub record AltersHeld (old new : Tree) (stamp : ℕ) : Type 0 where
   pub leads : (held : Under) → LeadsNoMore (loaded_over held old) (loaded_over held new)
   pub keeps : (held : Under) → LeadsNoMore (loaded_over held new) (loaded_over held old)
   pub stored_well : (held : Under) → IsStoredWell (loaded_over held old) → IsStoredWell (loaded_over held new)
+  pub tells : (held : Under) → TellsPlaces (loaded_over held old) → TellsPlaces (loaded_over held new)
   pub keeps_ready : KeepsReady old new
   pub alters : (held : Under) → Alters stamp (loaded_over held old) (loaded_over held new)
 

@@ -15,7 +15,7 @@ use Rattle.fv_tree.specs.Counting.{positions_of}
 use Rattle.fv_tree.specs.Leading.{Carries, KeepsHints, LeadsNoMore}
 use Rattle.fv_tree.specs.Readying.{KeepsReady}
 use Rattle.fv_tree.specs.Releasing.{IsDropped, KeepsBlocks, Releases, Removes}
-use Rattle.fv_tree.specs.Stored.{IsStoredWell, KeepsPlaces}
+use Rattle.fv_tree.specs.Stored.{IsStoredWell, TellsPlaces, KeepsPlaces}
 use Rattle.fv_tree.specs.Unlinking.{CellGoes}
 use Rattle.fv_tree.specs.Costs.{cells_held, changes_in, pending, Fits, IsEnough, Rises}
 
@@ -40,6 +40,7 @@ pub record Steady {T : Type 0} (told reading : Type 0) (old new : Shown) (t u : 
   pub keeps : told → LeadsNoMore (loaded new u) (loaded old t)
   pub hints : told → KeepsHints (loaded old t) (loaded new u)
   pub stored_well : told → IsStoredWell (loaded old t) → IsStoredWell (loaded new u)
+  pub tells : told → TellsPlaces (loaded old t) → TellsPlaces (loaded new u)
   pub keeps_ready : KeepsReady t u
   pub rises : Rises t u more brought
   pub untouched : IsUntouched old new
@@ -112,10 +113,11 @@ pub record PlacesOne {T : Type 0} (told known going : Type 0) (old new : Shown) 
   pub cause : IfErr result (HasCause old new)
 
 -- A call that places what differs from its block, all of it or a part; the first six fields hold of a tree that stands on its blocks.
--- `known` says that the place of what is placed is told, and `stays` what stays under a VVBN.
-pub record PlacesChanged {B T : Type 0} (told known : Type 0) (shown : B → Shown) (goes : B → B → Type 0) (stays : ℕ → B → B → Type 0)
+-- Where it `hides` places, pointers to what is placed are unknown. `known` says that the source answers the place of what it places, and
+-- `stays` what stays under a VVBN.
+pub record PlacesChanged {B T : Type 0} (hides : Bool) (told known : Type 0) (shown : B → Shown) (goes : B → B → Type 0) (stays : ℕ → B → B → Type 0)
     (old new : B) (t u : Tree) (result : Result T BlockFault) : Type 0 where
-  pub flushes : told → Stands (shown old) t → Flushes (loaded (shown old) t) (shown old).used (loaded (shown new) u) (shown new).used
+  pub flushes : told → Stands (shown old) t → Flushes hides (loaded (shown old) t) (shown old).used (loaded (shown new) u) (shown new).used
   pub anew : told → Stands (shown old) t → PlacesAnew (loaded (shown old) t) (WasFree shown goes old new) (loaded (shown new) u)
   pub keeps : told → Stands (shown old) t
       → (v : ℕ) → (IsPlaced (loaded (shown old) t) (loaded (shown new) u) v → ⊥) → stays v old new

@@ -4,13 +4,16 @@ use Rattle.std.specs.Ordering.{nat_cmp}
 use Rattle.std.specs.Option.{option_map}
 use Rattle.std.specs.BTreeMap as tree
 use Rattle.std.specs.FinMap as fin
+use Rattle.std.specs.List.{list_any}
+use Rattle.fv_codec.specs.declared.inode.InodeRecord.{InodeRecord}
 use Rattle.fv_codec.specs.declared.pointer.Pointer.{Pointer}
 use Rattle.fv_codec.specs.Blocks.{greatest_word, node_at}
 use Rattle.fv_model.specs.Trees.{fan, Spot, spot_cmp}
+use Rattle.fv_tables.specs.Told.{records_in}
 use Rattle.fv_tree.specs.declared.kept.Tree.{Tree}
 use Rattle.fv_tree.specs.declared.kept.KeptNode.{KeptNode}
 use Rattle.fv_tree.specs.declared.kept.KeptCell.{KeptCell}
-use Rattle.fv_tree.specs.Spelled.{Under, Rooted, hole, pointers_in, pointer_at}
+use Rattle.fv_tree.specs.Spelled.{Under, Rooted, hole, block_at, pointers_in, pointer_at}
 use Rattle.fv_tree.specs.Sources.{Shown, Use, IsUntouched}
 use Rattle.fv_tree.specs.Standing.{standing, under, node_in}
 use Rattle.fv_tree.specs.Writing.{IsAlike}
@@ -131,6 +134,14 @@ pub record IsPlaced (old new : Loaded) (v : ℕ) : Type 0 where
   pub flushed : IsFlushed old new level place
   pub vvbn : (pointer_at new.tree level place).vvbn ≡ v
 
+-- A pointer that leads to a block of which the place isn't known.
+abbrev pub is_unknown : Pointer → Bool
+is_unknown p = not (p.stamp == 0) && (p.pvbn == 0)
+
+-- whether a cell of a tree with this owner is an inode block in which the root of some file has an unknown place
+abbrev pub has_unknown_root : ℕ → List ℕ → Bool
+has_unknown_root owner block = (owner == greatest_word) && list_any (λ (r : InodeRecord). is_unknown r.root) (records_in (Some block))
+
 -- a node holds an unknown pointer, to a range or cell one level below
 pub record HoldsUnknown (t : Rooted) (level place : ℕ) : Type 0 where
   pub below : ℕ
@@ -139,6 +150,13 @@ pub record HoldsUnknown (t : Rooted) (level place : ℕ) : Type 0 where
   pub over : child / fan ≡ place
   pub some : (pointer_at t below child).stamp ≢ 0
   pub unknown : (pointer_at t below child).pvbn ≡ 0
+
+-- a cell of an inode file holds the root of a file, of which the place isn't known
+pub record HoldsUnknownRoot (t : Rooted) (level place : ℕ) : Type 0 where
+  pub cell : level ≡ 0
+  pub block : List ℕ
+  pub holds : block_at t place ≡ Some block
+  pub unknown : has_unknown_root t.owner block ≡ true
 
 -- a block is that of a node that names this owner, level and place
 pub record IsNodeOf (owner level place : ℕ) (held : Option (List ℕ)) : Type 0 where
@@ -152,8 +170,8 @@ abbrev pub NamesPosition : Rooted → ℕ → ℕ → Type 0
 NamesPosition t level place = IsNodeOf t.owner level place (t.under (pointer_at t level place).vvbn)
 
 -- Some of what changed was placed. Each of it has one place and one pointer, and the blocks that were placed and replaced are
--- those alone.
-pub record Flushes (old : Loaded) (used : ℕ → Option Use) (new : Loaded) (uses : ℕ → Option Use) : Type 0 where
+-- those alone. Where it `hides` places, as while a volume is being split, each pointer to what was placed is unknown.
+pub record Flushes (hides : Bool) (old : Loaded) (used : ℕ → Option Use) (new : Loaded) (uses : ℕ → Option Use) : Type 0 where
   pub owner : new.tree.owner ≡ old.tree.owner
   pub sound : IsSound uses new
   pub alike : IsAlike old.tree new.tree
@@ -171,18 +189,18 @@ pub record Flushes (old : Loaded) (used : ℕ → Option Use) (new : Loaded) (us
   -- a node that was placed and holds an unknown pointer is led to by one
   pub unknown : (level place : ℕ) → IsFlushed old new (level + 1) (place / fan) → (pointer_at new.tree level place).stamp ≢ 0 → (pointer_at new.tree level place).pvbn ≡ 0
       → (pointer_at new.tree (level + 1) (place / fan)).pvbn ≡ 0
+  -- so is an inode block that was placed and holds an unknown root
+  pub unknown_roots : (place : ℕ) (block : List ℕ) → IsFlushed old new 0 place → block_at new.tree place ≡ Some block → has_unknown_root new.tree.owner block ≡ true → (pointer_at new.tree 0 place).pvbn ≡ 0
+  pub hidden : hides ≡ true → (level place : ℕ) → IsFlushed old new level place → (pointer_at new.tree level place).pvbn ≡ 0
   -- any other pointer to what was placed tells the PVBN that it was placed with
-  pub told : (level place : ℕ) → IsFlushed old new level place → (uses (pointer_at new.tree level place).vvbn ≡ Some (use_told (pointer_at new.tree level place) (kind_for new.tree.owner level))) ⊎ HoldsUnknown new.tree level place
+  pub told : hides ≡ false → (level place : ℕ) → IsFlushed old new level place
+      → (uses (pointer_at new.tree level place).vvbn ≡ Some (use_told (pointer_at new.tree level place) (kind_for new.tree.owner level))) ⊎ (HoldsUnknown new.tree level place ⊎ HoldsUnknownRoot new.tree level place)
   -- what was placed has the kind of its level
   pub kinds : (level place : ℕ) → IsFlushed old new level place → HasKind (kind_for new.tree.owner level) (uses (pointer_at new.tree level place).vvbn)
   -- a node that was placed names its position, by which no reader judges it
   pub positions : (level place : ℕ) → 1 ≤ level → IsFlushed old new level place → NamesPosition new.tree level place
 
 -- ---- its steps
-
--- a pointer that leads to a block of which the place isn't known
-abbrev pub is_unknown : Pointer → Bool
-is_unknown p = not (p.stamp == 0) && (p.pvbn == 0)
 
 -- none of the pointers is an unknown one
 abbrev pub all_known : List Pointer → Bool
@@ -293,12 +311,12 @@ pub record IsIdle (old : Shown) (t : Tree) (level : ℕ) (changed : Bool) (new :
   pub untouched : IsUntouched old new
 
 -- the node's block was placed
-pub record IsNodeMoved (old : Shown) (t : Tree) (level place : ℕ) (node : KeptNode) (new : Shown) (u : Tree) : Type 0 where
+pub record IsNodeMoved (hides : Bool) (old : Shown) (t : Tree) (level place : ℕ) (node : KeptNode) (new : Shown) (u : Tree) : Type 0 where
   pub low : 1 ≤ level
   pub changed : node.changed ≡ true
   pub block : List ℕ
   pub spells : node_at block ≡ Ok (record { level = level; owner = t.owner; place = place; children = node.children })
-  pub moved : IsMoved old t level place block node.placed (all_known node.children) new u
+  pub moved : IsMoved old t level place block node.placed (not hides && all_known node.children) new u
 
 -- nothing was placed, since the cell didn't change
 pub record IsCellIdle (old : Shown) (t : Tree) (changed : Bool) (new : Shown) (u : Tree) : Type 0 where
@@ -307,15 +325,15 @@ pub record IsCellIdle (old : Shown) (t : Tree) (changed : Bool) (new : Shown) (u
   pub untouched : IsUntouched old new
 
 -- the cell's block was placed
-pub record IsCellMoved (old : Shown) (t : Tree) (place : ℕ) (content : List ℕ) (differs named : Bool) (new : Shown) (u : Tree) : Type 0 where
+pub record IsCellMoved (hides : Bool) (old : Shown) (t : Tree) (place : ℕ) (content : List ℕ) (differs named : Bool) (new : Shown) (u : Tree) : Type 0 where
   pub changed : differs ≡ true
-  pub moved : IsHidden old t 0 place new u ⊎ IsMoved old t 0 place content named true new u
+  pub moved : IsHidden old t 0 place new u ⊎ IsMoved old t 0 place content named (not hides && not (has_unknown_root t.owner content)) new u
 
-abbrev pub IsCellStep : Shown → Tree → ℕ → List ℕ → Bool → Bool → Shown → Tree → Type 0
-IsCellStep old t place content differs named new u = IsCellIdle old t differs new u ⊎ IsCellMoved old t place content differs named new u
+abbrev pub IsCellStep : Bool → Shown → Tree → ℕ → List ℕ → Bool → Bool → Shown → Tree → Type 0
+IsCellStep hides old t place content differs named new u = IsCellIdle old t differs new u ⊎ IsCellMoved hides old t place content differs named new u
 
-abbrev pub IsNodeStep : Shown → Tree → ℕ → ℕ → KeptNode → Shown → Tree → Type 0
-IsNodeStep old t level place node new u = IsIdle old t level node.changed new u ⊎ (IsHidden old t level place new u ⊎ IsNodeMoved old t level place node new u)
+abbrev pub IsNodeStep : Bool → Shown → Tree → ℕ → ℕ → KeptNode → Shown → Tree → Type 0
+IsNodeStep hides old t level place node new u = IsIdle old t level node.changed new u ⊎ (IsHidden old t level place new u ⊎ IsNodeMoved hides old t level place node new u)
 
 -- ---- a tree of which nothing is in memory
 

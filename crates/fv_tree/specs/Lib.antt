@@ -11,6 +11,7 @@ pub mod Flushing
 pub mod Counting
 pub mod Readying
 pub mod Stored
+pub mod Unknown
 pub mod Places
 pub mod Leading
 pub mod Removal
@@ -23,3 +24,5 @@ pub mod Costs
 pub mod Altering
 pub mod Taking
 pub mod Calls
+pub mod Blanking
+pub mod Rooting

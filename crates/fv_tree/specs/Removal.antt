@@ -11,7 +11,7 @@ use Rattle.fv_tree.specs.Releasing.{IsDropped, Releases}
 use Rattle.fv_tree.specs.Flushing.{Leads, Stands, loaded}
 use Rattle.fv_tree.specs.Altering.{Alters, Leaves}
 use Rattle.fv_tree.specs.Leading.{LeadsNoMore}
-use Rattle.fv_tree.specs.Stored.{IsStoredWell}
+use Rattle.fv_tree.specs.Stored.{IsStoredWell, TellsPlaces}
 use Rattle.fv_tree.specs.Costs.{cells_held, pending}
 
 -- The cells for which `gone` is true were removed by a change with the stamp s; with no cell left the levels became `start`. After a
@@ -26,6 +26,7 @@ pub record Removal (told calls : Type 0) (old new : Shown) (t u : Tree) (gone : 
   pub stands : told → Stands old t → Stands new u
   pub leads : told → Stands old t → LeadsNoMore (loaded old t) (loaded new u)
   pub stored_well : told → Stands old t → IsStoredWell (loaded old t) → IsStoredWell (loaded new u)
+  pub tells : told → Stands old t → TellsPlaces (loaded old t) → TellsPlaces (loaded new u)
   -- what the tree doesn't lead to any more is out of use
   pub lets_go : told → Stands old t → (level place v : ℕ) → Leads (loaded old t) level place v → Leads (loaded new u) level place v ⊎ (new.used v ≡ None)
   -- how many positions went

@@ -6,10 +6,13 @@ use Rattle.fv_tree.specs.Spelled.{pointer_at}
 use Rattle.fv_tree.specs.Sources.{Shown, Use}
 use Rattle.fv_tree.specs.Flushing.{Loaded, Leads, IsNodeOf}
 
--- The block of each node that is led to names its position, and each pointer that leads to a block tells its place.
-pub record IsStoredWell (s : Loaded) : Type 0 where
-  pub nodes : (level place v : ℕ) → 1 ≤ level → Leads s level place v → IsNodeOf s.tree.owner level place (s.tree.under v)
-  pub known : (level place v : ℕ) → Leads s level place v → (pointer_at s.tree level place).pvbn ≢ 0
+-- The block of each node that is led to names its position.
+abbrev pub IsStoredWell : Loaded → Type 0
+IsStoredWell s = (level place v : ℕ) → 1 ≤ level → Leads s level place v → IsNodeOf s.tree.owner level place (s.tree.under v)
+
+-- Each pointer that leads to a block tells its place. So it is in a volume of which no place is unknown.
+abbrev pub TellsPlaces : Loaded → Type 0
+TellsPlaces s = (level place v : ℕ) → Leads s level place v → (pointer_at s.tree level place).pvbn ≢ 0
 
 -- what is in use has its place
 abbrev pub HasPlaces : (ℕ → Option Use) → Type 0

@@ -5,6 +5,7 @@
 #![tactic(auto)]
 
 mod added;
+mod blank;
 mod blocks;
 mod cut;
 mod erase;
@@ -20,6 +21,7 @@ mod read;
 mod refill;
 mod remove;
 mod rewrite;
+mod roots;
 mod sharing;
 mod sizes;
 mod staying;

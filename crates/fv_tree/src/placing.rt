@@ -4,12 +4,14 @@ ghost use Rattle.std.specs.Prelude.{◌≡◌, ◌^◌, ◌≢◌, ◌≤◌, �
 ghost use Rattle.std.specs.BTreeMap as maps;
 ghost use Rattle.std.specs.Ordering.{nat_cmp};
 ghost use Rattle.std.specs.Option.{option_map};
+ghost use Rattle.std.specs.List.{list_any};
+ghost use Rattle.fv_codec.specs.declared.inode.InodeRecord.{InodeRecord};
 ghost use Rattle.fv_codec.specs.Blocks.{IsPointer, last_place, node_at};
 ghost use Rattle.fv_model.specs.Trees.{fan, spot_cmp};
 ghost use Rattle.fv_tree.specs.Sources.{Drops, IsCalm, IsKind, IsUntouched};
 ghost use Rattle.fv_tree.specs.Standing.{children_in};
 ghost use Rattle.fv_tree.specs.Costs.{cells_changed, cells_held, changes_in};
-ghost use Rattle.fv_tree.specs.Flushing.{all_known, cell_changed, changed_in, is_unknown, kind_for, placed_in, pointer_in, ForgetsCell, ForgetsNode, HoldsAsMuch, IsHidden, IsMoved, KeepsOthers, NamesUsed, Points, Swaps};
+ghost use Rattle.fv_tree.specs.Flushing.{all_known, cell_changed, changed_in, has_unknown_root, is_unknown, kind_for, placed_in, pointer_in, ForgetsCell, ForgetsNode, HoldsAsMuch, IsHidden, IsMoved, KeepsOthers, NamesUsed, Points, Swaps};
 ghost use Rattle.fv_tree.specs.Readying.{HasCell};
 ghost use Rattle.fv_tree.specs.Calls.{PlacesOne};
 
@@ -18,7 +20,7 @@ use crate::keep::differed;
 use crate::kept::{HOLE, KeptCell, KeptNode, Tree};
 use crate::pending::recounted;
 use crate::sizes::FAN;
-use fv_codec::{Node, Pointer};
+use fv_codec::{InodeBlock, InodeRecord, Node, Pointer};
 use std::collections::BTreeMap;
 
 /// What a flush asks of a cell in memory beside its content.
@@ -133,6 +135,33 @@ fn is_unknown(pointer: &Pointer) -> bool
     ensures { result ≡ is_unknown pointer.now }
 {
     pointer.stamp != 0 && pointer.pvbn == 0
+}
+
+/// Whether a cell of a tree with this owner is an inode block in which the root of some file has an unknown place. Goes over an inode block
+/// once, and over no other cell.
+#[tactic(auto, unfolding(fv_tables::specs::Told::records_in))]
+pub fn has_unknown_root(owner: u64, block: &[u8; 4096]) -> bool
+    ensures { result ≡ has_unknown_root owner block.now }
+{
+    if owner != INODE_FILE {
+        return false;
+    }
+    match InodeBlock::decode(block) {
+        Ok(inodes) => some_root_unknown(&inodes.files),
+        Err(_) => false,
+    }
+}
+
+/// Whether the root of some record has an unknown place.
+fn some_root_unknown(files: &[InodeRecord]) -> bool
+    ensures { result ≡ list_any (λ (r : InodeRecord). is_unknown r.root) files.now }
+{
+    for file in files {
+        if is_unknown(&file.root) {
+            return true;
+        }
+    }
+    false
 }
 
 /// The owner of the inode file's tree.

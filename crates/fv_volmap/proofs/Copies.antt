@@ -4,7 +4,7 @@ use Rattle.std.proofs.lemmas.Bool.{cases_lt, true≢false}
 use Rattle.fv_bits.specs.Bits.{block_bits}
 use Rattle.fv_bits.specs.Members.{is_member, IsBlockOf, IsFirstPast, TakesBlock}
 use Rattle.fv_bits.proofs.Laws.{is_member-replicate, is_member_past}
-use Rattle.fv_volmap.specs.Slots.{Slot, Volume, IsVolume, slot_at}
+use Rattle.fv_volmap.specs.Slots.{Slot, Volume, slot_count, IsVolume, slot_at}
 
 -- a block of a map that isn't longer has no bit past the length
 refuses_none : (map : List Bool) (len index : ℕ) (block : List ℕ) (v : ℕ) → length map ≤ len → IsBlockOf map index block → IsFirstPast len index block v → ⊥
@@ -30,7 +30,7 @@ pub none_member : (len v : ℕ) → is_member (replicate len false) v ≡ false
 none_member len v = is_member-replicate len v
 
 -- the map of a used slot is as long as the span
-pub slot_long : (volume : Volume) (slot span : ℕ) (map : List Bool) → IsVolume volume → slot < 26 → slot_at volume slot ≡ Some map → volume.span ≤ span → length map ≤ span
+pub slot_long : (volume : Volume) (slot span : ℕ) (map : List Bool) → IsVolume volume → slot < slot_count → slot_at volume slot ≡ Some map → volume.span ≤ span → length map ≤ span
 slot_long volume slot span map is low at fits =
     let long : length map ≡ volume.span = subst (λ (o : Slot). IfSome o (λ m. length m ≡ volume.span)) at (is.long slot None (let count = is.count in omega (arith, low, count))) in
     omega (arith, long, fits)

@@ -10,7 +10,7 @@ use Rattle.std.proofs.lemmas.Bool.{cases_lt, or_parts}
 use Rattle.std.proofs.lemmas.List.Elements.{All-set, All-take}
 use Rattle.fv_bits.specs.Members.{is_member}
 use Rattle.fv_bits.proofs.Laws.{is_member-set, is_member_past}
-use Rattle.fv_volmap.specs.Slots.{Slot, Volume, stored_count, has, taken_in, has_alone, IsVolume, AreUnited}
+use Rattle.fv_volmap.specs.Slots.{Slot, Volume, snapshot_count, stored_count, slot_count, slot_of_base, has, taken_in, has_alone, IsVolume, AreUnited}
 use Rattle.fv_volmap.specs.Kept.{IsBare, IsLong, AreFreeTo, AreUsedTo, IsKept, Unites, union_or, with_number}
 
 or_none : (t : Bool) → (t || false) ≡ t
@@ -84,7 +84,7 @@ is_volume span active others used union united next kept = record {
     each (suc i) d inside = kept.others_long i d (omega (arith, inside))
 
 -- the active map is copied to a free slot, and from then on there is a union
-pub kept_copy : (span : ℕ) (active : List Bool) (others : List Slot) (used : ℕ) (union : Slot) (united : Bool) (next slot : ℕ) (copy : List Bool) (more : ℕ) → IsKept span active others used union united next → slot < 26 → get_or (Some active ∷ others) slot None ≡ None → copy ≡ active → AreUsedTo more (set others (slot - 1) (Some copy)) → IsKept span active (set others (slot - 1) (Some copy)) more (Some (union_or active union)) united next
+pub kept_copy : (span : ℕ) (active : List Bool) (others : List Slot) (used : ℕ) (union : Slot) (united : Bool) (next slot : ℕ) (copy : List Bool) (more : ℕ) → IsKept span active others used union united next → slot < slot_count → get_or (Some active ∷ others) slot None ≡ None → copy ≡ active → AreUsedTo more (set others (slot - 1) (Some copy)) → IsKept span active (set others (slot - 1) (Some copy)) more (Some (union_or active union)) united next
 kept_copy span active others used union united next zero copy more kept below free same now = cc
 kept_copy span active others used union united next (suc at) copy more kept below free same now =
     let inside : at < length others = omega (arith, kept.count, below) in
@@ -112,7 +112,7 @@ added : (same a o : Bool) → cond same true (a || o) ≡ (cond same true a || o
 added true a o = refl
 added false a o = refl
 
-pub kept_more : (span : ℕ) (active : List Bool) (others : List Slot) (used : ℕ) (union : Slot) (v : ℕ) → length others ≡ 25 → length active ≡ span → All (IsLong span) others → AreUsedTo used others → IsLong span union → IsBare union others → Unites active others (union_or active union) → v < length (union_or active union) → IsKept span (set active v true) others used (with_number union v true) true (v + 1)
+pub kept_more : (span : ℕ) (active : List Bool) (others : List Slot) (used : ℕ) (union : Slot) (v : ℕ) → length others ≡ slot_of_base → length active ≡ span → All (IsLong span) others → AreUsedTo used others → IsLong span union → IsBare union others → Unites active others (union_or active union) → v < length (union_or active union) → IsKept span (set active v true) others used (with_number union v true) true (v + 1)
 kept_more span active others used union v count active_long others_long used_to union_long bare unites within =
     let inside : v < length active = omega (arith, unites.len, within) in
     record {
@@ -181,11 +181,11 @@ used_before others count above used here = record {
 abbrev IsFreeFrom : ℕ → List Slot → Type 0
 IsFreeFrom from slots = (at : ℕ) → from ≤ at → get_or slots at None ≡ None
 
-free_from : (others : List Slot) (used : ℕ) → AreFreeTo used others → IsFreeFrom used (take 24 others)
+free_from : (others : List Slot) (used : ℕ) → AreFreeTo used others → IsFreeFrom used (take snapshot_count others)
 free_from others used is at le = ⊎_elim
-    (λ lt. get_or-take 24 others at None lt ∙ is.free at le lt)
-    (λ past. get_or_past (take 24 others) at None (omega (arith, length-take 24 others, past)))
-    (cases_lt at 24)
+    (λ lt. get_or-take snapshot_count others at None lt ∙ is.free at le lt)
+    (λ past. get_or_past (take snapshot_count others) at None (omega (arith, length-take snapshot_count others, past)))
+    (cases_lt at snapshot_count)
 
 -- what some slots have is what those before the free ones have
 taken_front : (from : ℕ) (slots : List Slot) (v : ℕ) → IsFreeFrom from slots → taken_in (take from slots) v ≡ taken_in slots v
@@ -195,18 +195,18 @@ taken_front zero (s ∷ ss) v free = taken_front zero ss v (λ at le. free (suc 
 taken_front (suc from) (s ∷ ss) v free = ap (λ t. has v s || t) (taken_front from ss v (λ at le. free (suc at) (omega (arith, le))))
 
 -- the slots of snapshots up to the last that is used
-pub used_slots : (used : ℕ) (slots items : List Slot) → slots ≡ items → length items ≡ 25 → AreUsedTo used items → used ≡ length (take used slots)
+pub used_slots : (used : ℕ) (slots items : List Slot) → slots ≡ items → length items ≡ slot_of_base → AreUsedTo used items → used ≡ length (take used slots)
 used_slots used slots items same count is = sym (length-take-le used slots (omega (arith, ap length same, count, is.rest.within)))
 
 -- what the slots of snapshots have, those of them up to the last that is used have
-pub taken_stored : (slots others : List Slot) (used v : ℕ) → slots ≡ others → AreUsedTo used others → taken_in (take used slots) v ≡ taken_in (take 24 others) v
+pub taken_stored : (slots others : List Slot) (used v : ℕ) → slots ≡ others → AreUsedTo used others → taken_in (take used slots) v ≡ taken_in (take snapshot_count others) v
 taken_stored slots others used v same is =
     ap (λ (s : List Slot). taken_in (take used s) v) same
-    ∙ ap (λ (s : List Slot). taken_in s v) (sym (take-take used 24 others is.rest.within))
-    ∙ taken_front used (take 24 others) v (free_from others used is.rest)
+    ∙ ap (λ (s : List Slot). taken_in s v) (sym (take-take used snapshot_count others is.rest.within))
+    ∙ taken_front used (take snapshot_count others) v (free_from others used is.rest)
 
 -- where no snapshot uses a slot, the stored slots have what the active one has
-pub active_alone : (active : List Bool) (others : List Slot) (used : ℕ) → AreUsedTo used others → used ≡ 0 → (v : ℕ) → taken_in (take 25 (Some active ∷ others)) v ≡ has v (Some active)
+pub active_alone : (active : List Bool) (others : List Slot) (used : ℕ) → AreUsedTo used others → used ≡ 0 → (v : ℕ) → taken_in (take stored_count (Some active ∷ others)) v ≡ has v (Some active)
 active_alone active others used is none v =
     ap (λ (t : Bool). has v (Some active) || t) (sym (taken_stored others others 0 v refl (subst (λ (n : ℕ). AreUsedTo n others) none is))) ∙ or_none (has v (Some active))
 
@@ -215,22 +215,22 @@ none_used : (slots : List Slot) → IsFreeFrom 0 slots → list_any is_some slot
 none_used [] free = refl
 none_used (s ∷ ss) free = ap (λ (t : Slot). is_some t || list_any is_some ss) (free 0 (omega arith)) ∙ none_used ss (λ at le. free (suc at) (omega arith))
 
-pub used_some : (others : List Slot) (used : ℕ) → length others ≡ 25 → AreUsedTo used others → list_any is_some (take 24 others) ≡ not (used == 0)
-used_some others zero count is = none_used (take 24 others) (free_from others 0 is.rest)
+pub used_some : (others : List Slot) (used : ℕ) → length others ≡ slot_of_base → AreUsedTo used others → list_any is_some (take snapshot_count others) ≡ not (used == 0)
+used_some others zero count is = none_used (take snapshot_count others) (free_from others 0 is.rest)
 used_some others (suc used) count is =
-    let inside : used < 24 = omega (arith, is.rest.within) in
+    let inside : used < snapshot_count = omega (arith, is.rest.within) in
     let low : suc used - 1 ≡ used = omega arith in
     let some : (suc used == 0) ≡ false = grind (arith, nat_tests) in
-    list_any_at is_some (take 24 others) used None (omega (arith, inside, length-take-le 24 others (omega (arith, count))))
-    (ap is_some (get_or-take 24 others used None inside) ∙ ap (λ (i : ℕ). is_some (get_or others i None)) (sym low) ∙ is.last (omega arith))
+    list_any_at is_some (take snapshot_count others) used None (omega (arith, inside, length-take-le snapshot_count others (omega (arith, count))))
+    (ap is_some (get_or-take snapshot_count others used None inside) ∙ ap (λ (i : ℕ). is_some (get_or others i None)) (sym low) ∙ is.last (omega arith))
     ∙ sym (ap not some)
 
 -- and the slot of the base is the last of all
-pub taken_with_base : (others : List Slot) (used v : ℕ) (base : Slot) → length others ≡ 25 → AreUsedTo used others → (taken_in (take used others) v || has v (get_or others 24 base)) ≡ taken_in others v
+pub taken_with_base : (others : List Slot) (used v : ℕ) (base : Slot) → length others ≡ slot_of_base → AreUsedTo used others → (taken_in (take used others) v || has v (get_or others snapshot_count base)) ≡ taken_in others v
 taken_with_base others used v base count is =
-    ap (λ t. t || has v (get_or others 24 base)) (taken_stored others others used v refl is)
-    ∙ sym (list_any_more (has v) others 24 base (omega (arith, count)))
-    ∙ ap (λ (s : List Slot). taken_in s v) (take_all 25 others (omega (arith, count)))
+    ap (λ t. t || has v (get_or others snapshot_count base)) (taken_stored others others used v refl is)
+    ∙ sym (list_any_more (has v) others snapshot_count base (omega (arith, count)))
+    ∙ ap (λ (s : List Slot). taken_in s v) (take_all slot_of_base others (omega (arith, count)))
 
 -- what a slot has alone, it has alone among those up to the last that is used
 alone_front : (active : Slot) (rows : List Slot) (used at v : ℕ) → at < used → IsFreeFrom used rows → has_alone (active ∷ take used rows) (suc at) v ≡ has_alone (active ∷ rows) (suc at) v
@@ -238,19 +238,19 @@ alone_front active rows used at v inside free =
     ap₂ (λ s t. has v s && not (has v active || t)) (get_or-take used rows at None inside)
     (ap (λ (s : List Slot). taken_in s v) (sym (take-set-lt used rows at None inside)) ∙ taken_front used (set rows at None) v (λ i le. get_or-set_other rows at i None None (λ same. omega (arith, same, le, inside)) ∙ free i le))
 
-pub alone_stored : (active : Slot) (others : List Slot) (used at : ℕ) (numbers : List ℕ) → at < used → AreUsedTo used others → count_by (has_alone (active ∷ take used others) (suc at)) numbers ≡ count_by (has_alone (active ∷ take 24 others) (suc at)) numbers
+pub alone_stored : (active : Slot) (others : List Slot) (used at : ℕ) (numbers : List ℕ) → at < used → AreUsedTo used others → count_by (has_alone (active ∷ take used others) (suc at)) numbers ≡ count_by (has_alone (active ∷ take snapshot_count others) (suc at)) numbers
 alone_stored active others used at numbers inside is =
-    ap (λ (rows : List Slot). count_by (has_alone (active ∷ rows) (suc at)) numbers) (sym (take-take used 24 others is.rest.within))
-    ∙ ap (λ (p : ℕ → Bool). count_by p numbers) (λ j v. alone_front active (take 24 others) used at v inside (free_from others used is.rest) j)
+    ap (λ (rows : List Slot). count_by (has_alone (active ∷ rows) (suc at)) numbers) (sym (take-take used snapshot_count others is.rest.within))
+    ∙ ap (λ (p : ℕ → Bool). count_by p numbers) (λ j v. alone_front active (take snapshot_count others) used at v inside (free_from others used is.rest) j)
 
 count_none : (numbers : List ℕ) → count_by (λ v. false) numbers ≡ 0
 count_none [] = refl
 count_none (v ∷ vs) = count_none vs
 
 -- a slot after the last that is used has none
-pub alone_past : (active : Slot) (others : List Slot) (used at : ℕ) (numbers : List ℕ) → used ≤ at → AreUsedTo used others → count_by (has_alone (active ∷ take 24 others) (suc at)) numbers ≡ 0
+pub alone_past : (active : Slot) (others : List Slot) (used at : ℕ) (numbers : List ℕ) → used ≤ at → AreUsedTo used others → count_by (has_alone (active ∷ take snapshot_count others) (suc at)) numbers ≡ 0
 alone_past active others used at numbers past is =
-    ap (λ (p : ℕ → Bool). count_by p numbers) (λ j v. has v (free_from others used is.rest at past j) && not (taken_in (active ∷ set (take 24 others) at None) v)) ∙ count_none numbers
+    ap (λ (p : ℕ → Bool). count_by p numbers) (λ j v. has v (free_from others used is.rest at past j) && not (taken_in (active ∷ set (take snapshot_count others) at None) v)) ∙ count_none numbers
 
 -- some of the slots have no number that all of them lack
 none_front : (n : ℕ) (slots : List Slot) (v : ℕ) → taken_in slots v ≡ false → taken_in (take n slots) v ≡ false
@@ -284,7 +284,7 @@ unites_bare active others (Some map) is bare = cc
 pub front_long : (n used : ℕ) (slots : List Slot) → All (IsLong n) slots → All (IsLong n) (take used slots)
 front_long n used slots long = All-take (IsLong n) used slots long
 
-pub stored_unites : (active : List Bool) (others : List Slot) (used : ℕ) (map : List Bool) → AreUsedTo used others → Unites active (take used others) map → Unites active (take 24 others) map
+pub stored_unites : (active : List Bool) (others : List Slot) (used : ℕ) (map : List Bool) → AreUsedTo used others → Unites active (take used others) map → Unites active (take snapshot_count others) map
 stored_unites active others used map is unites = record {
   len = unites.len;
   members = λ v. unites.members v ∙ ap (λ t. is_member active v || t) (taken_stored others others used v refl is);
@@ -304,12 +304,12 @@ kept_less span active others used union united next at less kept now = record {
 }
 
 -- the active slot and the snapshots' slots make the union of all that stand on the disk
-pub is_united : (volume : Volume) (span : ℕ) (active : List Bool) (others slots : List Slot) (map : List Bool) → record { span = span; slots = Some active ∷ others } ≡ volume → slots ≡ others → length active ≡ span → Unites active (take 24 slots) map → AreUnited volume map
+pub is_united : (volume : Volume) (span : ℕ) (active : List Bool) (others slots : List Slot) (map : List Bool) → record { span = span; slots = Some active ∷ others } ≡ volume → slots ≡ others → length active ≡ span → Unites active (take snapshot_count slots) map → AreUnited volume map
 is_united volume span active others slots map seen same long unites = record {
   len = unites.len ∙ long ∙ ap (λ (volume : Volume). volume.span) seen;
   members = λ v.
       unites.members v
-      ∙ ap (λ (s : List Slot). is_member active v || taken_in (take 24 s) v) same
+      ∙ ap (λ (s : List Slot). is_member active v || taken_in (take snapshot_count s) v) same
       ∙ ap (λ (volume : Volume). taken_in (take stored_count volume.slots) v) seen;
 }
 

@@ -12,6 +12,10 @@ pub record Volume : Type 0 where
   pub span : ℕ
   pub slots : List Slot
 
+-- how many slots are snapshots'
+abbrev pub snapshot_count : ℕ
+snapshot_count = 24
+
 abbrev pub slot_count : ℕ
 slot_count = 26
 
@@ -46,10 +50,6 @@ taken_in slots v = list_any (has v) slots
 -- what is held is what the active slot has: no snapshot holds a number besides
 abbrev pub HoldsActive : Volume → Type 0
 HoldsActive volume = (v : ℕ) → taken_in (take stored_count volume.slots) v ≡ is_member (active_of volume) v
-
--- how many slots are snapshots'
-abbrev pub snapshot_count : ℕ
-snapshot_count = 24
 
 -- whether the slot of some snapshot has a number
 abbrev pub is_in_snapshot : Volume → ℕ → Bool

@@ -6,6 +6,7 @@ ghost use Rattle.fv_bits.specs.Bits.{block_bits};
 ghost use Rattle.fv_bits.specs.Members.{IsFirstPast};
 ghost use Rattle.fv_volmap.specs.Slots.{HoldsActive, Volume, slot_count, stored_count, snapshot_count, slot_of_base, slot_at, active_of, taken_in, with_slot, empty_volume, IsVolume, Loads, TakesBase, CountsBeside, Allocates, alone_in, is_in_snapshot, is_elsewhere};
 
+use crate::slots::{BASE, MapSlot, OTHERS};
 use crate::{slots, union};
 use fv_bits::BitMap;
 use fv_disk::Block;
@@ -54,7 +55,7 @@ impl VolMap {
             alloc,
             span,
             active: BitMap::new(alloc, span)?,
-            others: slots::free_slots(alloc, 25)?,
+            others: slots::free_slots(alloc, OTHERS)?,
             used: 0,
             union: None,
             united: true,
@@ -76,7 +77,7 @@ impl VolMap {
     /// the block, and of the span for a slot that was free, and one for each free slot after the last that a snapshot uses.
     pub fn load_slot(
         &mut self,
-        slot: u8,
+        slot: MapSlot,
         index: u32,
         block: &Block,
     ) -> Result<Option<u32>, AllocError>
@@ -113,7 +114,7 @@ impl VolMap {
     }
 
     /// The set of a slot, and `None` exactly for a free one. Costs one step.
-    pub fn snapshot(&self, slot: u8) -> Option<&BitMap>
+    pub fn snapshot(&self, slot: MapSlot) -> Option<&BitMap>
         requires { slot < slot_count }
         ensures set { option_copied result ≡ slot_at self.now slot }
         ensures valid { IsVolume self.now }
@@ -126,7 +127,7 @@ impl VolMap {
 
     /// Copies the active set to a free slot. The one error is want of memory; nothing changes then. Costs
     /// a step for each word of 64 numbers, and one for each free slot after the last that a snapshot uses.
-    pub fn keep(&mut self, slot: u8) -> Result<(), AllocError>
+    pub fn keep(&mut self, slot: MapSlot) -> Result<(), AllocError>
         requires slot { slot < slot_count }
         requires free { slot_at self.old slot ≡ None }
         ensures kept { OnOk result (self.new ≡ with_slot self.old slot (Some (active_of self.old))) }
@@ -145,7 +146,7 @@ impl VolMap {
     /// then. The one error is want of memory; nothing changes then. Costs a step for each word of 64 numbers of the span, and of as many
     /// blocks of a map as the other volume's span takes; the next `allocate` unites the used slots anew.
     #[tactic(auto, using(crate::proofs::Copies::slot_long))]
-    pub fn stand_on(&mut self, parent: &VolMap, slot: u8) -> Result<(), AllocError>
+    pub fn stand_on(&mut self, parent: &VolMap, slot: MapSlot) -> Result<(), AllocError>
         requires slot { slot < slot_count }
         requires used { IsSome (slot_at parent.now slot) }
         requires span { parent.now.span ≤ self.old.span }
@@ -159,13 +160,13 @@ impl VolMap {
         let copy = slots::copy_longer(self.alloc, map, self.span)?;
         union::make(&mut self.union, self.alloc, &self.active)?;
         self.united = false;
-        self.others[24] = Some(copy);
+        self.others[BASE] = Some(copy);
         Ok(())
     }
 
     /// Makes a slot free. Costs a step for each free slot after the last that a snapshot uses then; the next `allocate` unites the used
     /// slots anew.
-    pub fn forget(&mut self, slot: u8)
+    pub fn forget(&mut self, slot: MapSlot)
         requires above { 0 < slot }
         requires slot { slot < slot_count }
         ensures forgotten { self.new ≡ with_slot self.old slot None }
@@ -178,7 +179,7 @@ impl VolMap {
 
     /// Makes the active set that of a used slot, which stays. It takes no memory. Costs a step for each
     /// word of 64 numbers; the next `allocate` unites the used slots anew.
-    pub fn restore(&mut self, slot: u8)
+    pub fn restore(&mut self, slot: MapSlot)
         requires slot { slot < slot_count }
         requires used { IsSome (slot_at self.old slot) }
         ensures restored { self.new ≡ with_slot self.old 0 (slot_at self.old slot) }
@@ -215,14 +216,17 @@ impl VolMap {
     {
         union::unite_stored(&mut self.union, &self.active, &self.others, self.used);
         self.united = false;
-        slots::count_beside(union::union_or(&self.union, &self.active), &self.others[24])
+        slots::count_beside(
+            union::union_or(&self.union, &self.active),
+            &self.others[BASE],
+        )
     }
 
     /// How many numbers a snapshot's slot has that no other slot from 0 to 24 has; what the base reaches is
     /// left out. None for a free slot. Costs a step for each number below the span, and for each that the slot has one for each slot up to
     /// the last that a snapshot uses. For a slot after that it costs one step.
     #[tactic(auto, using(crate::proofs::Rows::used_slots))]
-    pub fn count_alone(&self, slot: u8) -> u32
+    pub fn count_alone(&self, slot: MapSlot) -> u32
         requires above { 0 < slot }
         requires slot { slot < stored_count }
         ensures { result ≡ alone_in self.now slot }

@@ -4,12 +4,31 @@ ghost use Rattle.std.specs.Prelude.{◌≡◌, ℕ, ◌*◌, ◌-◌, ◌<◌, �
 ghost use Rattle.std.specs.List.{range_with_len};
 ghost use Rattle.fv_bits.specs.Bits.{block_bits};
 ghost use Rattle.fv_bits.specs.Members.{is_member, IsFullFrom, IsFirstPast};
-ghost use Rattle.fv_volmap.specs.Slots.{has, taken_in, has_alone, count_beside};
+ghost use Rattle.fv_volmap.specs.Slots.{slot_of_base, has, taken_in, has_alone, count_beside};
 ghost use Rattle.fv_volmap.specs.Kept.{IsLong, AreUsedTo, TakesInto};
 
 use fv_bits::BitMap;
 use fv_disk::{Block, ZERO};
 use std::alloc::{AllocError, Global};
+
+/// A slot of a volume's maps: 0 the active one, 1 to `SNAPSHOT_SLOTS` of snapshots, and `BASE_SLOT`. The slot of a volume in its aggregate
+/// is another number.
+pub type MapSlot = u8;
+
+/// How many slots there are for snapshots.
+pub const SNAPSHOT_SLOTS: usize = 24;
+
+/// How many slots have their maps on the disk: the active one, and those for snapshots.
+pub const STORED_SLOTS: usize = SNAPSHOT_SLOTS + 1;
+
+/// The slot of what a clone's base reaches, behind those that stand on the disk. It is in memory alone.
+pub const BASE_SLOT: MapSlot = STORED_SLOTS as MapSlot;
+
+/// How many slots there are after the active one.
+pub(crate) const OTHERS: usize = BASE_SLOT as usize;
+
+/// The place of the base's slot among those after the active one; the snapshots' stand before it.
+pub(crate) const BASE: usize = SNAPSHOT_SLOTS;
 
 /// Whether the map has this number; it has none from its length on.
 #[tactic(auto, using(fv_bits::proofs::Laws::is_member_past))]
@@ -45,10 +64,10 @@ pub(crate) fn any_has(slots: &[Option<BitMap>], v: u32) -> bool
 /// How many of the slots after the active one there are up to the last that a snapshot uses, 0 where none does.
 #[tactic(auto, using(crate::proofs::Rows::used_before))]
 pub(crate) fn used_count(others: &[Option<BitMap>]) -> usize
-    requires { length others.now ≡ 25 }
+    requires { length others.now ≡ slot_of_base }
     ensures { AreUsedTo result others.now }
 {
-    let mut count = 24;
+    let mut count = BASE;
     while count > 0 && others[count - 1].is_none() {
         count -= 1;
     }
@@ -57,16 +76,16 @@ pub(crate) fn used_count(others: &[Option<BitMap>]) -> usize
 
 /// Whether some of the slots after the active one has this number; snapshots use them up to `used`, and the last is the base's.
 pub(crate) fn any_used_has(others: &[Option<BitMap>], used: usize, v: u32) -> bool
-    requires count { length others.now ≡ 25 }
+    requires count { length others.now ≡ slot_of_base }
     requires used { AreUsedTo used others.now }
     ensures { result ≡ taken_in others.now v }
 {
-    any_has(&others[..used], v) || has(&others[24], v)
+    any_has(&others[..used], v) || has(&others[BASE], v)
 }
 
 /// Whether no slot has this number; snapshots use those after the active one up to `used`, and the last is the base's.
 fn is_free(active: &BitMap, others: &[Option<BitMap>], used: usize, v: u32) -> bool
-    requires count { length others.now ≡ 25 }
+    requires count { length others.now ≡ slot_of_base }
     requires used { AreUsedTo used others.now }
     ensures { result ≡ not (taken_in (Some active.now ∷ others.now) v) }
 {
@@ -82,7 +101,7 @@ pub(crate) fn count_free(
     to: u32,
     most: u32,
 ) -> u32
-    requires count { length others.now ≡ 25 }
+    requires count { length others.now ≡ slot_of_base }
     requires used { AreUsedTo used others.now }
     requires ordered { from ≤ to }
     ensures { result ≡ min most (count_by (λ v. not (taken_in (Some active.now ∷ others.now) v)) (range_with_len from (to - from))) }

@@ -2,7 +2,7 @@
 
 ghost use Rattle.std.specs.Prelude.{◌≡◌, ℕ, ◌<◌, ◌||◌, true, is_some, length, take, All, Some, IfSome, OnOk, OnErr};
 ghost use Rattle.fv_bits.specs.Members.{is_member};
-ghost use Rattle.fv_volmap.specs.Slots.{has, taken_in};
+ghost use Rattle.fv_volmap.specs.Slots.{slot_of_base, snapshot_count, has, taken_in};
 ghost use Rattle.fv_volmap.specs.Kept.{AreUsedTo, IsBare, IsLong, Unites, union_or, with_number};
 
 use crate::slots::copy;
@@ -93,14 +93,14 @@ pub(crate) fn unite_stored(
     others: &[Option<BitMap>],
     used: usize,
 )
-    requires count { length others.now ≡ 25 }
+    requires count { length others.now ≡ slot_of_base }
     requires used { AreUsedTo used others.now }
     requires long { IsLong (length active.now) union.old }
     requires others { All (IsLong (length active.now)) others.now }
     requires bare { IsBare union.old others.now }
     ensures there { is_some union.new ≡ is_some union.old }
     ensures long { IsLong (length active.now) union.new }
-    ensures unites { Unites active.now (take 24 others.now) (union_or active.now union.new) }
+    ensures unites { Unites active.now (take snapshot_count others.now) (union_or active.now union.new) }
 {
     unite(union, active, &others[..used]);
 }

@@ -1,5 +1,5 @@
 -- A clone as it's made: its maps, and its label.
-use Rattle.std.proofs.Common.{◌≡◌, ◌≢◌, ◌<◌, ◌≤◌, ◌*◌, ℕ, Bool, true, false, not, List, [], Option, Some, None, refl, sym, ap, subst, ◌∙◌, ⊎_elim, arith}
+use Rattle.std.proofs.Common.{◌≡◌, ◌≢◌, ◌<◌, ◌≤◌, ◌*◌, ℕ, Bool, true, false, not, ◌&&◌, List, [], Option, Some, None, refl, sym, ap, subst, ◌∙◌, ⊎_elim, arith}
 use Rattle.std.specs.Prelude.{IfSome, is_some, replicate}
 use Rattle.std.specs.Option.{option_map}
 use Rattle.std.proofs.lemmas.Bool.{cases_eq, false≢true}
@@ -9,6 +9,7 @@ use Rattle.std.proofs.lemmas.List.{get_or-set_other}
 use Rattle.fv_codec.specs.Blocks.{IsPointer, most_stamps}
 use Rattle.fv_container.specs.Chains.{slot_count}
 use Rattle.fv_image.specs.Views.{Head}
+use Rattle.fv_image.specs.WholeMachine.{has_form}
 use Rattle.fv_model.specs.declared.commands.Kind.{Kind}
 use Rattle.fv_model.specs.Numbers.{greatest_span, is_size}
 use Rattle.fv_model.specs.Space.{span_of}
@@ -19,7 +20,7 @@ use Rattle.fv_pool.specs.declared.rooted.Rooted.{Rooted}
 use Rattle.fv_volume.specs.declared.state.Base.{Base}
 use Rattle.fv_volume.specs.declared.state.VolumeState.{VolumeState}
 use Rattle.fv_volume.specs.Cloning.{clone_head, AreMapsOn, IsCloneOf}
-use Rattle.fv_volume.specs.Files.{IsLabelled, has_form}
+use Rattle.fv_volume.specs.Files.{IsLabelled}
 use Rattle.fv_volume.specs.SnapRecords.{AreSayable, IsSayableSnap}
 use Rattle.fv_volume.specs.States.{footing_in, head_in, ledger_of_empty}
 use Rattle.fv_volume.proofs.Labels.{IsSayable, IsSayableBase, label_range}
@@ -127,7 +128,7 @@ module _ (y : VolumeState) (b : Base) (slot : ℕ) (name : List ℕ) (size : ℕ
     pub clone_labelled : IsLabelled slot x
     clone_labelled = record {
       slot_is = is.slot_is;
-      form = ap has_form is.head ∙ ap not whole;
+      form = ap has_form is.head ∙ ap (λ (t : Bool). not t && true) whole;
       span = omega (arith, span_is, fits);
       map = maps_span (slot_at y.map b.slot) span x.map is.maps ∙ sym span_is;
       snapshots = sayable;

@@ -8,7 +8,7 @@ use Rattle.fv_bits.specs.Members.{is_member}
 use Rattle.fv_bits.proofs.Counts.{passing_le}
 use Rattle.fv_bits.proofs.Laws.{count_of-le}
 use Rattle.fv_model.specs.declared.commands.Kind.{Kind}
-use Rattle.fv_model.specs.Numbers.{greatest_span}
+use Rattle.fv_model.specs.Numbers.{greatest_span, most_snapshots}
 use Rattle.fv_model.specs.Space.{map_blocks}
 use Rattle.fv_laws.specs.Positions.{HasNoReserve}
 use Rattle.fv_laws.proofs.PathCharges.{no_need}
@@ -66,11 +66,11 @@ unfolding count_apart
 count_within held None = count_of-le held
 count_within held (Some base) = passing_le (is_apart held base) 0 (length held)
 
-pub charge_within : (m : Maps) (base : Option (List Bool)) (snapshots span size : ℕ) (kind : Kind) (ledger : Ledger) → HasCounted m base snapshots span size kind ledger → snapshots ≤ 24 → m.span ≡ span → span ≤ greatest_span → ledger.charge ≤ greatest_charge
+pub charge_within : (m : Maps) (base : Option (List Bool)) (snapshots span size : ℕ) (kind : Kind) (ledger : Ledger) → HasCounted m base snapshots span size kind ledger → snapshots ≤ most_snapshots → m.span ≡ span → span ≤ greatest_span → ledger.charge ≤ greatest_charge
 charge_within m base snapshots span size kind ledger c most_snaps same most =
     let count : ledger.charge ≡ count_held c.union base + map_blocks span * snapshots = ap (λ (l : Ledger). l.charge) c.ledger_is in
     let few : map_blocks span ≤ 32 = omega (arith, most) in
-    let first : map_blocks span * snapshots ≤ map_blocks span * 24 = mul-le-mul_left (map_blocks span) most_snaps in
+    let first : map_blocks span * snapshots ≤ map_blocks span * most_snapshots = mul-le-mul_left (map_blocks span) most_snaps in
     let held = count_within c.union base in
     let long = c.united.len in
     omega (arith, count, few, first, held, long, same, most)

@@ -17,11 +17,10 @@ use Rattle.fv_tree.specs.Beside.{loaded_on, unread, IsLaid}
 use Rattle.fv_tree.specs.Flushing.{Leads, IsNodeOf, IsSound, ReachesOnce}
 use Rattle.fv_tree.specs.Sources.{Use}
 use Rattle.fv_tree.specs.Standing.{under}
-use Rattle.fv_tree.specs.Stored.{IsStoredWell as IsTreeStoredWell}
 use Rattle.fv_tree.proofs.Beside.{beside_alike, beside_leads, beside_pointers, beside_sound, unread_laid, unread_sound}
 use Rattle.fv_inode.specs.declared.info.Info.{Info}
 use Rattle.fv_inode.proofs.Indexed.{alike_indexes}
-use Rattle.fv_files.specs.Apart.{StoredIn}
+use Rattle.fv_files.specs.Apart.{IsAsSaid, StoredIn}
 use Rattle.fv_files.specs.Tables.{tree_known, IsInfoOf}
 use Rattle.fv_files.proofs.Tables.{file_tree}
 use Rattle.fv_pool.specs.declared.pool.Pool.{Pool}
@@ -91,7 +90,7 @@ asked_levels_fit d p x ready (Kept root) of = kept_levels_fit d p x ready root o
 
 -- A tree that stands whole on the blocks of a slot does so on all that the volume holds.
 module _ (d : Disk) (p : Pool) (x : VolumeState) (k owner levels : ℕ) (root : Pointer) (reaches : ReachesOnce (uses_in p x k) (stored (blocks_in d p x k) owner levels root))
-    (is : IsTreeStoredWell (unread (stored (blocks_in d p x k) owner levels root))) where
+    (is : IsAsSaid (unread (stored (blocks_in d p x k) owner levels root))) where
   abbrev blocks : Under
   blocks = under (shows d p x)
 
@@ -114,10 +113,10 @@ module _ (d : Disk) (p : Pool) (x : VolumeState) (k owner levels : ℕ) (root : 
     on = refl;
     sound = beside_sound (unread own) blocks laid stay (uses_in p x k) (uses_in p x k) (λ level place v leads. refl) sound;
     laid = unread_laid (stored blocks owner levels root);
-    well = record {
-      nodes = λ level place v low led. let was = beside_leads (unread own) blocks laid stay level place v led in subst (IsNodeOf owner level place) (sym (stay level place v was)) (is.nodes level place v low was);
-      known = λ level place v led none. is.known level place v (beside_leads (unread own) blocks laid stay level place v led) (ap (λ (p : Pointer). p.pvbn) (sym (beside_pointers (unread own) blocks laid stay level place)) ∙ none);
-    };
+    well = (
+      (λ level place v low led. let was = beside_leads (unread own) blocks laid stay level place v led in subst (IsNodeOf owner level place) (sym (stay level place v was)) (is.0 level place v low was)),
+      (λ level place v led none. is.1 level place v (beside_leads (unread own) blocks laid stay level place v led) (ap (λ (p : Pointer). p.pvbn) (sym (beside_pointers (unread own) blocks laid stay level place)) ∙ none)),
+    );
   }
 
 module _ (d : Disk) (p : Pool) (x : VolumeState) (q : Snap) (is : IsKeptTable d p x q) where

@@ -6,6 +6,8 @@ use Rattle.std.proofs.lemmas.Bool.{and_parts}
 use Rattle.std.proofs.lemmas.Bool.Decides.{nat_tests}
 use Rattle.std.proofs.lemmas.Option.{none-some, same_Some}
 use Rattle.fv_codec.specs.Blocks.{IsLabel}
+use Rattle.fv_image.specs.Mapped.{stored_slots}
+use Rattle.fv_image.specs.WholeMachine.{has_form}
 use Rattle.fv_laws.proofs.Lists.{In}
 use Rattle.fv_laws.proofs.Tests.{from_all}
 use Rattle.fv_image.specs.Views.{Footing, Head, Snap as HeadSnap}
@@ -14,7 +16,7 @@ use Rattle.fv_volmap.specs.Slots.{TakesBase, Volume as Maps, has, slot_at, slot_
 use Rattle.fv_volume.specs.declared.state.Base.{Base}
 use Rattle.fv_volume.specs.declared.state.Snap.{Snap}
 use Rattle.fv_volume.specs.declared.state.VolumeState.{VolumeState}
-use Rattle.fv_volume.specs.Files.{IsLabelled, has_form}
+use Rattle.fv_volume.specs.Files.{IsLabelled}
 use Rattle.fv_volume.specs.Labels.{base_slot_said, label_said, parent_said, splitting_said}
 use Rattle.fv_volume.specs.Loading.{IsRead}
 use Rattle.fv_volume.specs.SnapRecords.{AreSayable}
@@ -42,13 +44,23 @@ head_found n (q ∷ qs) = by (head_found n qs) (q.slot == n)
     by rest true = refl
     by rest false = rest
 
+-- so the head has the snapshot that is found
+snap_there : (parent : VolumeState) (n : ℕ) (q : Snap) → find (λ (p : Snap). p.slot == n) parent.snapshots ≡ Some q → snap_at (head_in parent) n ≡ Some (snap_in q)
+unfolding snap_at
+snap_there parent n q found = head_found n parent.snapshots ∙ ap (option_map snap_in) found
+
+-- and doesn't lack it
+pub lacks_not : (P : Type 0) (parent x : VolumeState) (b : Base) (q : Snap) → x.base ≡ Some b → find (λ (p : Snap). p.slot == b.slot) parent.snapshots ≡ Some q → IfSome x.base (λ b. snap_at (head_in parent) b.slot ≡ None → P)
+lacks_not P parent x b q based found = subst (λ (o : Option Base). IfSome o (λ b. snap_at (head_in parent) b.slot ≡ None → P)) (sym based)
+    (λ none. absurd (none-some (snap_in q) (sym none ∙ snap_there parent b.slot q found)))
+
 module _ (parent : VolumeState) (slot : ℕ) (labelled : IsLabelled slot parent) where
   -- a slot that a snapshot has is one of those that stand on the disk beside the active one,
   pub snap_inside : (n : ℕ) (p : HeadSnap) → snap_at (head_in parent) n ≡ Some p → (1 ≤ n) × (n < stored_count)
   unfolding snap_at
   snap_inside n p at =
       let one = found_slot n (head_in parent).snapshots p at in
-      let parts = and_parts (nat_le 1 p.slot) (nat_lt p.slot 25) (from_all (λ (p : HeadSnap). nat_le 1 p.slot && nat_lt p.slot 25) (head_in parent).snapshots labelled.snapshots.slots.within p one.0) in
+      let parts = and_parts (nat_le 1 p.slot) (nat_lt p.slot stored_slots) (from_all (λ (p : HeadSnap). nat_le 1 p.slot && nat_lt p.slot stored_slots) (head_in parent).snapshots labelled.snapshots.slots.within p one.0) in
       let is = one.1 in
       let least = parts.0 in
       let greatest = parts.1 in
@@ -56,9 +68,8 @@ module _ (parent : VolumeState) (slot : ℕ) (labelled : IsLabelled slot parent)
 
   -- and it is used.
   pub snap_used : (n : ℕ) (q : Snap) → find (λ (p : Snap). p.slot == n) parent.snapshots ≡ Some q → (n < slot_count) × IsSome (slot_at parent.map n)
-  unfolding snap_at
   snap_used n q found =
-      let at : snap_at (head_in parent) n ≡ Some (snap_in q) = head_found n parent.snapshots ∙ ap (option_map snap_in) found in
+      let at = snap_there parent n q found in
       let inside = snap_inside n (snap_in q) at in
       let least = inside.0 in
       let greatest = inside.1 in

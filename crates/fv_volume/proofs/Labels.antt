@@ -7,6 +7,8 @@ use Rattle.std.proofs.lemmas.Bool.{and_parts}
 use Rattle.std.proofs.lemmas.Bool.Decides.{nat_tests}
 use Rattle.fv_codec.specs.Blocks.{IsLabel, IsPointer, IsSnapRecord, is_used, last_place, most_stamps}
 use Rattle.fv_codec.specs.Fields.{up_to}
+use Rattle.fv_image.specs.WholeMachine.{has_form}
+use Rattle.fv_model.specs.Numbers.{most_snapshots}
 use Rattle.fv_model.specs.declared.commands.Kind.{Kind}
 use Rattle.fv_model.specs.declared.commands.Kind.TheVariants.{Volume as Whole, File as ByFile, Thin}
 use Rattle.fv_model.specs.Spelling.{is_name}
@@ -22,7 +24,7 @@ use Rattle.fv_volume.specs.declared.state.Snap.{Snap}
 use Rattle.fv_volume.specs.declared.state.VolumeState.{VolumeState}
 use Rattle.fv_volume.specs.Labels.{base_slot_said, kind_number, label_said, parent_said, splitting_said}
 use Rattle.fv_volume.specs.SnapRecords.{records_said, AreSayable}
-use Rattle.fv_volume.specs.Files.{IsLabelled, has_form}
+use Rattle.fv_volume.specs.Files.{IsLabelled}
 use Rattle.fv_volume.specs.States.{footing_in, head_in, snaps_in}
 use Rattle.fv_volume.proofs.MapSlots.{same_sayable, same_slots, slots_kept}
 use Rattle.fv_volume.proofs.Naming.{filled, parts}
@@ -39,14 +41,14 @@ kind_least Thin = omega arith
 pub record IsSayableBase (b : Footing) : Type 0 where
   pub inside : b.parent < slot_count
   pub least : 1 ≤ b.slot
-  pub greatest : b.slot ≤ 24
+  pub greatest : b.slot ≤ most_snapshots
   pub whole : b.splitting ≡ false
 
 -- as a label has it, it is in range
 pub record IsBaseSaid (p slot s known : ℕ) : Type 0 where
   pub parent : p ≤ 64
   pub base_least : up_to (is_used p) 1 ≤ slot
-  pub base_greatest : slot ≤ up_to (is_used p) 24
+  pub base_greatest : slot ≤ up_to (is_used p) most_snapshots
   pub splitting : s ≤ up_to (is_used p) 1
   pub all_known : known ≤ up_to (s == 0) 1
 
@@ -58,7 +60,7 @@ base_said (Some b) is =
     record {
       parent = omega (arith, inside);
       base_least = subst (λ (t : Bool). up_to t 1 ≤ b.slot) (sym used) is.least;
-      base_greatest = subst (λ (t : Bool). b.slot ≤ up_to t 24) (sym used) is.greatest;
+      base_greatest = subst (λ (t : Bool). b.slot ≤ up_to t most_snapshots) (sym used) is.greatest;
       splitting = subst (λ (s : Bool). cond s 1 0 ≤ up_to (is_used (b.parent + 1)) 1) (sym is.whole) (omega arith);
       all_known = subst (λ (s : Bool). 1 ≤ up_to (cond s 1 0 == 0) 1) (sym is.whole) (omega arith);
     }
@@ -119,7 +121,7 @@ pub label_head : (x : VolumeState) → has_form (head_in x) ≡ true → is_name
 unfolding head_of label_said
 label_head x form named said container height =
     let name : take (length x.name) (x.name ++ replicate (64 - length x.name) 0) ≡ x.name = take-append_seam x.name (replicate (64 - length x.name) 0) in
-    let known : x.known ≡ true = (and_parts x.known (not (is_splitting (head_in x).base)) form).0 in
+    let known : x.known ≡ true = (and_parts (not (is_splitting (head_in x).base)) x.known form).1 in
     (λ i. record {
       name = name i;
       kind = kind_again x.kind i;

@@ -2,6 +2,8 @@
 use Rattle.std.proofs.Common.{◌≡◌, ℕ, Bool, nat_eq, map, subst, true, false, List, [], ◌∷◌, length, suc, ◌≢◌, ◌≤◌, Option, Some, None, refl, sym, ap, ◌∙◌, arith}
 use Rattle.std.specs.Prelude.{IfSome, not, ◌==◌, ◌+◌, ◌-◌, ◌&&◌, take, replicate, if◌then◌else◌}
 use Rattle.std.specs.Option.{option_map}
+use Rattle.fv_image.specs.WholeMachine.{has_form}
+use Rattle.fv_model.specs.Numbers.{most_snapshots}
 use Rattle.fv_model.specs.declared.commands.Kind.{Kind}
 use Rattle.fv_model.specs.Spelling.{is_name}
 use Rattle.fv_codec.proofs.Numbers.{up_to-le}
@@ -9,7 +11,7 @@ use Rattle.fv_volume.specs.declared.state.Base.{Base}
 use Rattle.fv_volume.specs.declared.state.Snap.{Snap as StateSnap}
 use Rattle.fv_volume.specs.declared.state.VolumeState.{VolumeState}
 use Rattle.fv_volmap.specs.Slots.{Volume as Maps, stored_count}
-use Rattle.fv_volume.specs.Files.{HasSlotsOf, IsLabelled, has_form}
+use Rattle.fv_volume.specs.Files.{HasSlotsOf, IsLabelled}
 use Rattle.fv_volume.proofs.StayingMaps.{no_waits}
 use Rattle.fv_volume.specs.States.{footing_in, head_in, snap_in, snaps_in}
 use Rattle.std.proofs.lemmas.List.{length-map}
@@ -66,7 +68,7 @@ base_sayable l range is = by (l.parent == 0) refl
         record {
           inside = omega (arith, some, most);
           least = subst (λ (t : Bool). up_to t 1 ≤ l.base_slot) used range.base_least;
-          greatest = subst (λ (t : Bool). l.base_slot ≤ up_to t 24) used range.base_greatest;
+          greatest = subst (λ (t : Bool). l.base_slot ≤ up_to t most_snapshots) used range.base_greatest;
           whole = (let zero_is = is.whole in let same : (l.splitting == 1) ≡ false = grind (arith, nat_tests, zero_is) in same);
         }
       where
@@ -81,7 +83,7 @@ is_known l range is =
 -- such a label's head has a form that there is
 pub head_bare : (l : Label) → IsLabel l → IsBare l → has_form (head_of l) ≡ true
 unfolding head_of
-head_bare l range is = (λ i. is_known l range is i && not (is_whole l is i))
+head_bare l range is = (λ i. not (is_whole l is i) && is_known l range is i)
 
 -- the head of a volume that is made of such a label
 abbrev pub head_with : Label → List ℕ → Kind → Option Base → List StateSnap → Head
@@ -104,7 +106,7 @@ head_from l name kind base snaps called sort based said = λ i. record {
 }
 
 -- it can be said by a label again
-sayable : (l : Label) → IsLabel l → IsBare l → length l.snapshots ≡ 24 → (y : VolumeState) → head_in y ≡ head_of l → is_name y.name ≡ true → IsSayable y
+sayable : (l : Label) → IsLabel l → IsBare l → length l.snapshots ≡ most_snapshots → (y : VolumeState) → head_in y ≡ head_of l → is_name y.name ≡ true → IsSayable y
 unfolding head_of
 sayable l range is long y head named =
     let size : y.size ≡ l.size = ap (λ h. h.size) head in
@@ -130,7 +132,7 @@ sayable l range is long y head named =
     }
 
 -- a volume with the head of such a label has its numbers and its name
-pub labelled_from : (l : Label) → IsLabel l → length l.snapshots ≡ 24 → form_in l ≡ None → (y : VolumeState) (slot : ℕ) → y.slot ≡ slot → head_in y ≡ head_of l → y.ledger.span ≡ l.span → is_name y.name ≡ true → y.map.span ≡ y.span → HasSlotsOf (head_in y) y.map → y.fresh ≡ replicate stored_count false → IsLabelled slot y
+pub labelled_from : (l : Label) → IsLabel l → length l.snapshots ≡ most_snapshots → form_in l ≡ None → (y : VolumeState) (slot : ℕ) → y.slot ≡ slot → head_in y ≡ head_of l → y.ledger.span ≡ l.span → is_name y.name ≡ true → y.map.span ≡ y.span → HasSlotsOf (head_in y) y.map → y.fresh ≡ replicate stored_count false → IsLabelled slot y
 unfolding head_of
 labelled_from l range long none y slot at head ledger named map slots settled =
     let same : y.span ≡ l.span = ap (λ h. h.span) head in
@@ -160,7 +162,7 @@ few_said (r ∷ rs) j = so (r.name_length == 0) (few_said rs (j + 1))
     so true rest = omega (arith, rest)
     so false rest = omega (arith, rest)
 
-pub few_snaps : (l : Label) (snaps : List StateSnap) → length l.snapshots ≡ 24 → snaps_in snaps ≡ snaps_from 1 l.snapshots → length snaps ≤ 24
+pub few_snaps : (l : Label) (snaps : List StateSnap) → length l.snapshots ≡ most_snapshots → snaps_in snaps ≡ snaps_from 1 l.snapshots → length snaps ≤ most_snapshots
 few_snaps l snaps long said =
     let same : length (snaps_in snaps) ≡ length snaps = length-map snaps snap_in in
     let equal : length (snaps_in snaps) ≡ length (snaps_from 1 l.snapshots) = ap (λ (ps : List Snap). length ps) said in
@@ -168,7 +170,7 @@ few_snaps l snaps long said =
     omega (arith, same, equal, few, long)
 
 -- the slots that were read are those of the label's snapshots, and that of its base is used where it has one
-pub slots_loaded : (l : Label) (y : VolumeState) (snaps : List StateSnap) (m : Maps) → length l.snapshots ≡ 24 → snaps_in snaps ≡ snaps_from 1 l.snapshots → head_in y ≡ head_of l → y.map ≡ m
+pub slots_loaded : (l : Label) (y : VolumeState) (snaps : List StateSnap) (m : Maps) → length l.snapshots ≡ most_snapshots → snaps_in snaps ≡ snaps_from 1 l.snapshots → head_in y ≡ head_of l → y.map ≡ m
     → AreUsedBeside snaps (footing_of l) m → HasSlotsOf (head_in y) y.map
 unfolding head_of
 slots_loaded l y snaps m long said head same used =

@@ -4,7 +4,7 @@ use Rattle.std.specs.Prelude.{nat_le, nat_lt}
 use Rattle.std.proofs.Math.Nat.{mul-le-mul_right}
 use Rattle.std.proofs.lemmas.Bool.Decides.{nat_tests}
 use Rattle.fv_bits.proofs.Counts.{none_pass, passing, passing-add, passing-suc, passing_same}
-use Rattle.fv_model.specs.Numbers.{most_snapshot_blocks}
+use Rattle.fv_model.specs.Numbers.{most_snapshot_blocks, most_snapshots}
 use Rattle.fv_model.specs.Space.{map_blocks}
 use Rattle.fv_image.specs.Views.{entry_count, map_slot, map_vvbn}
 use Rattle.fv_image.proofs.Behind.{map_vvbn_within, slot_there}
@@ -70,13 +70,13 @@ unfolding map_count
 writes_counted x = slots_written x stored_count (omega arith)
 
 -- the first slot's is one of them
-first_counted : (x : VolumeState) → map_count x.fresh ≡ 1 + passing (is_rewritten x) 1 24
+first_counted : (x : VolumeState) → map_count x.fresh ≡ 1 + passing (is_rewritten x) 1 most_snapshots
 unfolding map_count
-first_counted x = passing-suc (is_rewritten x) 0 24
+first_counted x = passing-suc (is_rewritten x) 0 most_snapshots
 
 -- they are as many as are asked for beside the overhead's
 pub writes_fit : (x : VolumeState) → map_writes x (entry_count x.span) ≡ (map_count x.fresh - 1) * map_blocks x.span + map_blocks x.span
-writes_fit x = writes_counted x ∙ by (map_count x.fresh) (passing (is_rewritten x) 1 24) (first_counted x)
+writes_fit x = writes_counted x ∙ by (map_count x.fresh) (passing (is_rewritten x) 1 most_snapshots) (first_counted x)
   where
     by : (c n : ℕ) → c ≡ 1 + n → c * map_blocks x.span ≡ (c - 1) * map_blocks x.span + map_blocks x.span
     by c n e = rw e (same n (map_blocks x.span))
@@ -86,7 +86,7 @@ writes_fit x = writes_counted x ∙ by (map_count x.fresh) (passing (is_rewritte
 
 none_wait : (x : VolumeState) → ((k : ℕ) → get_or x.fresh k false ≡ false) → map_wait x ≡ 0
 none_wait x marked =
-    let none : passing (is_rewritten x) 1 24 ≡ 0 = none_pass (is_rewritten x) 1 24 later in
+    let none : passing (is_rewritten x) 1 most_snapshots ≡ 0 = none_pass (is_rewritten x) 1 most_snapshots later in
     let less : map_count x.fresh - 1 ≡ 0 = omega (arith, none, first_counted x) in
     let nothing : 0 * map_blocks x.span ≡ 0 = omega arith in
     ap (λ (n : ℕ). n * map_blocks x.span) less ∙ nothing
@@ -114,11 +114,11 @@ waiting_more x k from =
     ap (passing (is_rewritten x) 1) e ∙ passing-add (is_rewritten x) 1 (k - 1) 1
     ∙ ap (λ (n : ℕ). passing (is_rewritten x) 1 (k - 1) + n) (passing-suc (is_rewritten x) (1 + (k - 1)) 0 ∙ none ∙ ap (λ (n : ℕ). cond (is_rewritten x n) 1 0) here ∙ ap (λ (t : Bool). cond (t || get_or x.fresh k false) 1 0) other)
 
-pub waiting_counted : (x : VolumeState) (count slot : ℕ) → 25 ≤ slot → slot ≤ 25 → count ≡ passing (is_rewritten x) 1 (slot - 1) → count ≡ map_count x.fresh - 1
+pub waiting_counted : (x : VolumeState) (count slot : ℕ) → stored_count ≤ slot → slot ≤ stored_count → count ≡ passing (is_rewritten x) 1 (slot - 1) → count ≡ map_count x.fresh - 1
 waiting_counted x count slot from to is =
-    let all : slot - 1 ≡ 24 = omega (arith, from, to) in
+    let all : slot - 1 ≡ most_snapshots = omega (arith, from, to) in
     omega (arith, is, ap (passing (is_rewritten x) 1) all, first_counted x)
 
 -- maps that wait have few blocks
-pub few_blocks : (count blocks : ℕ) → count ≤ 24 → blocks ≤ 32 → count * blocks ≤ most_snapshot_blocks
-few_blocks count blocks few short = omega (arith, mul-le-mul_right {m = count} {n = 24} blocks few, short)
+pub few_blocks : (count blocks : ℕ) → count ≤ most_snapshots → blocks ≤ 32 → count * blocks ≤ most_snapshot_blocks
+few_blocks count blocks few short = omega (arith, mul-le-mul_right {m = count} {n = most_snapshots} blocks few, short)

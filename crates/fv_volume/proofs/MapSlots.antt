@@ -5,7 +5,7 @@ use Rattle.std.specs.List.{All, list_all}
 use Rattle.fv_image.specs.Views.{Head, Snap, Footing}
 use Rattle.fv_image.specs.Volumes.{snap_at}
 use Rattle.fv_image.specs.Mapped.{is_rising, stored_slots}
-use Rattle.fv_volmap.specs.Slots.{Slot, Volume as Maps, empty_volume, slot_at, slot_of_base}
+use Rattle.fv_volmap.specs.Slots.{Slot, Volume as Maps, empty_volume, slot_at, slot_of_base, stored_count}
 use Rattle.fv_volume.specs.Files.{HasSlotsOf, IsOneMap}
 use Rattle.fv_volume.specs.SnapRecords.{AreSayable, IsSayableSnap}
 
@@ -50,7 +50,7 @@ slots_kept h old new same is = record {
 -- A new volume has one map.
 pub one_empty : (span : ℕ) → IsOneMap (empty_volume span)
 one_empty span zero other = absurd (other refl)
-one_empty span (suc k) other = none 25 k
+one_empty span (suc k) other = none stored_count k
   where
     none : (n k : ℕ) → slice_index_or {A = Slot} (replicate n None) k None ≡ None
     none zero k = refl

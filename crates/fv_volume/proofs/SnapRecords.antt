@@ -12,6 +12,7 @@ use Rattle.fv_codec.specs.declared.label.SnapRecord.{SnapRecord}
 use Rattle.fv_codec.specs.declared.label.Label.{Label}
 use Rattle.fv_codec.specs.Blocks.{IsLabel, IsPointerIf, IsSnapRecord, is_used}
 use Rattle.fv_codec.specs.Fields.{all_name, name_filled, up_to}
+use Rattle.fv_model.specs.Numbers.{most_snapshots}
 use Rattle.fv_model.specs.Spelling.{is_name}
 use Rattle.fv_laws.proofs.Lists.{In}
 use Rattle.fv_laws.proofs.Room.{found_among}
@@ -71,7 +72,7 @@ among p (q ∷ qs) all (inl e) = subst IsSayableSnap e (All-head IsSayableSnap q
 among p (q ∷ qs) all (inr there) = among p qs (All-tail IsSayableSnap q qs all) there
 
 pub all_said : (h : Head) → AreSayable h → All IsSnapRecord (records_said h.snapshots)
-all_said h said = records_in_range 24 1 h.snapshots (λ p there. among p h.snapshots said.each there)
+all_said h said = records_in_range most_snapshots 1 h.snapshots (λ p there. among p h.snapshots said.each there)
 
 -- ---- what they say
 
@@ -144,14 +145,14 @@ again (suc n) slot (p ∷ ps) bounds rising names = so (p.slot == slot) refl (λ
 
 -- A label says the snapshots again that it was written with.
 pub snaps_again : (h : Head) → AreSayable h → snaps_from 1 (records_said h.snapshots) ≡ h.snapshots
-snaps_again h said = again 24 1 h.snapshots within said.slots.rising (λ p there. (among p h.snapshots said.each there).name)
+snaps_again h said = again most_snapshots 1 h.snapshots within said.slots.rising (λ p there. (among p h.snapshots said.each there).name)
   where
-    within : (p : Snap) → In p h.snapshots → (1 ≤ p.slot) × (p.slot < 1 + 24)
+    within : (p : Snap) → In p h.snapshots → (1 ≤ p.slot) × (p.slot < 1 + most_snapshots)
     within p there =
         let is = and_parts (nat_le 1 p.slot) (nat_lt p.slot stored_slots) (from_all (λ p. nat_le 1 p.slot && nat_lt p.slot stored_slots) h.snapshots said.slots.within p there) in
         let low = is.0 in
         let high = is.1 in
-        (grind (arith, nat_tests, low), let lt : p.slot < 25 = grind (arith, nat_tests, high) in omega (arith, lt))
+        (grind (arith, nat_tests, low), let lt : p.slot < stored_slots = grind (arith, nat_tests, high) in omega (arith, lt))
 
 -- ---- what a label says
 
@@ -174,7 +175,7 @@ each_sayable (r ∷ rs) slot all = so (r.name_length == 0) refl (each_sayable rs
     so true is rest = rest
     so false is rest = All-cons IsSayableSnap (snap_said slot r) (snaps_from (slot + 1) rs) (again_sayable r (All-head IsSnapRecord r rs all) is slot) rest
 
-pub label_sayable : (l : Label) → IsLabel l → length l.snapshots ≡ 24 → AreSayable (head_of l)
+pub label_sayable : (l : Label) → IsLabel l → length l.snapshots ≡ most_snapshots → AreSayable (head_of l)
 unfolding head_of
 label_sayable l range long = record { slots = label_slots l long; each = each_sayable l.snapshots 1 range.snapshots }
 
@@ -220,17 +221,17 @@ record_put n m ps x is =
     ∙ sym (append_assoc (records_from n 1 ps) (x ∷ []) (replicate m free_record))
     ∙ ap (λ (rs : List SnapRecord). rs ++ replicate m free_record) (ap (λ (r : SnapRecord). records_from n 1 ps ++ r ∷ []) (is ∙ ap (λ (j : ℕ). record_said (find (λ p. p.slot == j) ps)) (let at : n + 1 ≡ 1 + n = omega arith in at)) ∙ sym (records_more n 1 ps))
 
-pub record_next : (n : ℕ) (ps : List Snap) (x : SnapRecord) (rs : List SnapRecord) → n < 24 → rs ≡ records_from n 1 ps ++ replicate (24 - n) free_record → x ≡ record_said (find (λ p. p.slot == n + 1) ps) → set rs n x ≡ records_from (n + 1) 1 ps ++ replicate (24 - (n + 1)) free_record
+pub record_next : (n : ℕ) (ps : List Snap) (x : SnapRecord) (rs : List SnapRecord) → n < most_snapshots → rs ≡ records_from n 1 ps ++ replicate (most_snapshots - n) free_record → x ≡ record_said (find (λ p. p.slot == n + 1) ps) → set rs n x ≡ records_from (n + 1) 1 ps ++ replicate (most_snapshots - (n + 1)) free_record
 record_next n ps x rs within before is =
-    ap (λ (old : List SnapRecord). set old n x) (before ∙ ap (λ (k : ℕ). records_from n 1 ps ++ replicate k free_record) (let left : 24 - n ≡ suc (24 - (n + 1)) = omega (arith, within) in left))
-    ∙ record_put n (24 - (n + 1)) ps x is
+    ap (λ (old : List SnapRecord). set old n x) (before ∙ ap (λ (k : ℕ). records_from n 1 ps ++ replicate k free_record) (let left : most_snapshots - n ≡ suc (most_snapshots - (n + 1)) = omega (arith, within) in left))
+    ∙ record_put n (most_snapshots - (n + 1)) ps x is
 
-pub records_first : (ps : List Snap) → replicate 24 free_record ≡ records_from 0 1 ps ++ replicate (24 - 0) free_record
+pub records_first : (ps : List Snap) → replicate most_snapshots free_record ≡ records_from 0 1 ps ++ replicate (most_snapshots - 0) free_record
 unfolding records_from
 records_first ps = refl
 
-pub records_all : (n : ℕ) (ps : List Snap) (rs : List SnapRecord) → n ≡ 24 → rs ≡ records_from n 1 ps ++ replicate (24 - n) free_record → rs ≡ records_said ps
-records_all n ps rs all before = before ∙ ap (λ (k : ℕ). records_from k 1 ps ++ replicate (24 - k) free_record) all ∙ append-nil (records_said ps)
+pub records_all : (n : ℕ) (ps : List Snap) (rs : List SnapRecord) → n ≡ most_snapshots → rs ≡ records_from n 1 ps ++ replicate (most_snapshots - n) free_record → rs ≡ records_said ps
+records_all n ps rs all before = before ∙ ap (λ (k : ℕ). records_from k 1 ps ++ replicate (most_snapshots - k) free_record) all ∙ append-nil (records_said ps)
 
 -- the snapshot of a slot, as a head has it
 found_in : (snaps : List StateSnap) (slot : ℕ) → find (λ p. p.slot == slot) (snaps_in snaps) ≡ option_map snap_in (find (λ p. p.slot == slot) snaps)

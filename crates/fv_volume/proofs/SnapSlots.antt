@@ -15,7 +15,7 @@ use Rattle.fv_image.specs.Volumes.{snap_at}
 use Rattle.fv_image.specs.ReachRules.{are_distinct}
 use Rattle.fv_image.specs.Turned.{added as head_added, turned, without}
 use Rattle.fv_image.proofs.MapSteps.{find_added}
-use Rattle.fv_volmap.specs.Slots.{Slot, Volume as Maps, has, slot_at, slot_of_base, stored_count, taken_in, with_slot}
+use Rattle.fv_volmap.specs.Slots.{Slot, Volume as Maps, has, slot_at, slot_of_base, stored_count, taken_in, with_slot, slot_count}
 use Rattle.fv_volume.specs.declared.state.Snap.{Snap as StateSnap}
 use Rattle.fv_volume.specs.Files.{HasSlotsOf}
 use Rattle.fv_volume.specs.Snapshots.{FindsSnap, IsLeastFree, added, has_slot}
@@ -123,10 +123,10 @@ module _ (h : Head) (a : Rooted) (m : Maps) (long : stored_count < length m.slot
 -- ---- the union of the slots
 
 -- where no base has one, the stored slots have all
-pub stored_taken : (slots : List Slot) (v : ℕ) → length slots ≡ 26 → has v (slot_at (record { span = 0; slots = slots }) slot_of_base) ≡ false → taken_in slots v ≡ taken_in (take stored_count slots) v
+pub stored_taken : (slots : List Slot) (v : ℕ) → length slots ≡ slot_count → has v (slot_at (record { span = 0; slots = slots }) slot_of_base) ≡ false → taken_in slots v ≡ taken_in (take stored_count slots) v
 stored_taken slots v long free =
-    sym (ap (λ (s : List Slot). taken_in s v) (take_all 26 slots (omega (arith, long))))
-    ∙ list_any_more (has v) slots 25 None (omega (arith, long)) ∙ ap (λ (b : Bool). taken_in (take stored_count slots) v || b) free ∙ or_none (taken_in (take stored_count slots) v)
+    sym (ap (λ (s : List Slot). taken_in s v) (take_all slot_count slots (omega (arith, long))))
+    ∙ list_any_more (has v) slots slot_of_base None (omega (arith, long)) ∙ ap (λ (b : Bool). taken_in (take stored_count slots) v || b) free ∙ or_none (taken_in (take stored_count slots) v)
   where
     or_none : (b : Bool) → (b || false) ≡ b
     or_none true = refl

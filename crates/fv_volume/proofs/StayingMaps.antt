@@ -51,7 +51,7 @@ stays_within x v is = by (nat_lt v x.span) refl is
         absurd (true≢false (sym has ∙ ap (has_stored_map x) first ∙ active_moves x)))
         (λ (some : map_blocks x.span ≢ 0).
         let test = (and_parts (nat_lt (map_slot x.span v) stored_count) _ has).0 in
-        let low : map_slot x.span v < 25 = grind (arith, nat_tests, test) in
+        let low : map_slot x.span v < stored_count = grind (arith, nat_tests, test) in
         inside_there x.span v (omega (arith, some)) low)
         (cases_eq (map_blocks x.span) 0)
 

@@ -1,8 +1,9 @@
 -- The tables that a volume keeps, that of its base and those of its snapshots.
-use Rattle.std.proofs.Common.{◌≡◌, ℕ, Bool, true, false, not, List, [], ◌∷◌, ◌++◌, length, Option, Some, None, refl, ap₂, ◌∙◌}
-use Rattle.std.specs.Prelude.{All, IfSome}
+use Rattle.std.proofs.Common.{◌≡◌, ℕ, Bool, true, false, not, List, [], ◌∷◌, ◌++◌, length, Option, Some, None, refl, ◌∙◌, arith}
+use Rattle.std.specs.Prelude.{All, IfSome, ◌==◌}
 use Rattle.std.specs.Option.{option_map}
 use Rattle.std.proofs.lemmas.Bool.{and_parts}
+use Rattle.std.proofs.lemmas.Bool.Decides.{nat_tests}
 use Rattle.std.proofs.lemmas.List.Elements.{All-cons, All-head, All-nil, All-tail}
 use Rattle.fv_image.specs.HintRules.{is_splitting}
 use Rattle.fv_image.specs.Views.{Footing}
@@ -37,17 +38,17 @@ base_slot P Q each (Some b) all =
     let q : Snap = record { slot = slot_of_base; name = b.snapshot; table = b.table } in
     All-cons Q q [] (each q refl (All-head P q [] all)) (All-nil Q)
 
--- a volume with neither keeps none
-pub no_tables : (x : VolumeState) → x.base ≡ None → length x.snapshots ≡ 0 → tables_of x ≡ []
-no_tables x none few = ap₂ (λ (o : Option Base) (snaps : List Snap). base_table o ++ snaps) none (no_length x.snapshots few)
+-- where none is counted, none is kept
+pub none_counted : (x : VolumeState) → true ≡ (length (tables_of x) == 0) → tables_of x ≡ []
+none_counted x is = no_length (tables_of x) (grind (arith, nat_tests, is))
   where
-    no_length : (snaps : List Snap) → length snaps ≡ 0 → snaps ≡ []
+    no_length : (kept : List Snap) → length kept ≡ 0 → kept ≡ []
     no_length [] few = refl
     no_length (q ∷ qs) few = absurd cc
 
 -- a volume whose label can be written isn't being split
 pub head_whole : (slot : ℕ) (x : VolumeState) → IsLabelled slot x → is_splitting (head_in x).base ≡ false
-head_whole slot x labelled = opposite (is_splitting (head_in x).base) (and_parts x.known _ labelled.form).1
+head_whole slot x labelled = opposite (is_splitting (head_in x).base) (and_parts _ x.known labelled.form).0
   where
     opposite : (t : Bool) → not t ≡ true → t ≡ false
     opposite true e = absurd cc

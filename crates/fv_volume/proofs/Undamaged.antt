@@ -13,11 +13,10 @@ use Rattle.fv_tree.specs.Sources.{Shown, Use}
 use Rattle.fv_tree.specs.Standing.{standing, under, IsNodeDamage, IsUnread, LacksBlock}
 use Rattle.fv_tree.specs.Flushing.{Leads, Loaded, loaded_over, IsSound}
 use Rattle.fv_tree.specs.Beside.{unread, IsLaid}
-use Rattle.fv_tree.specs.Stored.{IsStoredWell as IsTreeStoredWell}
 use Rattle.fv_tree.proofs.Beside.{tree_laid, unread_laid, unread_sound}
 use Rattle.fv_inode.specs.Files.{NamesIndexes}
 use Rattle.fv_files.specs.declared.files.Files.{Files}
-use Rattle.fv_files.specs.Apart.{StandsIn, StoredIn}
+use Rattle.fv_files.specs.Apart.{IsAsSaid, StandsIn, StoredIn}
 use Rattle.fv_files.specs.Tables.{file_loaded, tree_in}
 use Rattle.fv_pool.specs.declared.pool.Pool.{Pool}
 use Rattle.fv_volume.specs.declared.state.VolumeState.{VolumeState}
@@ -44,7 +43,7 @@ pub record HoldsWell (blocks : Under) (taken : ℕ → Option Use) (t : Rooted) 
   pub on : loaded.tree.under ≡ blocks
   pub sound : IsSound taken loaded
   pub laid : IsLaid loaded
-  pub well : IsTreeStoredWell loaded
+  pub well : IsAsSaid loaded
 
 -- So each tree of a table does, and each inode block names its index.
 pub record TableHolds (blocks : Under) (taken : ℕ → Option Use) (t : Standing) : Type 0 where
@@ -71,7 +70,7 @@ module _ (blocks : Under) (taken : ℕ → Option Use) (t : Rooted) (good : Hold
   has_shape : (old new : Shown) (at want found : ℕ) → under old ≡ blocks → IsNodeDamage s.tree old new at want found → ⊥
   has_shape old new at want found same n =
       let v = (pointer_at s.tree n.level n.place).vvbn in
-      let node = good.well.nodes n.level n.place v n.low (led_by s good.laid n.level n.place n.damage.some n.unread) in
+      let node = good.well.0 n.level n.place v n.low (led_by s good.laid n.level n.place n.damage.some n.unread) in
       let its = not_two (blocks v) node.block n.damage.block (ap (λ (u : Under). u v) (sym good.on) ∙ node.lies) (ap (λ (u : Under). u v) (sym same) ∙ n.damage.lies) in
       not_err (node_at node.block) _ _ node.spells (ap node_at its ∙ n.damage.fault)
 
@@ -90,17 +89,17 @@ module _ (d : Disk) (p : Pool) (x : VolumeState) where
   abbrev taken : ℕ → Option Use
   taken = (shows d p x).used
 
-  holds_unread : (t : Rooted) → ((level place : ℕ) → t.nodes level place ≡ None) → t.under ≡ blocks → IsSound taken (unread t) → IsTreeStoredWell (unread t) → HoldsWell blocks taken t
+  holds_unread : (t : Rooted) → ((level place : ℕ) → t.nodes level place ≡ None) → t.under ≡ blocks → IsSound taken (unread t) → IsAsSaid (unread t) → HoldsWell blocks taken t
   holds_unread t none on sound well = record { loaded = unread t; tree = refl; on = on; sound = sound; laid = unread_laid t; well = well }
 
-  holds_kept : (t : Tree) → IsSound taken (loaded_over blocks t) → IsTreeStoredWell (loaded_over blocks t) → HoldsWell blocks taken (standing blocks t)
+  holds_kept : (t : Tree) → IsSound taken (loaded_over blocks t) → IsAsSaid (loaded_over blocks t) → HoldsWell blocks taken (standing blocks t)
   holds_kept t sound well = record { loaded = loaded_over blocks t; tree = refl; on = refl; sound = sound; laid = tree_laid blocks t; well = well }
 
   inode_by : (o : Option Files) → AreSoundBy blocks taken x.active o → AreStoredBy blocks x.active o → HoldsWell blocks taken (standing_by blocks x.active o).inode
   inode_by None sound well = let t = stored blocks greatest_word x.active.levels x.active.root in holds_unread t (λ level place. refl) refl (unread_sound taken t (λ level place. refl) (λ index. refl) sound.inode) (well.trees None)
   inode_by (Some f) sound well = holds_kept f.inode.tree (sound.trees None) (well.trees None)
 
-  file_tree : (n : ℕ) (r : InodeRecord) (o : Option Tree) → IsSound taken (file_loaded blocks n r o) → IsTreeStoredWell (file_loaded blocks n r o)
+  file_tree : (n : ℕ) (r : InodeRecord) (o : Option Tree) → IsSound taken (file_loaded blocks n r o) → IsAsSaid (file_loaded blocks n r o)
       → HoldsWell blocks taken (tree_or (option_map (standing blocks) o) (stored blocks n r.levels r.root))
   file_tree n r None sound well = holds_unread (stored blocks n r.levels r.root) (λ level place. refl) refl sound well
   file_tree n r (Some t) sound well = holds_kept t sound well

@@ -1,5 +1,5 @@
 -- When volumes are volumes of the machine that they stand for.
-use Rattle.std.specs.Prelude.{◌≡◌, ◌≢◌, ◌≤◌, ◌==◌, ℕ, Bool, true, false, not, ◌&&◌, None, IfSome, get_or, is_some}
+use Rattle.std.specs.Prelude.{◌≡◌, ◌≢◌, ◌≤◌, ◌==◌, ℕ, true, false, None, IfSome, get_or, is_some}
 use Rattle.std.specs.List.{list_any}
 use Rattle.fv_disk.specs.Shown.{Image}
 use Rattle.fv_codec.specs.Blocks.{IsLabel, last_place}
@@ -8,10 +8,10 @@ use Rattle.fv_model.specs.Spelling.{is_name}
 use Rattle.fv_model.specs.Machines.{Machine}
 use Rattle.fv_laws.specs.WellFormed.{IsWellTable}
 use Rattle.fv_laws.specs.Positions.{HasNoReserve}
-use Rattle.fv_image.specs.HintRules.{is_splitting}
 use Rattle.fv_image.specs.Views.{Head, View}
 use Rattle.fv_image.specs.Volumes.{snap_at}
 use Rattle.fv_image.specs.Mapped.{AreInSlots}
+use Rattle.fv_image.specs.WholeMachine.{has_form}
 use Rattle.fv_charge.specs.Ledgers.{IsLedgerOf}
 use Rattle.fv_volmap.specs.Slots.{Volume as Maps, slot_at, slot_of_base}
 use Rattle.fv_volume.specs.declared.state.VolumeState.{VolumeState}
@@ -20,10 +20,6 @@ use Rattle.fv_volume.specs.Labels.{label_said}
 use Rattle.fv_volume.specs.SnapRecords.{AreSayable}
 use Rattle.fv_volume.specs.States.{States, state_at, head_in, view_over}
 use Rattle.fv_volume.specs.Trees.{Trees, active_in, volume_now, machine_in}
-
--- The forms of volumes that there are: any snapshots, with a base or without one, but none that is being split, and no unknown place.
-abbrev pub has_form : Head → Bool
-has_form h = h.known && not (is_splitting h.base)
 
 -- Of the slots of a volume's maps those of its snapshots are used beside the active one, and that of its base, if it has one.
 pub record HasSlotsOf (h : Head) (maps : Maps) : Type 0 where

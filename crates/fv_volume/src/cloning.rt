@@ -7,13 +7,10 @@ ghost use Rattle.fv_volume.specs.Asking.{snap_named};
 ghost use Rattle.fv_volume.specs.Cloning.{base_on, count_in, AreMapsOn, IsCloneOf};
 
 use crate::known::known_name;
-use crate::state::{Base, Snapshots, VolumeState, new_ledger};
+use crate::state::{Base, VolumeState};
 use fv_model::{Kind, Name};
-use fv_volmap::VolMap;
+use fv_volmap::{BASE_SLOT, MapSlot, VolMap};
 use std::alloc::{AllocError, Global};
-
-/// The slot of a base among a volume's maps.
-const BASE: u8 = 25;
 
 impl VolumeState {
     /// What a clone of the snapshot of a name stands on: this volume, and the snapshot's map slot, name and table. `None` exactly where no
@@ -34,7 +31,7 @@ impl VolumeState {
 
     /// How many numbers the map of a slot below 26 has, none for a free one; of the map of a snapshot as many as its table has ids. Costs
     /// a step for each word of 64 numbers of the span.
-    pub fn count_in(&self, slot: u8) -> u32
+    pub fn count_in(&self, slot: MapSlot) -> u32
         requires { slot < slot_count }
         ensures count { result ≡ count_in self.entry.now slot }
         ensures most { result ≤ self.entry.now.map.span }
@@ -63,37 +60,32 @@ impl VolumeState {
         parent: &VolumeState,
     ) -> Result<VolumeState, AllocError>
         requires size { size ≤ 500000 }
-        requires slot { base.slot < slot_count }
+        requires base { base.slot < slot_count }
         requires used { IsSome (slot_at parent.now.map base.slot) }
         requires span { parent.now.map.span ≤ span }
         ensures { IfOk result (IsCloneOf parent.entry.now base slot name.now size kind span) }
     {
         known_name(name);
-        Ok(VolumeState {
+        let now = parent.now;
+        let active = base.table;
+        let map = maps_on(alloc, span, &parent.map, base.slot)?;
+        Ok(VolumeState::made(
+            alloc,
             slot,
-            name: *name,
-            kind,
+            name,
             size,
-            most: 2 * size,
+            kind,
             span,
-            now: parent.now,
-            known: true,
-            base: Some(base),
-            active: base.table,
-            snapshots: Snapshots::new(alloc),
-            map: maps_on(alloc, span, &parent.map, base.slot)?,
-            ledger: new_ledger(size, kind, span),
-            files: None,
-            numbers: None,
-            label: 0,
-            changed: true,
-            fresh: [false; 25],
-        })
+            now,
+            Some(base),
+            active,
+            map,
+        ))
     }
 }
 
 /// The maps of a new clone of this span, which stands on a slot of its parent's maps. Its active set is what that slot has.
-fn maps_on(alloc: Global, span: u32, parent: &VolMap, slot: u8) -> Result<VolMap, AllocError>
+fn maps_on(alloc: Global, span: u32, parent: &VolMap, slot: MapSlot) -> Result<VolMap, AllocError>
     requires slot { slot < slot_count }
     requires used { IsSome (slot_at parent.now slot) }
     requires span { parent.now.span ≤ span }
@@ -101,6 +93,6 @@ fn maps_on(alloc: Global, span: u32, parent: &VolMap, slot: u8) -> Result<VolMap
 {
     let mut maps = VolMap::new(alloc, span)?;
     maps.stand_on(parent, slot)?;
-    maps.restore(BASE);
+    maps.restore(BASE_SLOT);
     Ok(maps)
 }

@@ -21,6 +21,7 @@ use fv_disk::{Block, BlockFault, Disk, ZERO};
 use fv_model::{Kind, Name};
 use fv_pool::Rooted;
 use fv_store::Store;
+use fv_volmap::{MapSlot, SNAPSHOT_SLOTS};
 
 /// A pointer that leads nowhere.
 pub(crate) const HOLE: Pointer = Pointer::HOLE;
@@ -93,7 +94,7 @@ fn name_in(field: &[u8; 64], bytes: u8) -> Name
 }
 
 /// The snapshot of a map slot that a used record says.
-pub(crate) fn snap_of(said: &SnapRecord, slot: u8) -> Snap
+pub(crate) fn snap_of(said: &SnapRecord, slot: MapSlot) -> Snap
     requires range { IsSnapRecord said.now }
     requires used { 1 ≤ said.now.name_length }
     ensures { snap_in result ≡ snap_said slot said.entry.now }
@@ -122,14 +123,14 @@ fn record_of(snap: &Snap) -> SnapRecord
 }
 
 /// The snapshot of a map slot.
-fn snap_at(snaps: &[Snap], slot: u8) -> Option<&Snap>
+fn snap_at(snaps: &[Snap], slot: MapSlot) -> Option<&Snap>
     ensures { option_copied result ≡ find (λ p. p.slot == slot) snaps.entry.now }
 {
     snaps.iter().find(|snap| snap.slot == slot)
 }
 
 /// The record of a map slot, free where no snapshot has it.
-fn record_at(snaps: &[Snap], slot: u8) -> SnapRecord
+fn record_at(snaps: &[Snap], slot: MapSlot) -> SnapRecord
     ensures { result ≡ record_said (find (λ p. p.slot == slot) (snaps_in snaps.entry.now)) }
 {
     match snap_at(snaps, slot) {
@@ -139,12 +140,12 @@ fn record_at(snaps: &[Snap], slot: u8) -> SnapRecord
 }
 
 /// The records of the map slots from 1 to 24.
-pub(crate) fn records_of(snaps: &[Snap]) -> [SnapRecord; 24]
+pub(crate) fn records_of(snaps: &[Snap]) -> [SnapRecord; SNAPSHOT_SLOTS]
     ensures { result ≡ records_said (snaps_in snaps.entry.now) }
 {
-    let mut records = [FREE; 24];
-    for at in 0..24 {
-        records[at] = record_at(snaps, at as u8 + 1);
+    let mut records = [FREE; SNAPSHOT_SLOTS];
+    for at in 0..SNAPSHOT_SLOTS {
+        records[at] = record_at(snaps, at as MapSlot + 1);
     }
     records
 }
@@ -175,7 +176,7 @@ pub(crate) fn base_of(label: &Label) -> Option<Base>
 
 /// What a volume stands on, as a label has it: the slot of its parent and one, the map slot of the parent's snapshot, and 1 while it is
 /// being split; zeros without a base.
-pub(crate) fn base_fields(base: Option<Base>) -> (u8, u8, u8)
+pub(crate) fn base_fields(base: Option<Base>) -> (u8, MapSlot, u8)
     requires { IfSome base (λ base. base.parent < slot_count) }
     ensures parent { result.0 ≡ parent_said (option_map footing_in base) }
     ensures slot { result.1 ≡ base_slot_said (option_map footing_in base) }

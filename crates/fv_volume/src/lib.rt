@@ -10,6 +10,7 @@ mod cloning;
 mod judging;
 mod known;
 mod label;
+mod making;
 mod moving;
 mod numbering;
 mod placing;

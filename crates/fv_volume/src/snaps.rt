@@ -18,7 +18,7 @@ use crate::state::{Base, Snap, VolumeState};
 use fv_charge::Ledger;
 use fv_model::{Kind, Name, Names, map_blocks};
 use fv_pool::Rooted;
-use fv_volmap::VolMap;
+use fv_volmap::{MapSlot, VolMap};
 use std::alloc::{AllocError, Global};
 use std::collections::BTreeSet;
 
@@ -50,7 +50,7 @@ impl VolumeState {
     /// name. The one error is want of memory; nothing changes then. Costs a step for each word of 64 numbers of the span and for each
     /// snapshot. Nothing is copied but the map.
     #[tactic(auto, using(crate::proofs::SnapNames::slot_back))]
-    pub fn keep_snapshot(&mut self, slot: u8, name: &Name) -> Result<(), AllocError>
+    pub fn keep_snapshot(&mut self, slot: MapSlot, name: &Name) -> Result<(), AllocError>
         requires above { 0 < slot }
         requires stored { slot < stored_count }
         requires free { slot_at self.old.map slot ≡ None }
@@ -80,7 +80,7 @@ impl VolumeState {
 
     /// Removes the snapshot at a place of the list, whose map slot this is, with its map. The ledger stays; it is the caller's to set
     /// (`recount`). Costs a step for each snapshot, and takes no memory.
-    pub fn remove_snapshot(&mut self, at: usize, slot: u8)
+    pub fn remove_snapshot(&mut self, at: usize, slot: MapSlot)
         requires place { at < length self.old.snapshots }
         requires above { 0 < slot }
         requires stored { slot < stored_count }

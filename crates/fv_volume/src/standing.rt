@@ -1,15 +1,18 @@
 //! What a volume stands on, once its parent was read.
 
-ghost use Rattle.std.specs.Prelude.{◌≡◌, ◌==◌, find, OnOk, option_copied};
+ghost use Rattle.std.specs.Prelude.{◌≡◌, ◌==◌, ◌<◌, find, None, IfSome, OnErr, OnOk, option_copied};
+ghost use Rattle.fv_image.specs.Volumes.{snap_at};
 ghost use Rattle.fv_volume.specs.Files.{IsLabelled};
 ghost use Rattle.fv_volume.specs.KnownBase.{KeepsRest, KnowsBase};
+ghost use Rattle.fv_volume.specs.States.{head_in};
 
 use crate::state::{Base, Snap, Snapshots, VolumeState};
+use fv_volmap::MapSlot;
 use std::alloc::AllocError;
 
 impl Snapshots {
     /// The snapshot of a map slot; `None` exactly where none has it. Costs a step for each snapshot.
-    fn of_slot(&self, slot: u8) -> Option<&Snap>
+    fn of_slot(&self, slot: MapSlot) -> Option<&Snap>
         ensures { option_copied result ≡ find (λ snap. snap.slot == slot) self.entry.now }
     {
         self.as_slice().iter().find(|snap| snap.slot == slot)
@@ -25,6 +28,9 @@ impl VolumeState {
     pub fn learn_base(&mut self, parent: &VolumeState) -> Result<(), AllocError>
         requires labelled { IsLabelled self.old.slot self.old }
         requires parent { IsLabelled parent.now.slot parent.now }
+        ensures failed { OnErr result (self.new ≡ self.old) }
+        ensures lacking { IfSome self.old.base (λ base. snap_at (head_in parent.entry.now) base.slot ≡ None → self.new ≡ self.old) }
+        ensures wider { self.old.span < parent.entry.now.span → self.new ≡ self.old }
         ensures rest { KeepsRest self.old self.new }
         ensures knows { OnOk result (KnowsBase parent.entry.now self.new) }
     {

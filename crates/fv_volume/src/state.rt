@@ -1,15 +1,15 @@
 //! One volume, as it is kept in memory.
 
-ghost use Rattle.std.specs.Prelude.{◌≡◌, ◌<◌, ◌≤◌, ◌+◌, ◌*◌, ◌-◌, ◌∷◌, ◌++◌, [], false, true, nat_lt, length, position, take, drop, All, None, IfSome, IfNone, IfOk, OnOk, OnErr, option_copied, replicate};
+ghost use Rattle.std.specs.Prelude.{◌≡◌, ◌==◌, ◌<◌, ◌≤◌, ◌+◌, ◌*◌, ◌-◌, ◌∷◌, ◌++◌, [], false, true, nat_lt, length, position, take, drop, All, None, IfSome, IfNone, IfOk, OnOk, OnErr, option_copied, replicate};
 ghost use Rattle.std.specs.List.{position_or_len};
 ghost use Rattle.fv_model.specs.Numbers.{greatest_span, most_snapshots, most_asked};
 ghost use Rattle.fv_codec.specs.Blocks.{IsLabel, IsSnapRecord};
 ghost use Rattle.fv_image.specs.Views.{head_of, snaps_from};
+ghost use Rattle.fv_image.specs.WholeMachine.{has_form};
 ghost use Rattle.fv_model.specs.Spelling.{is_name};
 ghost use Rattle.fv_volmap.specs.Slots.{empty_volume, stored_count};
 ghost use Rattle.fv_volume.specs.Asking.{snap_named};
 ghost use Rattle.fv_volume.specs.Labels.{label_said};
-ghost use Rattle.fv_volume.specs.Files.{has_form};
 ghost use Rattle.fv_volume.specs.Snapshots.{FindsSnap, IsLeastFree, AreSlotsFull, has_slot, added};
 ghost use Rattle.fv_container.specs.Chains.{slot_count};
 ghost use Rattle.fv_volume.specs.Loading.{IsRead, form_in};
@@ -28,7 +28,7 @@ use fv_codec::{Label, SnapRecord};
 use fv_files::{FileNumbers, Files};
 use fv_model::{Kind, Name, map_blocks};
 use fv_pool::Rooted;
-use fv_volmap::VolMap;
+use fv_volmap::{BASE_SLOT, MapSlot, SNAPSHOT_SLOTS, STORED_SLOTS, VolMap};
 use std::alloc::{AllocError, Global};
 use std::marker::Model;
 
@@ -38,7 +38,7 @@ pub struct Base {
     /// The slot of its parent, below 64.
     pub parent: u8,
     /// The map slot of the parent's snapshot, 1 to 24.
-    pub slot: u8,
+    pub slot: MapSlot,
     /// Whether it is being split from it.
     pub splitting: bool,
     /// The name of its parent.
@@ -53,7 +53,7 @@ pub struct Base {
 #[derive(Debug, Drop)]
 pub struct Snap {
     /// Its map slot, 1 to 24.
-    pub slot: u8,
+    pub slot: MapSlot,
     /// Its name.
     pub name: Name,
     /// Its table.
@@ -87,20 +87,23 @@ impl Snapshots {
 
     /// The snapshots that the used ones of a label's 24 records say, of the map slots from 1 on: record 0 is that of slot 1. The one error
     /// is want of memory. Costs a step for each record, and memory for each snapshot. `docs/FORMAT.md` has the records.
-    pub fn of_records(alloc: Global, records: &[SnapRecord; 24]) -> Result<Snapshots, AllocError>
+    pub fn of_records(
+        alloc: Global,
+        records: &[SnapRecord; SNAPSHOT_SLOTS],
+    ) -> Result<Snapshots, AllocError>
         requires { All IsSnapRecord records.now }
         ensures said { IfOk result (λ snaps. snaps_in snaps ≡ snaps_from 1 records.entry.now) }
-        ensures long { length records.entry.now ≡ 24 }
+        ensures long { length records.entry.now ≡ most_snapshots }
     {
         let mut snaps = Snapshots::new(alloc);
-        for at in 0..24 {
-            snaps.add_said(&records[at], at as u8 + 1)?;
+        for at in 0..SNAPSHOT_SLOTS {
+            snaps.add_said(&records[at], at as MapSlot + 1)?;
         }
         Ok(snaps)
     }
 
     /// Adds the snapshot that the record of a map slot says at the end, where the record is a used one.
-    fn add_said(&mut self, said: &SnapRecord, slot: u8) -> Result<(), AllocError>
+    fn add_said(&mut self, said: &SnapRecord, slot: MapSlot) -> Result<(), AllocError>
         requires { IsSnapRecord said.now }
         ensures { OnOk result (snaps_in self.new ≡ snaps_in self.old ++ snaps_recorded slot said.now) }
     {
@@ -152,7 +155,7 @@ impl Snapshots {
     }
 
     /// Whether a snapshot has this slot. Costs a step for each snapshot.
-    pub fn has_slot(&self, slot: u8) -> bool
+    pub fn has_slot(&self, slot: MapSlot) -> bool
         ensures { result ≡ has_slot self.now slot }
     {
         self.snaps.iter().any(|snap| snap.slot == slot)
@@ -160,11 +163,11 @@ impl Snapshots {
 
     /// The least slot from 1 to 24 that no snapshot has; `None` exactly where each is a snapshot's. Costs a step
     /// for each slot and snapshot.
-    pub fn free_slot(&self) -> Option<u8>
+    pub fn free_slot(&self) -> Option<MapSlot>
         ensures free { IfSome result (IsLeastFree self.now) }
         ensures full { IfNone result (AreSlotsFull self.now) }
     {
-        for slot in 1..25 {
+        for slot in 1..BASE_SLOT {
             if !self.has_slot(slot) {
                 return Some(slot);
             }
@@ -173,14 +176,14 @@ impl Snapshots {
     }
 
     /// The place of the first snapshot of a greater slot.
-    fn next_after(&self, slot: u8) -> Option<usize>
+    fn next_after(&self, slot: MapSlot) -> Option<usize>
         ensures { result ≡ position (λ snap. nat_lt slot snap.slot) self.now }
     {
         self.snaps.iter().position(|snap| slot < snap.slot)
     }
 
     /// Where a snapshot of this slot goes: before the first of a greater slot.
-    fn place_of(&self, slot: u8) -> usize
+    fn place_of(&self, slot: MapSlot) -> usize
         ensures place { result ≡ position_or_len (λ snap. nat_lt slot snap.slot) self.now }
         ensures within { result ≤ length self.now }
     {
@@ -251,7 +254,7 @@ pub struct VolumeState {
     /// Whether the next consistency point has something to write.
     pub(crate) changed: bool,
     /// Whether the map of each slot waits to be written: a snapshot's that was kept since the last consistency point.
-    pub(crate) fresh: [bool; 25],
+    pub(crate) fresh: [bool; STORED_SLOTS],
 }
 
 impl VolumeState {
@@ -279,29 +282,12 @@ impl VolumeState {
         ensures named { is_name name.now ≡ true }
     {
         known_name(name);
-        Ok(VolumeState {
-            slot,
-            name: *name,
-            kind,
-            size,
-            most: 2 * size,
-            span,
-            now: 0,
-            known: true,
-            base: None,
-            active: Rooted {
-                levels: 0,
-                root: HOLE,
-            },
-            snapshots: Snapshots::new(alloc),
-            map: VolMap::new(alloc, span)?,
-            ledger: new_ledger(size, kind, span),
-            files: None,
-            numbers: None,
-            label: 0,
-            changed: true,
-            fresh: [false; 25],
-        })
+        let active = Rooted {
+            levels: 0,
+            root: HOLE,
+        };
+        let map = VolMap::new(alloc, span)?;
+        Ok(VolumeState::made(alloc, slot, name, size, kind, span, 0, None, active, map))
     }
 
     /// The volume that a label at this PVBN says, for a slot below 64, with its snapshots and the maps of its tables. It hasn't changed,
@@ -351,14 +337,13 @@ impl VolumeState {
             numbers: None,
             label: place,
             changed: false,
-            fresh: [false; 25],
+            fresh: [false; STORED_SLOTS],
         }
     }
 
     /// Whether it keeps no table beside the active one, neither that of a snapshot nor that of a base. Costs one step.
-    #[tactic(auto, using(crate::proofs::TablesOf::no_tables))]
     pub(crate) fn has_one_table(&self) -> bool
-        ensures { result ≡ true → tables_of self.entry.now ≡ [] }
+        ensures { result ≡ (length (tables_of self.entry.now) == 0) }
     {
         self.base.is_none() && self.snapshots.len() == 0
     }
@@ -380,7 +365,7 @@ impl VolumeState {
 
     /// Whether the next consistency point writes the map of a slot below 25: that of the active table, slot 0, and one that was kept since
     /// the last point. Costs a step.
-    pub fn is_rewritten(&self, slot: u8) -> bool
+    pub fn is_rewritten(&self, slot: MapSlot) -> bool
         requires { slot < stored_count }
         ensures { result ≡ is_rewritten self.entry.now slot }
     {
@@ -390,10 +375,10 @@ impl VolumeState {
     /// How many maps wait to be written beside the active one.
     fn waiting_maps(&self) -> u32
         ensures value { result ≡ map_count self.entry.now.fresh - 1 }
-        ensures most { result ≤ 24 }
+        ensures most { result ≤ most_snapshots }
     {
         let mut count = 0;
-        for slot in 1..25 {
+        for slot in 1..STORED_SLOTS {
             if self.fresh[slot] {
                 count += 1;
             }
@@ -462,7 +447,7 @@ impl VolumeState {
     {
         self.label = label;
         self.changed = false;
-        self.fresh = [false; 25];
+        self.fresh = [false; STORED_SLOTS];
     }
 }
 

@@ -10,32 +10,16 @@ use Rattle.fv_volume.specs.declared.state.Base.{Base}
 use Rattle.fv_volume.specs.declared.state.VolumeState.{VolumeState}
 use Rattle.fv_volumes.specs.Footing.{ends_in, footing_at, AreFooted, IsFooted, IsOnBase}
 use Rattle.fv_volume.specs.States.{States, footing_in, state_at}
+use Rattle.fv_volumes.proofs.Footed.{footed_beside}
 use Rattle.fv_volumes.proofs.EndsIn.{ends_sooner, LeadToUsed}
 
 module _ (states new : States) (slot : ℕ) (low : slot < slot_count) (free : state_at states slot ≡ None) (x : VolumeState) (there : state_at new slot ≡ Some x) (others : (s : ℕ) → s ≢ slot → state_at new s ≡ state_at states s) where
   elsewhere : (s : ℕ) (c : VolumeState) → state_at states s ≡ Some c → s ≢ slot
   elsewhere s c at same = none-some c (sym free ∙ ap (state_at states) (sym same) ∙ at)
 
-  still : (s : ℕ) (c : VolumeState) → state_at states s ≡ Some c → state_at new s ≡ Some c
-  still s c at = others s (elsewhere s c at) ∙ at
-
   -- what a volume stands on is there still
-  pub footed_still : (c : VolumeState) (b : Base) → IsFooted states c b → IsFooted new c b
-  footed_still c b is = record {
-    parent = is.parent;
-    inside = is.inside;
-    there = still b.parent is.parent is.there;
-    snap = is.snap;
-    found = is.found;
-    above = is.above;
-    named = is.named;
-    called = is.called;
-    table = is.table;
-    span = is.span;
-    known = is.known;
-    whole = is.whole;
-    same = is.same;
-  }
+  footed_still : (c : VolumeState) (b : Base) → IsFooted states c b → IsFooted new c b
+  footed_still c b is = footed_beside states new c c b refl (λ v. refl) (others b.parent (elsewhere b.parent is.parent is.there)) is
 
   module _ (slots : Slots) (are : AreFooted states slots) where
     abbrev used : ℕ → Bool

@@ -1,5 +1,5 @@
 -- A volume that is removed: the blocks that it gives back, and what the machine says of it.
-use Rattle.std.proofs.Common.{◌≡◌, ◌≢◌, ◌⊎◌, inl, inr, ⊎_elim, ℕ, ◌+◌, ◌<◌, ◌≤◌, Bool, true, false, not, ◌&&◌, ◌||◌, cond, List, [], ◌∷◌, length, Option, Some, None, true≢false, refl, sym, ap, subst, ◌∙◌, arith}
+use Rattle.std.proofs.Common.{◌≡◌, ◌≢◌, inl, inr, ⊎_elim, ℕ, ◌+◌, ◌<◌, ◌≤◌, Bool, true, false, not, ◌&&◌, ◌||◌, cond, List, [], ◌∷◌, length, Option, Some, None, true≢false, refl, sym, ap, subst, ◌∙◌, arith}
 use Rattle.std.specs.Prelude.{Result, Ok, Err, IfSome, nat_lt, ◌==◌}
 use Rattle.std.specs.Option.{is_none}
 use Rattle.std.specs.FinMap as fin
@@ -10,6 +10,7 @@ use Rattle.std.proofs.lemmas.Bool.{cases_eq, cases_lt}
 use Rattle.std.proofs.Math.Bool.{or_comm}
 use Rattle.std.proofs.lemmas.Bool.Decides.{nat_tests}
 use Rattle.fv_bits.specs.Members.{is_member, HasNoneFrom, IsFirstMember}
+use Rattle.fv_model.specs.declared.answers.Refusal.{Refusal}
 use Rattle.fv_model.specs.declared.answers.Refusal.TheVariants.{NoVolume, VolumeInUse}
 use Rattle.fv_model.specs.declared.commands.Command.TheVariants.{VolDestroy}
 use Rattle.fv_model.specs.Machines.{Machine}
@@ -37,7 +38,7 @@ use Rattle.fv_pool.specs.Causes.{HasVolumeCause, of_block}
 use Rattle.fv_delay.specs.Reclaims.{HasGivenSome}
 use Rattle.fv_volume.specs.declared.state.VolumeState.{VolumeState}
 use Rattle.fv_volume.specs.Calls.{Has}
-use Rattle.fv_volumes.specs.Destroying.{Destroys, EmptiesAt, GivesBackAt, HasForgotten, HasForgottenSome, MarksAt}
+use Rattle.fv_volumes.specs.Destroying.{Destroys, EmptiesAt, GivesBackAt, HasForgotten, HasForgottenSome, IsDestroyFault, IsSaid, MarksAt}
 use Rattle.fv_volumes.specs.Housed.{AreHoused}
 use Rattle.fv_pool.specs.Keeping.{Blocks}
 use Rattle.fv_volume.specs.Loading.{Houses}
@@ -288,37 +289,23 @@ module _ (disk : Disk) (old : States) (pool : Pool) (name : List ℕ) where
       pub destroy_failed : (left : Pool) → LeavesPool pool left → (e : BlockFault) → IsHoldFault disk pool.containers e → (r : Result Unit VolumeFault) → r ≡ Err (of_block e) → Destroys disk old pool name old left r
       destroy_failed left leaves e fault r is = subst (Destroys disk old pool name old left) (sym is) (by e fault)
         where
+          failed : (f : VolumeFault) → ((said : Option Refusal) → said ≡ None → IsSaid said (Err f))
+              → ((r : Refusal) → ◌≡◌ {A = Result Unit VolumeFault} (Err f) (Err (Refused r)) → ⊥) → IsDestroyFault disk pool.containers f → Destroys disk old pool name old left (Err f)
+          failed f says isnt why = record {
+            agrees = λ footed named contents blocks m its. says _ (said_none footed named contents blocks m its);
+            missing = λ none. absurd (nobody none);
+            in_use = λ s low its used. absurd (never_used s its used);
+            there = λ s low its unused r is. isnt r is;
+            done = tt;
+            unused = tt;
+            stays = (refl, leaves);
+            fails = why;
+          }
+
           by : (e : BlockFault) → IsHoldFault disk pool.containers e → Destroys disk old pool name old left (Err (of_block e))
-          by DiskFault fault = record {
-            agrees = said_none;
-            missing = λ none. absurd (nobody none);
-            in_use = λ s low its used. absurd (never_used s its used);
-            there = λ s low its isnt r is. cc;
-            done = tt;
-            unused = tt;
-            stays = (refl, leaves);
-            fails = tt;
-          }
-          by (Damaged at want found) fault = record {
-            agrees = said_none;
-            missing = λ none. absurd (nobody none);
-            in_use = λ s low its used. absurd (never_used s its used);
-            there = λ s low its isnt r is. cc;
-            done = tt;
-            unused = tt;
-            stays = (refl, leaves);
-            fails = fault;
-          }
-          by Memory fault = record {
-            agrees = said_none;
-            missing = λ none. absurd (nobody none);
-            in_use = λ s low its used. absurd (never_used s its used);
-            there = λ s low its isnt r is. cc;
-            done = tt;
-            unused = tt;
-            stays = (refl, leaves);
-            fails = tt;
-          }
+          by DiskFault fault = failed (of_block DiskFault) (λ said none. none) (λ r is. cc) fault
+          by (Damaged at want found) fault = failed (of_block (Damaged at want found)) (λ said none. none) (λ r is. cc) fault
+          by Memory fault = failed (of_block Memory) (λ said none. none) (λ r is. cc) fault
 
       -- or it is removed.
       pub destroys : (marks : List Bool) (mid : Pool) (new : States) (left : Pool) → AreHoused pool.containers old → LeavesPool pool mid

@@ -1,5 +1,5 @@
 -- What is left of the other volumes of a session where one was removed: each stands for what it stood for, and all are spaced still.
-use Rattle.std.proofs.Common.{◌≡◌, ◌≢◌, ◌⊎◌, ⊎_elim, ℕ, zero, suc, ◌<◌, ◌≤◌, ◌+◌, Bool, true, false, not, ◌&&◌, ◌||◌, Option, Some, None, is_some, true≢false, refl, sym, ap, subst, ◌∙◌, arith}
+use Rattle.std.proofs.Common.{◌≡◌, ◌≢◌, ⊎_elim, ℕ, zero, suc, ◌<◌, ◌≤◌, ◌+◌, Bool, true, false, not, ◌&&◌, ◌||◌, Option, Some, None, is_some, true≢false, refl, sym, ap, subst, ◌∙◌, arith}
 use Rattle.std.specs.Prelude.{IfSome, cond, ◌==◌}
 use Rattle.std.specs.Option.{option_and_then, option_map, option_map_or}
 use Rattle.std.specs.FinMap as fin
@@ -13,7 +13,7 @@ use Rattle.fv_disk.specs.DiskCalls.{OnlyReads}
 use Rattle.fv_disk.specs.Shown.{Image, Shown}
 use Rattle.fv_bits.specs.Members.{is_member}
 use Rattle.fv_image.specs.Views.{entry_count, Footing}
-use Rattle.fv_volmap.specs.Slots.{has, slot_at, slot_of_base}
+use Rattle.fv_volmap.specs.Slots.{has}
 use Rattle.fv_container.specs.declared.entry.Entry.{Entry}
 use Rattle.fv_container.specs.Chains.{AreCleanOn, Slots, TellsEntries, container_at, own_entry, paged_at, slot_count}
 use Rattle.fv_container.specs.Mapped.{Mapped}
@@ -35,6 +35,7 @@ use Rattle.fv_volumes.specs.UnderRoot.{IsLentAt}
 use Rattle.fv_volumes.proofs.Drawing.{not_so, or_neither}
 use Rattle.fv_volumes.proofs.Beside.{StandOff, beside_off}
 use Rattle.fv_volumes.proofs.Alone.{housed_alone}
+use Rattle.fv_volumes.proofs.Footed.{footed_beside, on_base_over}
 use Rattle.fv_volumes.proofs.PlacedIn.{own_has}
 use Rattle.fv_volumes.proofs.Removed as removed
 use Rattle.fv_volumes.proofs.StoodOn.{stands_not}
@@ -145,25 +146,10 @@ module _ (disk : Shown) (pool : Pool) (states : States) (housed : AreHoused pool
       on_base : (s : ℕ) (c : VolumeState) → s ≢ slot → state_at states s ≡ Some c → IsOnBase pool.containers c → IsOnBase left.containers c
       on_base s c differ at is =
           let its : c.slot ≡ s = (subst (λ (o : Option VolumeState). IfSome o (IsLabelled s)) at (housed.volumes s)).slot_is in
-          let own : (v : ℕ) → own_entry (container_at left.containers c.slot) v ≡ own_entry (container_at pool.containers c.slot) v = λ v. ap (λ (m : Option Mapped). own_entry m v) (other_container c.slot (λ e. differ (sym its ∙ e))) in
-          record { leaves = λ v here. own v ∙ is.leaves v here; rests = λ k v low here. subst (λ (o : Option Entry). (is_some o ≡ true) ⊎ (has v (slot_at c.map slot_of_base) ≡ true)) (sym (own v)) (is.rests k v low here) }
+          on_base_over pool.containers left.containers c (λ v. ap (λ (m : Option Mapped). own_entry m v) (other_container c.slot (λ e. differ (sym its ∙ e)))) is
 
       footed_now : (c : VolumeState) (b : Base) → b.parent ≢ slot → IsFooted states c b → IsFooted new c b
-      footed_now c b differ is = record {
-        parent = is.parent;
-        inside = is.inside;
-        there = other_state b.parent differ ∙ is.there;
-        snap = is.snap;
-        found = is.found;
-        above = is.above;
-        named = is.named;
-        called = is.called;
-        table = is.table;
-        span = is.span;
-        known = is.known;
-        whole = is.whole;
-        same = is.same;
-      }
+      footed_now c b differ = footed_beside states new c c b refl (λ v. refl) (other_state b.parent differ)
 
       each : (s : ℕ) → Stands new left.containers (state_at new s)
       each s = ⊎_elim

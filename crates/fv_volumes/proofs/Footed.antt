@@ -41,6 +41,25 @@ footed_over states slots after same are = record { each = λ s. by (state_at sta
     by None is = tt
     by (Some c) is = of_base c c.base is
 
+-- Where the volume that a clone stands on is there as it was, the clone stands on it still, as long as it has the span and the slot of its base.
+pub footed_beside : (states new : States) (c d : VolumeState) (b : Base) → d.span ≡ c.span → ((v : ℕ) → has v (slot_at d.map slot_of_base) ≡ has v (slot_at c.map slot_of_base))
+    → state_at new b.parent ≡ state_at states b.parent → IsFooted states c b → IsFooted new d b
+footed_beside states new c d b span same there is = record {
+  parent = is.parent;
+  inside = is.inside;
+  there = there ∙ is.there;
+  snap = is.snap;
+  found = is.found;
+  above = is.above;
+  named = is.named;
+  called = is.called;
+  table = is.table;
+  span = (let was = is.span in omega (arith, was, span));
+  known = is.known;
+  whole = is.whole;
+  same = λ v. same v ∙ is.same v;
+}
+
 -- Of a volume that changes stay its name and span, that it is known, its base, and the snapshots that count, with their maps.
 pub record KeepsFooting (P : ℕ → Type 0) (x y : VolumeState) : Type 0 where
   pub slot : y.slot ≡ x.slot
@@ -59,21 +78,7 @@ module _ (states new : States) (home : ℕ) (x y : VolumeState) (x_there : state
   footed c d b span same stood is = ⊎_elim at_home elsewhere (cases_eq b.parent home)
     where
       elsewhere : b.parent ≢ home → IsFooted new d b
-      elsewhere other = record {
-        parent = is.parent;
-        inside = is.inside;
-        there = others b.parent other ∙ is.there;
-        snap = is.snap;
-        found = is.found;
-        above = is.above;
-        named = is.named;
-        called = is.called;
-        table = is.table;
-        span = (let was = is.span in omega (arith, was, span));
-        known = is.known;
-        whole = is.whole;
-        same = λ v. same v ∙ is.same v;
-      }
+      elsewhere other = footed_beside states new c d b span same (others b.parent other) is
 
       at_home : b.parent ≡ home → IsFooted new d b
       at_home e =

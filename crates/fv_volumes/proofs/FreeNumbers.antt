@@ -3,8 +3,8 @@
 --
 -- An example: a snapshot has a block of a file under VVBN 9, and the active table has the same block under the same id, and a new one under VVBN 12.
 -- So two numbers are taken, and two ids are charged: the shared one leads to 9 in both tables, and the new one to 12.
-use Rattle.std.proofs.Common.{◌≡◌, ◌≢◌, ℕ, ◌+◌, ◌*◌, ◌<◌, ◌≤◌, Bool, true, false, cond, not, List, [], ◌∷◌, length, map, inl, inr, refl, sym, ap, subst, ◌∙◌, arith, ⊎_elim}
-use Rattle.std.specs.Prelude.{All, Option, Some, None, ◌&&◌, ◌||◌, ◌==◌, min, IfSome}
+use Rattle.std.proofs.Common.{◌≡◌, ◌≢◌, ℕ, ◌+◌, ◌*◌, ◌<◌, ◌≤◌, Bool, true, false, cond, List, [], ◌∷◌, length, map, inl, inr, refl, sym, ap, subst, ◌∙◌, arith, ⊎_elim}
+use Rattle.std.specs.Prelude.{All, Option, Some, None, ◌==◌, min, IfSome}
 use Rattle.std.specs.List.{list_any}
 use Rattle.std.specs.FinMap as fin
 use Rattle.std.specs.FinSet as set
@@ -49,7 +49,7 @@ use Rattle.fv_volume.specs.Sharing.{pointer_in, trees_kept, SharesWith}
 use Rattle.fv_volume.proofs.EachRoot.{all_in}
 use Rattle.fv_volume.proofs.KeptStamps.{stamp_some}
 use Rattle.fv_volume.proofs.ActiveSlot.{active_has}
-use Rattle.fv_volume.proofs.SettledTables.{LeadsHere, few_levels, has_used, listed_at, number_of, slot_found, taken_some, kept_found}
+use Rattle.fv_volume.proofs.SettledTables.{LeadsHere, few_levels, has_used, listed_at, number_of, taken_some, kept_found}
 use Rattle.fv_pool.proofs.Shows.{unused_member}
 use Rattle.fv_volume.proofs.TablesOf.{is_whole}
 use Rattle.fv_volume.proofs.SnapIds.{by_stamp, has_id, in_kept}

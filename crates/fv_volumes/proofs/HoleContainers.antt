@@ -1,8 +1,7 @@
 -- A container of holes leads nowhere: a volume with no label that has one has no block.
-use Rattle.std.proofs.Common.{◌≡◌, ℕ, zero, suc, Bool, true, false, ◌||◌, None, refl, sym, ap, ◌∙◌}
+use Rattle.std.proofs.Common.{◌≡◌, ℕ, zero, suc, Bool, true, false, ◌||◌, None, refl, ap, ◌∙◌}
 use Rattle.std.specs.Prelude.{replicate}
 use Rattle.std.proofs.lemmas.Bool.{both_ways}
-use Rattle.fv_container.specs.declared.entry.Entry.{Entry}
 use Rattle.fv_container.specs.Mapped.{empty_map, entry_under, node_count}
 use Rattle.fv_container.specs.Spelled.{is_at, names}
 use Rattle.fv_container.proofs.Clean.{none_at}

@@ -74,7 +74,7 @@ no_unknown blocks taken t good i = same_way if_unknown (λ (p : Pointer). 0) t k
         let s = good.loaded in
         let some_there : (pointer_at s.tree level place).stamp ≢ 0 = subst (λ (u : Rooted). (pointer_at u level place).stamp ≢ 0) (sym good.tree) some in
         let leads = led_by s good.laid level place some_there (subst (λ (u : Rooted). IsUnread u level place) (sym good.tree) (not_kept t level place kept)) in
-        let told = good.well.known level place (pointer_at s.tree level place).vvbn leads in
+        let told = good.well.1 level place (pointer_at s.tree level place).vvbn leads in
         let is : (pointer_at t level place).pvbn ≢ 0 = subst (λ (u : Rooted). (pointer_at u level place).pvbn ≢ 0) good.tree told in
         let test : ((pointer_at t level place).pvbn == 0) ≡ false = grind (arith, nat_tests, is) in
         ap {B = ℕ} (λ (b : Bool). cond b 1 0) test

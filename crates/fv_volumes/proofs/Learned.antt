@@ -28,38 +28,37 @@ use Rattle.fv_volumes.specs.Learned.{HaveLearned, LearnsIn}
 
 -- ---- a parent that learned
 
+-- What a volume knows by one it knows by another with the same head, and with the same numbers under the slots of its snapshots.
+known_by : (p q : VolumeState) → head_in q ≡ head_in p → ((k : ℕ) → k < stored_count → (v : ℕ) → has v (slot_at q.map k) ≡ has v (slot_at p.map k))
+    → ((k : ℕ) (snap : Snap) → snap_at (head_in p) k ≡ Some (snap_in snap) → k < stored_count) → (x : VolumeState) → KnowsBase p x → KnowsBase q x
+known_by p q head numbers inside x = by x.base
+  where
+    by : (o : Option Base) → IfSome o (λ b. (snap : Snap) → snap_at (head_in p) b.slot ≡ Some (snap_in snap) → p.span ≤ x.span → KnowsSnap p snap x b)
+        → IfSome o (λ b. (snap : Snap) → snap_at (head_in q) b.slot ≡ Some (snap_in snap) → q.span ≤ x.span → KnowsSnap q snap x b)
+    by None knows = tt
+    by (Some b) knows = λ snap at wide.
+        let was : snap_at (head_in p) b.slot ≡ Some (snap_in snap) = ap (λ (h : Head). snap_at h b.slot) (sym head) ∙ at in
+        let named : q.name ≡ p.name = ap (λ (h : Head). h.name) head in
+        let span : q.span ≡ p.span = ap (λ (h : Head). h.span) head in
+        let is = knows snap was (omega (arith, span, wide)) in
+        record { named = is.named ∙ sym named; called = is.called; table = is.table; same = λ v. is.same v ∙ sym (numbers b.slot (inside b.slot snap was) v) }
+
 module _ (p q : VolumeState) (keeps : KeepsRest p q) (slot : ℕ) (labelled : IsLabelled slot p) where
-  same_name : q.name ≡ p.name
-  same_name = ap (λ (z : VolumeState). z.name) keeps.rest
-
-  same_span : q.span ≡ p.span
-  same_span = ap (λ (z : VolumeState). z.span) keeps.rest
-
   same_numbers : (k : ℕ) → k < stored_count → (v : ℕ) → has v (slot_at q.map k) ≡ has v (slot_at p.map k)
   same_numbers k low v = ap (has v) (keeps.others k (λ (e : k ≡ slot_of_base). absurd (omega (arith, low, e))))
 
+  same_head : head_in q ≡ head_in p
+  same_head = rest_head p q keeps
+
+  inside : (k : ℕ) (snap : Snap) → snap_at (head_in p) k ≡ Some (snap_in snap) → k < stored_count
+  inside k snap at = (snap_inside p slot labelled k (snap_in snap) at).1
+
   -- What a volume knows of it by what it was it knows by what it is, and the other way round: the slots of its snapshots stay.
   known_after : (x : VolumeState) → KnowsBase p x → KnowsBase q x
-  known_after x = by x.base
-    where
-      by : (o : Option Base) → IfSome o (λ b. (snap : Snap) → snap_at (head_in p) b.slot ≡ Some (snap_in snap) → p.span ≤ x.span → KnowsSnap p snap x b)
-          → IfSome o (λ b. (snap : Snap) → snap_at (head_in q) b.slot ≡ Some (snap_in snap) → q.span ≤ x.span → KnowsSnap q snap x b)
-      by None knows = tt
-      by (Some b) knows = λ snap at wide.
-          let was : snap_at (head_in p) b.slot ≡ Some (snap_in snap) = ap (λ (h : Head). snap_at h b.slot) (sym (rest_head p q keeps)) ∙ at in
-          let is = knows snap was (let s = same_span in omega (arith, s, wide)) in
-          record { named = is.named ∙ sym same_name; called = is.called; table = is.table; same = λ v. is.same v ∙ sym (same_numbers b.slot (snap_inside p slot labelled b.slot (snap_in snap) was).1 v) }
+  known_after = known_by p q same_head same_numbers inside
 
   known_before : (x : VolumeState) → KnowsBase q x → KnowsBase p x
-  known_before x = by x.base
-    where
-      by : (o : Option Base) → IfSome o (λ b. (snap : Snap) → snap_at (head_in q) b.slot ≡ Some (snap_in snap) → q.span ≤ x.span → KnowsSnap q snap x b)
-          → IfSome o (λ b. (snap : Snap) → snap_at (head_in p) b.slot ≡ Some (snap_in snap) → p.span ≤ x.span → KnowsSnap p snap x b)
-      by None knows = tt
-      by (Some b) knows = λ snap was wide.
-          let at : snap_at (head_in q) b.slot ≡ Some (snap_in snap) = ap (λ (h : Head). snap_at h b.slot) (rest_head p q keeps) ∙ was in
-          let is = knows snap at (let s = same_span in omega (arith, s, wide)) in
-          record { named = is.named ∙ same_name; called = is.called; table = is.table; same = λ v. is.same v ∙ same_numbers b.slot (snap_inside p slot labelled b.slot (snap_in snap) was).1 v }
+  known_before = known_by q p (sym same_head) (λ k low v. sym (same_numbers k low v)) (λ k snap at. inside k snap (ap (λ (h : Head). snap_at h k) (sym same_head) ∙ at))
 
 -- ---- one volume more
 

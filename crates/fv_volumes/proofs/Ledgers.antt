@@ -13,7 +13,7 @@ use Rattle.fv_volume.specs.declared.state.VolumeState.{VolumeState}
 use Rattle.fv_volume.specs.Files.{IsLabelled}
 use Rattle.fv_volume.specs.Labels.{label_said}
 use Rattle.fv_volume.specs.Loading.{AreCountedTo, Counts, Houses, IsCountable, IsCounted, IsLoaded, IsRead, KeptTo, LoadedTo, ReadTo}
-use Rattle.fv_volume.specs.States.{States, head_in, parent_in, state_at}
+use Rattle.fv_volume.specs.States.{States, parent_in, state_at}
 
 -- the ledger of each volume that was read can be counted
 pub countable : (states : States) → ((s : ℕ) → IfSome (state_at states s) (IsLabelled s)) → ((s : ℕ) → IfSome (state_at states s) IsRead) → (s : ℕ) → IfSome (state_at states s) IsCountable

@@ -73,7 +73,6 @@ pub mod CalledFooted
 pub mod PlacedFooted
 pub mod SnapFooted
 pub mod SettledFooted
-pub mod DestroyedFooted
 pub mod AddedClone
 pub mod AddedView
 pub mod MadeFooted

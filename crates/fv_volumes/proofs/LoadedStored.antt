@@ -203,22 +203,21 @@ module _ (disk : Disk) (pool : Pool) (states : States) (x : VolumeState) (is : S
 
   -- So each of its trees is stored well.
   pub stands_stored : AreStoredWell (stored_trees (blocks disk pool states x is k r one) r.levels r.root)
-  stands_stored None = record {
-    nodes = λ level place v low leads. subst (λ (n : ℕ). IsNodeOf greatest_word level place (blocks disk pool states x is k r one n)) leads.vvbn (node_led InodeFile level place leads.some low);
-    known = λ level place v leads. known_led InodeFile level place leads.some;
-  }
+  stands_stored None = (
+    (λ level place v low leads. subst (λ (n : ℕ). IsNodeOf greatest_word level place (blocks disk pool states x is k r one n)) leads.vvbn (node_led InodeFile level place leads.some low)),
+    (λ level place v leads. known_led InodeFile level place leads.some),
+  )
   stands_stored (Some n) = by (file_at inodes n) refl
     where
       by : (o : Option InodeRecord) → file_at inodes n ≡ o → StoredIn (option_map (λ f. unread (stored (blocks disk pool states x is k r one) n f.levels f.root)) o)
       by None found = tt
       by (Some f) found =
           let same : (level index : ℕ) → led disk pool states x is k r one (OfFile n) level index ≡ pointer_at (stored (blocks disk pool states x is k r one) n f.levels f.root) level index =
-          λ level index. ap (λ (o : Option InodeRecord). option_map_or (λ f. pointer_at (stored (blocks disk pool states x is k r one) n f.levels f.root) level index) o hole) found in
-          record {
-            nodes = λ level place v low leads. subst (λ (v : ℕ). IsNodeOf n level place (blocks disk pool states x is k r one v)) (ap (λ (p : Pointer). p.vvbn) (same level place) ∙ leads.vvbn)
-                (node_led (OfFile n) level place (subst (λ (p : Pointer). p.stamp ≢ 0) (sym (same level place)) leads.some) low);
-            known = λ level place v leads. subst (λ (p : Pointer). p.pvbn ≢ 0) (same level place) (known_led (OfFile n) level place (subst (λ (p : Pointer). p.stamp ≢ 0) (sym (same level place)) leads.some));
-          }
+          λ level index. ap (λ (o : Option InodeRecord). option_map_or (λ f. pointer_at (stored (blocks disk pool states x is k r one) n f.levels f.root) level index) o hole) found in (
+            (λ level place v low leads. subst (λ (v : ℕ). IsNodeOf n level place (blocks disk pool states x is k r one v)) (ap (λ (p : Pointer). p.vvbn) (same level place) ∙ leads.vvbn)
+                (node_led (OfFile n) level place (subst (λ (p : Pointer). p.stamp ≢ 0) (sym (same level place)) leads.some) low)),
+            (λ level place v leads. subst (λ (p : Pointer). p.pvbn ≢ 0) (same level place) (known_led (OfFile n) level place (subst (λ (p : Pointer). p.stamp ≢ 0) (sym (same level place)) leads.some))),
+          )
 
   -- and each inode block names its index
   pub stands_indexes : NamesIndexes inodes

@@ -307,7 +307,7 @@ in_view disk pool states long few parents loaded none m is whole x there labelle
     record {
       small = small;
       there = there;
-      known = (and_parts x.known _ labelled.form).0;
+      known = (and_parts _ x.known labelled.form).1;
       parents = parents;
       span = labelled.span;
       numbers = numbers_at (root_found pool.found) disk.reads whole x.slot (head_in x) (ap (λ (v : View). v.head x.slot) (sym alike) ∙ head_there pool states disk.reads x.slot x there);

@@ -10,6 +10,7 @@ use Rattle.std.proofs.lemmas.Bool.Decides.{nat_tests}
 use Rattle.std.proofs.lemmas.List.Elements.{All-nil}
 use Rattle.std.proofs.lemmas.List.{get_or-set_same, get_or-set_other}
 use Rattle.fv_disk.specs.Shown.{Image}
+use Rattle.fv_image.specs.WholeMachine.{has_form}
 use Rattle.fv_model.specs.declared.answers.Refusal.{Refusal}
 use Rattle.fv_model.specs.declared.answers.Refusal.TheVariants.{VolumeExists, AggregateFull, Range, TooMany}
 use Rattle.fv_model.specs.declared.commands.Command.TheVariants.{VolCreate}
@@ -34,19 +35,19 @@ use Rattle.fv_image.specs.Volumes.{empty_volume_of, standing_of, table_at, volum
 use Rattle.fv_image.proofs.Uses.{uses_nothing}
 use Rattle.fv_charge.specs.declared.ledger.Ledger.{Ledger}
 use Rattle.fv_charge.specs.Ledgers.{IsLedgerOf}
-use Rattle.fv_container.specs.Chains.{Slots, container_at, map_in, own_entry, with_container, with_parent}
-use Rattle.fv_container.specs.Paged.{Paged, empty_paged}
+use Rattle.fv_container.specs.Chains.{container_at, map_in, own_entry}
+use Rattle.fv_container.specs.Paged.{empty_paged}
 use Rattle.fv_image.specs.Chains.{under}
 use Rattle.fv_image.specs.Views.{Head, View, entry_count}
 use Rattle.fv_volmap.specs.Slots.{Volume as MapSlots, empty_volume as no_numbers, stored_count}
 use Rattle.fv_pool.specs.declared.pool.Pool.{Pool}
 use Rattle.fv_volume.specs.declared.state.VolumeState.{VolumeState}
-use Rattle.fv_volumes.specs.Creating.{Admits, IsNew, Refuses, new_ledger_of}
+use Rattle.fv_volumes.specs.Creating.{Admits, Refuses, new_ledger_of, with_holes_on}
 use Rattle.fv_volume.specs.SnapRecords.{hole, AreSayable, IsSayableSnap}
 use Rattle.fv_volume.proofs.Labels.{IsSayable, IsSayableBase, label_range}
 use Rattle.fv_volume.specs.Slots.{is_named, HasName, HaveSpans, HasSpan, IsFirstFree, IsFull, NoneHasName, sum_of}
 use Rattle.fv_volume.proofs.StayingMaps.{no_waits}
-use Rattle.fv_volume.specs.Files.{AreNamed, AreStates, HasSlotsOf, IsLabelled, IsState, has_form}
+use Rattle.fv_volume.specs.Files.{AreNamed, AreStates, HasSlotsOf, IsLabelled, IsState}
 use Rattle.fv_volume.proofs.MapSlots.{one_empty, slots_of_one}
 use Rattle.fv_volume.specs.States.{States, empty_head, head_in, ledger_of_empty, placed_in, state_at, view_over, with_state}
 use Rattle.fv_volume.specs.Trees.{Trees, active_by, active_in, machine_in}
@@ -187,9 +188,9 @@ module _ (pool : Pool) (states : States) (trees : Trees) (i : Image) (long : len
     refused_as name size kind VolumeExists is = tried name size kind ∙ (λ j. chain (not (is.0 j)) (taken name is.1.0 is.1.1 j) (has_all_volumes m) (is_aggregate_full (effect m (VolCreate name size kind))))
     refused_as name size kind TooMany is = tried name size kind ∙ (λ j. chain (not (is.0 j)) (is_free name is.1.0 j) (no_more is.1.1 j) (is_aggregate_full (effect m (VolCreate name size kind))))
     refused_as name size kind AggregateFull is =
-        let full : is_aggregate_full (effect m (VolCreate name size kind)) ≡ true = grind (arith, nat_tests, after name size kind is.name_is, size_after name size kind, is.full) in
-        tried name size kind ∙ (λ j. chain (not (is.size_is j)) (is_free name is.name_is j) (some_more is.slot is.free j) (full j))
-    refused_as name size kind r is = absurd is
+        let full : is_aggregate_full (effect m (VolCreate name size kind)) ≡ true = grind (arith, nat_tests, after name size kind is.1.0, size_after name size kind, is.1.1.1.1) in
+        tried name size kind ∙ (λ j. chain (not (is.0 j)) (is_free name is.1.0 j) (some_more is.1.1.0 is.1.1.1.0 j) (full j))
+    refused_as name size kind r is = absurd is.1.1
 
     pub accepted : (name : List ℕ) (size : ℕ) (kind : Kind) (slot span : ℕ) → Admits states pool.found.blocks name size kind slot span → refusal m (VolCreate name size kind) ≡ None
     unfolding chain
@@ -291,19 +292,19 @@ pub record IsAdded (pool : Pool) (states : States) (slot : ℕ) (name : List ℕ
   pub kept : new_pool.kept ≡ pool.kept
   pub others : (s : ℕ) → s ≢ slot → container_at new_pool.containers s ≡ container_at pool.containers s
 
-pub added_by : (pool : Pool) (states : States) (slot : ℕ) (name : List ℕ) (size : ℕ) (kind : Kind) (span : ℕ) (y : VolumeState) (new_pool : Pool) (container : Paged) → length states ≡ 64 → Admits states pool.found.blocks name size kind slot span
+pub added_by : (pool : Pool) (states : States) (slot : ℕ) (name : List ℕ) (size : ℕ) (kind : Kind) (span : ℕ) (y : VolumeState) (new_pool : Pool) → length states ≡ 64 → Admits states pool.found.blocks name size kind slot span
     → y.slot ≡ slot → head_in y ≡ empty_head name size kind span → y.ledger ≡ ledger_of_empty size kind span → is_name name ≡ true → y.map ≡ no_numbers span → y.fresh ≡ replicate stored_count false
-    → new_pool.found ≡ pool.found → new_pool.version ≡ pool.version → new_pool.kept ≡ pool.kept → new_pool.containers ≡ with_parent (with_container pool.containers slot (Some container)) slot None → IsAdded pool states slot name size kind y new_pool
-added_by pool states slot name size kind span y new_pool container long is at head ledger named map settled found version kept put = record {
+    → new_pool ≡ with_holes_on pool y.slot y.span None → IsAdded pool states slot name size kind y new_pool
+added_by pool states slot name size kind span y new_pool long is at head ledger named map settled holes = record {
   long = long;
   admits = (span, is);
   head = head ∙ ap (empty_head name size kind) is.span_is;
   labelled = new_labelled y slot name size kind span is.most is.span_is at head ledger is.size_is named map settled;
   ledger = ledger ∙ ap (ledger_of_empty size kind) is.span_is;
-  found = found;
-  version = version;
-  kept = kept;
-  others = λ s other. ap (λ (x : Slots). container_at x s) put ∙ ap map_in (get_or-set_other pool.containers.containers slot s (Some container) None other);
+  found = ap (λ (p : Pool). p.found) holes;
+  version = ap (λ (p : Pool). p.version) holes;
+  kept = ap (λ (p : Pool). p.kept) holes;
+  others = λ s other. ap (λ (p : Pool). container_at p.containers s) holes ∙ ap map_in (get_or-set_other pool.containers.containers y.slot s (Some (empty_paged (entry_count y.span))) None (λ same. other (same ∙ at)));
 }
 
 module _ (pool : Pool) (states : States) (slot : ℕ) (name : List ℕ) (size : ℕ) (kind : Kind) (y : VolumeState) (new_pool : Pool) (is : IsAdded pool states slot name size kind y new_pool) (trees : Trees) (i : Image)
@@ -464,21 +465,3 @@ module _ (pool : Pool) (states : States) (slot : ℕ) (name : List ℕ) (size : 
       ∙ sym (fin.get-insert name_total (machine_in pool states trees i).volumes name (empty_volume size kind) q)) in
       (λ j. record { blocks = (is.found j).blocks; version = is.version j; volumes = map j })
       ∙ sym (ap (λ (r : Option Refusal). cond (is_some r) (machine_in pool states trees i) (effect (machine_in pool states trees i) (VolCreate name size kind))) (accepted pool states trees i is.long are name size kind slot is.admits.0 is.admits.1))
-
--- the new volume as it lies in its slot
-pub is_new : (states : States) (slot : ℕ) (y : VolumeState) (container : Option Paged) (name : List ℕ) (size : ℕ) (kind : Kind) (span : ℕ) → slot < length states → span ≡ span_of size 0 0 → head_in y ≡ empty_head name size kind span
-    → y.map ≡ no_numbers span → y.ledger ≡ ledger_of_empty size kind span → y.label ≡ 0 → y.changed ≡ true → y.files ≡ None → y.numbers ≡ None → container ≡ Some (empty_paged (entry_count span)) → IsNew (state_at (with_state states slot (Some y)) slot) container name size kind
-is_new states slot y container name size kind span within is head map ledger label changed files numbers holes =
-    let span_is : y.span ≡ span = ap (λ h. h.span) head in
-    record {
-      volume = y;
-      state_is = get_or-set_same states slot (Some y) None within;
-      head = head ∙ ap (empty_head name size kind) is;
-      map = map ∙ ap no_numbers (sym span_is);
-      ledger = ledger ∙ ap (ledger_of_empty size kind) is;
-      label = label;
-      changed = changed;
-      files = files;
-      numbers = numbers;
-      holes = holes ∙ ap (λ (n : ℕ). Some (empty_paged (entry_count n))) (sym span_is);
-    }

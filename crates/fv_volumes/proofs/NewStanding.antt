@@ -1,5 +1,5 @@
 -- A volume that was just made stands for the machine's new one.
-use Rattle.std.proofs.Common.{◌≡◌, ℕ, Bool, true, List, [], Option, Some, None, sym, ap, subst, ◌∙◌, arith, ◌++◌, refl}
+use Rattle.std.proofs.Common.{◌≡◌, ℕ, Bool, true, List, [], Option, Some, None, sym, ap, subst, ◌∙◌, arith, ◌++◌}
 use Rattle.std.specs.Prelude.{IsTrue, ◌==◌, if◌then◌else◌}
 use Rattle.std.specs.Option.{option_map}
 use Rattle.std.specs.Ordering.{nat_cmp}
@@ -64,10 +64,10 @@ module _ (blocks : Under) (used : ℕ → Option Use) (levels : ℕ) (root : Poi
       no_record r e = cc
 
   bare_trees : AreStoredWell (stored_trees blocks levels root)
-  bare_trees None = record {
-    nodes = λ level place v low leads. absurd (leads_nowhere None v (record { level = level; place = place; leads = leads }));
-    known = λ level place v leads. absurd (leads_nowhere None v (record { level = level; place = place; leads = leads }));
-  }
+  bare_trees None = (
+    (λ level place v low leads. absurd (leads_nowhere None v (record { level = level; place = place; leads = leads }))),
+    (λ level place v leads. absurd (leads_nowhere None v (record { level = level; place = place; leads = leads }))),
+  )
   bare_trees (Some n) = subst (λ (o : Option InodeRecord). StoredIn (option_map (λ r. unread (stored blocks n r.levels r.root)) o)) (sym (bare_file (stored blocks greatest_word levels root) bare n)) tt
 
   bare_indexes : NamesIndexes (stored blocks greatest_word levels root)

@@ -24,7 +24,7 @@ use Rattle.fv_container.specs.Spelled.{IsOpened}
 use Rattle.fv_container.proofs.Damage.{bad_leaf}
 use Rattle.fv_root.specs.declared.find.Found.{Found}
 use Rattle.fv_root.specs.Finding.{root_found}
-use Rattle.fv_volmap.specs.Slots.{IsVolume, Loads, Slot, Volume, empty_volume, has, map_or_empty, slot_at, slot_count, slot_of_base, stored_count, TakesBase}
+use Rattle.fv_volmap.specs.Slots.{IsVolume, Loads, Slot, Volume, empty_volume, has, map_or_empty, slot_at, slot_count, slot_of_base, stored_count}
 use Rattle.fv_volume.specs.declared.state.Snap.{Snap}
 use Rattle.fv_delay.specs.Delay.{is_used_slot}
 use Rattle.fv_volume.specs.Loading.{HaveBits, IsBadMap, IsBadSlot, IsPastSpan, entry_block, is_slot_with, label_of}
@@ -193,18 +193,12 @@ used_by false b = refl
 pub holds_none : (l : Label) (old : Volume) → (l.parent == 0) ≡ true → is_some (slot_at old slot_of_base) ≡ false → HoldsBase (footing_of l) old old
 holds_none l old none free = record { span = refl; others = λ k other. refl; used = free ∙ sym (used_by (l.parent == 0) _ ∙ ap not none) }
 
--- and one that took the base that its label says holds it,
-pub holds_taken : (l : Label) (old new : Volume) (from : Slot) → (l.parent == 0) ≡ false → TakesBase old from new → HoldsBase (footing_of l) old new
-holds_taken l old new from some takes = record {
-  span = ap (λ (m : Volume). m.span) takes.volume;
-  others = λ k other. ap (λ (m : Volume). slot_at m k) takes.volume ∙ get_or-set_other old.slots slot_of_base k (Some takes.map) None other;
-  used = ap (λ (o : Slot). is_some o) takes.base ∙ sym (used_by (l.parent == 0) _ ∙ ap not some);
-}
-
--- where memory was found
-pub holds_where : (l : Label) (old new : Volume) (from : Slot) (result : Result (Unit {0}) AllocError) → (l.parent == 0) ≡ false → OnOk result (TakesBase old from new) → OnOk result (HoldsBase (footing_of l) old new)
-holds_where l old new from (Ok unit) some takes = holds_taken l old new from some takes
-holds_where l old new from (Err fault) some takes = tt
+-- and one whose label says one holds it once zeros were taken for it, where memory was found
+pub holds_where : (l : Label) (old new : Volume) (result : Result (Unit {0}) AllocError) → (l.parent == 0) ≡ false → OnOk result (Loads old slot_of_base 0 (replicate 4096 0) new) → IsVolume new → OnOk result (HoldsBase (footing_of l) old new)
+holds_where l old new (Ok unit) some loads valid =
+    let takes : TakesSlot old slot_of_base 1 new = takes_block old new slot_of_base 0 (replicate 4096 0) (omega arith) valid loads in
+    record { span = takes.span; others = takes.others; used = takes.used (omega arith) ∙ sym (used_by (l.parent == 0) _ ∙ ap not some) }
+holds_where l old new (Err fault) some loads valid = tt
 
 -- ---- slot by slot
 

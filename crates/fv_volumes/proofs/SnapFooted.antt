@@ -8,6 +8,7 @@ use Rattle.std.proofs.lemmas.List.{get_or_past}
 use Rattle.std.proofs.lemmas.Option.{same_Some}
 use Rattle.fv_bits.specs.Members.{is_member}
 use Rattle.fv_bits.proofs.Laws.{is_member-replicate}
+use Rattle.fv_image.specs.Mapped.{stored_slots}
 use Rattle.fv_model.specs.Spelling.{is_same_name}
 use Rattle.fv_laws.proofs.Lists.{In, in_map}
 use Rattle.fv_laws.proofs.Tests.{from_all}
@@ -62,7 +63,7 @@ active_has m v here = by (slot_at m 0) here
 -- the slot of a snapshot is one of those that snapshots can have
 pub in_bounds : (s : ℕ) (x : VolumeState) → IsLabelled s x → (q : Snap) → In q x.snapshots → (1 ≤ q.slot) × (q.slot < stored_count)
 in_bounds s x labelled q there =
-    let parts = and_parts (nat_le 1 q.slot) (nat_lt q.slot 25) (from_all (λ (p : HeadSnap). nat_le 1 p.slot && nat_lt p.slot 25) (head_in x).snapshots labelled.snapshots.slots.within (snap_in q) (in_map snap_in q x.snapshots there)) in
+    let parts = and_parts (nat_le 1 q.slot) (nat_lt q.slot stored_slots) (from_all (λ (p : HeadSnap). nat_le 1 p.slot && nat_lt p.slot stored_slots) (head_in x).snapshots labelled.snapshots.slots.within (snap_in q) (in_map snap_in q x.snapshots there)) in
     let least = parts.0 in
     let greatest = parts.1 in
     (grind (arith, nat_tests, least), grind (arith, nat_tests, greatest))

@@ -24,6 +24,7 @@ use Rattle.fv_image.specs.ReachRules.{has_map_kinds}
 use Rattle.fv_image.specs.Reclaimed.{entry_at}
 use Rattle.fv_image.specs.Seen.{own_blocks, roots_of}
 use Rattle.fv_image.specs.Soundness.{IsSound}
+use Rattle.fv_image.proofs.Heads.{head_told}
 use Rattle.fv_image.proofs.OwnBlocks.{own_tests}
 use Rattle.fv_image.proofs.HeldPlaces.{block_is_held}
 use Rattle.fv_image.proofs.Named.{slot_in}
@@ -78,8 +79,7 @@ module _ (found : Found) (i : Image) (s : ℕ) (inside : s < 64) (sound : IsSoun
       so false is = is
 
   there : w.head s ≡ Some (head_in x)
-  unfolding view_at
-  there = ap (option_map head_of) lies ∙ ap Some (sym same)
+  there = head_told (root_found found) i s ∙ ap (option_map head_of) lies ∙ ap Some (sym same)
 
   root : (r : Rooted) × In (k, r) (roots_of (head_in x))
   root = root_used (head_in x) k (sym (used_is w s (head_in x) x.map slots order k low) ∙ used)

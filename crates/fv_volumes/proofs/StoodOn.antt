@@ -22,7 +22,7 @@ use Rattle.fv_volume.specs.OneVolume.{base_as, Content}
 use Rattle.fv_volume.specs.Promising.{HasVolumes}
 use Rattle.fv_volume.specs.States.{States, head_in, snap_in, state_at}
 use Rattle.fv_volume.proofs.KnownBases.{found_slot}
-use Rattle.fv_volumes.specs.Footing.{is_snap_stood_on, is_stood_on, some_stands, stands_by, AreFooted, IsFooted, IsOnBase}
+use Rattle.fv_volumes.specs.Footing.{is_base_on, is_snap_stood_on, is_stood_on, some_stands, stands_by, AreFooted, IsFooted, IsOnBase}
 use Rattle.fv_volumes.proofs.NamedBases.{some_by}
 use Rattle.fv_volumes.proofs.SlotTests.{same_parent, same_snapshot}
 
@@ -44,6 +44,14 @@ module _ (states : States) (test : Base → Bool) where
   pub stands_not : some_stands states test ≡ false → (s : ℕ) → s < slot_count → passes s ≡ false
   unfolding some_stands
   stands_not none s low = none_of passes (range_with_len 0 slot_count) none s (in_range 0 slot_count s (omega arith) (omega (arith, low)))
+
+-- where no snapshot is given a base on whichever counts
+pub on_whichever : (states : States) (slot : ℕ) → some_stands states (is_base_on slot None) ≡ is_stood_on states slot
+on_whichever states slot = λ i. some_stands states (λ b. and_true (b.parent == slot) i)
+  where
+    and_true : (t : Bool) → (t && true) ≡ t
+    and_true true = refl
+    and_true false = refl
 
 -- ---- by names
 

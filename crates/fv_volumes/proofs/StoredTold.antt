@@ -28,6 +28,7 @@ use Rattle.fv_image.specs.Seen.{roots_of, seen}
 use Rattle.fv_image.specs.Soundness.{AreMaps, AreTables}
 use Rattle.fv_image.specs.Staying.{StaysHeld, base_items, own_items}
 use Rattle.fv_image.specs.WholeMachine.{is_built, machine_from}
+use Rattle.fv_image.proofs.Heads.{head_told}
 use Rattle.fv_image.proofs.Counted.{HasHeads}
 use Rattle.fv_image.proofs.LabelNumbers.{label_numbers}
 use Rattle.fv_image.proofs.OwnBases.{uses_own}
@@ -175,12 +176,15 @@ module _ (pool : Pool) (states : States) (before : Image) (housed : AreHoused po
     unfolding label_place label_in
     no_label s past = let test : nat_lt s 64 ≡ false = grind (arith, nat_tests, past) in ap (λ (t : Bool). label_in (lying_at i (if t then get_or f.root.labels s 0 else 0))) test
 
-    heads_are : (s : ℕ) → (view_at u i).head s ≡ w.head s
-    unfolding view_at view_over
-    heads_are s = ⊎_elim
+    spelled_heads : (s : ℕ) → option_map head_of (label_of f i s) ≡ w.head s
+    unfolding view_over
+    spelled_heads s = ⊎_elim
         (λ (inside : s < 64). sym (is.each s inside).loaded.head ∙ same_head (state_at states s) (get_or labels s 0))
         (λ (past : 64 ≤ s). ap (option_map head_of) (no_label s past) ∙ sym (ap (option_map head_in) (get_or_past states s None (omega (arith, past, housed.long)))))
         (cases_lt s 64)
+
+    heads_are : (s : ℕ) → (view_at u i).head s ≡ w.head s
+    heads_are s = head_told u i s ∙ spelled_heads s
 
     -- an entry that stays has its block
     pub entry_stays : (s v : ℕ) (x : VolumeState) → s < 64 → state_at states s ≡ Some x → stays x v ≡ true → (view_at u i).entry s v ≡ w.entry s v

@@ -16,6 +16,7 @@ use Rattle.fv_image.specs.Views.{Placed, View, head_of}
 use Rattle.fv_image.specs.Held.{entry_from, label_in, label_place, layout_at, lying_at, placed, view_at}
 use Rattle.fv_image.specs.Volumes.{told}
 use Rattle.fv_image.specs.WholeMachine.{Tells}
+use Rattle.fv_image.proofs.Heads.{head_told}
 use Rattle.fv_container.specs.declared.entry.Entry.{Entry}
 use Rattle.fv_container.specs.Chains.{Slots, container_at, map_in, own_entry, slot_count}
 use Rattle.fv_container.specs.Mapped.{IsHeld, IsMapped, Mapped, entry_under}
@@ -89,7 +90,7 @@ viewed pool i states long few loaded none =
     λ j. record {
       blocks = pool.found.blocks;
       version = none.version j;
-      head = λ s. head_is pool.found i states pool.containers long few loaded s j;
+      head = λ s. (head_is pool.found i states pool.containers long few loaded s ∙ sym (head_told (root_found pool.found) i s)) j;
       entry = λ s v. entry_is pool.found i states pool.containers long few loaded pool.kept empty s v j;
     }
 

@@ -51,6 +51,10 @@ pub record AreFooted (states : States) (slots : Slots) : Type 0 where
 abbrev pub stands_by : (Base → Bool) → Option VolumeState → Bool
 stands_by test o = option_map_or (λ x. option_map_or test x.base false) o false
 
+-- a base is on the volume of a slot: on its snapshot with a map slot, or on whichever where none is given
+abbrev pub is_base_on : ℕ → Option ℕ → Base → Bool
+is_base_on slot snap b = (b.parent == slot) && option_map_or (λ k. b.slot == k) snap true
+
 -- some volume of a session stands on a base that passes
 unfoldable pub some_stands : States → (Base → Bool) → Bool
 some_stands states test = list_any (λ s. stands_by test (state_at states s)) (range_with_len 0 slot_count)

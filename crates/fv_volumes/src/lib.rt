@@ -15,7 +15,7 @@ mod taking;
 mod volumes;
 mod write;
 
-pub use admit::Admitted;
+pub use admit::{Admitted, Wanted};
 pub use taking::mark_maps;
 pub use volumes::Volumes;
 pub use write::write_volume;

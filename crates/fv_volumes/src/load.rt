@@ -27,7 +27,7 @@ use fv_disk::{Block, BlockFault, Disk, ZERO};
 use fv_model::map_blocks;
 use fv_root::Found;
 use fv_store::Store;
-use fv_volmap::VolMap;
+use fv_volmap::{BASE_SLOT, MapSlot, VolMap};
 use fv_volume::{Snapshots, VolumeState, entry_count, map_vvbn, read_label};
 use std::alloc::{AllocError, Global};
 
@@ -35,7 +35,7 @@ use std::alloc::{AllocError, Global};
 const MOST_BLOCKS: usize = 32;
 
 /// Takes zeros as block `index` of the map of a slot. The one error is want of memory.
-fn take_zeros(map: &mut VolMap, slot: u8, index: u32) -> Result<(), AllocError>
+fn take_zeros(map: &mut VolMap, slot: MapSlot, index: u32) -> Result<(), AllocError>
     requires slot { slot < map_slot_count }
     requires within { block_bits * index < map.old.span }
     ensures taken { OnOk result (Loads map.old slot index (replicate 4096 0) map.new) }
@@ -52,7 +52,7 @@ fn find_map_blocks<D: Disk>(
     disk: &mut D,
     container: &Container,
     span: u32,
-    slot: u8,
+    slot: MapSlot,
     row: &mut [Option<Entry>; MOST_BLOCKS],
 ) -> Result<(), BlockFault>
     requires stands { StandsOn (D.shown disk.old) store.old.pairs }
@@ -77,7 +77,7 @@ fn read_map_block<D: Disk>(
     entry: Option<Entry>,
     map: &mut VolMap,
     span: u32,
-    slot: u8,
+    slot: MapSlot,
     index: u32,
 ) -> Result<(), BlockFault>
     requires stands { StandsOn (D.shown disk.old) store.old.pairs }
@@ -118,7 +118,7 @@ fn read_slot<D: Disk>(
     container: &Container,
     map: &mut VolMap,
     span: u32,
-    slot: u8,
+    slot: MapSlot,
 ) -> Result<(), BlockFault>
     requires stands { StandsOn (D.shown disk.old) store.old.pairs }
     requires spans { IsReadable container.now.map span }
@@ -149,7 +149,7 @@ fn read_next_slot<D: Disk>(
     snapshots: &Snapshots,
     map: &mut VolMap,
     span: u32,
-    slot: u8,
+    slot: MapSlot,
 ) -> Result<(), BlockFault>
     requires stands { StandsOn (D.shown disk.old) store.old.pairs }
     requires spans { IsReadable container.now.map span }
@@ -196,7 +196,7 @@ fn read_map<D: Disk>(
 {
     let mut map = VolMap::new(alloc, span)?;
     read_slot(store, disk, container, &mut map, span, 0)?;
-    for slot in 1..25 {
+    for slot in 1..BASE_SLOT {
         read_next_slot(store, disk, container, snapshots, &mut map, span, slot)?;
     }
     Ok(map)
@@ -234,16 +234,15 @@ fn read_container<D: Disk>(
 
 /// Makes the slot of the base used where the label says one. It has no number yet: the maps of its parent say those, once they were read.
 #[tactic(auto, using(crate::proofs::SlotReads::holds_none, crate::proofs::SlotReads::holds_where))]
-fn hold_base(alloc: Global, map: &mut VolMap, label: &Label) -> Result<(), AllocError>
-    requires span { map.old.span ≡ label.now.span }
+fn hold_base(map: &mut VolMap, label: &Label) -> Result<(), AllocError>
+    requires least { 1 ≤ map.old.span }
     requires free { is_some (slot_at map.old slot_of_base) ≡ false }
     ensures { OnOk result (HoldsBase (footing_of label.entry.now) map.old map.new) }
 {
     if label.parent == 0 {
         return Ok(());
     }
-    let none = VolMap::new(alloc, label.span)?;
-    map.stand_on(&none, 0)
+    take_zeros(map, BASE_SLOT, 0)
 }
 
 /// The slot of the volume that a volume stands on; `None` without a base.
@@ -290,7 +289,7 @@ fn load_volume<D: Disk>(
     let container = read_container(alloc, store, disk, &label)?;
     let snapshots = Snapshots::of_records(alloc, &label.snapshots)?;
     let mut map = read_map(alloc, store, disk, &container, &snapshots, label.span)?;
-    hold_base(alloc, &mut map, &label)?;
+    hold_base(&mut map, &label)?;
     let state = VolumeState::of_label(slot, place, &label, snapshots, map);
     containers.put(slot, container, parent_of(&state));
     Ok(Some(state))

@@ -21,7 +21,7 @@ use fv_container::{Container, Entry};
 use fv_disk::{Block, Disk, Failed, ZERO};
 use fv_model::{map_index, map_slot};
 use fv_store::Store;
-use fv_volmap::VolMap;
+use fv_volmap::{MapSlot, VolMap};
 use fv_volume::{VolumeState, entry_count};
 
 /// The kind of a block of a map.
@@ -41,7 +41,7 @@ pub(crate) fn take_block(map: &mut AggMap) -> u32
 }
 
 /// Block `index` of the map of a slot, all zero for a free slot.
-fn map_block(maps: &VolMap, slot: u8, index: u32, into: &mut Block)
+fn map_block(maps: &VolMap, slot: MapSlot, index: u32, into: &mut Block)
     requires slot { slot < slot_count }
     requires within { 32768 * index < maps.now.span }
     ensures { IsBlockOf (map_or_empty maps.now.span (slot_at maps.now slot)) index into.new }

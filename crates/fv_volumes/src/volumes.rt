@@ -5,17 +5,16 @@ ghost use Rattle.std.specs.Option.{is_some, option_map, option_copied_mut};
 ghost use Rattle.fv_disk.specs.Shown.{Image};
 ghost use Rattle.fv_container.specs.Chains.{paged_at, slot_count, with_container, with_parent};
 ghost use Rattle.fv_container.specs.Paged.{empty_paged};
-ghost use Rattle.fv_image.specs.Views.{entry_count};
 ghost use Rattle.fv_model.specs.declared.commands.Command.TheVariants.{VolCreate};
 ghost use Rattle.fv_model.specs.Numbers.{greatest_span};
 ghost use Rattle.fv_model.specs.Refusals.{refusal, next};
-ghost use Rattle.fv_model.specs.Space.{commits as commits_of, overhead, span_of};
+ghost use Rattle.fv_model.specs.Space.{commits as commits_of, overhead};
 ghost use Rattle.fv_model.specs.Machines.{capacity};
 ghost use Rattle.fv_root.specs.Formatted.{IsSize};
 ghost use Rattle.fv_pool.specs.declared.pool.Pool.{Pool};
 ghost use Rattle.fv_store.specs.Held.{StandsOn};
 ghost use Rattle.fv_volumes.specs.Footing.{AreFooted, is_snap_stood_on, is_stood_on};
-ghost use Rattle.fv_volumes.specs.Creating.{Admits, IsMade, IsNew, LacksPlace, with_holes, Refuses};
+ghost use Rattle.fv_volumes.specs.Creating.{Admits, FindsPlace, IsMade, IsNew, with_holes, Refuses, RefusesWanted};
 ghost use Rattle.fv_pool.specs.Causes.{WithBlockFault};
 ghost use Rattle.fv_volume.specs.Opening.{OpensVolumes};
 ghost use Rattle.fv_volume.specs.States.{view_over, state_at, with_state};
@@ -23,14 +22,15 @@ ghost use Rattle.fv_volume.specs.Trees.{Trees, machine_in};
 ghost use Rattle.fv_volume.specs.Files.{AreStates, IsLabelled, Over};
 ghost use Rattle.fv_volume.specs.Slots.{IsFirstFree, IsFull, HasName, NoneHasName, sum_of};
 
-use crate::admit::{Admitted, admit, find_place};
+use crate::admit::{Admitted, Wanted, admit, judge};
 use crate::load::load_states;
 use crate::search::{find_name, free_slot, sum_commits};
 use crate::standing::{is_snap_stood_on, is_stood_on};
-use fv_container::{Container, Containers};
+use fv_container::Containers;
 use fv_disk::{BlockFault, Disk};
 use fv_model::{Kind, Name, Refusal};
-use fv_volume::{Pool, VolumeFault, VolumeState, entry_count};
+use fv_volmap::MapSlot;
+use fv_volume::{Pool, VolumeFault, VolumeState};
 use std::alloc::{AllocError, Global};
 use std::marker::Model;
 
@@ -127,20 +127,20 @@ impl Volumes {
         free_slot(&self.states)
     }
 
-    /// Where a new volume goes that commits so many blocks, in an aggregate of `blocks` blocks of which all volumes commit `commits`: the
-    /// least slot that is free.
+    /// Where a volume goes that is wanted so, in an aggregate of `blocks` blocks of which all volumes commit `commits`: the least slot that is
+    /// free, and its span.
     ///
     /// # Errors
-    /// `TooMany` where all 64 slots are in use, and else `AggregateFull` where all would commit more than the capacity. Costs a step for
-    /// each slot.
-    pub fn find_place(&self, blocks: u32, commits: u64, commit: u64) -> Result<u8, Refusal>
+    /// In this order `Range` exactly where the span would be above 1,048,576, `TooMany` where all 64 slots are in use, `VolumeFull` where the
+    /// volume would use more than its size, and `AggregateFull` where all would commit more than the capacity. Costs a step for each slot. It
+    /// takes no memory and changes nothing.
+    pub fn judge(&self, blocks: u32, commits: u64, wanted: &Wanted) -> Result<Admitted, Refusal>
         requires blocks { IsSize blocks }
         requires sum { commits ≡ sum_of self.now }
-        ensures free { IfOk result (IsFirstFree self.now) }
-        ensures room { OnOk result (sum_of self.now + commit ≤ capacity blocks) }
-        ensures refused { IfErr result (LacksPlace self.now blocks commit) }
+        ensures found { IfOk result (λ a. FindsPlace self.now blocks wanted.now a.slot a.span) }
+        ensures refused { IfErr result (RefusesWanted self.now blocks wanted.now) }
     {
-        find_place(&self.states, blocks, commits, commit)
+        judge(&self.states, blocks, commits, wanted)
     }
 
     /// Gives a slot below 64 this volume, in place of what it had.
@@ -177,7 +177,7 @@ impl Volumes {
     }
 
     /// Whether a clone stands on the snapshot with this map slot of the volume of a slot. Costs a step for each slot.
-    pub fn is_snap_stood_on(&self, slot: u8, snap: u8) -> bool
+    pub fn is_snap_stood_on(&self, slot: u8, snap: MapSlot) -> bool
         ensures { result ≡ is_snap_stood_on self.now slot snap }
     {
         is_snap_stood_on(&self.states, slot, snap)
@@ -229,14 +229,8 @@ impl Volumes {
         ensures same { OnErr result ((self.new ≡ self.old) × (pool.new ≡ pool.old)) }
     {
         let Admitted { slot, span } = admitted;
-        let container = Container::new(self.alloc, entry_count(span))?;
         let state = VolumeState::empty(self.alloc, slot, name, size, kind, span)?;
-        // It was admitted, so all commit no more than the aggregate has blocks.
-        *commits = commits
-            .saturating_add(state.ledger.commit())
-            .min(u64::from(pool.found.blocks));
-        self.states[slot as usize] = Some(state);
-        pool.containers.put(slot, container, None);
+        self.put(pool, commits, state, None)?;
         Ok(slot)
     }
 

@@ -154,7 +154,7 @@ pub fn remove_both(pair: &mut Pair, name: &Name, stamp: u64) -> Result<(), Wrong
 
 /// Places what changed, and begins again with what the root spells.
 pub fn reopen(pair: &mut Pair) -> Result<(), Wrong> {
-    let root = pair.file.flush(&mut pair.blocks)?;
+    let root = pair.file.flush(&mut pair.blocks, false)?;
     let levels = pair.file.levels();
     pair.file = opened(pair.alloc, levels, root);
     Ok(())

@@ -65,13 +65,13 @@ fn laid(alloc: Global, blocks: &mut MemBlocks, full: u32, last: u32) -> Result<I
     if last < NONE {
         tree.put(blocks, last, &inode_block(last, 15), 1)?;
     }
-    let root = tree.flush(blocks)?;
+    let root = tree.flush(blocks, false)?;
     Ok(opened(alloc, tree.levels(), root))
 }
 
 /// Places what changed, and begins again with what the root spells; answers the root's stamp.
 fn reopen(alloc: Global, blocks: &mut MemBlocks, file: &mut InodeFile) -> Result<u64, Wrong> {
-    let root = file.flush(blocks)?;
+    let root = file.flush(blocks, false)?;
     let levels = file.levels();
     *file = opened(alloc, levels, root);
     Ok(root.stamp)

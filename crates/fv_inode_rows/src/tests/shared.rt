@@ -55,7 +55,7 @@ fn inode_blocks(alloc: Global) -> Result<[[u32; 3]; 2], Wrong> {
     for number in 0..17_u8 {
         create(&mut file, &mut blocks, &name(number)?, 0, 1)?;
     }
-    file.flush(&mut blocks)?;
+    file.flush(&mut blocks, false)?;
     blocks.share();
     let before = over_blocks(&file, &mut blocks)?;
     change(&mut file, &mut blocks, &name(0)?, 5, 2)?;

@@ -77,13 +77,13 @@ pub(crate) fn stored(alloc: Global, blocks: &mut MemBlocks) -> Result<(u8, Point
     let mut tree = Tree::new(alloc, 0, 0);
     tree.put(blocks, 0, &full(5), 2)?;
     tree.put(blocks, 200, &full(6), 3)?;
-    let root = tree.flush(blocks)?;
+    let root = tree.flush(blocks, false)?;
     let done = change(&mut inodes, blocks, &file, 201, 4)?
         && set_root(&mut inodes, blocks, &file, tree.levels(), root)?;
     if !done {
         return Err(Wrong::Differs(2));
     }
-    let root = inodes.flush(blocks)?;
+    let root = inodes.flush(blocks, false)?;
     Ok((inodes.levels(), root))
 }
 

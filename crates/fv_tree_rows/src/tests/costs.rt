@@ -59,14 +59,14 @@ fn flushed(
     blocks.hide(hidden);
     if let Some(call) = fails {
         blocks.fail(call);
-        if tree.flush(&mut blocks) != Err(TreeFault::DiskFault) {
+        if tree.flush(&mut blocks, false) != Err(TreeFault::DiskFault) {
             return Err(TreeFault::Memory);
         }
     }
-    let root = tree.flush(&mut blocks)?;
+    let root = tree.flush(&mut blocks, false)?;
     let kinds = kinds(&blocks);
     let before = blocks.calls();
-    tree.flush(&mut blocks)?;
+    tree.flush(&mut blocks, false)?;
     let more = blocks.calls().saturating_sub(before);
     Ok((kinds, root.pvbn != 0, more))
 }
@@ -108,7 +108,7 @@ fn pending(alloc: Global, other: u32) -> Result<(u64, u64, u64), TreeFault> {
     let mut tree = written(alloc, OWNER, &mut blocks, other)?;
     let before = tree.pending();
     let start = blocks.calls();
-    tree.flush(&mut blocks)?;
+    tree.flush(&mut blocks, false)?;
     let placed = blocks.calls().saturating_sub(start);
     Ok((before, placed, tree.pending()))
 }
@@ -216,7 +216,7 @@ fn refilled(alloc: Global, index: u32) -> Result<(bool, bool, u64, u64), TreeFau
     let (mut tree, mut blocks) = small(alloc)?;
     let there = tree.refill(&mut blocks, index, &block(77))?;
     let before = blocks.calls();
-    let root = tree.flush(&mut blocks)?;
+    let root = tree.flush(&mut blocks, false)?;
     let placed = blocks.calls().saturating_sub(before);
     let mut into = [0; 4096];
     let found = tree.get(&mut blocks, index, &mut into)?;
@@ -270,7 +270,7 @@ fn readied(alloc: Global, index: u32, writes: bool) -> Result<(u64, u32, u64), T
     let pending = tree.pending();
     let staying = tree.staying(&mut blocks, index)?;
     let start = blocks.calls();
-    tree.flush(&mut blocks)?;
+    tree.flush(&mut blocks, false)?;
     Ok((pending, staying, blocks.calls().saturating_sub(start)))
 }
 
@@ -380,11 +380,11 @@ fn any_block_is_read_or_named(rt: HostRuntime) -> Result<(), Fail> {
 fn cost(alloc: Global, index: u32) -> Result<(u64, u64), TreeFault> {
     let (mut tree, mut blocks) = large(alloc)?;
     put(&mut tree, &mut blocks, 100_000, 2)?;
-    tree.flush(&mut blocks)?;
+    tree.flush(&mut blocks, false)?;
     let start = blocks.calls();
     put(&mut tree, &mut blocks, index, 3)?;
     let loaded = blocks.calls();
-    tree.flush(&mut blocks)?;
+    tree.flush(&mut blocks, false)?;
     let placed = blocks.calls();
     Ok((loaded.saturating_sub(start), placed.saturating_sub(loaded)))
 }

@@ -186,7 +186,7 @@ pub fn push<T: Drop>(items: &mut Vec<T>, item: T) -> Result<(), Wrong> {
 
 /// Places what changed, remembers what that left, and answers the root.
 pub fn flush(pair: &mut Pair) -> Result<Pointer, Wrong> {
-    let root = pair.stored.tree.flush(&mut pair.stored.blocks)?;
+    let root = pair.stored.tree.flush(&mut pair.stored.blocks, false)?;
     pair.past = Past {
         blocks: pair.stored.blocks.copy()?,
         levels: pair.stored.tree.levels(),

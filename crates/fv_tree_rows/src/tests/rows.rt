@@ -81,7 +81,7 @@ fn agree_at(pair: &mut Pair, index: u32) -> Result<bool, Wrong> {
 /// tree stays as it is in memory.
 fn agree_if_flushed(pair: &Pair) -> Result<bool, Wrong> {
     let mut stored = replayed(pair)?;
-    let root = stored.tree.flush(&mut stored.blocks)?;
+    let root = stored.tree.flush(&mut stored.blocks, false)?;
     spells(pair.alloc, &mut stored, &root, &pair.machine)
 }
 
@@ -89,7 +89,7 @@ fn agree_if_flushed(pair: &Pair) -> Result<bool, Wrong> {
 /// flush of a replay gives.
 fn agree_when_flushed(pair: &mut Pair) -> Result<bool, Wrong> {
     let mut stored = replayed(pair)?;
-    let again = stored.tree.flush(&mut stored.blocks)?;
+    let again = stored.tree.flush(&mut stored.blocks, false)?;
     let root = flush(pair)?;
     Ok(root == again && spells(pair.alloc, &mut pair.stored, &root, &pair.machine)?)
 }

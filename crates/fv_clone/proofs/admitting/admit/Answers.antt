@@ -1,11 +1,10 @@
-use Rattle.std.proofs.Common.{rules, ◌≡◌, ◌≤◌, ◌+◌, ℕ, IfErr, Err, true, sym, subst}
-use Rattle.fv_model.specs.Machines.{capacity}
+use Rattle.std.proofs.Common.{rules, ◌≡◌, ℕ, IfErr, Err, true, sym, subst}
 use Rattle.fv_model.specs.Numbers.{is_size}
-use Rattle.fv_volume.specs.Slots.{NoneHasName, sum_of}
-use Rattle.fv_volumes.specs.Creating.{LacksPlace}
+use Rattle.fv_volume.specs.Slots.{NoneHasName}
+use Rattle.fv_volumes.specs.Creating.{FindsPlace}
 use Rattle.fv_clone.specs.Admitting.{Refuses}
 use Rattle.fv_clone.proofs.Asked.{home_of, no_base}
-use Rattle.fv_clone.proofs.Refused.{admits_by, inside_by, named_by, parent_by, place_by, source_by}
+use Rattle.fv_clone.proofs.Refused.{admits_by, inside_by, named_by, parent_by, refused_by, source_by}
 use Rattle.fv_clone.proofs.admitting.admit.Goals as goal
 
 pub returns-in_default-base_at-clause-refused : goal.returns-in_default-base_at-clause-refused
@@ -31,32 +30,33 @@ returns-then-is_some-clause-refused c =
 pub judge_parent-requires : goal.judge_parent-requires
 judge_parent-requires c = inside_by c.args.volumes.now c.in-Some.home c.args.parent.now c.args.snapshot.now c.in-Some.ensures.some.0 c.in-Some.ensures.some.1 c.in-Some-get.state.now (sym c.in-Some-get.ensures) c.in-Some-base_at.base c.in-Some-base_at.ensures c.requires.each
 
-pub returns-in_err-span-clause-refused : goal.returns-in_err-span-clause-refused
-returns-in_err-span-clause-refused c =
+pub returns-in_err-wanted-clause-refused : goal.returns-in_err-wanted-clause-refused
+returns-in_err-wanted-clause-refused c =
     let sized : is_size c.args.size ≡ true = search rules in
     let none : NoneHasName c.args.volumes.now c.args.name.now = search rules in
-    let failed : c.from_residual.result ≡ Err c.in_err-span.field-0.0 = search rules in
+    let failed : c.from_residual.result ≡ Err c.in_err-wanted.field-0.0 = search rules in
     subst (λ r. IfErr r (Refuses c.args.volumes.now c.args.blocks c.args.parent.now c.args.snapshot.now c.args.name.now c.args.size c.args.kind)) (sym failed)
     (parent_by c.args.volumes.now c.in-Some.home c.args.parent.now c.args.snapshot.now c.in-Some.ensures.some.0 c.in-Some.ensures.some.1 c.in-Some-get.state.now (sym c.in-Some-get.ensures) c.in-Some-base_at.base c.in-Some-base_at.ensures
-    c.args.blocks c.args.name.now c.args.size c.args.kind sized none c.in_err-span.field-0.0 c.in_err-span.ensures.refused)
+    c.args.blocks c.args.name.now c.args.size c.args.kind sized none c.in_err-wanted.field-0.0 c.in_err-wanted.ensures.refused)
 
-pub returns-in_err-slot-clause-refused : goal.returns-in_err-slot-clause-refused
-returns-in_err-slot-clause-refused c =
+pub returns-in_err-place-clause-refused : goal.returns-in_err-place-clause-refused
+returns-in_err-place-clause-refused c =
     let sized : is_size c.args.size ≡ true = search rules in
     let none : NoneHasName c.args.volumes.now c.args.name.now = search rules in
-    let failed : c.from_residual-in_err-slot.result ≡ Err c.in_err-slot.field-0.0 = search rules in
+    let failed : c.from_residual-in_err-place.result ≡ Err c.in_err-place.field-0.0 = search rules in
     subst (λ r. IfErr r (Refuses c.args.volumes.now c.args.blocks c.args.parent.now c.args.snapshot.now c.args.name.now c.args.size c.args.kind)) (sym failed)
-    (place_by c.args.volumes.now c.in-Some.home c.args.parent.now c.args.snapshot.now c.in-Some.ensures.some.0 c.in-Some.ensures.some.1 c.in-Some-get.state.now (sym c.in-Some-get.ensures) c.in-Some-base_at.base c.in-Some-base_at.ensures
-    c.args.blocks c.args.name.now c.args.size c.args.kind sized none c.in_ok-span.span c.in_ok-span.ensures.can c.in_err-slot.field-0.0
-    (subst (λ (n : ℕ). LacksPlace c.args.volumes.now c.args.blocks n c.in_err-slot.field-0.0) c.commit_of.ensures c.in_err-slot.ensures.refused))
+    (refused_by c.args.volumes.now c.in-Some.home c.args.parent.now c.args.snapshot.now c.in-Some.ensures.some.0 c.in-Some.ensures.some.1 c.in-Some-get.state.now (sym c.in-Some-get.ensures) c.in-Some-base_at.base c.in-Some-base_at.ensures
+    c.args.blocks c.args.name.now c.args.size c.args.kind sized none c.in_ok-wanted.wanted c.in_ok-wanted.ensures.wanted c.in_err-place.field-0.0 c.in_err-place.ensures.refused)
 
 pub returns-clause-admitted : goal.returns-clause-admitted
 returns-clause-admitted c =
     let sized : is_size c.args.size ≡ true = search rules in
     let none : NoneHasName c.args.volumes.now c.args.name.now = search rules in
+    let found : FindsPlace c.args.volumes.now c.args.blocks c.in_ok-wanted.wanted c.slot.result c.span.result =
+    subst (λ (k : ℕ). FindsPlace c.args.volumes.now c.args.blocks c.in_ok-wanted.wanted c.slot.result k) (sym c.span.ensures)
+    (subst (λ (k : ℕ). FindsPlace c.args.volumes.now c.args.blocks c.in_ok-wanted.wanted k c.in_ok-place.place.span) (sym c.slot.ensures) c.in_ok-place.ensures.found) in
     admits_by c.args.volumes.now c.in-Some.home c.args.parent.now c.args.snapshot.now c.in-Some.ensures.some.0 c.in-Some.ensures.some.1 c.in-Some-get.state.now (sym c.in-Some-get.ensures) c.in-Some-base_at.base c.in-Some-base_at.ensures
-    c.args.blocks c.args.name.now c.args.size c.args.kind sized none c.in_ok-span.span c.in_ok-span.ensures.can c.in_ok-slot.slot c.in_ok-slot.ensures.free
-    (subst (λ (n : ℕ). sum_of c.args.volumes.now + n ≤ capacity c.args.blocks) c.commit_of.ensures c.in_ok-slot.ensures.room)
+    c.args.blocks c.args.name.now c.args.size c.args.kind sized none c.in_ok-wanted.wanted c.in_ok-wanted.ensures.wanted c.slot.result c.span.result found
 
 pub returns-clause-named : goal.returns-clause-named
 returns-clause-named c = named_by c.args.volumes.now c.in-Some.home c.args.parent.now c.args.snapshot.now c.in-Some.ensures.some.0 c.in-Some.ensures.some.1 c.in-Some-get.state.now (sym c.in-Some-get.ensures) c.in-Some-base_at.base c.in-Some-base_at.ensures

@@ -2,8 +2,8 @@ use Rattle.std.proofs.Common.{sym}
 use Rattle.fv_clone.proofs.Made.{cloned_by, inside_of, used_of}
 use Rattle.fv_clone.proofs.creating.make.Goals as goal
 
-pub clone_of-requires-clause-slot : goal.clone_of-requires-clause-slot
-clone_of-requires-clause-slot c = inside_of c.args.volumes.now c.args.pool.now c.args.name.now c.args.size c.args.kind c.args.admitted c.requires.admitted c.requires.each c.in-Some.parent.now (sym c.in-Some.ensures)
+pub clone_of-requires-clause-base : goal.clone_of-requires-clause-base
+clone_of-requires-clause-base c = inside_of c.args.volumes.now c.args.pool.now c.args.name.now c.args.size c.args.kind c.args.admitted c.requires.admitted c.requires.each c.in-Some.parent.now (sym c.in-Some.ensures)
 
 pub clone_of-requires-clause-used : goal.clone_of-requires-clause-used
 clone_of-requires-clause-used c = used_of c.args.volumes.now c.args.pool.now c.args.name.now c.args.size c.args.kind c.args.admitted c.requires.admitted c.requires.each c.in-Some.parent.now (sym c.in-Some.ensures)

@@ -4,6 +4,7 @@ use Rattle.fv_tree.specs.Sources.{WasFree}
 use Rattle.fv_tree.specs.Flushing.{IsPlaced, Stands, loaded}
 use Rattle.fv_tree.specs.Altering.{PlacesAnew}
 use Rattle.fv_tree.proofs.Brought.{some_same}
+use Rattle.fv_files.proofs.Roots.{file_roots}
 use Rattle.fv_files.proofs.Sums.{becomes_set, most_cost, set_fits, set_kept}
 use Rattle.std.specs.BTreeMap as maps
 use Rattle.std.specs.Ordering.{nat_cmp}
@@ -22,6 +23,7 @@ returns-in-Some-clause-flushes g c =
           (becomes_set c.trees.inside.by_number (c.get_mut.follows.lender c.flush-result.new.self) c.args.number c.in-Some.tree.now c.flush-result.new.self c.in-Some.ensures.value (c.get_mut.follows.holds c.flush-result.new.self).0 written.1 written.2);
       flushes = is.flushing.flushes;
       stored_well = is.stored_well;
+      tells = λ told stands owner places. is.tells told stands refl places (file_roots (loaded (g.B.Blocks.shown c.args.blocks.now) c.in-Some.tree.now) (omega (arith, owner)));
       strays = is.flushing.strays;
       fits = is.flushing.fits;
       enough = is.flushing.enough;

@@ -21,6 +21,7 @@ returns-in-Some-clause-puts g c =
       leads = c.put-result.ensures.steady.leads;
       keeps = c.put-result.ensures.steady.keeps;
       stored_well = c.put-result.ensures.steady.stored_well;
+      tells = c.put-result.ensures.steady.tells;
       alters = c.put-result.ensures.alters;
       leaves = c.put-result.ensures.leaves;
       rises = c.put-result.ensures.steady.rises;

@@ -5,6 +5,6 @@ use Rattle.fv_tree.proofs.flush.flush_cells.Given as goal
 
 abbrev pub invariant-loop : goal.invariant-loop
 invariant-loop g l = record {
-  flushing : PlacesChanged {T = ℕ} g.B.Blocks.told g.B.Blocks.known g.B.Blocks.shown g.B.Blocks.goes g.B.Blocks.keeps l.fn.blocks l.blocks l.fn.tree l.tree (Ok 0);
+  flushing : PlacesChanged {T = ℕ} l.fn.hides g.B.Blocks.told g.B.Blocks.known g.B.Blocks.shown g.B.Blocks.goes g.B.Blocks.keeps l.fn.blocks l.blocks l.fn.tree l.tree (Ok 0);
   count : maps.btree_map_len l.tree.cells ≡ maps.btree_map_len l.fn.tree.cells - l.counter;
 }

@@ -23,7 +23,7 @@ returns-in_err-flush_cell-in-Some-clause-flushing g c = let failed = c.in_err-fl
     let p = err_from_is_err_and c.from_residual.result c.from_residual.ensures.1 in
     rw (p.1, p.2) (flushes_failed failed.one failed.failed
     (λ told stands.
-    flush_keeps (g.B.Blocks.shown c.args.blocks.now) (g.B.Blocks.shown c.flush_cell.new.blocks) c.args.tree.now c.flush_cell.new.tree (λ v. g.B.Blocks.keeps v c.args.blocks.now c.flush_cell.new.blocks) stands (flushes_still (g.B.Blocks.shown c.args.blocks.now) (g.B.Blocks.shown c.flush_cell.new.blocks) c.args.tree.now c.flush_cell.new.tree failed.one.untouched.held failed.one.untouched.used failed.failed stands)
+    flush_keeps {hides = c.args.hides} (g.B.Blocks.shown c.args.blocks.now) (g.B.Blocks.shown c.flush_cell.new.blocks) c.args.tree.now c.flush_cell.new.tree (λ v. g.B.Blocks.keeps v c.args.blocks.now c.flush_cell.new.blocks) stands (flushes_still (g.B.Blocks.shown c.args.blocks.now) (g.B.Blocks.shown c.flush_cell.new.blocks) c.args.tree.now c.flush_cell.new.tree failed.one.untouched.held failed.one.untouched.used failed.failed stands)
     (c.in_err-flush_cell-in-Some.ensures.keeps told (found_names (g.B.Blocks.shown c.args.blocks.now) c.args.tree.now c.in-Some.cell.index stands c.in-Some.ensures.there)))
     (λ none. absurd (omega (arith, some, none))))
 
@@ -31,12 +31,12 @@ pub returns-in_ok-flush_cell-in-Some-clause-flushing : goal.returns-in_ok-flush_
 returns-in_ok-flush_cell-in-Some-clause-flushing g c = let did = c.in_ok-flush_cell-in-Some.ensures in
     let still = did.still in
     let forgets = c.forget_cell.ensures.forgets in
-    let flushes : g.B.Blocks.told → Stands (g.B.Blocks.shown c.args.blocks.now) c.args.tree.now → Flushes (loaded (g.B.Blocks.shown c.args.blocks.now) c.args.tree.now) (g.B.Blocks.shown c.args.blocks.now).used (loaded (g.B.Blocks.shown c.flush_cell.new.blocks) c.forget_cell.new.tree) (g.B.Blocks.shown c.flush_cell.new.blocks).used = λ told stands. (cell_step (g.B.Blocks.shown c.args.blocks.now) (g.B.Blocks.shown c.flush_cell.new.blocks) c.args.tree.now c.flush_cell.new.tree c.forget_cell.new.tree c.in-Some.cell.index c.in-Some.ensures.there.cell stands c.in-Some.ensures.there.is (found_step (g.B.Blocks.shown c.args.blocks.now) (g.B.Blocks.shown c.flush_cell.new.blocks) c.args.tree.now c.flush_cell.new.tree c.in-Some.cell.index c.in-Some.ensures.there (c.in_ok-flush_cell-in-Some.ensures.cell told)) c.forget_cell.ensures.forgets).flushes in record {
+    let flushes : g.B.Blocks.told → Stands (g.B.Blocks.shown c.args.blocks.now) c.args.tree.now → Flushes c.args.hides (loaded (g.B.Blocks.shown c.args.blocks.now) c.args.tree.now) (g.B.Blocks.shown c.args.blocks.now).used (loaded (g.B.Blocks.shown c.flush_cell.new.blocks) c.forget_cell.new.tree) (g.B.Blocks.shown c.flush_cell.new.blocks).used = λ told stands. (cell_step c.args.hides (g.B.Blocks.shown c.args.blocks.now) (g.B.Blocks.shown c.flush_cell.new.blocks) c.args.tree.now c.flush_cell.new.tree c.forget_cell.new.tree c.in-Some.cell.index c.in-Some.ensures.there.cell stands c.in-Some.ensures.there.is (found_step (g.B.Blocks.shown c.args.blocks.now) (g.B.Blocks.shown c.flush_cell.new.blocks) c.args.tree.now c.flush_cell.new.tree c.in-Some.cell.index c.in-Some.ensures.there (c.in_ok-flush_cell-in-Some.ensures.cell told)) c.forget_cell.ensures.forgets).flushes in record {
       flushes = flushes;
       anew = λ told stands.
           let old = g.B.Blocks.shown c.args.blocks.now in
           let new = g.B.Blocks.shown c.flush_cell.new.blocks in
-          let step = cell_step (g.B.Blocks.shown c.args.blocks.now) (g.B.Blocks.shown c.flush_cell.new.blocks) c.args.tree.now c.flush_cell.new.tree c.forget_cell.new.tree c.in-Some.cell.index c.in-Some.ensures.there.cell stands c.in-Some.ensures.there.is (found_step (g.B.Blocks.shown c.args.blocks.now) (g.B.Blocks.shown c.flush_cell.new.blocks) c.args.tree.now c.flush_cell.new.tree c.in-Some.cell.index c.in-Some.ensures.there (c.in_ok-flush_cell-in-Some.ensures.cell told)) c.forget_cell.ensures.forgets in
+          let step = cell_step c.args.hides (g.B.Blocks.shown c.args.blocks.now) (g.B.Blocks.shown c.flush_cell.new.blocks) c.args.tree.now c.flush_cell.new.tree c.forget_cell.new.tree c.in-Some.cell.index c.in-Some.ensures.there.cell stands c.in-Some.ensures.there.is (found_step (g.B.Blocks.shown c.args.blocks.now) (g.B.Blocks.shown c.flush_cell.new.blocks) c.args.tree.now c.flush_cell.new.tree c.in-Some.cell.index c.in-Some.ensures.there (c.in_ok-flush_cell-in-Some.ensures.cell told)) c.forget_cell.ensures.forgets in
           flush_anew (loaded old c.args.tree.now) old.used (loaded new c.forget_cell.new.tree) new.used (WasFree g.B.Blocks.shown g.B.Blocks.goes c.args.blocks.now c.flush_cell.new.blocks) step.flushes
           (λ v placed. free_now g.B.Blocks.shown g.B.Blocks.goes c.args.blocks.now c.flush_cell.new.blocks (g.met.B.Blocks.goes_nothing c.args.blocks.now) c.in_ok-flush_cell-in-Some.ensures.one.calls v (step.fresh v placed));
       keeps = λ told stands.

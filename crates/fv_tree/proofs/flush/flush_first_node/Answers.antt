@@ -27,7 +27,7 @@ returns-in_err-flush_node-in-Some-clause-flushing g c = let failed = c.in_err-fl
     let p = err_from_is_err_and c.from_residual.result c.from_residual.ensures.1 in
     rw (p.1, p.2) (flushes_failed failed.one failed.failed
     (λ told stands.
-    flush_keeps (g.B.Blocks.shown c.args.blocks.now) (g.B.Blocks.shown c.flush_node.new.blocks) c.args.tree.now c.flush_node.new.tree (λ v. g.B.Blocks.keeps v c.args.blocks.now c.flush_node.new.blocks) stands (flushes_still (g.B.Blocks.shown c.args.blocks.now) (g.B.Blocks.shown c.flush_node.new.blocks) c.args.tree.now c.flush_node.new.tree failed.one.untouched.held failed.one.untouched.used failed.failed stands)
+    flush_keeps {hides = c.args.hides} (g.B.Blocks.shown c.args.blocks.now) (g.B.Blocks.shown c.flush_node.new.blocks) c.args.tree.now c.flush_node.new.tree (λ v. g.B.Blocks.keeps v c.args.blocks.now c.flush_node.new.blocks) stands (flushes_still (g.B.Blocks.shown c.args.blocks.now) (g.B.Blocks.shown c.flush_node.new.blocks) c.args.tree.now c.flush_node.new.tree failed.one.untouched.held failed.one.untouched.used failed.failed stands)
     (c.in_err-flush_node-in-Some.ensures.keeps told (names_node (g.B.Blocks.shown c.args.blocks.now) c.args.tree.now c.in-Some.level c.in-Some.place c.first_node.new.into stands c.in-Some.ensures.there)))
     (λ none. absurd (omega (arith, some, none))))
 
@@ -35,13 +35,13 @@ pub returns-in_ok-flush_node-in-Some-clause-flushing : goal.returns-in_ok-flush_
 returns-in_ok-flush_node-in-Some-clause-flushing g c = let did = c.in_ok-flush_node-in-Some.ensures in
     let still = did.still in
     let forgets = c.forget_node.ensures.forgets in
-    let flushes : g.B.Blocks.told → Stands (g.B.Blocks.shown c.args.blocks.now) c.args.tree.now → Flushes (loaded (g.B.Blocks.shown c.args.blocks.now) c.args.tree.now) (g.B.Blocks.shown c.args.blocks.now).used (loaded (g.B.Blocks.shown c.flush_node.new.blocks) c.forget_node.new.tree) (g.B.Blocks.shown c.flush_node.new.blocks).used = λ told stands. (node_step (g.B.Blocks.shown c.args.blocks.now) (g.B.Blocks.shown c.flush_node.new.blocks) c.args.tree.now c.flush_node.new.tree c.forget_node.new.tree c.in-Some.level c.in-Some.place c.first_node.new.into
+    let flushes : g.B.Blocks.told → Stands (g.B.Blocks.shown c.args.blocks.now) c.args.tree.now → Flushes c.args.hides (loaded (g.B.Blocks.shown c.args.blocks.now) c.args.tree.now) (g.B.Blocks.shown c.args.blocks.now).used (loaded (g.B.Blocks.shown c.flush_node.new.blocks) c.forget_node.new.tree) (g.B.Blocks.shown c.flush_node.new.blocks).used = λ told stands. (node_step c.args.hides (g.B.Blocks.shown c.args.blocks.now) (g.B.Blocks.shown c.flush_node.new.blocks) c.args.tree.now c.flush_node.new.tree c.forget_node.new.tree c.in-Some.level c.in-Some.place c.first_node.new.into
     stands c.requires c.in-Some.ensures.there c.in-Some.ensures.lowest (c.in_ok-flush_node-in-Some.ensures.node told) c.forget_node.ensures.forgets).flushes in record {
       flushes = flushes;
       anew = λ told stands.
           let old = g.B.Blocks.shown c.args.blocks.now in
           let new = g.B.Blocks.shown c.flush_node.new.blocks in
-          let step = node_step (g.B.Blocks.shown c.args.blocks.now) (g.B.Blocks.shown c.flush_node.new.blocks) c.args.tree.now c.flush_node.new.tree c.forget_node.new.tree c.in-Some.level c.in-Some.place c.first_node.new.into
+          let step = node_step c.args.hides (g.B.Blocks.shown c.args.blocks.now) (g.B.Blocks.shown c.flush_node.new.blocks) c.args.tree.now c.flush_node.new.tree c.forget_node.new.tree c.in-Some.level c.in-Some.place c.first_node.new.into
           stands c.requires c.in-Some.ensures.there c.in-Some.ensures.lowest (c.in_ok-flush_node-in-Some.ensures.node told) c.forget_node.ensures.forgets in
           flush_anew (loaded old c.args.tree.now) old.used (loaded new c.forget_node.new.tree) new.used (WasFree g.B.Blocks.shown g.B.Blocks.goes c.args.blocks.now c.flush_node.new.blocks) step.flushes
           (λ v placed. free_now g.B.Blocks.shown g.B.Blocks.goes c.args.blocks.now c.flush_node.new.blocks (g.met.B.Blocks.goes_nothing c.args.blocks.now) c.in_ok-flush_node-in-Some.ensures.one.calls v (step.fresh v placed));

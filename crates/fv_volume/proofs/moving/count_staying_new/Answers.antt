@@ -1,8 +1,10 @@
+use Rattle.std.proofs.Common.{sym, ◌∙◌}
 use Rattle.std.proofs.lemmas.Result.{IfOk-weaker}
 use Rattle.fv_volume.proofs.RightTables.{active_tells}
 use Rattle.fv_volume.proofs.Charged.{counts_new, none_by_new}
 use Rattle.fv_volume.proofs.OneVolumes.{root_fits}
 use Rattle.fv_volume.proofs.TakenTable.{is_told, told_cause}
+use Rattle.fv_volume.proofs.TablesOf.{none_counted}
 use Rattle.fv_volume.proofs.moving.count_staying_new.Goals as goal
 
 pub take_table-files-requires-clause-root : goal.take_table-files-requires-clause-root
@@ -15,4 +17,4 @@ pub returns-clause-cause : goal.returns-clause-cause
 returns-clause-cause g c = told_cause (g.D.Disk.shown c.args.disk.now) c.args.pool.now c.args.volume.now c.take_table-files.result c.take_table-files.ensures.table c.take_table-files.ensures.trees (c.take_table-files.ensures.held, c.take_table-files.ensures.alike) (g.D.Disk.shown c.staying_new_told-answer.new.disk).faults c.staying_new_told-answer.result c.staying_new_told-answer.ensures.cause
 
 pub returns-then-has_one_table-clause-staying : goal.returns-then-has_one_table-clause-staying
-returns-then-has_one_table-clause-staying g c = λ is. none_by_new (g.D.Disk.shown c.args.disk.now) c.args.pool.now c.args.volume.now (c.has_one_table.ensures c.if-has_one_table.true) c.args.number
+returns-then-has_one_table-clause-staying g c = λ is. none_by_new (g.D.Disk.shown c.args.disk.now) c.args.pool.now c.args.volume.now (none_counted c.args.volume.now (sym c.if-has_one_table.true ∙ c.has_one_table.ensures)) c.args.number

@@ -12,10 +12,11 @@ use Rattle.fv_volume.proofs.RightTables.{active_tells}
 use Rattle.fv_volume.proofs.Calling.{no_refusal, if_err_is}
 use Rattle.fv_volume.proofs.Judged.{more_fits, said_of}
 use Rattle.fv_volume.proofs.JudgedCut.{cut_accepted, cut_alone, cut_full}
+use Rattle.fv_volume.proofs.TablesOf.{none_counted}
 use Rattle.fv_volume.proofs.removing.admit_cut.Goals as goal
 
 pub returns-then-has_one_table-clause-accepted : goal.returns-then-has_one_table-clause-accepted
-returns-then-has_one_table-clause-accepted g c = λ is. let none = c.has_one_table.ensures c.if-has_one_table.true in cut_alone (g.D.Disk.shown c.args.disk.now) c.args.pool.now c.args.volume.now is c.args.file.now c.args.info.now (c.requires.first (active_tells (g.D.Disk.shown c.args.disk.now) c.args.pool.now c.args.volume.now is)) none c.args.length (let most : c.args.length ≤ 2097152 = c.requires.within.near in let near : is_reserve c.args.length ≡ true = search rules in near) c.requires.within.low c.requires.more c.args.others
+returns-then-has_one_table-clause-accepted g c = λ is. let none = none_counted c.args.volume.now (sym c.if-has_one_table.true ∙ c.has_one_table.ensures) in cut_alone (g.D.Disk.shown c.args.disk.now) c.args.pool.now c.args.volume.now is c.args.file.now c.args.info.now (c.requires.first (active_tells (g.D.Disk.shown c.args.disk.now) c.args.pool.now c.args.volume.now is)) none c.args.length (let most : c.args.length ≤ 2097152 = c.requires.within.near in let near : is_reserve c.args.length ≡ true = search rules in near) c.requires.within.low c.requires.more c.args.others
 
 pub returns-in_err-taken-clause-refused : goal.returns-in_err-taken-clause-refused
 returns-in_err-taken-clause-refused g c = λ is. if_err_is _ (of_block c.in_err-taken.field-0.0) c.from_residual.result (search rules) (λ m has. no_refusal (Unit {0}) m _ c.in_err-taken.field-0.0)

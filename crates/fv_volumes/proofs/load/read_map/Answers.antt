@@ -3,7 +3,7 @@ use Rattle.std.specs.Prelude.{IsTrue}
 use Rattle.fv_disk.specs.Shown.{Image}
 use Rattle.fv_disk.proofs.Resting.{reads_then}
 use Rattle.fv_model.specs.Space.{map_blocks}
-use Rattle.fv_volmap.specs.Slots.{Volume}
+use Rattle.fv_volmap.specs.Slots.{Volume, stored_count}
 use Rattle.fv_volume.specs.SlotReads.{HasReadSlot, HaveRead, IsOpenedOn, TakesSlot}
 use Rattle.fv_volumes.proofs.SlotReads.{empty_read, read_first, used_first}
 use Rattle.fv_volumes.proofs.load.read_map.Goals as goal
@@ -42,5 +42,5 @@ loop-slot-preserved g c =
 
 pub returns-clause-read : goal.returns-clause-read
 returns-clause-read g c = λ tells opened.
-    let all : c.loop-slot.slot ≡ 25 = omega (arith, c.loop-slot-test.false, c.loop-slot.auto.slot-end) in
+    let all : c.loop-slot.slot ≡ stored_count = omega (arith, c.loop-slot-test.false, c.loop-slot.auto.slot-end) in
     subst (λ (n : ℕ). HaveRead (g.D.Disk.shown c.args.disk.now).reads c.args.container.now.map c.args.span n c.loop-slot.map) all (c.loop-slot.invariant.read tells opened)

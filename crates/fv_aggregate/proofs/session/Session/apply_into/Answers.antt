@@ -15,8 +15,10 @@ use Rattle.fv_aggregate.proofs.Answered.{fails}
 use Rattle.fv_aggregate.proofs.Added.{not_refused}
 use Rattle.fv_aggregate.proofs.Applied.{cp_asks, cp_built, cp_goes, cp_goes_for, cp_no_files, cp_no_list, cp_no_names, cp_no_snap, cp_no_whole, cp_replies, list_no_point, list_after, list_done, list_fails, list_replies, no_files}
 use Rattle.fv_aggregate.proofs.Applying.{booked_each, no_step, not_dead, pointed_same, rests_as}
+use Rattle.fv_aggregate.specs.Deciding.{makes_volume}
+use Rattle.fv_aggregate.proofs.Decided.{undecided}
 use Rattle.fv_aggregate.proofs.Keeping.{keeps_but}
-use Rattle.fv_aggregate.proofs.Making.{create_made, made_applied, making_clone, making_create}
+use Rattle.fv_aggregate.proofs.Making.{create_makes, made_applied, making_clone, making_create}
 use Rattle.fv_aggregate.specs.Reclaiming.{MakesRoom}
 use Rattle.fv_aggregate.proofs.MadeRoom.{cp_room, list_room, none_roomy, snaps_room}
 use Rattle.fv_aggregate.proofs.Ready.{stands_ready}
@@ -36,7 +38,7 @@ returns-in-VolCreate g c =
     let fresh : IsNone s.failed = subst (λ (k : Session). IsNone k.failed) c.self.view_is (subst IsNone (sym c.in_default.is) refl) in
     subst (λ (k : Command). HasApplied k (g.D.Disk.shown c.args.disk.now) c.args.disk.now s c.args.steps.now (g.D.Disk.shown c.create.new.disk) c.create.new.disk n c.args.steps.now r) (sym c.in-VolCreate.is)
     (made_applied g.D.Disk.shown (VolCreate c.in-VolCreate.volume c.in-VolCreate.size c.in-VolCreate.kind) (making_create c.in-VolCreate.volume c.in-VolCreate.size c.in-VolCreate.kind) c.args.disk.now s c.create.new.disk n r
-    (create_made g.D.Disk.shown c.in-VolCreate.volume c.in-VolCreate.size c.in-VolCreate.kind c.args.disk.now s c.create.new.disk n r fresh e.runs e.reply e.refused e.calm e.map e.entries e.holding e.wanting e.roomy) c.args.steps.now)
+    (record { fresh = fresh; makes = create_makes g.D.Disk.shown c.in-VolCreate.volume c.in-VolCreate.size c.in-VolCreate.kind c.args.disk.now s c.create.new.disk n r e.made; reply = e.reply; decides = e.decides; refused = e.refused }) c.args.steps.now)
 
 pub returns-in-CloneCreate : goal.returns-in-CloneCreate
 returns-in-CloneCreate g c =
@@ -44,7 +46,7 @@ returns-in-CloneCreate g c =
     let fresh : IsNone s.failed = subst (λ (k : Session). IsNone k.failed) c.self.view_is (subst IsNone (sym c.in_default.is) refl) in
     subst (λ (k : Command). HasApplied k (g.D.Disk.shown c.args.disk.now) c.args.disk.now s c.args.steps.now (g.D.Disk.shown c.clone_volume.new.disk) c.clone_volume.new.disk n c.args.steps.now r) (sym c.in-CloneCreate.is)
     (made_applied g.D.Disk.shown (CloneCreate c.in-CloneCreate.clone c.in-CloneCreate.parent c.in-CloneCreate.snapshot c.in-CloneCreate.size c.in-CloneCreate.kind) (making_clone c.in-CloneCreate.clone c.in-CloneCreate.parent c.in-CloneCreate.snapshot c.in-CloneCreate.size c.in-CloneCreate.kind) c.args.disk.now s c.clone_volume.new.disk n r
-    (record { fresh = fresh; runs = e.runs; reply = e.reply; refused = e.refused; calm = e.calm; map = e.map; entries = e.entries; holding = e.holding; wanting = e.wanting; roomy = e.roomy }) c.args.steps.now)
+    (record { fresh = fresh; makes = e.made; reply = e.reply; decides = e.decides; refused = e.refused }) c.args.steps.now)
 
 pub clone_volume-requires-clause-stands : goal.clone_volume-requires-clause-stands
 clone_volume-requires-clause-stands g c =
@@ -77,6 +79,7 @@ returns-in-Cp g c =
         removed = λ fresh name its. cp_no_whole _ command c.in-Cp.is name (ap managed_by its);
         snapped = λ fresh name of. cp_no_snap _ command c.in-Cp.is name of;
         snapshots = λ fresh name names. cp_no_names _ command c.in-Cp.is name names;
+        made = undecided s.volumes s.pool.found.blocks command (ap makes_volume c.in-Cp.is) (answer c.reclaim.new.into c.reclaim.result);
       };
       on_files = λ files. cp_no_files _ command c.in-Cp.is files;
       point = λ tells last m stands cp. c.reclaim.ensures.points.point tells last m stands;

@@ -2,6 +2,8 @@ use Rattle.std.proofs.Common.{refl, inl, arith}
 use Rattle.fv_files.proofs.Tables.{alike}
 use Rattle.fv_inode.specs.Files.{rooted}
 use Rattle.std.specs.Prelude.{None}
+use Rattle.fv_tree.specs.Flushing.{loaded}
+use Rattle.fv_files.proofs.Stored.{both_kept}
 use Rattle.fv_files.proofs.Altered.{only_leaves_trees}
 use Rattle.fv_files.proofs.Changed.{with_inode}
 use Rattle.fv_files.proofs.Looked.{counts_done, counts_failed}
@@ -26,7 +28,7 @@ returns-in-Ok-clause-changes g c =
       stands = λ told asked sound. made_sound (g.B.Blocks.shown c.args.blocks.now) (g.B.Blocks.shown c.create.new.blocks) c.args.self.now c.create.new.self c.args.name.now c.args.reserve c.args.stamp c.in-Ok.field-0
           looks.untouched.held (c.in-Ok.ensures.made told) sound looks.untouched.used loads.owner (loads.stands told (sound.trees None)) (loads.leads told) loads.keeps_ready;
       stored = λ told asked sound was. made_stored (g.B.Blocks.shown c.args.blocks.now) (g.B.Blocks.shown c.create.new.blocks) c.args.self.now c.create.new.self c.args.name.now c.args.reserve c.args.stamp c.in-Ok.field-0
-          looks.untouched.held (c.in-Ok.ensures.made told) sound looks.untouched.used (loads.stored_well told (was.trees None)) (loads.leads told) was;
+          looks.untouched.held (c.in-Ok.ensures.made told) sound looks.untouched.used (both_kept (loaded (g.B.Blocks.shown c.args.blocks.now) c.args.self.now.inode.tree) (loaded (g.B.Blocks.shown c.create.new.blocks) c.create.new.self.tree) (loads.stored_well told) (loads.tells told) (was.trees None)) (loads.leads told) was;
       strays = λ told sound. looks.untouched.strays;
       room = same_room (g.B.Blocks.shown c.args.blocks.now) (g.B.Blocks.shown c.create.new.blocks) looks.untouched;
       counts = counts_done (g.B.Blocks.shown c.args.blocks.now) (g.B.Blocks.shown c.create.new.blocks) c.in-Ok.field-0 tt looks.counts;
@@ -45,7 +47,7 @@ returns-in-Err-clause-changes g c =
       failed = λ told. readied_told old new f h looks.untouched (alike (rooted old f.inode) (rooted new h.inode) (loads.failed told)) (λ k. refl);
       untouched = looks.untouched;
       stands = λ told asked sound. readied_stands old new f h looks.untouched (alike (rooted old f.inode) (rooted new h.inode) (loads.failed told)) (λ k. refl) loads.owner (loads.stands told) (loads.leads told) loads.keeps_ready sound;
-      stored = λ told asked sound was. readied_stored old new f h looks.untouched (alike (rooted old f.inode) (rooted new h.inode) (loads.failed told)) (λ k. refl) (loads.stored_well told) (loads.leads told) sound was;
+      stored = λ told asked sound was. readied_stored old new f h looks.untouched (alike (rooted old f.inode) (rooted new h.inode) (loads.failed told)) (λ k. refl) (both_kept (loaded old f.inode.tree) (loaded new h.inode.tree) (loads.stored_well told) (loads.tells told)) (loads.leads told) sound was;
       strays = λ told sound. looks.untouched.strays;
       room = same_room old new looks.untouched;
       counts = counts_failed old new _ _ looks.counts;

@@ -1,4 +1,4 @@
-use Rattle.std.proofs.Common.{Err}
+use Rattle.std.proofs.Common.{Err, refl}
 use Rattle.std.proofs.lemmas.Result.{err_from_is_err_and}
 use Rattle.fv_tree.specs.Sources.{WasFree}
 use Rattle.fv_tree.proofs.Anew.{free_later, free_sooner}
@@ -24,7 +24,7 @@ returns g c =
     let old = g.B.Blocks.shown c.args.blocks.now in
     let mid = g.B.Blocks.shown c.flush_trees.new.blocks in
     let new = g.B.Blocks.shown c.flush.new.blocks in
-    let last : Places g.B.Blocks.told mid new c.flush_trees.new.files.inode c.flush.new.self c.flush.result = record { flushes = is.flushing.flushes; stored_well = is.stored_well; strays = is.flushing.strays; left = is.flushing.left; fits = is.flushing.fits; enough = is.flushing.enough; nothing = is.pending; root = is.root; pointer = is.pointer; spelled = is.stored; reaches = is.reaches; counts = is.flushing.counts; cause = is.flushing.cause } in
+    let last : Places g.B.Blocks.told mid new c.flush_trees.new.files.inode c.flush.new.self c.flush.result = record { flushes = is.flushing.flushes; stored_well = is.stored_well; tells = λ told stands. is.tells told stands refl; strays = is.flushing.strays; left = is.flushing.left; fits = is.flushing.fits; enough = is.flushing.enough; nothing = is.pending; root = is.root; pointer = is.pointer; spelled = is.stored; reaches = is.reaches; counts = is.flushing.counts; cause = is.flushing.cause } in
     let done = flush_done g.B.Blocks.told old mid new c.args.self.now c.flush_trees.new.files c.flush.new.self c.flush.result first.lays first.none last in
     let ends = last_places g.B.Blocks.told mid new c.flush_trees.new.files c.flush.new.self c.flush.result last first.none (WasFree g.B.Blocks.shown g.B.Blocks.goes c.flush_trees.new.blocks c.flush.new.blocks) is.flushing.anew in
     record {

@@ -7,7 +7,7 @@ use Rattle.fv_tree.specs.Standing.{under}
 use Rattle.fv_tree.specs.Flushing.{ReachesOnce}
 use Rattle.fv_tree.specs.declared.kept.KeptCell.{KeptCell}
 use Rattle.fv_tree.proofs.Differing.{none_pending}
-use Rattle.fv_tree.proofs.StoredFlush.{stored_flush}
+use Rattle.fv_tree.proofs.StoredFlush.{stored_flush, tells_flush}
 use Rattle.fv_tree.proofs.Whole.{is_stored, reaches}
 use Rattle.fv_tree.proofs.Calls.{flushes_err, flushes_ok, flushes_on}
 use Rattle.fv_tree.proofs.kept.Tree.flush.Goals as goal
@@ -40,13 +40,25 @@ returns-clause-pending g c =
     none_pending c.flush_nodes.new.tree nodes.none (ap (λ (m : maps.BTreeMap ℕ KeptCell). maps.btree_map_len m) nodes.cells ∙ c.in_ok-flush_cells.ensures.none)
 
 pub returns-in_err-flush_cells-clause-stored_well : goal.returns-in_err-flush_cells-clause-stored_well
-returns-in_err-flush_cells-clause-stored_well g c = λ told stands places was.
-    stored_flush (g.B.Blocks.shown c.args.blocks.now) (g.B.Blocks.shown c.flush_cells.new.blocks) c.args.self.now c.flush_cells.new.tree stands (c.in_err-flush_cells.ensures.flushing.flushes told stands) was places
+returns-in_err-flush_cells-clause-stored_well g c = λ told stands.
+    stored_flush (g.B.Blocks.shown c.args.blocks.now) (g.B.Blocks.shown c.flush_cells.new.blocks) c.args.self.now c.flush_cells.new.tree stands (c.in_err-flush_cells.ensures.flushing.flushes told stands)
 
 pub returns-in_err-flush_nodes-clause-stored_well : goal.returns-in_err-flush_nodes-clause-stored_well
-returns-in_err-flush_nodes-clause-stored_well g c = λ told stands places was.
-    stored_flush (g.B.Blocks.shown c.args.blocks.now) (g.B.Blocks.shown c.flush_nodes.new.blocks) c.args.self.now c.flush_nodes.new.tree stands ((returns-in_err-flush_nodes-clause-flushing g c).flushes told stands) was places
+returns-in_err-flush_nodes-clause-stored_well g c = λ told stands.
+    stored_flush (g.B.Blocks.shown c.args.blocks.now) (g.B.Blocks.shown c.flush_nodes.new.blocks) c.args.self.now c.flush_nodes.new.tree stands ((returns-in_err-flush_nodes-clause-flushing g c).flushes told stands)
 
 pub returns-clause-stored_well : goal.returns-clause-stored_well
-returns-clause-stored_well g c = λ told stands places was.
-    stored_flush (g.B.Blocks.shown c.args.blocks.now) (g.B.Blocks.shown c.flush_nodes.new.blocks) c.args.self.now c.flush_nodes.new.tree stands ((returns-clause-flushing g c).flushes told stands) was places
+returns-clause-stored_well g c = λ told stands.
+    stored_flush (g.B.Blocks.shown c.args.blocks.now) (g.B.Blocks.shown c.flush_nodes.new.blocks) c.args.self.now c.flush_nodes.new.tree stands ((returns-clause-flushing g c).flushes told stands)
+
+pub returns-in_err-flush_cells-clause-tells : goal.returns-in_err-flush_cells-clause-tells
+returns-in_err-flush_cells-clause-tells g c = λ told stands.
+    tells_flush (g.B.Blocks.shown c.args.blocks.now) (g.B.Blocks.shown c.flush_cells.new.blocks) c.args.self.now c.flush_cells.new.tree stands (c.in_err-flush_cells.ensures.flushing.flushes told stands)
+
+pub returns-in_err-flush_nodes-clause-tells : goal.returns-in_err-flush_nodes-clause-tells
+returns-in_err-flush_nodes-clause-tells g c = λ told stands.
+    tells_flush (g.B.Blocks.shown c.args.blocks.now) (g.B.Blocks.shown c.flush_nodes.new.blocks) c.args.self.now c.flush_nodes.new.tree stands ((returns-in_err-flush_nodes-clause-flushing g c).flushes told stands)
+
+pub returns-clause-tells : goal.returns-clause-tells
+returns-clause-tells g c = λ told stands.
+    tells_flush (g.B.Blocks.shown c.args.blocks.now) (g.B.Blocks.shown c.flush_nodes.new.blocks) c.args.self.now c.flush_nodes.new.tree stands ((returns-clause-flushing g c).flushes told stands)

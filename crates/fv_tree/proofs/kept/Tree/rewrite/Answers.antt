@@ -2,7 +2,7 @@ use Rattle.std.proofs.Common.{◌≡◌, ℕ, refl, ap, ◌∙◌, arith}
 use Rattle.std.specs.BTreeMap as maps
 use Rattle.fv_tree.specs.declared.kept.KeptCell.{KeptCell}
 use Rattle.fv_tree.specs.Flushing.{loaded_over}
-use Rattle.fv_tree.proofs.Stored.{stored_on}
+use Rattle.fv_tree.proofs.Stored.{stored_on, tells_on}
 use Rattle.fv_tree.specs.Costs.{cells_changed, cells_held, changes_in}
 use Rattle.fv_tree.specs.Standing.{standing}
 use Rattle.fv_tree.proofs.Altered.{cell_marked}
@@ -50,6 +50,8 @@ returns-clause-alters c =
       leads = rewritten_leads c.args.self.now c.put_content.new.tree c.stamp_path.new.tree c.args.index c.args.stamp c.args.block.now c.requires.ready c.requires.stamp put.fields put.cell put.changed put.own put.others c.stamp_path.ensures.stamps c.stamp_path.ensures.marks;
       keeps = rewritten_keeps c.args.self.now c.put_content.new.tree c.stamp_path.new.tree c.args.index c.args.stamp c.args.block.now c.requires.ready c.requires.stamp put.fields put.cell put.changed put.own put.others c.stamp_path.ensures.stamps c.stamp_path.ensures.marks;
       stored_well = λ held. stored_on (loaded_over held c.args.self.now) (loaded_over held c.stamp_path.new.tree) (stamps.owner ∙ put.fields.owner) refl
+          (rewritten_leads c.args.self.now c.put_content.new.tree c.stamp_path.new.tree c.args.index c.args.stamp c.args.block.now c.requires.ready c.requires.stamp put.fields put.cell put.changed put.own put.others c.stamp_path.ensures.stamps c.stamp_path.ensures.marks held);
+      tells = λ held. tells_on (loaded_over held c.args.self.now) (loaded_over held c.stamp_path.new.tree)
           (rewritten_leads c.args.self.now c.put_content.new.tree c.stamp_path.new.tree c.args.index c.args.stamp c.args.block.now c.requires.ready c.requires.stamp put.fields put.cell put.changed put.own put.others c.stamp_path.ensures.stamps c.stamp_path.ensures.marks held)
           (rewritten_hints c.args.self.now c.put_content.new.tree c.stamp_path.new.tree c.args.index c.args.stamp c.args.block.now c.requires.ready c.requires.stamp put.fields put.cell put.changed put.own put.others c.stamp_path.ensures.stamps c.stamp_path.ensures.marks held);
       keeps_ready = still_ready c.args.self.now c.put_content.new.tree c.stamp_path.new.tree c.args.index c.args.stamp c.args.block.now c.requires.ready c.requires.stamp put.fields put.cell put.changed put.own put.others c.stamp_path.ensures.stamps c.stamp_path.ensures.marks;
