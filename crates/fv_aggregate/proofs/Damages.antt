@@ -85,7 +85,7 @@ module _ (d e : Shown) (tells : e.tells ≡ d.tells) (reads : e.reads ≡ d.read
 
   module _ (p : Pool) (x : VolumeState) where
     asked_like : (t : TableAsked) → TellsAsked e p x t → TellsAsked like p x t
-    asked_like t is = record { told = is.told; right = is.right; numbers = is.numbers }
+    asked_like t is = record { told = is.told; readable = is.readable; numbers = is.numbers }
 
     -- what a call found of a table
     fails_like : (t : TableAsked) (at want found : ℕ) → TableFails (TellsAsked e p x t) (standing_of like p x t) (lent_for p x.map like 0 (home_in x) 0) like.faults (block.Damaged at want found)

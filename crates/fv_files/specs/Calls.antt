@@ -14,19 +14,20 @@ use Rattle.fv_tree.specs.declared.kept.Tree.{Tree}
 use Rattle.fv_tree.specs.Sources.{Shown, Counts, IsUntouched, Use}
 use Rattle.fv_tree.specs.Standing.{standing, under, Fails}
 use Rattle.fv_tree.specs.Writing.{IsAlike, Writes, Remains}
-use Rattle.fv_tree.specs.Flushing.{IsSound, ReachesOnce, Stands, loaded, loaded_over}
+use Rattle.fv_tree.specs.Flushing.{Loaded, IsSound, ReachesOnce, Stands, loaded, loaded_over}
 use Rattle.fv_tree.specs.Altering.{Alters, Leaves}
 use Rattle.fv_tree.specs.Leading.{LeadsNoMore}
 use Rattle.fv_tree.specs.Stored.{IsStoredWell, TellsPlaces}
 use Rattle.fv_tree.specs.Removal.{Removal}
 use Rattle.fv_tree.specs.Erasing.{HoldsCells}
-use Rattle.fv_tree.specs.Costs.{pending, way_cost, Rises}
+use Rattle.fv_tree.specs.Costs.{pending, Rises}
+use Rattle.fv_tree.specs.Lookups.{way_cost}
 use Rattle.fv_inode.specs.declared.info.Info.{Info}
 use Rattle.fv_inode.specs.Files.{rooted, IsInfo}
 use Rattle.fv_inode.specs.Readying.{IsReadyFile}
 use Rattle.fv_files.specs.declared.files.Files.{Files}
 use Rattle.fv_tree.specs.Beside.{Spares}
-use Rattle.fv_files.specs.Apart.{LeadsAny}
+use Rattle.fv_files.specs.Apart.{LeadsAny, Trees}
 use Rattle.fv_files.specs.Tables.{table_in, tree_in, tree_known, loaded_trees, AreStanding, IsInfoOf, IsLed, IsStored, IsTold}
 use Rattle.fv_files.specs.Altering.{AreLaid, LeavesTrees}
 use Rattle.fv_files.specs.Failing.{Looks}
@@ -43,9 +44,14 @@ or_zeros (Some block) = block
 abbrev pub GivesCell : Standing → ℕ → ℕ → List ℕ → Type 0
 GivesCell x n i into = (f : File) → file_in x n ≡ Some f → into ≡ or_zeros (fin.get f.blocks i)
 
--- what the pointers cost that are followed from the root of a table to the record of a file, and from there to its cell i
-abbrev pub path_cost : (Pointer → ℕ) → Standing → Info → ℕ → ℕ
-path_cost cost x info i = way_cost cost x.inode (info.number / records_each) + way_cost cost (tree_known x info) i
+-- what the pointers cost that are followed to a cell of a tree, where there is one
+abbrev pub way_in : (Pointer → ℕ) → Option Loaded → ℕ → ℕ
+way_in cost None i = 0
+way_in cost (Some s) i = way_cost cost s i
+
+-- what those cost that are followed from the root of a table to the record of file n, and from there to its cell i
+abbrev pub path_cost : (Pointer → ℕ) → Trees → ℕ → ℕ → ℕ
+path_cost cost trees n i = way_in cost (trees None) (n / records_each) + way_in cost (trees (Some n)) i
 
 -- ---- writes
 

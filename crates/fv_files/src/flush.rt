@@ -93,7 +93,7 @@ fn flush_file<B: Blocks>(files: &mut Files, blocks: &mut B, number: u32) -> Resu
     ensures fewer { OnOk result (maps.btree_map_len files.new.trees + 1 ≡ maps.btree_map_len files.old.trees) }
     ensures calls { B.goes blocks.old blocks.new }
 {
-    match files.inode.look(blocks, number)? {
+    match files.inode.look_held(blocks, number)? {
         None => {
             forget(&mut files.trees, number);
             Ok(())

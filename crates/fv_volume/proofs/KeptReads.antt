@@ -18,11 +18,8 @@ use Rattle.fv_tree.specs.Flushing.{Leads, IsNodeOf, IsSound, ReachesOnce}
 use Rattle.fv_tree.specs.Sources.{Use}
 use Rattle.fv_tree.specs.Standing.{under}
 use Rattle.fv_tree.proofs.Beside.{beside_alike, beside_leads, beside_pointers, beside_sound, unread_laid, unread_sound}
-use Rattle.fv_inode.specs.declared.info.Info.{Info}
 use Rattle.fv_inode.proofs.Indexed.{alike_indexes}
 use Rattle.fv_files.specs.Apart.{IsAsSaid, StoredIn}
-use Rattle.fv_files.specs.Tables.{tree_known, IsInfoOf}
-use Rattle.fv_files.proofs.Tables.{file_tree}
 use Rattle.fv_pool.specs.declared.pool.Pool.{Pool}
 use Rattle.fv_pool.specs.declared.rooted.Rooted.{Rooted}
 use Rattle.fv_volume.specs.declared.state.Snap.{Snap}
@@ -146,12 +143,6 @@ module _ (d : Disk) (p : Pool) (x : VolumeState) (q : Snap) (is : IsKeptTable d 
         (subst (λ (o : Option InodeRecord). StoredIn (option_map (λ r. unread (stored its n r.levels r.root)) o)) (in_slot n r there) (is.1.well.trees (Some n)));
     names = alike_indexes inode (stored whole greatest_word q.table.levels q.table.root) (beside_alike (unread inode) whole (unread_laid inode) inode_leads) is.1.well.inodes;
   }
-
--- the tree of a file of which this is known
-pub known_holds : (blocks : Under) (uses : ℕ → Option Use) (t : Standing) → TableHolds blocks uses t → (info : Info) → IsInfoOf t.inode info → HoldsWell blocks uses (tree_known t info)
-known_holds blocks uses t holds info known =
-    let of = file_tree t info known in
-    subst (HoldsWell blocks uses) (sym of.tree) (holds.files of.number of.file of.there)
 
 module _ (d : Disk) (p : Pool) (x : VolumeState) (is : IsStanding d p x) where
   module _ (root : Rooted) (of : IsTableOf x (Kept root)) where

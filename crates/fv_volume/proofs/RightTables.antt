@@ -1,5 +1,5 @@
--- What is told of a volume's tables: the pointers of the one that is asked, the active one or that of a snapshot, tell no wrong places. So where the
--- volume stands no load for it answers damage.
+-- What is told of a volume's tables: the trees of the one that is asked, the active one or that of a snapshot, may be read by their pointers, which
+-- tell no wrong places. So where the volume stands no load for it answers damage.
 use Rattle.std.proofs.Common.{◌≡◌, ℕ, zero, suc, Bool, true, false, cond, List, Option, Some, None, refl, sym, ap, subst, ◌∙◌, inl, inr, arith}
 use Rattle.std.specs.Prelude.{unwrap_or, IfSome}
 use Rattle.std.specs.Option.{option_map}
@@ -15,22 +15,22 @@ use Rattle.fv_tables.specs.Spelled.{Rooted as Spelled, Under, pointer_at, stored
 use Rattle.fv_tables.specs.Told.{Standing, file_at, table_told}
 use Rattle.fv_tree.specs.Beside.{unread}
 use Rattle.fv_tree.specs.Flushing.{Loaded, loaded_over, ReachesOnce}
-use Rattle.fv_tree.specs.Places.{AreRight}
+use Rattle.fv_tree.specs.Places.{MayRead}
 use Rattle.fv_tree.specs.Sources.{Use}
 use Rattle.fv_tree.specs.Standing.{under}
 use Rattle.fv_tree.proofs.Beside.{unread_sound}
-use Rattle.fv_tree.proofs.Right.{sound_right}
+use Rattle.fv_tree.proofs.Right.{bare_may_read, sound_may_read, sound_right}
 use Rattle.fv_files.specs.declared.files.Files.{Files}
 use Rattle.fv_files.specs.Apart.{stored_trees, AlikeIn, AreAlike}
-use Rattle.fv_files.specs.Right.{HasRightTrees, RightIn}
+use Rattle.fv_files.specs.Right.{AreReadableTrees, ReadableIn}
 use Rattle.fv_files.specs.Numbering.{AreNumbersIf}
 use Rattle.fv_files.specs.Tables.{loaded_trees}
-use Rattle.fv_files.proofs.Right.{stands_right}
+use Rattle.fv_files.proofs.Right.{readable_right, stands_readable}
 use Rattle.fv_volmap.specs.Slots.{active_of, has, slot_at}
 use Rattle.fv_pool.specs.declared.pool.Pool.{Pool}
 use Rattle.fv_pool.specs.declared.rooted.Rooted.{Rooted}
 use Rattle.fv_pool.specs.BlocksOver.{held_entry, IsRightPlace}
-use Rattle.fv_pool.specs.Calls.{Reads, TableFails, TellsTable}
+use Rattle.fv_pool.specs.Calls.{Reads, TableFails, TellsReadable, TellsTable}
 use Rattle.fv_pool.specs.Lending.{lent_for, use_of}
 use Rattle.fv_pool.specs.Tables.{trees_by, AreSoundBy}
 use Rattle.fv_volume.specs.declared.state.VolumeState.{VolumeState}
@@ -73,20 +73,20 @@ module _ (d : Disk) (p : Pool) (x : VolumeState) where
 
   -- ---- the active table
 
-  unread_right : (t : Spelled) → ((level place : ℕ) → t.nodes level place ≡ None) → ((index : ℕ) → t.cells index ≡ None) → ReachesOnce (shows d p x).used t → AreRight right (unread t)
-  unread_right t nodes cells reached = sound_right right (shows d p x).used (unread t) unknown (used (λ v. is_member (active_of x.map) v)) (unread_sound (shows d p x).used t nodes cells reached)
+  unread_readable : (t : Spelled) → ((level place : ℕ) → t.nodes level place ≡ None) → ((index : ℕ) → t.cells index ≡ None) → ReachesOnce (shows d p x).used t → MayRead right (unread t)
+  unread_readable t nodes cells reached = sound_may_read right (shows d p x).used (unread t) unknown (used (λ v. is_member (active_of x.map) v)) (unread_sound (shows d p x).used t nodes cells reached)
 
   -- the tree of a file of which nothing is in memory
-  file_right : (n : ℕ) (q : Option InodeRecord) → ((r : InodeRecord) → q ≡ Some r → AreRight right (unread (stored whole n r.levels r.root))) → RightIn right (option_map (λ r. unread (stored whole n r.levels r.root)) q)
-  file_right n None are = tt
-  file_right n (Some r) are = are r refl
+  file_readable : (n : ℕ) (q : Option InodeRecord) → ((r : InodeRecord) → q ≡ Some r → MayRead right (unread (stored whole n r.levels r.root))) → ReadableIn right (option_map (λ r. unread (stored whole n r.levels r.root)) q)
+  file_readable n None are = tt
+  file_readable n (Some r) are = are r refl
 
-  active_right : (o : Option Files) → AreSoundBy whole (shows d p x).used x.active o → (a : Option ℕ) → RightIn right (trees_by whole x.active o a)
-  active_right None sound None = unread_right (stored whole greatest_word x.active.levels x.active.root) (λ level place. refl) (λ index. refl) sound.inode
-  active_right None sound (Some n) =
-      file_right n (file_at (stored whole greatest_word x.active.levels x.active.root) n)
-      (λ r there. unread_right (stored whole n r.levels r.root) (λ level place. refl) (λ index. refl) (sound.files n r there))
-  active_right (Some f) sound a = stands_right right (shows d p x).used unknown (used (λ v. is_member (active_of x.map) v)) (loaded_trees whole f a) (sound.trees a)
+  active_readable : (o : Option Files) → AreSoundBy whole (shows d p x).used x.active o → (a : Option ℕ) → ReadableIn right (trees_by whole x.active o a)
+  active_readable None sound None = unread_readable (stored whole greatest_word x.active.levels x.active.root) (λ level place. refl) (λ index. refl) sound.inode
+  active_readable None sound (Some n) =
+      file_readable n (file_at (stored whole greatest_word x.active.levels x.active.root) n)
+      (λ r there. unread_readable (stored whole n r.levels r.root) (λ level place. refl) (λ index. refl) (sound.files n r there))
+  active_readable (Some f) sound a = stands_readable right (shows d p x).used unknown (used (λ v. is_member (active_of x.map) v)) (loaded_trees whole f a) (sound.trees a)
 
   -- ---- the table of a snapshot
 
@@ -97,29 +97,29 @@ module _ (d : Disk) (p : Pool) (x : VolumeState) where
     placed zero place = holds.laid.cells place (ap (λ (s : Spelled). s.cells place) holds.tree ∙ cells place)
     placed (suc level) place = holds.laid.nodes (suc level) place (omega arith) (ap (λ (s : Spelled). s.nodes (suc level) place) holds.tree ∙ nodes (suc level) place)
 
-    holds_right : AreRight right (unread t)
-    holds_right level place v led =
-        subst (λ (s : Spelled). right v (pointer_at s level place).pvbn) holds.tree
+    holds_readable : MayRead right (unread t)
+    holds_readable = bare_may_read right (unread t) nodes cells
+        (λ level place v led. subst (λ (s : Spelled). right v (pointer_at s level place).pvbn) holds.tree
         (sound_right right (λ w. cond (in_use w) (Some (use_of (held_entry x.map p.containers x.slot w))) None) holds.loaded unknown (used in_use) holds.sound level place v (record {
           some = λ none. led.some (ap (λ (s : Spelled). (pointer_at s level place).stamp) (sym holds.tree) ∙ none);
           placed = placed level place;
           vvbn = ap (λ (s : Spelled). (pointer_at s level place).vvbn) holds.tree ∙ led.vvbn;
-        }))
+        })))
 
   module _ (is : IsStanding d p x) where
-    kept_right : (root : Rooted) (of : IsTableOf x (Kept root)) (a : Option ℕ) → RightIn right (stored_trees whole root.levels root.root a)
-    kept_right root of None =
-        holds_right (λ v. has v (slot_at x.map (kept d p x is root of).snap.slot)) (stored whole greatest_word root.levels root.root) (root_holds d p x is root of).inode (λ level place. refl) (λ index. refl)
-    kept_right root of (Some n) =
-        file_right n (file_at (stored whole greatest_word root.levels root.root) n)
-        (λ r there. holds_right (λ v. has v (slot_at x.map (kept d p x is root of).snap.slot)) (stored whole n r.levels r.root) ((root_holds d p x is root of).files n r there) (λ level place. refl) (λ index. refl))
+    kept_readable : (root : Rooted) (of : IsTableOf x (Kept root)) (a : Option ℕ) → ReadableIn right (stored_trees whole root.levels root.root a)
+    kept_readable root of None =
+        holds_readable (λ v. has v (slot_at x.map (kept d p x is root of).snap.slot)) (stored whole greatest_word root.levels root.root) (root_holds d p x is root of).inode (λ level place. refl) (λ index. refl)
+    kept_readable root of (Some n) =
+        file_readable n (file_at (stored whole greatest_word root.levels root.root) n)
+        (λ r there. holds_readable (λ v. has v (slot_at x.map (kept d p x is root of).snap.slot)) (stored whole n r.levels r.root) ((root_holds d p x is root of).files n r there) (λ level place. refl) (λ index. refl))
 
     -- ---- the table that is asked
 
     -- what is told of it
     pub asked_tells : (t : TableAsked) → IsTableOf x t → TellsAsked d p x t
-    asked_tells Active of = record { told = is.told; right = active_right x.files is.trees; numbers = is.numbers }
-    asked_tells (Kept root) of = record { told = is.told; right = kept_right root of; numbers = tt }
+    asked_tells Active of = record { told = is.told; readable = active_readable x.files is.trees; numbers = is.numbers }
+    asked_tells (Kept root) of = record { told = is.told; readable = kept_readable root of; numbers = tt }
 
     pub active_tells : TellsActive d p x
     active_tells = asked_tells Active (None, refl)
@@ -133,37 +133,40 @@ module _ (d : Disk) (p : Pool) (x : VolumeState) where
 
   -- ---- once it is taken out
 
-  like_unread : (s : Loaded) (t : Spelled) → s.tree ≡ t → AreRight right (unread t) → AreRight right s
-  like_unread s t is are level place v led =
-      subst (λ (u : Spelled). right v (pointer_at u level place).pvbn) (sym is) (are level place v (record {
+  like_unread : (s : Loaded) (t : Spelled) → s.tree ≡ t → ((level place : ℕ) → t.nodes level place ≡ None) → ((index : ℕ) → t.cells index ≡ None) → MayRead right (unread t) → MayRead right s
+  like_unread s t is nodes cells are = bare_may_read right s (λ level place. ap (λ (u : Spelled). u.nodes level place) is ∙ nodes level place) (λ index. ap (λ (u : Spelled). u.cells index) is ∙ cells index)
+      (λ level place v led. subst (λ (u : Spelled). right v (pointer_at u level place).pvbn) (sym is) (are.pointers level place v (record {
         some = λ none. led.some (ap (λ (u : Spelled). (pointer_at u level place).stamp) is ∙ none);
         placed = refl;
         vvbn = ap (λ (u : Spelled). (pointer_at u level place).vvbn) (sym is) ∙ led.vvbn;
-      }))
+      })))
 
-  like_file : (n : ℕ) (q : Option InodeRecord) (o : Option Loaded) → RightIn right (option_map (λ r. unread (stored whole n r.levels r.root)) q) → AlikeIn o (option_map (λ r. unread (stored whole n r.levels r.root)) q) → RightIn right o
+  like_file : (n : ℕ) (q : Option InodeRecord) (o : Option Loaded) → ReadableIn right (option_map (λ r. unread (stored whole n r.levels r.root)) q) → AlikeIn o (option_map (λ r. unread (stored whole n r.levels r.root)) q) → ReadableIn right o
   like_file n q None are like = tt
   like_file n None (Some s) are like = absurd like
-  like_file n (Some r) (Some s) are like = like_unread s (stored whole n r.levels r.root) like.tree are
+  like_file n (Some r) (Some s) are like = like_unread s (stored whole n r.levels r.root) like.tree (λ level place. refl) (λ index. refl) are
 
   -- a table of which nothing is in memory
-  opened_unread : (levels : ℕ) (root : Pointer) (f : Files) → ((blocks : Under) → AreAlike (loaded_trees blocks f) (stored_trees blocks levels root)) → ((a : Option ℕ) → RightIn right (stored_trees whole levels root a))
-      → HasRightTrees (shows d p x) f
-  opened_unread levels root f alike are None = like_unread (loaded_over whole f.inode.tree) (stored whole greatest_word levels root) (alike whole None).tree (are None)
+  opened_unread : (levels : ℕ) (root : Pointer) (f : Files) → ((blocks : Under) → AreAlike (loaded_trees blocks f) (stored_trees blocks levels root)) → ((a : Option ℕ) → ReadableIn right (stored_trees whole levels root a))
+      → AreReadableTrees (shows d p x) f
+  opened_unread levels root f alike are None = like_unread (loaded_over whole f.inode.tree) (stored whole greatest_word levels root) (alike whole None).tree (λ level place. refl) (λ index. refl) (are None)
   opened_unread levels root f alike are (Some n) = like_file n (file_at (stored whole greatest_word levels root) n) (loaded_trees whole f (Some n)) (are (Some n)) (alike whole (Some n))
 
-  opened_active : (o : Option Files) (f : Files) → IfSome o (λ g. f ≡ g) → ((blocks : Under) → AreAlike (loaded_trees blocks f) (trees_by blocks x.active o)) → ((a : Option ℕ) → RightIn right (trees_by whole x.active o a))
-      → HasRightTrees (shows d p x) f
+  opened_active : (o : Option Files) (f : Files) → IfSome o (λ g. f ≡ g) → ((blocks : Under) → AreAlike (loaded_trees blocks f) (trees_by blocks x.active o)) → ((a : Option ℕ) → ReadableIn right (trees_by whole x.active o a))
+      → AreReadableTrees (shows d p x) f
   opened_active None f held alike are = opened_unread x.active.levels x.active.root f alike are
-  opened_active (Some g) f held alike are = λ a. subst (λ (h : Files). RightIn right (loaded_trees whole h a)) (sym held) (are a)
+  opened_active (Some g) f held alike are = λ a. subst (λ (h : Files). ReadableIn right (loaded_trees whole h a)) (sym held) (are a)
 
-  pub opened_right : (t : TableAsked) (f : Files) → OpensAs x.active x.files f t → TellsAsked d p x t → HasRightTrees (shows d p x) f
-  opened_right Active f opens tells = opened_active x.files f opens.0 opens.1 tells.right
-  opened_right (Kept root) f opens tells = opened_unread root.levels root.root f opens tells.right
+  pub opened_readable : (t : TableAsked) (f : Files) → OpensAs x.active x.files f t → TellsAsked d p x t → AreReadableTrees (shows d p x) f
+  opened_readable Active f opens tells = opened_active x.files f opens.0 opens.1 tells.readable
+  opened_readable (Kept root) f opens tells = opened_unread root.levels root.root f opens tells.readable
 
-  -- so it is told as a table whose blocks are lent
+  -- so it is told as a table whose blocks are lent, and that may be read
+  pub opened_reads : (t : TableAsked) (f : Files) → OpensAs x.active x.files f t → TellsAsked d p x t → TellsReadable d p x.map (home_in x) f
+  opened_reads t f opens tells = (tells.told, opened_readable t f opens tells)
+
   pub opened_tells : (t : TableAsked) (f : Files) → OpensAs x.active x.files f t → TellsAsked d p x t → TellsTable d p x.map (home_in x) f
-  opened_tells t f opens tells = (tells.told, opened_right t f opens tells)
+  opened_tells t f opens tells = (tells.told, readable_right (shows d p x) f (opened_readable t f opens tells))
 
 -- ---- damage
 
@@ -183,16 +186,16 @@ module _ (d e : Disk) (p q : Pool) (reads : Reads d p e q) (x : VolumeState) (t 
   pub still_tells : TellsAsked d p x t → TellsAsked e q x t
   still_tells is = record {
     told = still_told d e p q reads x is.told;
-    right = λ a. subst (λ (c : Slots). RightIn (λ v pvbn. IsRightPlace (held_entry x.map c x.slot v) pvbn) (trees_opened (under (shows e q x)) x.active x.files t a)) (sym reads.leaves.containers)
-        (subst (λ (u : Under). RightIn (shows d p x).right (trees_opened u x.active x.files t a)) (sym (still_under d e p q reads x)) (is.right a));
+    readable = λ a. subst (λ (c : Slots). ReadableIn (λ v pvbn. IsRightPlace (held_entry x.map c x.slot v) pvbn) (trees_opened (under (shows e q x)) x.active x.files t a)) (sym reads.leaves.containers)
+        (subst (λ (u : Under). ReadableIn (shows d p x).right (trees_opened u x.active x.files t a)) (sym (still_under d e p q reads x)) (is.readable a));
     numbers = subst (λ (s : Standing). AreNumbersIf (numbers_asked t x.numbers) (table_told s)) (sym (still_of d e p q reads x t)) is.numbers;
   }
 
   pub tells_before : TellsAsked e q x t → TellsAsked d p x t
   tells_before is = record {
     told = told_there d e p q reads x is.told;
-    right = λ a. subst (λ (c : Slots). RightIn (λ v pvbn. IsRightPlace (held_entry x.map c x.slot v) pvbn) (trees_opened (under (shows d p x)) x.active x.files t a)) reads.leaves.containers
-        (subst (λ (u : Under). RightIn (shows e q x).right (trees_opened u x.active x.files t a)) (still_under d e p q reads x) (is.right a));
+    readable = λ a. subst (λ (c : Slots). ReadableIn (λ v pvbn. IsRightPlace (held_entry x.map c x.slot v) pvbn) (trees_opened (under (shows d p x)) x.active x.files t a)) reads.leaves.containers
+        (subst (λ (u : Under). ReadableIn (shows e q x).right (trees_opened u x.active x.files t a)) (still_under d e p q reads x) (is.readable a));
     numbers = subst (λ (s : Standing). AreNumbersIf (numbers_asked t x.numbers) (table_told s)) (still_of d e p q reads x t) is.numbers;
   }
 

@@ -1,24 +1,29 @@
-use Rattle.std.proofs.Common.{◌≡◌, ◌≤◌, ◌<◌, ◌+◌, ◌∙◌, Err, Some, None, true, false, option_copied, rules, sym, subst}
-use Rattle.std.specs.Prelude.{IfErr}
+use Rattle.std.proofs.Common.{◌≡◌, ◌≤◌, ◌<◌, ◌+◌, ◌∙◌, Err, Some, None, true, false, option_copied, rules, sym, ap, subst}
+use Rattle.std.specs.Prelude.{IfErr, unwrap_or, Option}
+use Rattle.fv_tables.specs.Spelled.{Under}
 use Rattle.fv_tables.specs.Told.{Standing}
 use Rattle.fv_inode.specs.Files.{Finds, IsFirst}
+use Rattle.fv_files.specs.Apart.{Trees}
 use Rattle.fv_files.specs.Calls.{GivesCell}
 use Rattle.fv_files.specs.Tables.{IsInfoOf}
 use Rattle.fv_model.specs.declared.answers.Refusal.{Refusal}
 use Rattle.fv_model.specs.Numbers.{is_index}
 use Rattle.fv_pool.specs.declared.fault.VolumeFault.TheVariants.{Refused}
 use Rattle.fv_volume.specs.declared.state.VolumeState.{VolumeState}
-use Rattle.fv_volume.specs.Asking.{standing_of, TellsAsked}
+use Rattle.fv_volume.specs.Asking.{standing_of, standing_read, trees_of, trees_opened, TellsAsked}
 use Rattle.fv_pool.specs.Calls.{BlockCause}
 use Rattle.fv_pool.specs.Causes.{of_block}
 use Rattle.fv_pool.specs.Lending.{lent_for}
-use Rattle.fv_volume.specs.OneVolume.{home_in}
+use Rattle.fv_volume.specs.OneVolume.{home_in, IsStanding}
 use Rattle.fv_volume.specs.Paths.{unknown_over, StepsTo}
 use Rattle.fv_volume.proofs.RightTables.{asked_tells, known_after, still_tells}
 use Rattle.fv_volume.proofs.Asked.{first_info, get_asked_found, get_asked_lost, get_asked_missing, get_asked_past, get_too_far}
 use Rattle.fv_pool.proofs.CallCauses.{not_refused}
 use Rattle.fv_volume.proofs.CallCauses.{fails_on}
 use Rattle.fv_volume.proofs.Followed.{steps_to}
+use Rattle.fv_volume.specs.declared.tables.TableAsked.{TableAsked}
+use Rattle.fv_volume.specs.declared.tables.TableAsked.TheVariants.{Active}
+use Rattle.fv_volume.proofs.OneVolumes.{still_standing, still_under}
 use Rattle.fv_volume.proofs.KeptReads.{asked_cause, asked_is, asked_none, of_before, read_is, still_of}
 use Rattle.fv_volume.proofs.state.VolumeState.get.Goals as goal
 
@@ -97,10 +102,13 @@ returns-in_ok-read_in-in-Some-2-clause-steps g c = λ is.
     let s = option_copied c.args.snapshot in let t = c.in-Some.table in
     let found : c.in_ok-find_in.field-0 ≡ Some c.in-Some-2.info = search rules in
     let first : IsFirst (standing_of d p x t).inode c.args.file.now c.in-Some-2.info = subst (λ o. Finds (standing_of d p x t).inode c.args.file.now o) found (c.in_ok-find_in.ensures.found (asked_tells d p x is t (s, sym c.table_asked.ensures ∙ c.in-Some.is))) in
-    let rose = of_before d (g.D.Disk.shown c.find_in.new.disk) p c.find_in.new.pool c.find_in.ensures.reads x t c.find_in.new.volume c.find_in.ensures.same
-    (λ (u : Standing). c.read_in.new.steps ≡ c.args.steps.now + unknown_over u c.in-Some-2.info c.args.index) c.in_ok-read_in-in-Some-2.ensures.steps is in
-    subst (λ (u : Standing). StepsTo u c.args.file.now c.args.index c.args.steps.now c.read_in.new.steps) (read_is d p x s t (sym c.table_asked.ensures ∙ c.in-Some.is))
-    (steps_to (standing_of d p x t) c.args.file.now c.in-Some-2.info first c.args.index c.args.steps.now c.read_in.new.steps rose)
+    let e = g.D.Disk.shown c.find_in.new.disk in let q = c.find_in.new.pool in
+    let made = subst (λ (z : VolumeState). IsStanding e q z → c.read_in.new.steps ≡ c.args.steps.now + unknown_over (trees_of e q z t) c.in-Some-2.info.number c.args.index) c.find_in.ensures.same c.in_ok-read_in-in-Some-2.ensures.steps in
+    let rose = subst (λ (u : Under). c.read_in.new.steps ≡ c.args.steps.now + unknown_over (trees_opened u x.active x.files t) c.in-Some-2.info.number c.args.index) (still_under d e p q c.find_in.ensures.reads x)
+    (made (still_standing d e p q c.find_in.ensures.reads x is)) in
+    subst (λ (u : Trees). StepsTo (standing_read d p x s) u c.args.file.now c.args.index c.args.steps.now c.read_in.new.steps) (sym (ap (λ (o : Option TableAsked). trees_of d p x (unwrap_or o Active)) (sym c.table_asked.ensures ∙ c.in-Some.is)))
+    (subst (λ (u : Standing). StepsTo u (trees_of d p x t) c.args.file.now c.args.index c.args.steps.now c.read_in.new.steps) (read_is d p x s t (sym c.table_asked.ensures ∙ c.in-Some.is))
+    (steps_to (standing_of d p x t) (trees_of d p x t) c.args.file.now c.in-Some-2.info first c.args.index c.args.steps.now c.read_in.new.steps rose))
 
 pub returns-in_err-read_in-in-Some-2-clause-unmoved : goal.returns-in_err-read_in-in-Some-2-clause-unmoved
 returns-in_err-read_in-in-Some-2-clause-unmoved g c =
