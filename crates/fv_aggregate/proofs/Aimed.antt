@@ -9,7 +9,7 @@ use Rattle.fv_model.specs.declared.answers.Reply.TheVariants.{Refused}
 use Rattle.fv_model.specs.declared.commands.Command.{Command}
 use Rattle.fv_model.specs.declared.commands.Command.TheVariants.{VolDestroy, VolResize, VolGuarantee, VolStat}
 use Rattle.fv_volume.specs.Slots.{NoneHasName}
-use Rattle.fv_volume.specs.States.{States}
+use Rattle.fv_volume.specs.States.{States, state_at}
 use Rattle.fv_cp.specs.Lent.{FitTogether}
 use Rattle.fv_aggregate.specs.declared.aiming.Aim.{Aim}
 use Rattle.fv_aggregate.specs.declared.aiming.Task.{Task}
@@ -22,7 +22,7 @@ use Rattle.fv_aggregate.specs.Commands.{slot_named, file_room, has_range, is_bui
 use Rattle.fv_aggregate.specs.Managing.{Manages}
 use Rattle.fv_aggregate.specs.Standing.{StandsReady}
 use Rattle.fv_aggregate.proofs.Applied.{managed_or_unbuilt, no_files}
-use Rattle.fv_aggregate.proofs.Asked.{looks_done, looks_missing}
+use Rattle.fv_aggregate.proofs.Asked.{looks_done, looks_missing, no_count, no_path}
 use Rattle.fv_aggregate.proofs.Calls.{reads_itself}
 use Rattle.fv_aggregate.proofs.Carried.{refused_at_once, refused_missing}
 use Rattle.fv_aggregate.proofs.Looked.{reads_alone}
@@ -104,14 +104,16 @@ module _ {D : Type 0} (shown : D → Shown) (at : D) (laws : IsDisk (shown at)) 
   -- out of its range
   refused_far : (t : Task) (name : List ℕ) → Suits t name c → has_range c ≡ false → Refuses Range
   refused_far task.Look name asks far = look_applied c name asks d at s steps d at s steps (Ok (Refused Range)) fresh
-      (looks_done d d laws s s.pool (reads_alone d d s.pool (reads_itself d) stands.stands.cache) fresh stands c (slot_named s.volumes name) (Refused Range) refl (λ last m held. refused_allows m c Range (asked_far c name asks far m)))
+      (looks_done d d laws s s.pool (reads_alone d d s.pool (reads_itself d) stands.stands.cache) fresh stands c (slot_named s.volumes name) (Refused Range) refl (λ last m held. refused_allows m c Range (asked_far c name asks far m))
+      (λ last m held. no_path d s.pool (state_at s.volumes (slot_named s.volumes name)) Range c))
       (record {
         range = λ far. (refl, (refl, refl));
         missing = λ near none. absurd (true≢false (sym near ∙ far));
         lost = λ near lacks. absurd (true≢false (sym near ∙ far));
         only = λ answer. absurd (range_lost answer);
         other = λ none. refl;
-        known = λ tells last m held. refl;
+        known = λ tells last m held knows. refl;
+        counts = λ tells last m held. no_count d s.pool (state_at s.volumes (slot_named s.volumes name)) steps steps Range c;
         kept = λ k known. known;
         finds = λ finds near. absurd (true≢false (sym near ∙ far));
       })
@@ -135,7 +137,8 @@ module _ {D : Type 0} (shown : D → Shown) (at : D) (laws : IsDisk (shown at)) 
         lost = λ near lacks. not_none _ s.volumes lacks.slot name lacks.within lacks.named none;
         only = λ answer. absurd (no_volume_lost answer);
         other = λ none. refl;
-        known = λ tells last m held. refl;
+        known = λ tells last m held knows. refl;
+        counts = λ tells last m held. no_count d s.pool (state_at s.volumes (slot_named s.volumes name)) steps steps NoVolume c;
         kept = λ k known. known;
         finds = λ finds near slot within named. not_none _ s.volumes slot name within named none;
       })

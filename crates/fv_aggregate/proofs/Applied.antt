@@ -9,7 +9,7 @@ use Rattle.fv_model.specs.declared.answers.Reply.{Reply}
 use Rattle.fv_model.specs.declared.answers.Reply.TheVariants.{Done, Names, Refused}
 use Rattle.fv_model.specs.declared.commands.Kind.{Kind}
 use Rattle.fv_model.specs.declared.commands.Command.{Command}
-use Rattle.fv_model.specs.declared.commands.Command.TheVariants.{VolCreate, VolDestroy, VolResize, VolGuarantee, VolList, VolStat, New, Put, Get, Len, Cut, Remove, Ls, SnapCreate, SnapDelete, SnapRestore, SnapList, CloneCreate, Cp}
+use Rattle.fv_model.specs.declared.commands.Command.TheVariants.{VolCreate, VolDestroy, VolResize, VolGuarantee, VolList, VolStat, New, Put, Get, Len, Cut, Remove, Ls, SnapCreate, SnapDelete, SnapRestore, SnapList, CloneCreate, Probe, Cp}
 use Rattle.fv_model.specs.Machines.{Machine}
 use Rattle.fv_model.specs.Effects.{change_of}
 use Rattle.fv_model.specs.Refusals.{conditions, next}
@@ -208,6 +208,7 @@ managed_or_unbuilt (Len v s f) a l b c d asked changed snaps = absurd (some_none
 managed_or_unbuilt (Cut v f length) a l b c d asked changed snaps = absurd (some_none v changed)
 managed_or_unbuilt (Remove v f) a l b c d asked changed snaps = absurd (some_none v changed)
 managed_or_unbuilt (Ls v s) a l b c d asked changed snaps = absurd (some_none v asked)
+managed_or_unbuilt (Probe v f i) a l b c d asked changed snaps = absurd (some_none v asked)
 managed_or_unbuilt (SnapCreate v s) a l b c d asked changed snaps = absurd (some_none v snaps)
 managed_or_unbuilt (SnapDelete v s) a l b c d asked changed snaps = absurd (some_none v snaps)
 managed_or_unbuilt (SnapRestore v s) a l b c d asked changed snaps = absurd (some_none v snaps)

@@ -5,7 +5,7 @@ use Rattle.fv_disk.specs.Shown.{Shown}
 use Rattle.fv_disk.specs.DiskCalls.{OnlyReads}
 use Rattle.fv_model.specs.declared.answers.Reply.{Reply}
 use Rattle.fv_model.specs.declared.commands.Command.{Command}
-use Rattle.fv_model.specs.declared.commands.Command.TheVariants.{Get, Len, Ls, Cp}
+use Rattle.fv_model.specs.declared.commands.Command.TheVariants.{Get, Len, Ls, Probe, Cp}
 use Rattle.fv_bits.specs.Members.{is_member}
 use Rattle.fv_model.specs.Machines.{Machine}
 use Rattle.fv_aggmap.specs.Space.{Space}
@@ -18,11 +18,11 @@ use Rattle.fv_aggregate.specs.declared.fault.Fault.{Fault}
 use Rattle.fv_aggregate.specs.declared.session.Session.{Session}
 use Rattle.fv_aggregate.specs.Adding.{IsPointed}
 use Rattle.fv_aggregate.specs.Calls.{Goes, GoesFor, KeepsAsking, KeepsEntries, WasRead}
-use Rattle.fv_aggregate.specs.Commands.{asked_by, Asked, AsksTable, changed_by, changes_volume, dirty_limit, file_room, is_refusal, machine_after, room_by, slot_named, snapshot_asked, volume_asked, Replies}
+use Rattle.fv_aggregate.specs.Commands.{asked_by, Asked, AsksTable, changed_by, changes_volume, dirty_limit, file_room, reads_cell, is_refusal, machine_after, reads_files, room_by, slot_named, snapshot_asked, volume_asked, Replies}
 use Rattle.fv_aggregate.specs.Looking.{Looks, Makes}
 use Rattle.fv_aggregate.specs.Standing.{HoldsAsCommitted, IsWithoutFiles, StandsFor, StandsReady}
 use Rattle.fv_aggregate.proofs.Calls.{reads_itself}
-use Rattle.fv_aggregate.proofs.Changing.{change_after, change_asked, change_cases, look_asked, change_of_volume, change_replies, change_room, look_after, look_replies, look_room}
+use Rattle.fv_aggregate.proofs.Changing.{change_after, change_asked, change_cases, look_asked, change_of_volume, change_replies, change_room, look_after, look_reads, look_replies, look_room}
 use Rattle.fv_aggregate.proofs.Numbered.{no_files_read}
 
 none_some : {A : Type 0} (o : Option A) → IsNone o → IsSome o → ⊥
@@ -74,16 +74,21 @@ unasked : (c : Command) (name : List ℕ) → changed_by c ≡ Some name → vol
 unasked (Get v s f i) name change = absurd (some_none name change)
 unasked (Len v s f) name change = absurd (some_none name change)
 unasked (Ls v s) name change = absurd (some_none name change)
+unasked (Probe v f i) name change = absurd (some_none name change)
 unasked c name change = refl
 
 same_volume : (a b : List ℕ) → ◌≡◌ {A = Option (List ℕ)} (Some a) (Some b) → a ≡ b
 same_volume a b e = cc
 
+-- a command that reads no file asks none
+pub asks_none : (X : Type 0) (c : Command) (name : List ℕ) → reads_files c ≡ false → volume_asked c ≡ Some name → X
+asks_none X c name none asks = absurd (true≢false (sym (look_reads c name asks) ∙ none))
+
 -- ---- a command that asks
 
 module _ (c : Command) (name : List ℕ) (asks : volume_asked c ≡ Some name) (d : Shown) (s : Session) (e : Shown) (n : Session) (r : Result Reply Fault) (looks : Looks (slot_named s.volumes name) d s c e n r) where
   pub look_goes : Goes (room_by s.volumes c) (asked_by s.volumes c) d s e n r
-  look_goes = subst (λ (asked : Asked). Goes (room_by s.volumes c) asked d s e n r) (sym (look_asked c name asks s.volumes)) (subst (λ (k : ℕ). Goes k (AsksTable (slot_named s.volumes name) (snapshot_asked c)) d s e n r) (sym (look_room c name asks s.volumes)) looks.goes)
+  look_goes = subst (λ (asked : Asked). Goes (room_by s.volumes c) asked d s e n r) (sym (look_asked c name asks s.volumes)) (subst (λ (k : ℕ). Goes k (AsksTable (slot_named s.volumes name) (snapshot_asked c) (reads_cell c)) d s e n r) (sym (look_room c name asks s.volumes)) looks.goes)
 
   pub look_asks : KeepsAsking (room_by s.volumes c) d s e n
   look_asks = subst (λ (k : ℕ). KeepsAsking k d s e n) (sym (look_room c name asks s.volumes)) looks.asks
@@ -135,7 +140,7 @@ module _ (c : Command) (name : List ℕ) (asks : volume_asked c ≡ Some name) (
 
 -- ---- a command that changes a file
 
-module _ (c : Command) (name : List ℕ) (of : changed_by c ≡ Some name) (d : Shown) (s : Session) (e : Shown) (n : Session) (r : Result Reply Fault) (makes : Makes file_room (AsksTable (slot_named s.volumes name) None) d s c e n r) where
+module _ (c : Command) (name : List ℕ) (of : changed_by c ≡ Some name) (d : Shown) (s : Session) (e : Shown) (n : Session) (r : Result Reply Fault) (makes : Makes file_room (AsksTable (slot_named s.volumes name) None false) d s c e n r) where
   change : IsChangeOf name c
   change = change_of_volume name c of
 
@@ -143,7 +148,7 @@ module _ (c : Command) (name : List ℕ) (of : changed_by c ≡ Some name) (d : 
   none e = cc
 
   pub make_goes : Goes (room_by s.volumes c) (asked_by s.volumes c) d s e n r
-  make_goes = subst (λ (asked : Asked). Goes (room_by s.volumes c) asked d s e n r) (sym (change_asked name c of s.volumes)) (subst (λ (k : ℕ). Goes k (AsksTable (slot_named s.volumes name) None) d s e n r) (sym (change_room name c change s.volumes)) makes.goes)
+  make_goes = subst (λ (asked : Asked). Goes (room_by s.volumes c) asked d s e n r) (sym (change_asked name c of s.volumes)) (subst (λ (k : ℕ). Goes k (AsksTable (slot_named s.volumes name) None false) d s e n r) (sym (change_room name c change s.volumes)) makes.goes)
 
   pub make_asks : changes_volume c ≡ false → KeepsAsking (room_by s.volumes c) d s e n
   make_asks calm = absurd (true≢false (sym (change_cases (λ (k : Command). changes_volume k ≡ true) (λ v f. refl) (λ v f i block. refl) (λ v f length. refl) (λ v f. refl) name c change) ∙ calm))

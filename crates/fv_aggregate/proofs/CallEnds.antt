@@ -1,5 +1,5 @@
 -- How a call of a session ends that only read the disk, whatever it changed in memory, and one that goes on from another.
-use Rattle.std.proofs.Common.{◌≡◌, ◌<◌, ◌≤◌, ◌+◌, ◌⊎◌, ℕ, List, Option, Some, None, Result, Ok, Err, refl, sym, ap, subst, ◌∙◌, inl, inr, ⊎_elim, arith}
+use Rattle.std.proofs.Common.{◌≡◌, ◌<◌, ◌≤◌, ◌+◌, ◌⊎◌, ℕ, List, Option, Some, None, Result, Ok, Err, refl, sym, ap, subst, ◌∙◌, inl, inr, ⊎_elim, arith, false, Bool}
 use Rattle.std.specs.Prelude.{IsNone, IsTrue, OnOk}
 use Rattle.fv_disk.specs.Shown.{Image, Shown, IsDisk, Rose}
 use Rattle.fv_disk.specs.Crash.{Leaves}
@@ -13,9 +13,9 @@ use Rattle.fv_aggregate.specs.declared.fault.Fault.TheVariants.{DiskFault, Damag
 use Rattle.fv_aggregate.specs.declared.session.Session.{Session}
 use Rattle.fv_aggregate.specs.Calls.{Goes, GoesFor, HasDamage, HasFault, IsNoDamage, KeepsRoot, SameCounts}
 use Rattle.fv_aggregate.specs.Causes.{KeepsEnds}
-use Rattle.fv_aggregate.specs.Commands.{dirty_limit, Asked}
+use Rattle.fv_aggregate.specs.Commands.{dirty_limit, Asked, AsksTable}
 use Rattle.fv_aggregate.specs.Standing.{OneOf, StandsAfter, StandsFor, StandsReady}
-use Rattle.fv_aggregate.proofs.Damages.{damage_more}
+use Rattle.fv_aggregate.proofs.Damages.{damage_cell, damage_more}
 use Rattle.fv_aggregate.proofs.Roots.{keeps_later}
 use Rattle.fv_aggregate.proofs.Standing.{earlier_moments, rests_for_last, stands_for_last, stays_for}
 
@@ -132,6 +132,21 @@ wider asked room d s e n (Failed faults) row = row
 
 pub goes_wider : {T U : Type 0} (asked : Asked) (room : ℕ) (d : Shown) (s : Session) (e : Shown) (n : Session) (f : Fault) → Goes {T = T} 0 asked d s e n (Err f) → Goes {T = U} room asked d s e n (Err f)
 goes_wider asked room d s e n f goes = record { ends = goes.ends; stands = goes.stands; done = tt; fault = wider asked room d s e n f goes.fault; pending = omega (arith, goes.pending) }
+
+-- a call that asks for a table may read a cell in it too
+cell_fault : (slot : ℕ) (snapshot : Option (List ℕ)) (room : ℕ) (cell : Bool) (d : Shown) (s : Session) (e : Shown) (n : Session) (f : Fault) → HasFault room (AsksTable slot snapshot false) d s e n f → HasFault room (AsksTable slot snapshot cell) d s e n f
+cell_fault slot snapshot room cell d s e n DiskFault row = row
+cell_fault slot snapshot room cell d s e n (Damaged at want found) row = record {
+  reason = damage_cell slot snapshot room cell d s e n at want found row.reason;
+  counts = row.counts;
+  session = row.session;
+  disk = row.disk;
+}
+cell_fault slot snapshot room cell d s e n Memory row = row
+cell_fault slot snapshot room cell d s e n (Failed faults) row = row
+
+pub goes_cell : {T U : Type 0} (slot : ℕ) (snapshot : Option (List ℕ)) (room : ℕ) (cell : Bool) (d : Shown) (s : Session) (e : Shown) (n : Session) (f : Fault) → Goes {T = T} room (AsksTable slot snapshot false) d s e n (Err f) → Goes {T = U} room (AsksTable slot snapshot cell) d s e n (Err f)
+goes_cell slot snapshot room cell d s e n f goes = record { ends = goes.ends; stands = goes.stands; done = tt; fault = cell_fault slot snapshot room cell d s e n f goes.fault; pending = goes.pending }
 
 pub replies_wider : {T U : Type 0} {asked : Asked} (x : T) (y : U) (room : ℕ) (d : Shown) (s : Session) (e : Shown) (n : Session) → Goes 0 asked d s e n (Ok x) → Goes room asked d s e n (Ok y)
 replies_wider x y room d s e n goes = record { ends = goes.ends; stands = goes.stands; done = goes.done; fault = tt; pending = omega (arith, goes.pending) }

@@ -1,5 +1,5 @@
 -- A session that judged a command on files, or carried one out, by the call of the volume of a slot.
-use Rattle.std.proofs.Common.{◌≡◌, ◌<◌, ◌≤◌, ◌+◌, ℕ, true, List, Option, Some, None, Result, Ok, Err, inl, inr, length, true≢false, refl, sym, ap, subst, ◌∙◌, arith}
+use Rattle.std.proofs.Common.{◌≡◌, ◌<◌, ◌≤◌, ◌+◌, ℕ, true, List, Option, Some, None, Result, Ok, Err, inl, inr, length, true≢false, refl, sym, ap, subst, ◌∙◌, arith, false}
 use Rattle.std.specs.Prelude.{IfErr, IsNone}
 use Rattle.std.specs.FinMap as fin
 use Rattle.std.proofs.lemmas.List.{set-get_or}
@@ -77,7 +77,7 @@ module _ (d e : Shown) (laws : IsDisk d) (s : Session) (q : Pool) (c : Command) 
     read = tt;
   })
   judged_by (Err (volume.Damaged at want found)) did new result b = as_told (HasJudged slot d s c e) new now result (Err (Damaged at want found)) b.1.1.1 (b.1.0 ∙ ap (λ (g : Fault). Err g) b.1.1.0) (record {
-    goes = goes_damaged d e laws s now 0 did.reads.only_reads fresh fresh (stands_read d e s q did.reads stands) at want found (calm_damage _ _ _ e.faults at want found did.cause) (inl (did.reads.only_reads, inl (inr (inr (inr (bad_read d e s fresh slot x there q did.reads (calm_damage _ _ _ e.faults at want found did.cause) None at want found (finds_active d s.pool x e.faults at want found (calm_damage _ _ _ e.faults at want found did.cause) did.cause))))))) (omega arith);
+    goes = goes_damaged d e laws s now 0 did.reads.only_reads fresh fresh (stands_read d e s q did.reads stands) at want found (calm_damage _ _ _ e.faults at want found did.cause) (inl (did.reads.only_reads, inl (inr (inr (inr (bad_read d e s fresh slot x there q did.reads (calm_damage _ _ _ e.faults at want found did.cause) None false at want found (finds_active d s.pool x e.faults at want found (calm_damage _ _ _ e.faults at want found did.cause) did.cause))))))) (omega arith);
     goes_for = λ tells last m is. absurd (no_damage d s.pool x (its last m is).stands (its last m is).well 0 e.faults at want found did.cause);
     judges = λ tells last m is. tt;
     only_reads = did.reads.only_reads;
@@ -132,11 +132,11 @@ module _ (d e : Shown) (laws : IsDisk d) (s : Session) (q : Pool) (c : Command) 
         λ j. record s { volumes = states j; pool = q; pending = nothing j }
 
     -- its table isn't as it has to be
-    bad_after : (at want found : ℕ) → ChangesState d s.pool x (beside s.volumes slot) c e q y (Err (volume.Damaged at want found)) → HasBadTable (AsksTable slot None) e s after at want found
-    bad_after at want found did = bad_changed d e s fresh slot x there q did.reads (calm_damage _ _ _ e.faults at want found did.cause) None at want found (finds_active d s.pool x e.faults at want found (calm_damage _ _ _ e.faults at want found did.cause) did.cause) long y did.head.failed did.head.maps (s.pending + more)
+    bad_after : (at want found : ℕ) → ChangesState d s.pool x (beside s.volumes slot) c e q y (Err (volume.Damaged at want found)) → HasBadTable (AsksTable slot None false) e s after at want found
+    bad_after at want found did = bad_changed d e s fresh slot x there q did.reads (calm_damage _ _ _ e.faults at want found did.cause) None false at want found (finds_active d s.pool x e.faults at want found (calm_damage _ _ _ e.faults at want found did.cause) did.cause) long y did.head.failed did.head.maps (s.pending + more)
 
-    pub makes_by : (r : Result Unit VolumeFault) → ChangesState d s.pool x (beside s.volumes slot) c e q y r → (new : Session) (result : Result Reply Fault) → Replied e (done_as r) after new result → Makes file_room (AsksTable slot None) d s c e new result
-    makes_by (Ok u) did new result is = as_told (Makes file_room (AsksTable slot None) d s c e) new after result (Ok Done) is.1 is.0 (record {
+    pub makes_by : (r : Result Unit VolumeFault) → ChangesState d s.pool x (beside s.volumes slot) c e q y r → (new : Session) (result : Result Reply Fault) → Replied e (done_as r) after new result → Makes file_room (AsksTable slot None false) d s c e new result
+    makes_by (Ok u) did new result is = as_told (Makes file_room (AsksTable slot None false) d s c e) new after result (Ok Done) is.1 is.0 (record {
       goes = goes_done d e laws s after 16 did.reads.only_reads fresh fresh (stand (Ok u) did) Done did.cause few_added (λ tells. did.reads.leaves.found);
       goes_for = λ tells last m is. goes_for_done d e laws s after 16 did.reads.only_reads fresh fresh (stand (Ok u) did) Done last m (next m c) is (for_done u did last m is);
       reply = λ tells last m is. change_allows x.name c change m (is_accepted u did last m is);
@@ -145,7 +145,7 @@ module _ (d e : Shown) (laws : IsDisk d) (s : Session) (q : Pool) (c : Command) 
       calm = λ low. did.reads.only_reads;
       entries = λ low. kept_entries s after did.reads.leaves.containers;
     })
-    makes_by (Err (volume.Refused r)) did new result is = as_told (Makes file_room (AsksTable slot None) d s c e) new now result (Ok (Refused r)) (is.1 ∙ as_read (did.head.refused r refl)) is.0 (record {
+    makes_by (Err (volume.Refused r)) did new result is = as_told (Makes file_room (AsksTable slot None false) d s c e) new now result (Ok (Refused r)) (is.1 ∙ as_read (did.head.refused r refl)) is.0 (record {
       goes = goes_done d e laws s now 16 did.reads.only_reads fresh fresh (stands_read d e s q did.reads stands) (Refused r) did.cause (omega arith) (λ tells. did.reads.leaves.found);
       goes_for = λ tells last m is. subst (λ (n : Machine). GoesFor d last m n e now (Ok (Refused r))) (sym (refused_next m c r (is_refused r did last m is)))
           (goes_for_done d e laws s now 16 did.reads.only_reads fresh fresh (stands_read d e s q did.reads stands) (Refused r) last m m is (stands_for_read d e s q did.reads last m is));
@@ -155,7 +155,7 @@ module _ (d e : Shown) (laws : IsDisk d) (s : Session) (q : Pool) (c : Command) 
       calm = λ low. did.reads.only_reads;
       entries = λ low. kept_entries s now did.reads.leaves.containers;
     })
-    makes_by (Err volume.DiskFault) did new result b = as_told (Makes file_room (AsksTable slot None) d s c e) new (record after { failed = new.failed }) result (Err DiskFault) b.1.1.1.same (b.1.0 ∙ ap (λ (g : Fault). Err g) b.1.1.0) (record {
+    makes_by (Err volume.DiskFault) did new result b = as_told (Makes file_room (AsksTable slot None false) d s c e) new (record after { failed = new.failed }) result (Err DiskFault) b.1.1.1.same (b.1.0 ∙ ap (λ (g : Fault). Err g) b.1.1.0) (record {
       goes = goes_broken d e laws s after 16 did.reads.only_reads fresh fresh (stand (Err volume.DiskFault) did) new.failed (rose_by _ _ _ e.faults did.cause) b.1.1.1.written b.1.1.1.unwritten few_added;
       goes_for = λ tells last m is. goes_for_broken d e laws s after 16 did.reads.only_reads fresh fresh (stand (Err volume.DiskFault) did) new.failed last m (next m c) is (for_left volume.DiskFault did last m is);
       reply = λ tells last m is. tt;
@@ -164,7 +164,7 @@ module _ (d e : Shown) (laws : IsDisk d) (s : Session) (q : Pool) (c : Command) 
       calm = λ low. did.reads.only_reads;
       entries = λ low. kept_entries s (record after { failed = new.failed }) did.reads.leaves.containers;
     })
-    makes_by (Err (volume.Damaged at want found)) did new result b = as_told (Makes file_room (AsksTable slot None) d s c e) new after result (Err (Damaged at want found)) b.1.1.1 (b.1.0 ∙ ap (λ (g : Fault). Err g) b.1.1.0) (record {
+    makes_by (Err (volume.Damaged at want found)) did new result b = as_told (Makes file_room (AsksTable slot None false) d s c e) new after result (Err (Damaged at want found)) b.1.1.1 (b.1.0 ∙ ap (λ (g : Fault). Err g) b.1.1.0) (record {
       goes = goes_damaged d e laws s after 16 did.reads.only_reads fresh fresh (stand (Err (volume.Damaged at want found)) did) at want found (calm_damage _ _ _ e.faults at want found did.cause) (inl (did.reads.only_reads, inl (inr (inr (inr (bad_after at want found did)))))) few_added;
       goes_for = λ tells last m is. absurd (no_damage d s.pool x (its last m is).stands (its last m is).well 0 e.faults at want found did.cause);
       reply = λ tells last m is. tt;
@@ -173,7 +173,7 @@ module _ (d e : Shown) (laws : IsDisk d) (s : Session) (q : Pool) (c : Command) 
       calm = λ low. did.reads.only_reads;
       entries = λ low. kept_entries s after did.reads.leaves.containers;
     })
-    makes_by (Err volume.Memory) did new result b = as_told (Makes file_room (AsksTable slot None) d s c e) new after result (Err Memory) b.1.1.1 (b.1.0 ∙ ap (λ (g : Fault). Err g) b.1.1.0) (record {
+    makes_by (Err volume.Memory) did new result b = as_told (Makes file_room (AsksTable slot None false) d s c e) new after result (Err Memory) b.1.1.1 (b.1.0 ∙ ap (λ (g : Fault). Err g) b.1.1.0) (record {
       goes = goes_wanting d e laws s after 16 did.reads.only_reads fresh fresh (stand (Err volume.Memory) did) (calm_memory _ _ _ e.faults did.cause) few_added;
       goes_for = λ tells last m is. goes_for_fault d e laws s after 16 did.reads.only_reads fresh fresh (stand (Err volume.Memory) did) Memory last m (next m c) tt is (for_left volume.Memory did last m is);
       reply = λ tells last m is. tt;
@@ -184,12 +184,12 @@ module _ (d e : Shown) (laws : IsDisk d) (s : Session) (q : Pool) (c : Command) 
     })
 
     -- damage is of its table
-    pub bad_by : (r : Result Unit VolumeFault) → ChangesState d s.pool x (beside s.volumes slot) c e q y r → (new : Session) (result : Result Reply Fault) → Replied e (done_as r) after new result → IfErr result (IsTableFault (AsksTable slot None) e s new)
-    bad_by (Ok u) did new result is = as_told (λ (n : Session) (z : Result Reply Fault). IfErr z (IsTableFault (AsksTable slot None) e s n)) new after result (Ok Done) is.1 is.0 tt
-    bad_by (Err (volume.Refused r)) did new result is = as_told (λ (n : Session) (z : Result Reply Fault). IfErr z (IsTableFault (AsksTable slot None) e s n)) new after result (Ok (Refused r)) is.1 is.0 tt
-    bad_by (Err volume.DiskFault) did new result b = as_told (λ (n : Session) (z : Result Reply Fault). IfErr z (IsTableFault (AsksTable slot None) e s n)) new (record after { failed = new.failed }) result (Err DiskFault) b.1.1.1.same (b.1.0 ∙ ap (λ (g : Fault). Err g) b.1.1.0) tt
-    bad_by (Err (volume.Damaged at want found)) did new result b = as_told (λ (n : Session) (z : Result Reply Fault). IfErr z (IsTableFault (AsksTable slot None) e s n)) new after result (Err (Damaged at want found)) b.1.1.1 (b.1.0 ∙ ap (λ (g : Fault). Err g) b.1.1.0) (bad_after at want found did)
-    bad_by (Err volume.Memory) did new result b = as_told (λ (n : Session) (z : Result Reply Fault). IfErr z (IsTableFault (AsksTable slot None) e s n)) new after result (Err Memory) b.1.1.1 (b.1.0 ∙ ap (λ (g : Fault). Err g) b.1.1.0) tt
+    pub bad_by : (r : Result Unit VolumeFault) → ChangesState d s.pool x (beside s.volumes slot) c e q y r → (new : Session) (result : Result Reply Fault) → Replied e (done_as r) after new result → IfErr result (IsTableFault (AsksTable slot None false) e s new)
+    bad_by (Ok u) did new result is = as_told (λ (n : Session) (z : Result Reply Fault). IfErr z (IsTableFault (AsksTable slot None false) e s n)) new after result (Ok Done) is.1 is.0 tt
+    bad_by (Err (volume.Refused r)) did new result is = as_told (λ (n : Session) (z : Result Reply Fault). IfErr z (IsTableFault (AsksTable slot None false) e s n)) new after result (Ok (Refused r)) is.1 is.0 tt
+    bad_by (Err volume.DiskFault) did new result b = as_told (λ (n : Session) (z : Result Reply Fault). IfErr z (IsTableFault (AsksTable slot None false) e s n)) new (record after { failed = new.failed }) result (Err DiskFault) b.1.1.1.same (b.1.0 ∙ ap (λ (g : Fault). Err g) b.1.1.0) tt
+    bad_by (Err (volume.Damaged at want found)) did new result b = as_told (λ (n : Session) (z : Result Reply Fault). IfErr z (IsTableFault (AsksTable slot None false) e s n)) new after result (Err (Damaged at want found)) b.1.1.1 (b.1.0 ∙ ap (λ (g : Fault). Err g) b.1.1.0) (bad_after at want found did)
+    bad_by (Err volume.Memory) did new result b = as_told (λ (n : Session) (z : Result Reply Fault). IfErr z (IsTableFault (AsksTable slot None false) e s n)) new after result (Err Memory) b.1.1.1 (b.1.0 ∙ ap (λ (g : Fault). Err g) b.1.1.0) tt
 
 -- ---- a volume that was lent to the call
 
@@ -212,14 +212,14 @@ module _ (d e : Shown) (laws : IsDisk d) (v s : Session) (same : v ≡ s) (fit :
       (subst (λ (n : Session). Replied e (done_as r) n new result) (λ j. record v { volumes = put_back v.volumes slot x y lent still j; pool = q }) (subst (λ (t : Result Reply VolumeFault). Replied e t (record v { volumes = with_state v.volumes slot (Some y); pool = q }) new result) is replied)))
 
   pub makes_lent : (more : ℕ) → more ≡ counted (pending_of x.files) (pending_of y.files) → s.pending + 16 ≤ 256 → IsChangeOf x.name c → ChangesState d v.pool x others c e q y r
-      → Replied e told (record v { volumes = with_state v.volumes slot (Some y); pool = q; pending = v.pending + more }) new result → Makes file_room (AsksTable slot None) d s c e new result
-  makes_lent more more_is few change did replied = subst (λ (n : Session). Makes file_room (AsksTable slot None) d n c e new result) same
+      → Replied e told (record v { volumes = with_state v.volumes slot (Some y); pool = q; pending = v.pending + more }) new result → Makes file_room (AsksTable slot None false) d s c e new result
+  makes_lent more more_is few change did replied = subst (λ (n : Session). Makes file_room (AsksTable slot None false) d n c e new result) same
       (makes_by d e laws v q c slot x lent (long_lent v s same fit fresh) unfailed stand_lent y more more_is (subst (λ (n : Session). n.pending + 16 ≤ 256) (sym same) few) change r (subst (λ (k : ℕ). ChangesState d v.pool x k c e q y r) sum did) new result
       (subst (λ (t : Result Reply VolumeFault). Replied e t (record v { volumes = with_state v.volumes slot (Some y); pool = q; pending = v.pending + more }) new result) is replied))
 
   pub bad_lent : (more : ℕ) → more ≡ counted (pending_of x.files) (pending_of y.files) → s.pending + 16 ≤ 256 → IsChangeOf x.name c → ChangesState d v.pool x others c e q y r
-      → Replied e told (record v { volumes = with_state v.volumes slot (Some y); pool = q; pending = v.pending + more }) new result → IfErr result (IsTableFault (AsksTable slot None) e s new)
-  bad_lent more more_is few change did replied = subst (λ (n : Session). IfErr result (IsTableFault (AsksTable slot None) e n new)) same
+      → Replied e told (record v { volumes = with_state v.volumes slot (Some y); pool = q; pending = v.pending + more }) new result → IfErr result (IsTableFault (AsksTable slot None false) e s new)
+  bad_lent more more_is few change did replied = subst (λ (n : Session). IfErr result (IsTableFault (AsksTable slot None false) e n new)) same
       (bad_by d e laws v q c slot x lent (long_lent v s same fit fresh) unfailed stand_lent y more more_is (subst (λ (n : Session). n.pending + 16 ≤ 256) (sym same) few) change r (subst (λ (k : ℕ). ChangesState d v.pool x k c e q y r) sum did) new result
       (subst (λ (t : Result Reply VolumeFault). Replied e t (record v { volumes = with_state v.volumes slot (Some y); pool = q; pending = v.pending + more }) new result) is replied))
 

@@ -7,14 +7,14 @@ use Rattle.fv_model.specs.declared.answers.Refusal.{Refusal}
 use Rattle.fv_model.specs.declared.answers.Reply.{Reply}
 use Rattle.fv_model.specs.declared.answers.Reply.TheVariants.{Done, Refused}
 use Rattle.fv_model.specs.declared.commands.Command.{Command}
-use Rattle.fv_model.specs.declared.commands.Command.TheVariants.{New, Put, Get, Len, Cut, Remove, Ls}
+use Rattle.fv_model.specs.declared.commands.Command.TheVariants.{New, Put, Get, Len, Cut, Remove, Ls, Probe}
 use Rattle.fv_model.specs.Machines.{Machine}
 use Rattle.fv_model.specs.Effects.{change_of}
 use Rattle.fv_model.specs.Refusals.{next, refusal}
 use Rattle.fv_model.specs.Replies.{answer, is_open, Allows, AllowsBy, IsAnswer}
 use Rattle.fv_volume.specs.Changing.{IsChangeOf}
 use Rattle.fv_volume.specs.States.{States}
-use Rattle.fv_aggregate.specs.Commands.{asked_by, AsksTable, slot_named, snapshot_asked, volume_asked, changed_by, is_built, machine_after, reads_files, room_by, room_with, Replies, RepliesBy}
+use Rattle.fv_aggregate.specs.Commands.{asked_by, AsksTable, slot_named, snapshot_asked, volume_asked, changed_by, is_built, reads_cell, machine_after, reads_files, room_by, room_with, Replies, RepliesBy}
 use Rattle.fv_aggregate.specs.Looking.{refusal_in, Judges}
 use Rattle.fv_aggregate.proofs.Asked.{answer_allows}
 use Rattle.fv_aggregate.proofs.Missing.{asked_cases}
@@ -76,20 +76,20 @@ either m false = refl
 module _ (c : Command) (name : List ℕ) (asks : volume_asked c ≡ Some name) where
   pub look_room : (states : States) → room_by states c ≡ 0
   unfolding room_with
-  look_room states = asked_cases (λ (k : Command). room_by states k ≡ 0) name (λ s f i. refl) (λ s f. refl) (λ s. refl) c asks
+  look_room states = asked_cases (λ (k : Command). room_by states k ≡ 0) name (λ s f i. refl) (λ s f. refl) (λ s. refl) (λ f i. refl) c asks
 
   look_built : is_built c ≡ true
   unfolding is_built
-  look_built = asked_cases (λ (k : Command). is_built k ≡ true) name (λ s f i. refl) (λ s f. refl) (λ s. refl) c asks
+  look_built = asked_cases (λ (k : Command). is_built k ≡ true) name (λ s f i. refl) (λ s f. refl) (λ s. refl) (λ f i. refl) c asks
 
   -- each asks for the table that it names
-  pub look_asked : (states : States) → asked_by states c ≡ AsksTable (slot_named states name) (snapshot_asked c)
+  pub look_asked : (states : States) → asked_by states c ≡ AsksTable (slot_named states name) (snapshot_asked c) (reads_cell c)
   unfolding asked_by
-  look_asked states = asked_cases (λ (k : Command). asked_by states k ≡ AsksTable (slot_named states name) (snapshot_asked k)) name (λ s f i. refl) (λ s f. refl) (λ s. refl) c asks
+  look_asked states = asked_cases (λ (k : Command). asked_by states k ≡ AsksTable (slot_named states name) (snapshot_asked k) (reads_cell k)) name (λ s f i. refl) (λ s f. refl) (λ s. refl) (λ f i. refl) c asks
 
   pub look_reads : reads_files c ≡ true
   unfolding reads_files
-  look_reads = asked_cases (λ (k : Command). reads_files k ≡ true) name (λ s f i. refl) (λ s f. refl) (λ s. refl) c asks
+  look_reads = asked_cases (λ (k : Command). reads_files k ≡ true) name (λ s f i. refl) (λ s f. refl) (λ s. refl) (λ f i. refl) c asks
 
   look_next : (m : Machine) → next m c ≡ m
   unfolding change_of
@@ -97,6 +97,7 @@ module _ (c : Command) (name : List ℕ) (asks : volume_asked c ≡ Some name) w
       (λ s f i m. either m (is_some (refusal m (Get name s f i))))
       (λ s f m. either m (is_some (refusal m (Len name s f))))
       (λ s m. either m (is_some (refusal m (Ls name s))))
+      (λ f i m. either m (is_some (refusal m (Probe name f i))))
       c asks
 
   pub look_after : (m : Machine) → machine_after m c ≡ m
@@ -125,13 +126,13 @@ change_of_volume name (Remove v f) is = same_some v name is
 change_of_volume name c is = absurd (nothing is)
 
 -- it asks for the active table of its volume
-pub change_asked : (name : List ℕ) (c : Command) → changed_by c ≡ Some name → (states : States) → asked_by states c ≡ AsksTable (slot_named states name) None
+pub change_asked : (name : List ℕ) (c : Command) → changed_by c ≡ Some name → (states : States) → asked_by states c ≡ AsksTable (slot_named states name) None false
 unfolding asked_by
-change_asked name c of states = change_cases (λ (k : Command). changed_by k ≡ Some name → asked_by states k ≡ AsksTable (slot_named states name) None)
+change_asked name c of states = change_cases (λ (k : Command). changed_by k ≡ Some name → asked_by states k ≡ AsksTable (slot_named states name) None false)
     (λ v f is. at v is) (λ v f i block is. at v is) (λ v f length is. at v is) (λ v f is. at v is) name c (change_of_volume name c of) of
   where
-    at : (v : List ℕ) → ◌≡◌ {A = Option (List ℕ)} (Some v) (Some name) → AsksTable (slot_named states v) None ≡ AsksTable (slot_named states name) None
-    at v is = ap (λ (n : List ℕ). AsksTable (slot_named states n) None) (same_some v name is)
+    at : (v : List ℕ) → ◌≡◌ {A = Option (List ℕ)} (Some v) (Some name) → AsksTable (slot_named states v) None false ≡ AsksTable (slot_named states name) None false
+    at v is = ap (λ (n : List ℕ). AsksTable (slot_named states n) None false) (same_some v name is)
 
 -- what is judged is refused with the refusal that the reply is
 pub judged_refusal : (reply : Reply) (r : Refusal) → refusal_in reply ≡ Some r → reply ≡ Refused r

@@ -1,5 +1,5 @@
 -- What is damaged in a call of a session, by the steps that it is made of.
-use Rattle.std.proofs.Common.{◌≡◌, ◌≤◌, ◌⊎◌, ℕ, List, Option, Some, None, Err, inl, inr, refl, sym, ap, subst, ◌∙◌, length, arith, get_or-set_same}
+use Rattle.std.proofs.Common.{◌≡◌, ◌≤◌, ◌⊎◌, ℕ, List, Option, Some, None, Err, inl, inr, refl, sym, ap, subst, ◌∙◌, length, arith, get_or-set_same, Bool, true, false}
 use Rattle.std.specs.Prelude.{unwrap_or, IsNone, IsSome, IsTrue}
 use Rattle.std.specs.Option.{option_map}
 use Rattle.fv_disk.specs.Shown.{Image, Shown}
@@ -16,7 +16,7 @@ use Rattle.fv_pool.proofs.CallCauses.{cause_for}
 use Rattle.fv_volume.specs.declared.state.VolumeState.{VolumeState}
 use Rattle.fv_volume.specs.declared.tables.TableAsked.{TableAsked}
 use Rattle.fv_volume.specs.declared.tables.TableAsked.TheVariants.{Active}
-use Rattle.fv_volume.specs.Asking.{standing_of, standing_read, table_named, TellsActive, TellsAsked, TellsRead}
+use Rattle.fv_volume.specs.Asking.{standing_of, standing_read, table_named, ReadsAsked, TellsActive, TellsAsked, TellsBy}
 use Rattle.fv_volume.specs.Held.{MayFail}
 use Rattle.fv_volume.specs.OneVolume.{home_in, standing_for}
 use Rattle.fv_volume.specs.States.{state_at, with_state}
@@ -31,10 +31,10 @@ use Rattle.fv_aggregate.specs.Reading.{IsAsRead, WasRead}
 -- ---- a table of a volume
 
 -- What a call on a volume found of the table that it asks for, over what it was told.
-pub record FindsBad (d : Shown) (p : Pool) (x : VolumeState) (snapshot : Option (List ℕ)) (at want found : ℕ) : Type 0 where
+pub record FindsBad (d : Shown) (p : Pool) (x : VolumeState) (snapshot : Option (List ℕ)) (cell : Bool) (at want found : ℕ) : Type 0 where
   pub table : TableAsked
   pub named : table_named x snapshot ≡ Some table
-  pub fails : TableFails (TellsAsked d p x table) (standing_of d p x table) (lent_for p x.map d 0 (home_in x) 0) d.faults (block.Damaged at want found)
+  pub fails : TableFails (TellsBy cell d p x table) (standing_of d p x table) (lent_for p x.map d 0 (home_in x) 0) d.faults (block.Damaged at want found)
 
 module _ (d : Shown) (p : Pool) (x : VolumeState) (faults at want found : ℕ) (calm : faults ≡ d.faults) where
   abbrev its : Lent
@@ -45,16 +45,16 @@ module _ (d : Shown) (p : Pool) (x : VolumeState) (faults at want found : ℕ) (
   counted told t fails = subst (λ (n : ℕ). TableFails told t its n (block.Damaged at want found)) calm fails
 
   -- of the active one
-  pub finds_active : TableFails (TellsActive d p x) (standing_for d p x) its faults (block.Damaged at want found) → FindsBad d p x None at want found
+  pub finds_active : TableFails (TellsActive d p x) (standing_for d p x) its faults (block.Damaged at want found) → FindsBad d p x None false at want found
   finds_active fails = record { table = Active; named = refl; fails = counted (TellsActive d p x) (standing_for d p x) fails }
 
   -- of the one that is asked, which is there
-  pub finds_asked : (s : Option (List ℕ)) → (table_named x s ≡ None → ⊥) → TableFails (TellsRead d p x s) (standing_read d p x s) its faults (block.Damaged at want found) → FindsBad d p x s at want found
-  finds_asked s there fails = by (table_named x s) refl fails
+  pub finds_asked : (s : Option (List ℕ)) (cell : Bool) → (table_named x s ≡ None → ⊥) → TableFails (TellsBy cell d p x (unwrap_or (table_named x s) Active)) (standing_read d p x s) its faults (block.Damaged at want found) → FindsBad d p x s cell at want found
+  finds_asked s cell there fails = by (table_named x s) refl fails
     where
-      by : (o : Option TableAsked) → table_named x s ≡ o → TableFails (TellsAsked d p x (unwrap_or o Active)) (unwrap_or (option_map (standing_of d p x) o) (standing_for d p x)) its faults (block.Damaged at want found) → FindsBad d p x s at want found
+      by : (o : Option TableAsked) → table_named x s ≡ o → TableFails (TellsBy cell d p x (unwrap_or o Active)) (unwrap_or (option_map (standing_of d p x) o) (standing_for d p x)) its faults (block.Damaged at want found) → FindsBad d p x s cell at want found
       by None named fails = absurd (there named)
-      by (Some t) named fails = record { table = t; named = named; fails = counted (TellsAsked d p x t) (standing_of d p x t) fails }
+      by (Some t) named fails = record { table = t; named = named; fails = counted (TellsBy cell d p x t) (standing_of d p x t) fails }
 
 -- ---- over a disk that shows as much
 
@@ -87,20 +87,25 @@ module _ (d e : Shown) (tells : e.tells ≡ d.tells) (reads : e.reads ≡ d.read
     asked_like : (t : TableAsked) → TellsAsked e p x t → TellsAsked like p x t
     asked_like t is = record { told = is.told; right = is.right; numbers = is.numbers }
 
-    -- what a call found of a table
-    fails_like : (t : TableAsked) (at want found : ℕ) → TableFails (TellsAsked e p x t) (standing_of like p x t) (lent_for p x.map like 0 (home_in x) 0) like.faults (block.Damaged at want found)
-        → TableFails (TellsAsked e p x t) (standing_of e p x t) (lent_for p x.map e 0 (home_in x) 0) e.faults (block.Damaged at want found)
-    fails_like t at want found (inl fails) = inl fails
-    fails_like t at want found (inr (inl bad)) = inr (inl (record { calm = bad.calm; damage = bad.damage }))
-    fails_like t at want found (inr (inr file)) = inr (inr (record { tree = file.tree; of_file = file.of_file; fails = file.fails }))
+    told_like : (cell : Bool) (t : TableAsked) → TellsBy cell e p x t → TellsBy cell like p x t
+    told_like true t is = record { tells = asked_like t is.tells; readable = is.readable }
+    told_like false t is = asked_like t is
 
-    pub finds_after : (snapshot : Option (List ℕ)) (at want found : ℕ) → FindsBad d p x snapshot at want found → FindsBad e p x snapshot at want found
-    finds_after snapshot at want found finds = record {
+    -- what a call found of a table
+    fails_like : (told : Type 0) (t : TableAsked) (at want found : ℕ) → TableFails told (standing_of like p x t) (lent_for p x.map like 0 (home_in x) 0) like.faults (block.Damaged at want found)
+        → TableFails told (standing_of e p x t) (lent_for p x.map e 0 (home_in x) 0) e.faults (block.Damaged at want found)
+    fails_like told t at want found (inl fails) = inl fails
+    fails_like told t at want found (inr (inl bad)) = inr (inl (record { calm = bad.calm; damage = bad.damage }))
+    fails_like told t at want found (inr (inr file)) = inr (inr (record { tree = file.tree; of_file = file.of_file; fails = file.fails }))
+
+    pub finds_after : (snapshot : Option (List ℕ)) (cell : Bool) (at want found : ℕ) → FindsBad d p x snapshot cell at want found → FindsBad e p x snapshot cell at want found
+    finds_after snapshot cell at want found finds = record {
       table = finds.table;
       named = finds.named;
-      fails = fails_like finds.table at want found (cause_for (TellsAsked e p x finds.table) (TellsAsked like p x finds.table) (asked_like finds.table) (lent_for p x.map like 0 (home_in x) 0) like.faults {T = Unit {0}}
+      fails = fails_like (TellsBy cell e p x finds.table) finds.table at want found
+          (cause_for (TellsBy cell e p x finds.table) (TellsBy cell like p x finds.table) (told_like cell finds.table) (lent_for p x.map like 0 (home_in x) 0) like.faults {T = Unit {0}}
           (standing_of like p x finds.table) (standing_of like p x finds.table) (Err (block.Damaged at want found)) refl
-          (subst (λ (k : Shown). TableFails (TellsAsked k p x finds.table) (standing_of k p x finds.table) (lent_for p x.map k 0 (home_in x) 0) k.faults (block.Damaged at want found)) like_is finds.fails));
+          (subst (λ (k : Shown). TableFails (TellsBy cell k p x finds.table) (standing_of k p x finds.table) (lent_for p x.map k 0 (home_in x) 0) k.faults (block.Damaged at want found)) like_is finds.fails));
     }
 
     may_after : (at want found : ℕ) → MayFail d p (Some x) (volume.Damaged at want found) → MayFail e p (Some x) (volume.Damaged at want found)
@@ -147,16 +152,17 @@ module _ (d e : Shown) (tells : e.tells ≡ d.tells) (reads : e.reads ≡ d.read
 pub keeps_map : (m : Volume) → GivesUp m m
 keeps_map m = record { span = refl; snapshots = λ s other. refl; numbers = omega arith; active = λ v does. does }
 
-module _ (d e : Shown) (s : Session) (fresh : IsNone s.failed) (slot : ℕ) (x : VolumeState) (there : state_at s.volumes slot ≡ Some x) (q : Pool) (reads : Reads d s.pool e q) (calm : e.faults ≡ d.faults) (snapshot : Option (List ℕ)) (at want found : ℕ) (finds : FindsBad d s.pool x snapshot at want found) where
-  now_found : FindsBad e s.pool x snapshot at want found
-  now_found = finds_after d e reads.only_reads.stays.tells reads.only_reads.stays.reads calm s.pool x snapshot at want found finds
+module _ (d e : Shown) (s : Session) (fresh : IsNone s.failed) (slot : ℕ) (x : VolumeState) (there : state_at s.volumes slot ≡ Some x) (q : Pool) (reads : Reads d s.pool e q) (calm : e.faults ≡ d.faults) (snapshot : Option (List ℕ)) (cell : Bool) (at want found : ℕ) (finds : FindsBad d s.pool x snapshot cell at want found) where
+  now_found : FindsBad e s.pool x snapshot cell at want found
+  now_found = finds_after d e reads.only_reads.stays.tells reads.only_reads.stays.reads calm s.pool x snapshot cell at want found finds
 
   -- the volume is as it was
-  pub bad_read : HasBadTable (AsksTable slot snapshot) e s (record s { pool = q }) at want found
+  pub bad_read : HasBadTable (AsksTable slot snapshot cell) e s (record s { pool = q }) at want found
   bad_read = record {
     fresh = fresh;
     slot = slot;
     snapshot = snapshot;
+    cell = cell;
     asks = refl;
     state = x;
     there = there;
@@ -172,11 +178,12 @@ module _ (d e : Shown) (s : Session) (fresh : IsNone s.failed) (slot : ℕ) (x :
 
   -- its files may have changed in memory
   pub bad_changed : length s.volumes ≡ 64 → (y : VolumeState) → y ≡ record x { map = y.map; files = y.files; changed = y.changed } → GivesUp x.map y.map → (pending : ℕ)
-      → HasBadTable (AsksTable slot snapshot) e s (record s { volumes = with_state s.volumes slot (Some y); pool = q; pending = pending }) at want found
+      → HasBadTable (AsksTable slot snapshot cell) e s (record s { volumes = with_state s.volumes slot (Some y); pool = q; pending = pending }) at want found
   bad_changed long y same maps pending = record {
     fresh = fresh;
     slot = slot;
     snapshot = snapshot;
+    cell = cell;
     asks = refl;
     state = x;
     there = there;
@@ -192,11 +199,11 @@ module _ (d e : Shown) (s : Session) (fresh : IsNone s.failed) (slot : ℕ) (x :
 
 -- ---- in a call
 
-point_table : (slot : ℕ) (snapshot : Option (List ℕ)) → AsksPoint ≡ AsksTable slot snapshot → ⊥
-point_table slot snapshot e = cc
+point_table : (slot : ℕ) (snapshot : Option (List ℕ)) (cell : Bool) → AsksPoint ≡ AsksTable slot snapshot cell → ⊥
+point_table slot snapshot cell e = cc
 
-nothing_table : (slot : ℕ) (snapshot : Option (List ℕ)) → AsksNothing ≡ AsksTable slot snapshot → ⊥
-nothing_table slot snapshot e = cc
+nothing_table : (slot : ℕ) (snapshot : Option (List ℕ)) (cell : Bool) → AsksNothing ≡ AsksTable slot snapshot cell → ⊥
+nothing_table slot snapshot cell e = cc
 
 nothing_point : AsksNothing ≡ AsksPoint → ⊥
 nothing_point e = cc
@@ -243,7 +250,7 @@ module _ (asked : Asked) (least room : ℕ) (le : least ≤ room) where
 
 -- A call that asks for no table, nor to place the files of a volume or to read leaves by itself, is part of one that comes to a point where this
 -- does.
-module _ (part asked : Asked) (least room : ℕ) (old : Session) (none : (slot : ℕ) (snapshot : Option (List ℕ)) → part ≡ AsksTable slot snapshot → ⊥) (never : (slot : ℕ) → part ≡ AsksPlacing slot → ⊥) (leafless : (slot : ℕ) → part ≡ AsksLeaves slot → ⊥)
+module _ (part asked : Asked) (least room : ℕ) (old : Session) (none : (slot : ℕ) (snapshot : Option (List ℕ)) (cell : Bool) → part ≡ AsksTable slot snapshot cell → ⊥) (never : (slot : ℕ) → part ≡ AsksPlacing slot → ⊥) (leafless : (slot : ℕ) → part ≡ AsksLeaves slot → ⊥)
     (point : ComesToPoint least part old → ComesToPoint room asked old) (place : (slot : ℕ) → ComesToPlace least part old slot → ComesToPlace room asked old slot) where
   leaves_part : (slot : ℕ) → (part ≡ AsksLeaves slot) ⊎ ComesToPlace least part old slot → ComesToLeaves room asked old
   leaves_part slot (inl is) = absurd (leafless slot is)
@@ -253,9 +260,9 @@ module _ (part asked : Asked) (least room : ℕ) (old : Session) (none : (slot :
   damage_part before after new at want found (inl (reads, inl (inl lacks))) = inl (reads, inl (inl (point lacks.0, lacks.1)))
   damage_part before after new at want found (inl (reads, inl (inr (inl placed)))) = inl (reads, inl (inr (inl (record { files = placed.files; comes = place placed.files.slot placed.comes; before = λ other. placed.before (never placed.files.slot) }))))
   damage_part before after new at want found (inl (reads, inl (inr (inr (inl lost))))) = inl (reads, inl (inr (inr (inl (leaves_part lost.0.0 lost.0.1, lost.1)))))
-  damage_part before after new at want found (inl (reads, inl (inr (inr (inr bad))))) = absurd (none bad.slot bad.snapshot bad.asks)
-  damage_part before after new at want found (inl (reads, inr later)) = absurd (none later.read.slot later.read.snapshot later.read.asks)
-  damage_part before after new at want found (inr (past, behind)) = absurd (none behind.read.slot behind.read.snapshot behind.read.asks)
+  damage_part before after new at want found (inl (reads, inl (inr (inr (inr bad))))) = absurd (none bad.slot bad.snapshot bad.cell bad.asks)
+  damage_part before after new at want found (inl (reads, inr later)) = absurd (none later.read.slot later.read.snapshot later.read.cell later.read.asks)
+  damage_part before after new at want found (inr (past, behind)) = absurd (none behind.read.slot behind.read.snapshot behind.read.cell behind.read.asks)
 
 -- a point that makes room for a call
 pub damage_point : (asked : Asked) (room : ℕ) (old : Session) → PassesLimit old.pending room → (before after : Shown) (new : Session) (at want found : ℕ) → HasDamage 0 AsksPoint before old after new at want found → HasDamage room asked before old after new at want found
@@ -272,6 +279,82 @@ damage_room asked room old before after new at want found is = damage_part AsksN
     places_still : (slot : ℕ) → ComesToPlace room AsksNothing old slot → ComesToPlace room asked old slot
     places_still slot (inl is) = absurd (nothing_placing slot is)
     places_still slot (inr point) = inr (comes_still point)
+
+-- ---- a table in which a cell is read too
+
+table_point : (slot : ℕ) (snapshot : Option (List ℕ)) (cell : Bool) → AsksTable slot snapshot cell ≡ AsksPoint → ⊥
+table_point slot snapshot cell e = cc
+
+table_placing : (slot : ℕ) (snapshot : Option (List ℕ)) (cell : Bool) (other : ℕ) → AsksTable slot snapshot cell ≡ AsksPlacing other → ⊥
+table_placing slot snapshot cell other e = cc
+
+table_leaves : (slot : ℕ) (snapshot : Option (List ℕ)) (cell : Bool) (other : ℕ) → AsksTable slot snapshot cell ≡ AsksLeaves other → ⊥
+table_leaves slot snapshot cell other e = cc
+
+module _ (slot : ℕ) (snapshot : Option (List ℕ)) where
+  same_slot : (k : ℕ) (o : Option (List ℕ)) (b : Bool) → AsksTable slot snapshot false ≡ AsksTable k o b → slot ≡ k
+  same_slot k o b e = cc
+
+  same_snapshot : (k : ℕ) (o : Option (List ℕ)) (b : Bool) → AsksTable slot snapshot false ≡ AsksTable k o b → snapshot ≡ o
+  same_snapshot k o b e = cc
+
+  no_cell : (k : ℕ) (o : Option (List ℕ)) (b : Bool) → AsksTable slot snapshot false ≡ AsksTable k o b → b ≡ false
+  no_cell k o b e = cc
+
+  with_cell : (k : ℕ) (o : Option (List ℕ)) (b : Bool) → AsksTable slot snapshot false ≡ AsksTable k o b → AsksTable slot snapshot true ≡ AsksTable k o true
+  with_cell k o b e = λ j. AsksTable (same_slot k o b e j) (same_snapshot k o b e j) true
+
+  -- What is damaged where no cell is read is damaged where one is: less was told for it.
+  module _ (room : ℕ) where
+    cell_point : (s : Session) → ComesToPoint room (AsksTable slot snapshot false) s → ComesToPoint room (AsksTable slot snapshot true) s
+    cell_point s (inl is) = absurd (table_point slot snapshot false is)
+    cell_point s (inr past) = inr past
+
+    cell_place : (s : Session) (k : ℕ) → ComesToPlace room (AsksTable slot snapshot false) s k → ComesToPlace room (AsksTable slot snapshot true) s k
+    cell_place s k (inl is) = absurd (table_placing slot snapshot false k is)
+    cell_place s k (inr point) = inr (cell_point s point)
+
+    cell_leaves : (s : Session) (k : ℕ) → (AsksTable slot snapshot false ≡ AsksLeaves k) ⊎ ComesToPlace room (AsksTable slot snapshot false) s k → ComesToLeaves room (AsksTable slot snapshot true) s
+    cell_leaves s k (inl is) = absurd (table_leaves slot snapshot false k is)
+    cell_leaves s k (inr place) = (k, inr (cell_place s k place))
+
+    cell_bad : (d : Shown) (s new : Session) (at want found : ℕ) → HasBadTable (AsksTable slot snapshot false) d s new at want found → HasBadTable (AsksTable slot snapshot true) d s new at want found
+    cell_bad d s new at want found bad =
+        let fails = subst (λ (b : Bool). TableFails (TellsBy b d s.pool bad.state bad.table) (standing_of d s.pool bad.state bad.table) (lent_for s.pool bad.state.map d 0 (home_in bad.state) 0) d.faults (block.Damaged at want found)) (no_cell bad.slot bad.snapshot bad.cell bad.asks) bad.fails in
+        record {
+          fresh = bad.fresh;
+          slot = bad.slot;
+          snapshot = bad.snapshot;
+          cell = true;
+          asks = with_cell bad.slot bad.snapshot bad.cell bad.asks;
+          state = bad.state;
+          there = bad.there;
+          table = bad.table;
+          named = bad.named;
+          fails = cause_for (ReadsAsked d s.pool bad.state bad.table) (TellsAsked d s.pool bad.state bad.table) (λ reads. reads.tells) (lent_for s.pool bad.state.map d 0 (home_in bad.state) 0) d.faults {T = Unit {0}}
+              (standing_of d s.pool bad.state bad.table) (standing_of d s.pool bad.state bad.table) (Err (block.Damaged at want found)) refl fails;
+          pool = bad.pool;
+          now = bad.now;
+          left = bad.left;
+          same = bad.same;
+          maps = bad.maps;
+        }
+
+    cell_in : (d : Shown) (s new : Session) (at want found : ℕ) → HasDamageIn room (AsksTable slot snapshot false) d s new at want found → HasDamageIn room (AsksTable slot snapshot true) d s new at want found
+    cell_in d s new at want found (inl lacks) = inl (cell_point s lacks.0, lacks.1)
+    cell_in d s new at want found (inr (inl placed)) = inr (inl (record { files = placed.files; comes = cell_place s placed.files.slot placed.comes; before = λ other. placed.before (table_placing slot snapshot false placed.files.slot) }))
+    cell_in d s new at want found (inr (inr (inl lost))) = inr (inr (inl (cell_leaves s lost.0.0 lost.0.1, lost.1)))
+    cell_in d s new at want found (inr (inr (inr bad))) = inr (inr (inr (cell_bad d s new at want found bad)))
+
+    cell_read : (s n : Session) → HasReadFor (AsksTable slot snapshot false) s n → HasReadFor (AsksTable slot snapshot true) s n
+    cell_read s n read = record { fresh = read.fresh; slot = read.slot; snapshot = read.snapshot; cell = true; asks = with_cell read.slot read.snapshot read.cell read.asks; there = read.there; read = read.read }
+
+    pub damage_cell : (cell : Bool) (before : Shown) (old : Session) (after : Shown) (new : Session) (at want found : ℕ) → HasDamage room (AsksTable slot snapshot false) before old after new at want found → HasDamage room (AsksTable slot snapshot cell) before old after new at want found
+    damage_cell false before old after new at want found is = is
+    damage_cell true before old after new at want found (inl (reads, inl now)) = inl (reads, inl (cell_in after old new at want found now))
+    damage_cell true before old after new at want found (inl (reads, inr later)) = inl (reads, inr (record { session = later.session; read = cell_read old later.session later.read; damage = cell_in after later.session new at want found later.damage }))
+    damage_cell true before old after new at want found (inr (past, behind)) =
+        inr (past, record { session = behind.session; read = cell_read old behind.session behind.read; pointed = behind.pointed; left = behind.left; bad = cell_bad after behind.pointed new at want found behind.bad })
 
 -- blocks were read, and then again
 pub as_read_then : (s n p : Session) → IsAsRead s n → IsAsRead n p → IsAsRead s p
@@ -290,15 +373,15 @@ read_then d s e n g p first second =
     record { only_reads = reads_then d e g first.only_reads second.only_reads; pool = both.pool; volumes = both.volumes; same = both.same }
 
 -- a command on the volume of a slot that read blocks first
-module _ (d : Shown) (s : Session) (fresh : IsNone s.failed) (slot : ℕ) (snapshot : Option (List ℕ)) (there : IsSome (state_at s.volumes slot)) (e : Shown) (n : Session) (read : WasRead d s e n) (room : ℕ) (g : Shown) (new : Session) (at want found : ℕ) where
+module _ (d : Shown) (s : Session) (fresh : IsNone s.failed) (slot : ℕ) (snapshot : Option (List ℕ)) (cell : Bool) (there : IsSome (state_at s.volumes slot)) (e : Shown) (n : Session) (read : WasRead d s e n) (room : ℕ) (g : Shown) (new : Session) (at want found : ℕ) where
   abbrev asked : Asked
-  asked = AsksTable slot snapshot
+  asked = AsksTable slot snapshot cell
 
   read_for : HasReadFor asked s n
-  read_for = record { fresh = fresh; slot = slot; snapshot = snapshot; asks = refl; there = there; read = as_read d s e n read }
+  read_for = record { fresh = fresh; slot = slot; snapshot = snapshot; cell = cell; asks = refl; there = there; read = as_read d s e n read }
 
   both_for : (k : Session) → HasReadFor asked n k → HasReadFor asked s k
-  both_for k second = record { fresh = fresh; slot = slot; snapshot = snapshot; asks = refl; there = there; read = as_read_then s n k (as_read d s e n read) second.read }
+  both_for k second = record { fresh = fresh; slot = slot; snapshot = snapshot; cell = cell; asks = refl; there = there; read = as_read_then s n k (as_read d s e n read) second.read }
 
   same_pending : n.pending ≡ s.pending
   same_pending = ap (λ (k : Session). k.pending) read.same

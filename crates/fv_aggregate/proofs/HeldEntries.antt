@@ -153,7 +153,7 @@ module _ (pool : Pool) (states : States) (i : Image) (are : AreStates (view_over
       by (Some x) is state =
           let label = state.labelled in
           let head : head_in x ≡ h = same_Some (head_in x) h (sym (head_there pool states i s x is) ∙ there) in
-          subst HasLabelNumbers (label_head x label.form label.named label.snapshots 0 1 ∙ head) (label_numbers (label_said x 0 1) (label.label 0 1 (omega arith) (omega arith) (omega arith)))
+          subst HasLabelNumbers (label_head x label.named label.snapshots 0 1 ∙ head) (label_numbers (label_said x 0 1) (label.label 0 1 (omega arith) (omega arith) (omega arith)))
 
   slot_entries : (s : ℕ) → s < 64 → entries_at pool states s ≡ held_by (state_at states s) + delayed_at s
   unfolding volume_with vvbns

@@ -71,6 +71,7 @@ mod Aimed
 mod YetToWrite
 mod Created
 mod Making
+mod MakingSteps
 mod Putting
 mod StillAdmitted
 mod Cloned

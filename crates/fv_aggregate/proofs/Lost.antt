@@ -30,7 +30,7 @@ use Rattle.fv_aggregate.proofs.Returned.{lent_has, put_back}
 ok_err : (T : Type 0) (y : T) (f : VolumeFault) → ◌≡◌ {A = Result T VolumeFault} (Ok y) (Err f) → ⊥
 ok_err T y f is = cc
 
-same_err : (T : Type 0) (f h : VolumeFault) → ◌≡◌ {A = Result T VolumeFault} (Err f) (Err h) → f ≡ h
+pub same_err : (T : Type 0) (f h : VolumeFault) → ◌≡◌ {A = Result T VolumeFault} (Err f) (Err h) → f ≡ h
 same_err T f h is = cc
 
 module _ (D : Type 0) (x : VolumeState) (old new : D) (p q : Pool) (c : Command) (s : Option (List ℕ)) (is : snapshot_asked c ≡ s) (none : table_named x (snapshot_asked c) ≡ None) (T : Type 0) where
@@ -118,7 +118,7 @@ no_snapshot (Some name) is = absurd cc
 
 -- a command that finds a file by the numbers in memory asks the active table, which is there
 pub finds_active : (c : Command) (name : List ℕ) → volume_asked c ≡ Some name → finds_file c ≡ true → snapshot_asked c ≡ None
-finds_active c name asks = asked_cases (λ (k : Command). finds_file k ≡ true → snapshot_asked k ≡ None) name (λ s f i is. no_snapshot s is) (λ s f is. no_snapshot s is) (λ s is. absurd cc) c asks
+finds_active c name asks = asked_cases (λ (k : Command). finds_file k ≡ true → snapshot_asked k ≡ None) name (λ s f i is. no_snapshot s is) (λ s f is. no_snapshot s is) (λ s is. absurd cc) (λ f i is. refl) c asks
 
 pub active_there : (X : Type 0) (x : VolumeState) (c : Command) → snapshot_asked c ≡ None → table_named x (snapshot_asked c) ≡ None → X
 active_there X x c active none = absurd (let gone : table_named x None ≡ None = subst (λ (o : Option (List ℕ)). table_named x o ≡ None) active none in cc)

@@ -21,7 +21,7 @@ use Rattle.fv_aggregate.specs.Deciding.{DecidesMaking}
 use Rattle.fv_aggregate.specs.Making.{MakesVolume}
 use Rattle.fv_aggregate.specs.Standing.{StandsFor, StandsReady}
 use Rattle.fv_aggregate.proofs.Applied.{own_room}
-use Rattle.fv_aggregate.proofs.Applying.{no_step, not_dead, rests_as}
+use Rattle.fv_aggregate.proofs.Applying.{asks_none, no_step, not_dead, rests_as}
 use Rattle.fv_aggregate.proofs.Calls.{rests_asks, rests_done}
 use Rattle.fv_aggregate.proofs.Holes.{kept_entries, no_holes}
 use Rattle.fv_aggregate.proofs.Keeping.{keeps_but}
@@ -155,7 +155,7 @@ module _ {D : Type 0} (shown : D → Shown) (c : Command) (is : IsMaking c) (bef
     entries = λ other few stays. made.makes.entries (low few);
     files = λ tells none without. made.makes.holding.files tells without;
     same = λ tells none stays places same. made.makes.holding.same tells same;
-    steps = record { other = λ none. refl; known = λ tells last m stands. no_step result steps; dead = λ failed. refl };
+    steps = record { other = λ none. refl; known = λ tells last m stands knows. no_step result steps; path = λ tells last m stands name of. asks_none _ c name is.no_files of; dead = λ failed. refl };
     numbers = λ alive. keeps_but _ s.volumes n.volumes (made.makes.runs.numbers alive);
     dead = λ failed. not_dead _ s made.fresh failed;
   }

@@ -8,12 +8,12 @@ use Rattle.fv_model.specs.declared.answers.Refusal.{Refusal}
 use Rattle.fv_model.specs.declared.answers.Refusal.TheVariants.{NoVolume, NoFile, FileExists, NoSnapshot, Range, TooMany, WrongKind}
 use Rattle.fv_model.specs.declared.answers.Reply.TheVariants.{Refused}
 use Rattle.fv_model.specs.declared.commands.Command.{Command}
-use Rattle.fv_model.specs.declared.commands.Command.TheVariants.{New, Put, Get, Len, Cut, Remove, Ls}
+use Rattle.fv_model.specs.declared.commands.Command.TheVariants.{New, Put, Get, Len, Cut, Remove, Ls, Probe}
 use Rattle.fv_model.specs.Machines.{Machine}
 use Rattle.fv_model.specs.Numbers.{is_index, is_reserve}
 use Rattle.fv_model.specs.Refusals.{conditions, first_of, has_all_changes, has_all_files, has_file, is_missing, lacks_file, lacks_snapshot, next, of_file, of_volume, refusal, space}
 use Rattle.fv_model.specs.Effects.{effect}
-use Rattle.fv_model.specs.Replies.{is_open, Allows, AllowsBy}
+use Rattle.fv_model.specs.Replies.{Allows, AllowsBy}
 use Rattle.fv_model.specs.Space.{is_file_kind}
 use Rattle.fv_model.specs.Volumes.{Volume}
 use Rattle.fv_aggregate.specs.Commands.{volume_asked, changed_by, has_range, is_get}
@@ -40,9 +40,17 @@ module _ (m : Machine) (v : List ℕ) (none : fin.get m.volumes v ≡ None) wher
   unfolding conditions
   no_get s f i near = λ j. first_of ((Range, not (near j)) ∷ (NoVolume, is_none (none j)) ∷ (NoSnapshot, lacks_snapshot m v s) ∷ (NoFile, lacks_file m v s f) ∷ (Range, of_file m v s f (λ file. nat_le file.length i)) ∷ [])
 
+  pub no_probe : (f : List ℕ) (i : ℕ) → is_index i ≡ true → refusal m (Probe v f i) ≡ Some NoVolume
+  unfolding conditions
+  no_probe f i near = λ j. first_of ((Range, not (near j)) ∷ (NoVolume, is_none (none j)) ∷ (NoFile, lacks_file m v None f) ∷ (Range, of_file m v None f (λ file. nat_le file.length i)) ∷ [])
+
 pub far_get : (m : Machine) (v : List ℕ) (s : Option (List ℕ)) (f : List ℕ) (i : ℕ) → is_index i ≡ false → refusal m (Get v s f i) ≡ Some Range
 unfolding conditions
 far_get m v s f i far = ap (λ (b : Bool). first_of ((Range, not b) ∷ (NoVolume, is_missing m v) ∷ (NoSnapshot, lacks_snapshot m v s) ∷ (NoFile, lacks_file m v s f) ∷ (Range, of_file m v s f (λ file. nat_le file.length i)) ∷ [])) far
+
+pub far_probe : (m : Machine) (v f : List ℕ) (i : ℕ) → is_index i ≡ false → refusal m (Probe v f i) ≡ Some Range
+unfolding conditions
+far_probe m v f i far = ap (λ (b : Bool). first_of ((Range, not b) ∷ (NoVolume, is_missing m v) ∷ (NoFile, lacks_file m v None f) ∷ (Range, of_file m v None f (λ file. nat_le file.length i)) ∷ [])) far
 
 -- ---- commands that change
 
@@ -102,25 +110,23 @@ module _ (m : Machine) (home : List ℕ) where
 
 -- ---- commands that ask
 
--- what holds of `get`, `len` and `ls` of a volume holds of each command that asks for its files
+-- what holds of `get`, `len`, `ls` and `probe` of a volume holds of each command that asks for its files
 pub asked_cases : (P : Command → Type 0) (name : List ℕ) → ((s : Option (List ℕ)) (f : List ℕ) (i : ℕ) → P (Get name s f i)) → ((s : Option (List ℕ)) (f : List ℕ) → P (Len name s f)) → ((s : Option (List ℕ)) → P (Ls name s))
-    → (c : Command) → volume_asked c ≡ Some name → P c
-asked_cases P name get len ls (Get v s f i) is = subst (λ (n : List ℕ). P (Get n s f i)) (sym (same_some v name is)) (get s f i)
-asked_cases P name get len ls (Len v s f) is = subst (λ (n : List ℕ). P (Len n s f)) (sym (same_some v name is)) (len s f)
-asked_cases P name get len ls (Ls v s) is = subst (λ (n : List ℕ). P (Ls n s)) (sym (same_some v name is)) (ls s)
-asked_cases P name get len ls c is = absurd (nothing is)
+    → ((f : List ℕ) (i : ℕ) → P (Probe name f i)) → (c : Command) → volume_asked c ≡ Some name → P c
+asked_cases P name get len ls probe (Get v s f i) is = subst (λ (n : List ℕ). P (Get n s f i)) (sym (same_some v name is)) (get s f i)
+asked_cases P name get len ls probe (Len v s f) is = subst (λ (n : List ℕ). P (Len n s f)) (sym (same_some v name is)) (len s f)
+asked_cases P name get len ls probe (Ls v s) is = subst (λ (n : List ℕ). P (Ls n s)) (sym (same_some v name is)) (ls s)
+asked_cases P name get len ls probe (Probe v f i) is = subst (λ (n : List ℕ). P (Probe n f i)) (sym (same_some v name is)) (probe f i)
+asked_cases P name get len ls probe c is = absurd (nothing is)
 
 module _ (c : Command) (name : List ℕ) (asks : volume_asked c ≡ Some name) where
-  -- each has one answer
-  pub asked_closed : (m : Machine) → is_open m c ≡ false
-  asked_closed = asked_cases (λ (k : Command). (m : Machine) → is_open m k ≡ false) name (λ s f i m. refl) (λ s f m. refl) (λ s m. refl) c asks
-
   -- a volume that isn't there is refused, once a number is in its range
   pub asked_missing : has_range c ≡ true → (m : Machine) → fin.get m.volumes name ≡ None → refusal m c ≡ Some NoVolume
   asked_missing = asked_cases (λ (k : Command). has_range k ≡ true → (m : Machine) → fin.get m.volumes name ≡ None → refusal m k ≡ Some NoVolume) name
       (λ s f i near m none. no_get m name none s f i near)
       (λ s f near m none. no_len m name none s f)
       (λ s near m none. no_ls m name none s)
+      (λ f i near m none. no_probe m name none f i near)
       c asks
 
   -- and one out of its range is refused first
@@ -129,6 +135,7 @@ module _ (c : Command) (name : List ℕ) (asks : volume_asked c ≡ Some name) w
       (λ s f i far m. far_get m name s f i far)
       (λ s f far m. cc)
       (λ s far m. cc)
+      (λ f i far m. far_probe m name f i far)
       c asks
 
 -- a command that reads a cell is one

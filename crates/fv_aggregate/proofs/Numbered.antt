@@ -1,28 +1,41 @@
 -- A session that read the numbers of a volume's files into memory, and a command on its files that comes then.
-use Rattle.std.proofs.Common.{◌≡◌, ◌≤◌, ℕ, List, Option, Some, None, Result, Ok, Err, refl, sym, ap, subst, ◌∙◌, arith, ◌⊎◌, ◌+◌}
-use Rattle.std.specs.Prelude.{IfOk, IsNone, IsSome, IsTrue, OnErr, OnOk}
+use Rattle.std.proofs.Common.{◌≡◌, ◌≤◌, ℕ, List, Option, Some, None, Result, Ok, Err, refl, sym, ap, subst, ◌∙◌, arith, ◌⊎◌, ◌+◌, false}
+use Rattle.std.specs.Prelude.{IfOk, IfSome, IsNone, IsSome, IsTrue, OnErr, OnOk}
 use Rattle.std.specs.Option.{option_map}
 use Rattle.fv_disk.specs.DiskCalls.{OnlyReads}
 use Rattle.fv_disk.specs.Shown.{Shown}
 use Rattle.fv_disk.proofs.Resting.{reads_then}
 use Rattle.fv_model.specs.declared.answers.Reply.{Reply}
+use Rattle.fv_model.specs.declared.answers.Reply.TheVariants.{Content, Number}
 use Rattle.fv_model.specs.declared.commands.Command.{Command}
+use Rattle.fv_model.specs.declared.commands.Command.TheVariants.{Get, Probe}
 use Rattle.fv_model.specs.Machines.{Machine}
 use Rattle.fv_model.specs.Refusals.{next}
 use Rattle.fv_model.specs.Replies.{Allows}
+use Rattle.fv_tables.specs.Spelled.{Under}
+use Rattle.fv_tables.specs.Told.{Standing}
+use Rattle.fv_files.specs.Apart.{Trees}
+use Rattle.fv_pool.specs.declared.pool.Pool.{Pool}
+use Rattle.fv_pool.specs.Calls.{Reads}
+use Rattle.fv_pool.specs.Tables.{standing_by, trees_by}
 use Rattle.fv_volume.specs.declared.state.VolumeState.{VolumeState}
+use Rattle.fv_volume.specs.OneVolume.{standing_for, trees_for}
+use Rattle.fv_volume.specs.Paths.{StepsTo}
+use Rattle.fv_volume.specs.Probing.{IsPath}
+use Rattle.fv_volume.proofs.OneVolumes.{still_under}
 use Rattle.fv_volume.specs.States.{States, state_at}
 use Rattle.fv_cp.specs.Placing.{HasNoFiles, HaveNoFiles}
 use Rattle.fv_aggregate.specs.declared.fault.Fault.{Fault}
 use Rattle.fv_aggregate.specs.declared.session.Session.{Session}
-use Rattle.fv_aggregate.specs.Calls.{but_numbers, Goes, GoesFor, KeepsAsking, KeepsEntries, SameButNumbers, WasRead}
-use Rattle.fv_aggregate.specs.Commands.{Asked, AsksTable, snapshot_asked, file_room, is_refusal}
+use Rattle.fv_aggregate.specs.Calls.{but_numbers, Goes, GoesFor, KeepsAsking, KeepsEntries, MakesNoStep, SameButNumbers, WasRead}
+use Rattle.fv_aggregate.specs.Commands.{Asked, AsksTable, reads_cell, snapshot_asked, file_room, is_refusal}
 use Rattle.fv_aggregate.specs.Looking.{Looks, Makes}
 use Rattle.fv_aggregate.specs.Numbering.{HasNumbered}
+use Rattle.fv_aggregate.specs.Probing.{CountsPath, TellsPath}
 use Rattle.fv_aggregate.specs.Standing.{StandsFor}
 use Rattle.fv_aggregate.proofs.Holes.{read_entries}
 use Rattle.fv_aggregate.proofs.Damages.{damage_read, read_then}
-use Rattle.fv_aggregate.proofs.CallEnds.{fails_early, goes_for_after, goes_on_read, goes_wider}
+use Rattle.fv_aggregate.proofs.CallEnds.{fails_early, goes_for_after, goes_cell, goes_on_read, goes_wider}
 
 -- ---- volumes that are the same but for those numbers
 
@@ -48,6 +61,23 @@ still_there old new same slot x there = by (state_at new slot) refl (same slot �
     by None at is = absurd (none_some (but_numbers x) is)
     by (Some y) at is = (y, (at, sym (ap (λ (z : VolumeState). z.name) (same_some (but_numbers y) (but_numbers x) is))))
 
+-- what is told of a path is told of a table with the same trees
+path_like : (e : Shown) (q : Pool) (y : VolumeState) (d : Shown) (p : Pool) (x : VolumeState) → standing_for e q y ≡ standing_for d p x → trees_for e q y ≡ trees_for d p x → (reply : Reply) (c : Command) → TellsPath e q y reply c → TellsPath d p x reply c
+path_like e q y d p x table trees (Number count) (Probe v f i) path =
+    subst (λ (t : Trees). IsPath (standing_for d p x) t f i count) trees (subst (λ (u : Standing). IsPath u (trees_for e q y) f i count) table path)
+path_like e q y d p x table trees reply c path = tt
+
+no_name : (n : List ℕ) → ◌≡◌ {A = Option (List ℕ)} (Some n) None → ⊥
+no_name n e = cc
+
+-- so are the steps of a path in the active table
+steps_like : (e : Shown) (q : Pool) (y : VolumeState) (d : Shown) (p : Pool) (x : VolumeState) → standing_for e q y ≡ standing_for d p x → trees_for e q y ≡ trees_for d p x → (start steps : ℕ) (reply : Reply) (c : Command) → snapshot_asked c ≡ None
+    → CountsPath e q y start steps reply c → CountsPath d p x start steps reply c
+steps_like e q y d p x table trees start steps (Content block) (Get v None f i) active path =
+    subst (λ (t : Trees). StepsTo (standing_for d p x) t f i start steps) trees (subst (λ (u : Standing). StepsTo u (trees_for e q y) f i start steps) table path)
+steps_like e q y d p x table trees start steps (Content block) (Get v (Some n) f i) active path = absurd (no_name n active)
+steps_like e q y d p x table trees start steps reply c active path = tt
+
 -- ---- by a fault
 
 -- a command that changes a file ends with a fault before its volume is called
@@ -68,18 +98,19 @@ makes_early asked d s c e n f goes goes_for reads entries = record {
 module _ (slot : ℕ) (d : Shown) (s : Session) (c : Command) (e : Shown) (n : Session) (f : Fault) (failed : HasNumbered slot d s e n (Err f)) where
   pub look_unnumbered : snapshot_asked c ≡ None → (r : Result Reply Fault) → r ≡ Err f → Looks slot d s c e n r
   look_unnumbered active r is = subst (Looks slot d s c e n) (sym is) (record {
-    goes = subst (λ (o : Option (List ℕ)). Goes {T = Reply} 0 (AsksTable slot o) d s e n (Err f)) (sym active) (goes_wider (AsksTable slot None) 0 d s e n f failed.goes);
+    goes = subst (λ (o : Option (List ℕ)). Goes {T = Reply} 0 (AsksTable slot o (reads_cell c)) d s e n (Err f)) (sym active) (goes_cell slot None 0 (reads_cell c) d s e n f failed.goes);
     asks = failed.asks;
     goes_for = λ tells last m is. fails_early d last m m e n f (failed.goes_for tells last m is);
     reply = λ tells last m is. tt;
+    path = λ tells last m is. tt;
     only_reads = failed.only_reads;
     entries = failed.entries;
     read = tt;
     unanswered = failed.unread;
   })
 
-  pub make_unnumbered : (r : Result Reply Fault) → r ≡ Err f → Makes file_room (AsksTable slot None) d s c e n r
-  make_unnumbered r is = subst (Makes file_room (AsksTable slot None) d s c e n) (sym is) (makes_early (AsksTable slot None) d s c e n f failed.goes failed.goes_for failed.only_reads failed.entries)
+  pub make_unnumbered : (r : Result Reply Fault) → r ≡ Err f → Makes file_room (AsksTable slot None false) d s c e n r
+  make_unnumbered r is = subst (Makes file_room (AsksTable slot None false) d s c e n) (sym is) (makes_early (AsksTable slot None false) d s c e n f failed.goes failed.goes_for failed.only_reads failed.entries)
 
 -- ---- they were read, and then a command was carried out
 
@@ -119,21 +150,38 @@ module _ (d : Shown) (s : Session) (c : Command) (fresh : IsNone s.failed) (slot
   refused_both (Ok y) second = λ refused. read_then d s e n g new read.read (second refused)
   refused_both (Err f) second = tt
 
+  -- the path to a cell is what it was
+  only : Reads d s.pool e n.pool
+  only = record { leaves = read.read.pool; only_reads = read.only_reads; stands = (read.goes.stands read.goes.done.goes_on).stands.cache }
+
+  told_path : (o p : Option VolumeState) → option_map but_numbers p ≡ option_map but_numbers o → (reply : Reply) → IfSome p (λ y. TellsPath e n.pool y reply c) → IfSome o (λ x. TellsPath d s.pool x reply c)
+  told_path None p same reply path = tt
+  told_path (Some x) None same reply path = absurd (none_some (but_numbers x) same)
+  told_path (Some x) (Some y) same reply path =
+      let alike : but_numbers y ≡ but_numbers x = same_some (but_numbers y) (but_numbers x) same in
+      let still = still_under d e s.pool n.pool only x in
+      path_like e n.pool y d s.pool x (ap (standing_for e n.pool) alike ∙ ap (λ (u : Under). standing_by u x.active x.files) still) (ap (trees_for e n.pool) alike ∙ ap (λ (u : Under). trees_by u x.active x.files) still) reply c path
+
+  path_both : (r : Result Reply Fault) → IfOk r (λ reply. IfSome (state_at n.volumes slot) (λ y. TellsPath e n.pool y reply c)) → IfOk r (λ reply. IfSome (state_at s.volumes slot) (λ x. TellsPath d s.pool x reply c))
+  path_both (Ok reply) path = told_path (state_at s.volumes slot) (state_at n.volumes slot) (read.read.volumes slot) reply path
+  path_both (Err f) path = tt
+
   pub look_numbered : Looks slot e n c g new r → Looks slot d s c g new r
   look_numbered looks = record {
-    goes = goes_on_read u 0 0 d s e n read.goes none_added (AsksTable slot (snapshot_asked c)) (AsksTable slot (snapshot_asked c)) g new r read.only_reads same_pending read.read.pool.found (λ at want found is. damage_read d s fresh slot (snapshot_asked c) there e n read.read 0 g new at want found) looks.goes;
+    goes = goes_on_read u 0 0 d s e n read.goes none_added (AsksTable slot (snapshot_asked c) (reads_cell c)) (AsksTable slot (snapshot_asked c) (reads_cell c)) g new r read.only_reads same_pending read.read.pool.found (λ at want found is. damage_read d s fresh slot (snapshot_asked c) (reads_cell c) there e n read.read 0 g new at want found) looks.goes;
     asks = asks_then looks.asks;
     goes_for = for_then (λ m. m) looks.goes_for;
     reply = holds_then (λ m. IfOk r (Allows m c)) looks.reply;
+    path = λ tells last m is. let first = read.goes_for tells last m is in path_both r (looks.path (told tells) first.done.point m first.done.stands);
     only_reads = reads_then d e g read.only_reads looks.only_reads;
     entries = read_entries s n new read.read.pool looks.entries;
     read = read_both r looks.read;
     unanswered = unread_both r looks.unanswered;
   }
 
-  pub make_numbered : Makes file_room (AsksTable slot None) e n c g new r → Makes file_room (AsksTable slot None) d s c g new r
+  pub make_numbered : Makes file_room (AsksTable slot None false) e n c g new r → Makes file_room (AsksTable slot None false) d s c g new r
   make_numbered makes = record {
-    goes = goes_on_read u 0 16 d s e n read.goes none_added (AsksTable slot None) (AsksTable slot None) g new r read.only_reads same_pending read.read.pool.found (λ at want found is. damage_read d s fresh slot None there e n read.read 16 g new at want found) makes.goes;
+    goes = goes_on_read u 0 16 d s e n read.goes none_added (AsksTable slot None false) (AsksTable slot None false) g new r read.only_reads same_pending read.read.pool.found (λ at want found is. damage_read d s fresh slot None false there e n read.read 16 g new at want found) makes.goes;
     goes_for = for_then (λ m. next m c) makes.goes_for;
     reply = holds_then (λ m. IfOk r (Allows m c)) makes.reply;
     refused = λ tells last m is. let first = read.goes_for tells last m is in refused_both r (makes.refused (told tells) first.done.point m first.done.stands);
@@ -146,5 +194,21 @@ module _ (d : Shown) (s : Session) (c : Command) (fresh : IsNone s.failed) (slot
       low_then low = subst (λ (k : ℕ). (◌≡◌ {A = ℕ} 16 0) ⊎ (k + 16 ≤ 256)) (sym same_pending) low
 
   -- what the steps are after it
-  pub known_numbered : (start steps : ℕ) → (IsTrue e.tells → (last m : Machine) → StandsFor e n last m → OnOk r (steps ≡ start)) → IsTrue d.tells → (last m : Machine) → StandsFor d s last m → OnOk r (steps ≡ start)
-  known_numbered start steps known = holds_then (λ m. OnOk r (steps ≡ start)) known
+  steps_after : snapshot_asked c ≡ None → (start steps : ℕ) (o p : Option VolumeState) → option_map but_numbers p ≡ option_map but_numbers o → (reply : Reply) → IfSome p (λ y. CountsPath e n.pool y start steps reply c) → IfSome o (λ x. CountsPath d s.pool x start steps reply c)
+  steps_after active start steps None p same reply path = tt
+  steps_after active start steps (Some x) None same reply path = absurd (none_some (but_numbers x) same)
+  steps_after active start steps (Some x) (Some y) same reply path =
+      let alike : but_numbers y ≡ but_numbers x = same_some (but_numbers y) (but_numbers x) same in
+      let still = still_under d e s.pool n.pool only x in
+      steps_like e n.pool y d s.pool x (ap (standing_for e n.pool) alike ∙ ap (λ (u : Under). standing_by u x.active x.files) still) (ap (trees_for e n.pool) alike ∙ ap (λ (u : Under). trees_by u x.active x.files) still) start steps reply c active path
+
+  steps_both : snapshot_asked c ≡ None → (start steps : ℕ) (r : Result Reply Fault) → IfOk r (λ reply. IfSome (state_at n.volumes slot) (λ y. CountsPath e n.pool y start steps reply c)) → IfOk r (λ reply. IfSome (state_at s.volumes slot) (λ x. CountsPath d s.pool x start steps reply c))
+  steps_both active start steps (Ok reply) path = steps_after active start steps (state_at s.volumes slot) (state_at n.volumes slot) (read.read.volumes slot) reply path
+  steps_both active start steps (Err f) path = tt
+
+  pub counts_numbered : snapshot_asked c ≡ None → (start steps : ℕ) → (IsTrue e.tells → (last m : Machine) → StandsFor e n last m → IfOk r (λ reply. IfSome (state_at n.volumes slot) (λ y. CountsPath e n.pool y start steps reply c)))
+      → IsTrue d.tells → (last m : Machine) → StandsFor d s last m → IfOk r (λ reply. IfSome (state_at s.volumes slot) (λ x. CountsPath d s.pool x start steps reply c))
+  counts_numbered active start steps counts tells last m is = let first = read.goes_for tells last m is in steps_both active start steps r (counts (told tells) first.done.point m first.done.stands)
+
+  pub known_numbered : (start steps : ℕ) → (IsTrue e.tells → (last m : Machine) → StandsFor e n last m → MakesNoStep m c r start steps) → IsTrue d.tells → (last m : Machine) → StandsFor d s last m → MakesNoStep m c r start steps
+  known_numbered start steps known = holds_then (λ m. MakesNoStep m c r start steps) known

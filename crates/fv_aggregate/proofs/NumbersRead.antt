@@ -1,5 +1,5 @@
 -- What a session stands for once the numbers of a volume's files were read into memory.
-use Rattle.std.proofs.Common.{◌≡◌, ◌≢◌, ◌<◌, ◌≤◌, ◌+◌, ◌-◌, ℕ, true, length, Some, None, Result, Ok, Err, inl, inr, refl, sym, ap, subst, ◌∙◌, ⊎_elim, arith, get_or-set_other, get_or-set_same}
+use Rattle.std.proofs.Common.{◌≡◌, ◌≢◌, ◌<◌, ◌≤◌, ◌+◌, ◌-◌, ℕ, true, length, Some, None, Result, Ok, Err, inl, inr, refl, sym, ap, subst, ◌∙◌, ⊎_elim, arith, get_or-set_other, get_or-set_same, false}
 use Rattle.std.specs.Prelude.{max, IsNone}
 use Rattle.std.specs.Option.{is_some, option_map}
 use Rattle.std.proofs.lemmas.Bool.{cases_eq}
@@ -210,7 +210,7 @@ module _ (d e : Shown) (laws : IsDisk d) (s : Session) (q : Pool) (slot : ℕ) (
     kept = kept_it (Err block.DiskFault) did;
   })
   numbered_failed (block.Damaged at want found) did new f b = as_told (λ (n : Session) (g : Fault). HasNumbered slot d s e n (Err g)) new now f (Damaged at want found) b.1 b.0 (record {
-    goes = goes_damaged d e laws s now 0 did.reads.only_reads fresh fresh (stand (Err (block.Damaged at want found)) did) at want found (calm_damage _ _ _ e.faults at want found did.cause) (inl (did.reads.only_reads, inl (inr (inr (inr (bad_changed d e s fresh slot x there q did.reads (calm_damage _ _ _ e.faults at want found did.cause) None at want found (finds_active d s.pool x e.faults at want found (calm_damage _ _ _ e.faults at want found did.cause) did.cause) long y (kept_same x y did.kept) (kept_maps x y did.kept) s.pending)))))) (omega arith);
+    goes = goes_damaged d e laws s now 0 did.reads.only_reads fresh fresh (stand (Err (block.Damaged at want found)) did) at want found (calm_damage _ _ _ e.faults at want found did.cause) (inl (did.reads.only_reads, inl (inr (inr (inr (bad_changed d e s fresh slot x there q did.reads (calm_damage _ _ _ e.faults at want found did.cause) None false at want found (finds_active d s.pool x e.faults at want found (calm_damage _ _ _ e.faults at want found did.cause) did.cause) long y (kept_same x y did.kept) (kept_maps x y did.kept) s.pending)))))) (omega arith);
     asks = asks_it (Err (block.Damaged at want found)) did;
     goes_for = λ tells last m is.
         let its = mine d s.pool s.volumes long last is.held slot x there in

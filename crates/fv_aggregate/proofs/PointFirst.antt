@@ -1,5 +1,5 @@
 -- A command that changes a file, with the point that its room asks for: it is judged, room is made, and it is carried out.
-use Rattle.std.proofs.Common.{◌≡◌, ◌<◌, ◌≤◌, ◌+◌, ℕ, List, [], Option, Some, None, Result, Ok, Err, true≢false, refl, sym, ap, subst, ◌∙◌, arith}
+use Rattle.std.proofs.Common.{◌≡◌, ◌<◌, ◌≤◌, ◌+◌, ℕ, List, [], Option, Some, None, Result, Ok, Err, true≢false, refl, sym, ap, subst, ◌∙◌, arith, false}
 use Rattle.std.specs.Prelude.{IfErr, IfOk, IsNone, IsSome, IsTrue, OnOk}
 use Rattle.std.specs.Option.{option_map}
 use Rattle.fv_disk.specs.Shown.{Shown}
@@ -33,10 +33,10 @@ use Rattle.fv_aggregate.proofs.Numbered.{makes_early, still_there}
 -- ---- it ends where it was judged
 
 module _ (slot : ℕ) (d : Shown) (s : Session) (c : Command) (e : Shown) (n : Session) where
-  pub judging_failed : (f : Fault) → HasJudged slot d s c e n (Err f) → (r : Result Reply Fault) → r ≡ Err f → Makes file_room (AsksTable slot None) d s c e n r
-  judging_failed f judged r is = subst (Makes file_room (AsksTable slot None) d s c e n) (sym is) (makes_early (AsksTable slot None) d s c e n f judged.goes judged.goes_for judged.only_reads judged.entries)
+  pub judging_failed : (f : Fault) → HasJudged slot d s c e n (Err f) → (r : Result Reply Fault) → r ≡ Err f → Makes file_room (AsksTable slot None false) d s c e n r
+  judging_failed f judged r is = subst (Makes file_room (AsksTable slot None false) d s c e n) (sym is) (makes_early (AsksTable slot None false) d s c e n f judged.goes judged.goes_for judged.only_reads judged.entries)
 
-  pub judged_refused : (r : Refusal) → HasJudged slot d s c e n (Ok (Refused r)) → Makes file_room (AsksTable slot None) d s c e n (Ok (Refused r))
+  pub judged_refused : (r : Refusal) → HasJudged slot d s c e n (Ok (Refused r)) → Makes file_room (AsksTable slot None false) d s c e n (Ok (Refused r))
   judged_refused r judged = record {
     goes = replies_wider (Refused r) (Refused r) 16 d s e n judged.goes;
     goes_for = λ tells last m is. subst (λ (k : Machine). GoesFor d last m k e n (Ok (Refused r))) (sym (refused_next m c r (judged.judges tells last m is))) (judged.goes_for tells last m is);
@@ -61,10 +61,10 @@ module _ (d : Shown) (s : Session) (c : Command) (past : dirty_limit < s.pending
   told : IsTrue d.tells → IsTrue e.tells
   told tells = subst IsTrue (sym judged.goes.ends.tells) tells
 
-  pub room_failed : (f : Fault) → Goes {T = Unit {0}} 16 AsksNothing e n g p (Err f) → (IsTrue e.tells → (last m : Machine) → StandsFor e n last m → GoesFor {T = Unit {0}} e last m m g p (Err f)) → Makes file_room (AsksTable slot None) d s c g p (Err f)
+  pub room_failed : (f : Fault) → Goes {T = Unit {0}} 16 AsksNothing e n g p (Err f) → (IsTrue e.tells → (last m : Machine) → StandsFor e n last m → GoesFor {T = Unit {0}} e last m m g p (Err f)) → Makes file_room (AsksTable slot None false) d s c g p (Err f)
   room_failed f goes goes_for = record {
-    goes = goes_after reply 16 16 d s e n (replies_wider reply reply 16 d s e n judged.goes) none_added AsksNothing (AsksTable slot None) g p (Err f) past
-        (λ at want found is damage. damage_read d s fresh slot None there e n judged.read 16 g p at want found (damage_room (AsksTable slot None) 16 n e g p at want found damage)) tt (fails_as goes);
+    goes = goes_after reply 16 16 d s e n (replies_wider reply reply 16 d s e n judged.goes) none_added AsksNothing (AsksTable slot None false) g p (Err f) past
+        (λ at want found is damage. damage_read d s fresh slot None false there e n judged.read 16 g p at want found (damage_room (AsksTable slot None false) 16 n e g p at want found damage)) tt (fails_as goes);
     goes_for = λ tells last m is.
         let first = judged.goes_for tells last m is in
         fails_early d last m (next m c) g p f (goes_for_after reply d e g n p last m m first judged.goes.ends.given (Err f) (goes_for (told tells) first.done.point m first.done.stands));
@@ -100,15 +100,15 @@ module _ (d : Shown) (s : Session) (c : Command) (past : dirty_limit < s.pending
     not_refused m accepted (Ok y) allowed = λ refused. absurd (true≢false (sym refused ∙ ap is_refusal (change_done name c change m y accepted allowed)))
 
     -- the point was the only one
-    root_made : IsPointed e n p → (result : Result Reply Fault) → Makes file_room (AsksTable slot None) g p c h new result → OnOk result (IsTrue d.tells → KeepsRoot s new)
+    root_made : IsPointed e n p → (result : Result Reply Fault) → Makes file_room (AsksTable slot None false) g p c h new result → OnOk result (IsTrue d.tells → KeepsRoot s new)
     root_made left (Err f) makes = tt
     root_made left (Ok y) makes = λ tells.
         keeps_earlier s p new (both.done.root tells) (found_read g h p new (makes.calm (let none = left.pending in omega (arith, none))) (told_then tells) (both.stands both.done.goes_on) (makes.goes.stands makes.goes.done.goes_on))
 
-    pub made_after : IsPointed e n p → (result : Result Reply Fault) → IfErr result (IsTableFault (AsksTable slot None) h p new) → Makes file_room (AsksTable slot None) g p c h new result → Makes file_room (AsksTable slot None) d s c h new result
+    pub made_after : IsPointed e n p → (result : Result Reply Fault) → IfErr result (IsTableFault (AsksTable slot None false) h p new) → Makes file_room (AsksTable slot None false) g p c h new result → Makes file_room (AsksTable slot None false) d s c h new result
     made_after left result bad makes = record {
-      goes = goes_after u 16 16 d s g p both (omega (arith, less, none_added)) (AsksTable slot None) (AsksTable slot None) h new result past
-          (λ at want found is damage. damage_behind d s fresh slot None there e n judged.read 16 h new at want found (omega arith, past) (makes.goes.ends.tells ∙ goes.ends.tells) p left (subst (λ (r : Result Reply Fault). IfErr r (IsTableFault (AsksTable slot None) h p new)) is bad)) (root_made left result makes) makes.goes;
+      goes = goes_after u 16 16 d s g p both (omega (arith, less, none_added)) (AsksTable slot None false) (AsksTable slot None false) h new result past
+          (λ at want found is damage. damage_behind d s fresh slot None false there e n judged.read 16 h new at want found (omega arith, past) (makes.goes.ends.tells ∙ goes.ends.tells) p left (subst (λ (r : Result Reply Fault). IfErr r (IsTableFault (AsksTable slot None false) h p new)) is bad)) (root_made left result makes) makes.goes;
       goes_for = λ tells last m is.
           let first = both_for tells last m is in
           goes_for_after u d g h p new last m (next m c) first both.ends.given result (makes.goes_for (told_then tells) first.done.point m first.done.stands);

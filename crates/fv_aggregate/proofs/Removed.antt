@@ -361,7 +361,7 @@ module _ {D : Type 0} (name : List ℕ) (d e : Shown) (at left : D) (s n : Sessi
     entries = λ other few stays. absurd (true≢false stays);
     files = λ tells none without. did.files without;
     same = λ tells none stays. absurd (true≢false stays);
-    steps = record { other = λ none. refl; known = λ tells last m held. no_step r steps; dead = λ failed. refl };
+    steps = record { other = λ none. refl; known = λ tells last m held knows. no_step r steps; path = λ tells last m held other of. absurd (none_snapped other of); dead = λ failed. refl };
     numbers = λ alive. did.numbers;
     dead = λ failed. not_dead _ s fresh failed;
   }

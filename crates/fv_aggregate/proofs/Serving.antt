@@ -1,6 +1,6 @@
 -- What `apply` does with a command, by what the call does that carries it out.
 use Rattle.std.proofs.Common.{◌≡◌, inl, ◌≢◌, ◌<◌, ◌≤◌, ◌+◌, ◌⊎◌, ℕ, true, false, List, Option, Some, None, Result, Ok, Err, inr, true≢false, refl, sym, ap, subst, ◌∙◌}
-use Rattle.std.specs.Prelude.{IfOk, IsNone, IsSome, IsTrue, OnErr, OnOk}
+use Rattle.std.specs.Prelude.{IfOk, IfSome, IsNone, IsSome, IsTrue, OnErr, OnOk}
 use Rattle.std.specs.Option.{is_some}
 use Rattle.fv_disk.specs.Shown.{IsDisk, Shown}
 use Rattle.fv_model.specs.declared.answers.Refusal.TheVariants.{NoSnapshot, NoVolume, Range}
@@ -19,16 +19,17 @@ use Rattle.fv_aggregate.specs.declared.fault.Fault.{Fault}
 use Rattle.fv_aggregate.specs.declared.fault.Fault.TheVariants.{Failed, Memory}
 use Rattle.fv_aggregate.specs.declared.session.Session.{Session}
 use Rattle.fv_aggregate.specs.Applying.{HasApplied}
-use Rattle.fv_aggregate.specs.Calls.{Goes, GoesFor, IsPlain, IsUntouched, LacksSnapshot, NeedsSnapshot}
+use Rattle.fv_aggregate.specs.Calls.{Goes, GoesFor, IsPlain, IsUntouched, LacksSnapshot, MakesNoStep, NeedsSnapshot}
 use Rattle.fv_aggregate.specs.Commands.{asked_by, AsksTable, slot_named, changed_by, dirty_limit, file_room, finds_file, has_range, is_built, is_get, machine_after, managed_by, reads_files, removes_volume, room_by, snapped_by, volume_asked, Replies}
 use Rattle.fv_aggregate.specs.Failing.{IsUnmadeIn}
 use Rattle.fv_aggregate.specs.Known.{KeepsNumbers, KeepsNumbersBut, KnowsNamed, KnowsNumbers, MayLose}
 use Rattle.fv_aggregate.specs.Looking.{HasSnapped, Looks, Makes}
 use Rattle.fv_aggregate.specs.Managing.{Manages}
+use Rattle.fv_aggregate.specs.Probing.{CountsPath, TellsPath}
 use Rattle.fv_aggregate.specs.Reclaiming.{MakesRoom}
 use Rattle.fv_aggregate.specs.Standing.{StandsFor, StandsReady}
 use Rattle.fv_aggregate.proofs.Applied.{fault_plain, no_files, rests_for, rests_for_fault}
-use Rattle.fv_aggregate.proofs.Applying.{look_asks, look_files, look_goes, look_goes_for, look_name, look_no_point, look_refused, look_reply, look_same, look_unchanged, make_asks, make_calm, make_entries, make_goes, make_goes_for, make_name, make_no_point, make_reply, make_still, make_unasked, make_unchanged, make_within, no_step, not_dead, same_map}
+use Rattle.fv_aggregate.proofs.Applying.{asks_none, look_asks, look_files, look_goes, look_goes_for, look_name, look_no_point, look_refused, look_reply, look_same, look_unchanged, make_asks, make_calm, make_entries, make_goes, make_goes_for, make_name, make_no_point, make_reply, make_still, make_unasked, make_unchanged, make_within, no_step, not_dead, same_map}
 use Rattle.fv_aggregate.proofs.Calls.{reads_itself, rests_asks, rests_done, rests_wanting, stays_failed}
 use Rattle.fv_aggregate.proofs.Changing.{change_of_volume, change_reads, change_room, look_reads, look_room}
 use Rattle.fv_aggregate.proofs.Holes.{kept_entries, no_holes}
@@ -70,7 +71,7 @@ module _ {D : Type 0} (c : Command) (d : Shown) (at : D) (s : Session) (steps : 
     entries = λ no few stays. no_holes s s (kept_entries s s refl);
     files = λ tells none without. on_ok without r;
     same = λ tells none stays places same. on_ok same r;
-    steps = record { other = λ none. refl; known = λ tells last m stands. no_step r steps; dead = λ failed. refl };
+    steps = record { other = λ none. refl; known = λ tells last m stands knows. no_step r steps; path = λ tells last m stands name of. asks_none _ c name reads of; dead = λ failed. refl };
     numbers = λ alive k known stays. known;
     dead = λ failed. refl;
   }
@@ -106,6 +107,7 @@ module _ {D : Type 0} (c : Command) (d : Shown) (at : D) (s : Session) (steps : 
       refused = λ tells last m stands. tt;
       still = λ few. tt;
       unmade = λ fresh few name of. not_dead _ s fresh some;
+      path = λ tells last m stands name of. tt;
       known = λ finds near name of. tt;
     };
     point = λ tells last m stands cp. tt;
@@ -115,7 +117,7 @@ module _ {D : Type 0} (c : Command) (d : Shown) (at : D) (s : Session) (steps : 
     entries = λ other few stays. no_holes s s (kept_entries s s refl);
     files = λ tells none without. tt;
     same = λ tells none stays places same. tt;
-    steps = record { other = λ none. refl; known = λ tells last m stands. tt; dead = λ failed. refl };
+    steps = record { other = λ none. refl; known = λ tells last m stands knows. tt; path = λ tells last m stands name of. tt; dead = λ failed. refl };
     numbers = λ alive k known stays. known;
     dead = λ failed. refl;
   }
@@ -143,7 +145,7 @@ managed_applied c d laws at old fit fresh stands steps new reply stays either ma
       entries = λ other few stays. no_holes old new (kept_entries old new (over.containers stays));
       files = λ tells none without. over.files without;
       same = λ tells none stays places same. same_map old new (over.map stays) same;
-      steps = record { other = λ none. refl; known = λ tells last m held. refl; dead = λ failed. refl };
+      steps = record { other = λ none. refl; known = λ tells last m held knows. refl; path = λ tells last m held name of. asks_none _ c name reads of; dead = λ failed. refl };
       numbers = λ alive. keeps_managed old c new reply fit.housed.long manages;
       dead = λ failed. refl;
     }
@@ -171,7 +173,8 @@ pub record LooksBeside {D : Type 0} (c : Command) (name : List ℕ) (d : Shown) 
   pub lost : has_range c ≡ true → LacksSnapshot s.volumes name c → (r ≡ Ok (Refused NoSnapshot)) × IsUntouched at s left n
   pub only : r ≡ Ok (Refused NoSnapshot) → LacksSnapshot s.volumes name c
   pub other : is_get c ≡ false → steps ≡ start
-  pub known : IsTrue d.tells → (last m : Machine) → StandsFor d s last m → OnOk r (steps ≡ start)
+  pub known : IsTrue d.tells → (last m : Machine) → StandsFor d s last m → MakesNoStep m c r start steps
+  pub counts : IsTrue d.tells → (last m : Machine) → StandsFor d s last m → IfOk r (λ reply. IfSome (state_at s.volumes (slot_named s.volumes name)) (λ x. CountsPath d s.pool x start steps reply c))
   pub kept : KeepsNumbers s.volumes n.volumes
   pub finds : finds_file c ≡ true → has_range c ≡ true → OnOk r (KnowsNamed s.volumes name n.volumes)
 
@@ -193,6 +196,8 @@ look_applied c name asks d at s start e left n steps r fresh looks beside = reco
     refused = λ tells last m stands. look_refused c name asks d s e n r looks;
     still = λ few. look_refused c name asks d s e n r looks;
     unmade = λ fresh few other change. look_unchanged c name asks d s e n r looks _ other change;
+    path = λ tells last m stands other of. subst (λ (v : List ℕ). IfOk r (λ reply. IfSome (state_at s.volumes (slot_named s.volumes v)) (λ x. TellsPath d s.pool x reply c)))
+        (sym (look_name c name asks d s e n r looks other (inr of))) (looks.path tells last m stands);
     known = λ finds near other of. named_as s.volumes n.volumes r other name (look_name c name asks d s e n r looks other of) (beside.finds finds near);
   };
   point = λ tells last m stands cp. look_no_point c name asks d s e n r looks _ cp;
@@ -202,7 +207,13 @@ look_applied c name asks d at s start e left n steps r fresh looks beside = reco
   entries = λ other few stays. no_holes s n looks.entries;
   files = λ tells none without. look_files c name asks d s e n r looks without;
   same = λ tells none stays places same. look_same c name asks d s e n r looks same;
-  steps = record { other = beside.other; known = beside.known; dead = λ failed. not_dead _ s fresh failed };
+  steps = record {
+    other = beside.other;
+    known = beside.known;
+    path = λ tells last m stands other of. subst (λ (v : List ℕ). IfOk r (λ reply. IfSome (state_at s.volumes (slot_named s.volumes v)) (λ x. CountsPath d s.pool x start steps reply c)))
+        (sym (look_name c name asks d s e n r looks other (inr of))) (beside.counts tells last m stands);
+    dead = λ failed. not_dead _ s fresh failed;
+  };
   numbers = λ alive. keeps_but _ s.volumes n.volumes beside.kept;
   dead = λ failed. not_dead _ s fresh failed;
 }
@@ -216,7 +227,7 @@ pub record MakesBeside {D : Type 0} (c : Command) (name : List ℕ) (at : D) (s 
   pub finds : finds_file c ≡ true → has_range c ≡ true → OnOk r (KnowsNamed s.volumes name n.volumes)
 
 pub make_applied : {D : Type 0} (c : Command) (name : List ℕ) → changed_by c ≡ Some name → (d : Shown) (at : D) (s : Session) (e : Shown) (left : D) (n : Session) (steps : ℕ) (r : Result Reply Fault)
-    → IsNone s.failed → Makes file_room (AsksTable (slot_named s.volumes name) None) d s c e n r → MakesRoom file_room d s e r → (s.pending + file_room ≤ dirty_limit → OnErr r (IsUnmadeIn d s name e n)) → MakesBeside c name at s left n r → HasApplied c d at s steps e left n steps r
+    → IsNone s.failed → Makes file_room (AsksTable (slot_named s.volumes name) None false) d s c e n r → MakesRoom file_room d s e r → (s.pending + file_room ≤ dirty_limit → OnErr r (IsUnmadeIn d s name e n)) → MakesBeside c name at s left n r → HasApplied c d at s steps e left n steps r
 make_applied c name of d at s e left n steps r fresh makes roomy unmade beside = record {
   roomy = subst (λ (k : ℕ). MakesRoom k d s e r) (sym (change_room name c (change_of_volume name c of) s.volumes)) roomy;
   goes = make_goes c name of d s e n r makes;
@@ -234,6 +245,7 @@ make_applied c name of d at s e left n steps r fresh makes roomy unmade beside =
     refused = makes.refused;
     still = make_still c name of d s e n r makes;
     unmade = λ fresh few other change. subst (λ (v : List ℕ). OnErr r (IsUnmadeIn d s v e n)) (sym (make_name c name of d s e n r makes other (inl change))) (make_within c name of d s e n r makes _ unmade few);
+    path = λ tells last m stands other asked. make_unasked c name of d s e n r makes _ (subst IsSome (sym asked) refl);
     known = λ finds near other named. named_as s.volumes n.volumes r other name (make_name c name of d s e n r makes other named) (beside.finds finds near);
   };
   point = λ tells last m stands cp. make_no_point c name of d s e n r makes _ cp;
@@ -242,7 +254,7 @@ make_applied c name of d at s e left n steps r fresh makes roomy unmade beside =
   entries = λ other few stays. no_holes s n (make_entries c name of d s e n r makes few);
   files = λ tells isnt without. make_unchanged c name of d s e n r makes _ isnt;
   same = λ tells isnt stays places same. make_unchanged c name of d s e n r makes _ isnt;
-  steps = record { other = λ none. refl; known = λ tells last m stands. no_step r steps; dead = λ failed. refl };
+  steps = record { other = λ none. refl; known = λ tells last m stands knows. no_step r steps; path = λ tells last m stands other asked. make_unasked c name of d s e n r makes _ (subst IsSome (sym asked) refl); dead = λ failed. refl };
   numbers = beside.kept;
   dead = λ failed. not_dead _ s fresh failed;
 }
@@ -265,7 +277,7 @@ snap_applied c name of shown at s left n steps r fresh did missing needs roomy =
   entries = λ other few stays. no_holes s n (did.makes.entries few);
   files = λ tells none without. did.files tells without;
   same = λ tells none stays which same. did.same tells which same;
-  steps = record { other = λ none. refl; known = λ tells last m stands. no_step r steps; dead = λ failed. refl };
+  steps = record { other = λ none. refl; known = λ tells last m stands knows. no_step r steps; path = λ tells last m stands other asked. asks_none _ c other (snap_reads name c of) asked; dead = λ failed. refl };
   numbers = did.numbers;
   dead = λ failed. not_dead _ s fresh failed;
 }

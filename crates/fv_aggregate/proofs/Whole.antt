@@ -1,6 +1,6 @@
 -- An image that stands for a machine is damaged nowhere.
 use Rattle.std.proofs.Common.{◌≡◌, ◌≢◌, ◌<◌, ◌≤◌, ◌-◌, ◌*◌, ◌/◌, ◌%◌, ℕ, zero, suc, Bool, true, false, length, Option, Some, None, Result, Ok, Err, true≢false, refl, sym, ap, subst, ◌∙◌, ⊎_elim, inl, inr, arith}
-use Rattle.std.specs.Prelude.{◌⊎◌, ◌&&◌, ◌==◌, IfErr, IsErr, nat_lt, if◌then◌else◌}
+use Rattle.std.specs.Prelude.{◌⊎◌, ◌&&◌, ◌==◌, IfErr, IsErr, nat_lt, not, if◌then◌else◌}
 use Rattle.std.specs.List.{list_any}
 use Rattle.std.specs.Option.{option_map}
 use Rattle.std.proofs.lemmas.Bool.{and_parts}
@@ -20,6 +20,7 @@ use Rattle.fv_image.specs.Layout.{block_bits, gate_place, root_place, superblock
 use Rattle.fv_image.specs.NewerRoot.{Taken, behind, newer, root_of, taken_of}
 use Rattle.fv_image.specs.Maps.{area_bits, map_bit}
 use Rattle.fv_image.specs.Containers.{node_of, node_shape, shaped}
+use Rattle.fv_image.specs.HintRules.{is_splitting}
 use Rattle.fv_image.specs.Views.{View, block_in, head_of, map_vvbn, used_slots, volume_bit}
 use Rattle.fv_image.specs.Held.{is_held, label_in, label_place, layout_at, lying_at, node_from, view_at}
 use Rattle.fv_image.specs.SoundSlots.{IsSoundSlot, IsSoundVolume}
@@ -152,16 +153,18 @@ module _ (i : Image) (found : Found) (m : Machine) (tells : Tells (layout_at (ro
 
   no_form : (l : Label) → IsLabel l → has_form (head_of l) ≡ true → form_in l ≡ None
   unfolding form_in head_of
-  no_form l range form =
-      let one : l.known ≡ 1 = (let is = (and_parts _ (l.known == 1) form).1 in grind (arith, nat_tests, is)) in
-      let few = range.known in
-      let splitting : (l.splitting == 0) ≡ true = by (l.splitting == 0) (omega (arith, one, few)) in
-      let known : (l.known == 0) ≡ false = grind (arith, nat_tests, one) in
-      rw (splitting, known) refl
+  no_form l range form = ap (λ (b : Bool). if not b then Some (0, l.splitting) else None) (by (l.parent == 0) refl form)
     where
-      by : (b : Bool) → 1 ≤ up_to b 1 → b ≡ true
-      by true e = refl
-      by false e = absurd (omega (arith, e))
+      so : (t : Bool) → not t ≡ true → t ≡ false
+      so true e = absurd cc
+      so false e = refl
+
+      by : (b : Bool) → (l.parent == 0) ≡ b → not (is_splitting (if b then None else Some (record { parent = l.parent - 1; slot = l.base_slot; splitting = l.splitting == 1 }))) ≡ true → (l.splitting == 0) ≡ true
+      by true none e = (let most : l.splitting ≤ 0 = subst (λ (t : Bool). l.splitting ≤ up_to (not t) 1) none range.splitting in grind (arith, nat_tests, most))
+      by false some e =
+          (let most : l.splitting ≤ 1 = subst (λ (t : Bool). l.splitting ≤ up_to (not t) 1) some range.splitting in
+          let one : (l.splitting == 1) ≡ false = so (l.splitting == 1) e in
+          grind (arith, nat_tests, most, one))
 
   pub no_label_fault : ((b : ℕ) → length (i b) ≡ 4096) → (at want number : ℕ) → IsLabelFault i found at want number → ⊥
   no_label_fault whole at want number bad =

@@ -1,5 +1,6 @@
 -- What every call of a session does: to the disk and to the session, and to the machines that the two stand for.
 use Rattle.std.specs.Prelude.{◌≡◌, ◌≢◌, ◌<◌, ◌≤◌, ◌+◌, ◌⊎◌, ℕ, max, IsTrue, IsNone, IsSome, IfSome, Some, None, Result, Ok, OnOk, OnErr, IfOk, IfErr, List, false, true}
+use Rattle.std.specs.FinMap as fin
 use Rattle.fv_disk.specs.Shown.{Shown, Rose}
 use Rattle.fv_disk.specs.Crash.{Leaves}
 use Rattle.fv_disk.specs.DiskCalls.{OnlyReads}
@@ -25,12 +26,13 @@ use Rattle.fv_aggregate.specs.declared.session.Session.{Session}
 use Rattle.fv_aggregate.specs.Adding.{IsPointed}
 use Rattle.fv_aggregate.specs.Asking.{AsksWithin}
 use Rattle.fv_aggregate.specs.Causes.{KeepsEnds}
-use Rattle.fv_aggregate.specs.Commands.{Asked, changed_by, dirty_limit, finds_file, has_range, is_built, is_get, is_refusal, managed_by, places_files, reads_leaves, removes_volume, room_by, snapped_by, snapshot_asked, snapshot_needed, volume_asked}
+use Rattle.fv_aggregate.specs.Commands.{Asked, changed_by, dirty_limit, finds_file, has_range, is_built, is_get, is_refusal, managed_by, places_files, reads_leaves, removes_volume, room_by, slot_named, snapped_by, snapshot_asked, snapshot_needed, volume_asked}
 pub use Rattle.fv_aggregate.specs.Damages.{HasDamage, HasFilesToPlace, HasLoaded, HasLostLeaf, LacksBlocks}
 use Rattle.fv_aggregate.specs.Deciding.{DecidesMaking}
 use Rattle.fv_aggregate.specs.Failing.{IsUnmadeIn}
 use Rattle.fv_aggregate.specs.Known.{KeepsNumbers, KnowsNamed}
 use Rattle.fv_aggregate.specs.Managing.{IsManaged}
+use Rattle.fv_aggregate.specs.Probing.{CountsPath, TellsPath}
 pub use Rattle.fv_aggregate.specs.Reading.{but_numbers, IsAsRead, SameButNumbers, WasRead}
 use Rattle.fv_aggregate.specs.Standing.{HoldsAsCommitted, IsWithoutFiles, OneOf, StandsAfter, StandsFor, StandsReady}
 use Rattle.fv_aggregate.specs.Telling.{names_from}
@@ -263,7 +265,7 @@ pub record LacksSnapshot (states : States) (name : List ℕ) (command : Command)
 -- asks leaves all but the cache and the numbers of files in memory, where it is answered and where it ends with a fault, but that the session may
 -- have failed then. So does a change that is refused, where no point comes before it, or the session stands for a machine. A change that ends with a
 -- fault isn't made, where no point comes before it. Once a command that finds a file of the active table of a volume by its name is answered,
--- refused or not, the numbers of the volume's files are in memory.
+-- refused or not, the numbers of the volume's files are in memory. A probe that is accepted answers the path to its cell.
 pub record IsOnFiles {D : Type 0} (command : Command) (shown : Shown) (before : D) (old : Session) (shown_after : Shown) (after : D) (new : Session) (result : Result Reply Fault) : Type 0 where
   pub range : IsNone old.failed → has_range command ≡ false → (result ≡ Ok (Refused Range)) × IsUntouched before old after new
   pub missing : IsNone old.failed → has_range command ≡ true → (name : List ℕ) → (changed_by command ≡ Some name) ⊎ (volume_asked command ≡ Some name) → NoneHasName old.volumes name → (result ≡ Ok (Refused NoVolume)) × IsUntouched before old after new
@@ -274,10 +276,17 @@ pub record IsOnFiles {D : Type 0} (command : Command) (shown : Shown) (before : 
   pub refused : IsTrue shown.tells → (last m : Machine) → StandsFor shown old last m → IfOk result (λ reply. IsTrue (is_refusal reply) → WasRead shown old shown_after new)
   pub still : IsWithinLimit old command → IfOk result (λ reply. IsTrue (is_refusal reply) → WasRead shown old shown_after new)
   pub unmade : IsNone old.failed → IsWithinLimit old command → (name : List ℕ) → changed_by command ≡ Some name → OnErr result (IsUnmadeIn shown old name shown_after new)
+  pub path : IsTrue shown.tells → (last m : Machine) → StandsFor shown old last m → (name : List ℕ) → volume_asked command ≡ Some name → IfOk result (λ reply. IfSome (state_at old.volumes (slot_named old.volumes name)) (λ x. TellsPath shown old.pool x reply command))
   pub known : finds_file command ≡ true → has_range command ≡ true → (name : List ℕ) → (changed_by command ≡ Some name) ⊎ (volume_asked command ≡ Some name) → OnOk result (KnowsNamed old.volumes name new.volumes)
 
--- No steps are counted but for a `get`, and none where the session stands for a machine, or has failed.
+-- A command makes no step, where the volume that it asks, if it is there, has no unknown place.
+abbrev pub MakesNoStep : Machine → Command → Result Reply Fault → ℕ → ℕ → Type 0
+MakesNoStep m command result start steps = IfSome (volume_asked command) (λ name. IfSome (fin.get m.volumes name) (λ volume. volume.known ≡ true)) → OnOk result (steps ≡ start)
+
+-- No steps are counted but for a `get`. An accepted `get` makes a step for each unknown pointer on its path, where the session stands for a machine.
+-- None are made where the session has failed, nor where it stands for a machine in which the volume that is asked has no unknown place.
 pub record CountsSteps (command : Command) (before : Shown) (old : Session) (start steps : ℕ) (result : Result Reply Fault) : Type 0 where
   pub other : is_get command ≡ false → steps ≡ start
-  pub known : IsTrue before.tells → (last m : Machine) → StandsFor before old last m → OnOk result (steps ≡ start)
+  pub known : IsTrue before.tells → (last m : Machine) → StandsFor before old last m → MakesNoStep m command result start steps
+  pub path : IsTrue before.tells → (last m : Machine) → StandsFor before old last m → (name : List ℕ) → volume_asked command ≡ Some name → IfOk result (λ reply. IfSome (state_at old.volumes (slot_named old.volumes name)) (λ x. CountsPath before old.pool x start steps reply command))
   pub dead : IsSome old.failed → steps ≡ start

@@ -30,14 +30,19 @@ is_built (SplitStart volume) = false
 is_built (SplitFinish volume) = false
 is_built (Mirror volume snapshot from size kind) = false
 is_built (Clean volume) = false
-is_built (Probe volume file index) = false
 is_built (Work steps) = false
 is_built command = true
 
--- whether a command reads a cell of a file, for which pointers are passed
+-- whether a command counts the unknown pointers that it passes
 unfoldable pub is_get : Command → Bool
 is_get (Get volume snapshot file index) = true
 is_get command = false
+
+-- whether a command reads a block of a file
+abbrev pub reads_cell : Command → Bool
+reads_cell (Get volume snapshot file index) = true
+reads_cell (Probe volume file index) = true
+reads_cell command = false
 
 -- whether a reply refuses the command
 abbrev pub is_refusal : Reply → Bool
@@ -111,6 +116,7 @@ abbrev pub volume_asked : Command → Option (List ℕ)
 volume_asked (Get volume snapshot file index) = Some volume
 volume_asked (Len volume snapshot file) = Some volume
 volume_asked (Ls volume snapshot) = Some volume
+volume_asked (Probe volume file index) = Some volume
 volume_asked command = None
 
 -- the commands that are built and read blocks of files; each other one reaches the disk by a consistency point, or to read leaves of containers
@@ -131,6 +137,7 @@ finds_file (Put volume file index block) = true
 finds_file (Get volume snapshot file index) = is_none snapshot
 finds_file (Len volume snapshot file) = is_none snapshot
 finds_file (Cut volume file length) = true
+finds_file (Probe volume file index) = true
 finds_file command = false
 
 -- the volume that may lose the numbers of its files: a file of it is made or removed, for which memory can lack, its active table becomes another
@@ -148,6 +155,7 @@ has_range (VolResize volume size) = is_size size
 has_range (Put volume file index block) = is_index index
 has_range (Get volume snapshot file index) = is_index index
 has_range (Cut volume file length) = is_reserve length
+has_range (Probe volume file index) = is_index index
 has_range command = true
 
 -- so many blocks a command that changes a file adds at most
@@ -240,8 +248,8 @@ pub data Asked : Type 0 where
   AsksPlacing : (slot : ℕ) → Asked
   -- the leaves of the container of a slot's volume
   AsksLeaves : (slot : ℕ) → Asked
-  -- the active table of a slot's volume, or that of a snapshot of it
-  AsksTable : (slot : ℕ) (snapshot : Option (List ℕ)) → Asked
+  -- the active table of a slot's volume, or that of a snapshot of it, and whether a cell of a file is read in it
+  AsksTable : (slot : ℕ) (snapshot : Option (List ℕ)) (cell : Bool) → Asked
 
 -- the slot of the first volume of a name in these slots, and the one behind the last where none of them has it
 unfoldable pub slot_among : States → List ℕ → List ℕ → ℕ
@@ -255,13 +263,14 @@ slot_named states name = slot_among states slots name
 -- volume's files; the removal of a volume for the leaves of its container; a change of a file for the active table of its volume, and a look at
 -- files for the table that it names.
 unfoldable pub asked_by : States → Command → Asked
-asked_by states (New volume file reserve) = if reserve == 0 then AsksTable (slot_named states volume) None else AsksNothing
-asked_by states (Put volume file index block) = AsksTable (slot_named states volume) None
-asked_by states (Get volume snapshot file index) = AsksTable (slot_named states volume) snapshot
-asked_by states (Len volume snapshot file) = AsksTable (slot_named states volume) snapshot
-asked_by states (Cut volume file length) = AsksTable (slot_named states volume) None
-asked_by states (Remove volume file) = AsksTable (slot_named states volume) None
-asked_by states (Ls volume snapshot) = AsksTable (slot_named states volume) snapshot
+asked_by states (New volume file reserve) = if reserve == 0 then AsksTable (slot_named states volume) None false else AsksNothing
+asked_by states (Put volume file index block) = AsksTable (slot_named states volume) None false
+asked_by states (Get volume snapshot file index) = AsksTable (slot_named states volume) snapshot true
+asked_by states (Len volume snapshot file) = AsksTable (slot_named states volume) snapshot false
+asked_by states (Cut volume file length) = AsksTable (slot_named states volume) None false
+asked_by states (Remove volume file) = AsksTable (slot_named states volume) None false
+asked_by states (Ls volume snapshot) = AsksTable (slot_named states volume) snapshot false
+asked_by states (Probe volume file index) = AsksTable (slot_named states volume) None true
 asked_by states (SnapCreate volume snapshot) = AsksPlacing (slot_named states volume)
 asked_by states (SnapDelete volume snapshot) = AsksPlacing (slot_named states volume)
 asked_by states (VolDestroy volume) = AsksLeaves (slot_named states volume)

@@ -1,6 +1,6 @@
 -- What is damaged where a call of a session answers so: blocks are lacking, files couldn't be placed, a table isn't as it has to be, or a leaf of a
 -- container isn't there.
-use Rattle.std.specs.Prelude.{◌≡◌, ◌≢◌, ◌<◌, ◌≤◌, ◌+◌, ◌⊎◌, ℕ, IsTrue, IsNone, IsSome, List, Option, Some}
+use Rattle.std.specs.Prelude.{◌≡◌, ◌≢◌, ◌<◌, ◌≤◌, ◌+◌, ◌⊎◌, ℕ, IsTrue, IsNone, IsSome, List, Option, Some, Bool}
 use Rattle.fv_disk.specs.Shown.{Shown}
 use Rattle.fv_disk.specs.DiskCalls.{OnlyReads}
 use Rattle.fv_disk.specs.declared.fault.BlockFault.TheVariants as block
@@ -14,7 +14,7 @@ use Rattle.fv_pool.specs.Calls.{GivesUp, TableFails}
 use Rattle.fv_pool.specs.Lending.{lent_for}
 use Rattle.fv_volume.specs.declared.state.VolumeState.{VolumeState}
 use Rattle.fv_volume.specs.declared.tables.TableAsked.{TableAsked}
-use Rattle.fv_volume.specs.Asking.{standing_of, table_named, TellsAsked}
+use Rattle.fv_volume.specs.Asking.{standing_of, table_named, TellsBy}
 use Rattle.fv_volume.specs.OneVolume.{home_in}
 use Rattle.fv_volume.specs.States.{States, state_at}
 use Rattle.fv_cp.specs.Lent.{blocks_asked}
@@ -95,12 +95,13 @@ pub record HasBadTable (asked : Asked) (disk : Shown) (session new : Session) (a
   pub fresh : IsNone session.failed
   pub slot : ℕ
   pub snapshot : Option (List ℕ)
-  pub asks : asked ≡ AsksTable slot snapshot
+  pub cell : Bool
+  pub asks : asked ≡ AsksTable slot snapshot cell
   pub state : VolumeState
   pub there : state_at session.volumes slot ≡ Some state
   pub table : TableAsked
   pub named : table_named state snapshot ≡ Some table
-  pub fails : TableFails (TellsAsked disk session.pool state table) (standing_of disk session.pool state table) (lent_for session.pool state.map disk 0 (home_in state) 0) disk.faults (block.Damaged at want found)
+  pub fails : TableFails (TellsBy cell disk session.pool state table) (standing_of disk session.pool state table) (lent_for session.pool state.map disk 0 (home_in state) 0) disk.faults (block.Damaged at want found)
   -- what is left of it
   pub pool : LeavesPool session.pool new.pool
   pub now : VolumeState
@@ -146,7 +147,8 @@ pub record HasReadFor (asked : Asked) (old session : Session) : Type 0 where
   pub fresh : IsNone old.failed
   pub slot : ℕ
   pub snapshot : Option (List ℕ)
-  pub asks : asked ≡ AsksTable slot snapshot
+  pub cell : Bool
+  pub asks : asked ≡ AsksTable slot snapshot cell
   pub there : IsSome (state_at old.volumes slot)
   pub read : IsAsRead old session
 

@@ -9,6 +9,7 @@ pub mod Reading
 pub mod Failing
 pub mod Damages
 pub mod Calls
+pub mod Probing
 pub mod Looking
 pub mod Managing
 pub mod Numbering

@@ -1,5 +1,5 @@
 -- What commands on files do in a session: those that ask, and those that change.
-use Rattle.std.specs.Prelude.{◌≡◌, ◌<◌, ◌≤◌, ◌+◌, ◌⊎◌, ℕ, false, Option, Some, None, true, IsTrue, IsNone, Result, Ok, Err, OnErr, OnOk, IfOk, IfErr}
+use Rattle.std.specs.Prelude.{◌≡◌, ◌<◌, ◌≤◌, ◌+◌, ◌⊎◌, ℕ, false, Option, Some, None, true, IsTrue, IsNone, Result, Ok, Err, OnErr, OnOk, IfOk, IfErr, IfSome, unwrap_or}
 use Rattle.fv_disk.specs.Shown.{Shown, Rose}
 use Rattle.fv_disk.specs.DiskCalls.{OnlyReads}
 use Rattle.fv_container.specs.Chains.{slot_count}
@@ -13,9 +13,10 @@ use Rattle.fv_model.specs.Refusals.{next, refusal}
 use Rattle.fv_model.specs.Replies.{Allows}
 use Rattle.fv_volume.specs.declared.state.VolumeState.{VolumeState}
 use Rattle.fv_pool.specs.declared.pool.Pool.{Pool}
-use Rattle.fv_volume.specs.Asking.{standing_read, TellsActive, TellsRead}
+use Rattle.fv_volume.specs.Asking.{standing_read, table_named, TellsActive, TellsBy}
+use Rattle.fv_volume.specs.declared.tables.TableAsked.TheVariants.{Active}
 use Rattle.fv_pool.specs.Calls.{CallCause, Reads}
-use Rattle.fv_volume.specs.Calls.{Agrees, Asks, Changes, Has, HasWithin, KeepsHead}
+use Rattle.fv_volume.specs.Calls.{Agrees, Changes, Has, HasWithin, KeepsHead}
 use Rattle.fv_volume.specs.Changing.{keeps_numbers, IsChangeOf, KeepsTable}
 use Rattle.fv_pool.specs.Lending.{lent_for}
 use Rattle.fv_volume.specs.OneVolume.{home_in, standing_for, volume_for, IsReady, IsStanding}
@@ -34,18 +35,20 @@ use Rattle.fv_aggregate.specs.Damages.{HasBadTable}
 use Rattle.fv_snapshot.specs.Creating.{Creates, TellsCreation}
 use Rattle.fv_snapshot.specs.Deleting.{Deletes, is_used}
 use Rattle.fv_snapshot.specs.Restoring.{Restores}
-use Rattle.fv_aggregate.specs.Commands.{asked_by, Asked, AsksTable, dirty_limit, has_range, is_refusal, places_files, room_by, snapped_by, snapshot_asked, volume_asked}
+use Rattle.fv_aggregate.specs.Commands.{asked_by, Asked, AsksTable, dirty_limit, has_range, reads_cell, is_refusal, places_files, room_by, snapped_by, snapshot_asked, volume_asked}
 use Rattle.fv_aggregate.specs.Known.{KeepsNumbersBut, MayLose}
+use Rattle.fv_aggregate.specs.Probing.{CountsPath, TellsPath}
 use Rattle.fv_aggregate.specs.Standing.{HoldsAsCommitted, IsWithoutFiles, StandsFor}
 
 -- A command that asks the volume of a slot was answered as the machine answers it, and nothing changed but the cache and the numbers of
 -- files in memory. After a fault the session stands for what it stood for, and nothing changed, either, but for these and that it may have
 -- failed.
 pub record Looks (slot : ℕ) (before : Shown) (old : Session) (command : Command) (after : Shown) (new : Session) (result : Result Reply Fault) : Type 0 where
-  pub goes : Goes 0 (AsksTable slot (snapshot_asked command)) before old after new result
+  pub goes : Goes 0 (AsksTable slot (snapshot_asked command) (reads_cell command)) before old after new result
   pub asks : KeepsAsking 0 before old after new
   pub goes_for : IsTrue before.tells → (last m : Machine) → StandsFor before old last m → GoesFor before last m m after new result
   pub reply : IsTrue before.tells → (last m : Machine) → StandsFor before old last m → IfOk result (Allows m command)
+  pub path : IsTrue before.tells → (last m : Machine) → StandsFor before old last m → IfOk result (λ reply. IfSome (state_at old.volumes slot) (λ x. TellsPath before old.pool x reply command))
   pub only_reads : OnlyReads before after
   pub entries : KeepsEntries old new
   pub read : OnOk result (WasRead before old after new)
@@ -65,13 +68,20 @@ pub record Makes (room : ℕ) (asked : Asked) (before : Shown) (old : Session) (
 
 -- ---- a volume that is asked
 
--- A volume was asked, and answers as in each machine that has it. Nothing changed but the cache. Where it stands, and its blocks are as its
--- pointers say, no step was made.
+-- what is told of the table that a command reads
+abbrev pub TellsFor : Shown → Pool → VolumeState → Command → Type 0
+TellsFor disk pool x command = TellsBy (reads_cell command) disk pool x (unwrap_or (table_named x (snapshot_asked command)) Active)
+
+-- A volume was asked, and nothing changed but the cache. Where it stands it refuses as each machine that has it, a probe answers the path to its
+-- cell, and a `get` makes a step for each unknown pointer on it. Where its blocks are as its pointers say, too, it answers as these machines allow, and makes no step if each place in it is known.
 pub record AsksState (before : Shown) (pool : Pool) (x : VolumeState) (command : Command) (start : ℕ) (after : Shown) (left : Pool) (steps : ℕ) (result : Result Reply VolumeFault) : Type 0 where
   pub reads : Reads before pool after left
-  pub asked : IsStanding before pool x → Asks (Has x.name (volume_for before pool x)) command (λ reply. reply) result
-  pub cause : CallCause (TellsRead before pool x (snapshot_asked command)) (standing_read before pool x (snapshot_asked command)) (lent_for pool x.map before 0 (home_in x) 0) after.faults result
-  pub known : IsStanding before pool x → IsStoredWell before pool x → OnOk result ((m : Machine) → Has x.name (volume_for before pool x) m → steps ≡ start)
+  pub agrees : IsStanding before pool x → (m : Machine) → Has x.name (volume_for before pool x) m → Agrees m command result
+  pub allows : IsStanding before pool x → IsStoredWell before pool x → IfOk result (λ reply. (m : Machine) → Has x.name (volume_for before pool x) m → Allows m command reply)
+  pub path : IsStanding before pool x → IfOk result (λ reply. TellsPath before pool x reply command)
+  pub counts : IsStanding before pool x → IfOk result (λ reply. CountsPath before pool x start steps reply command)
+  pub cause : CallCause (TellsFor before pool x command) (standing_read before pool x (snapshot_asked command)) (lent_for pool x.map before 0 (home_in x) 0) after.faults result
+  pub known : x.known ≡ true → IsStanding before pool x → IsStoredWell before pool x → OnOk result ((m : Machine) → Has x.name (volume_for before pool x) m → steps ≡ start)
   pub unmoved : IfErr result (λ e. (r : Refusal) → e ≡ volume.Refused r → steps ≡ start)
 
 -- ---- a volume that is judged or changed
@@ -172,7 +182,7 @@ Judges m command reply = refusal m command ≡ None
 
 -- A command that changes a file of the volume of a slot was judged. Nothing changed but the cache.
 pub record HasJudged (slot : ℕ) (before : Shown) (old : Session) (command : Command) (after : Shown) (new : Session) (result : Result Reply Fault) : Type 0 where
-  pub goes : Goes 0 (AsksTable slot None) before old after new result
+  pub goes : Goes 0 (AsksTable slot None false) before old after new result
   pub goes_for : IsTrue before.tells → (last m : Machine) → StandsFor before old last m → GoesFor before last m m after new result
   pub judges : IsTrue before.tells → (last m : Machine) → StandsFor before old last m → IfOk result (Judges m command)
   pub only_reads : OnlyReads before after

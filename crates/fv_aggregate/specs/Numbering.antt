@@ -1,5 +1,5 @@
 -- What is done before a command on a volume's files: their numbers are read into memory.
-use Rattle.std.specs.Prelude.{◌≡◌, ℕ, true, None, IsTrue, Result, OnErr, OnOk}
+use Rattle.std.specs.Prelude.{◌≡◌, ℕ, true, None, IsTrue, Result, OnErr, OnOk, false}
 use Rattle.std.specs.Option.{is_some}
 use Rattle.fv_disk.specs.Shown.{Shown}
 use Rattle.fv_disk.specs.DiskCalls.{OnlyReads}
@@ -21,7 +21,7 @@ use Rattle.fv_aggregate.specs.Standing.{StandsFor}
 -- The numbers of the files of a slot's volume were read into memory. Nothing changed but these and the cache, and no volume lost its
 -- numbers. After a fault the session stands for what it stood for, and nothing changed, either, but for these and that it may have failed.
 pub record HasNumbered (slot : ℕ) (before : Shown) (old : Session) (after : Shown) (new : Session) (result : Result Unit Fault) : Type 0 where
-  pub goes : Goes 0 (AsksTable slot None) before old after new result
+  pub goes : Goes 0 (AsksTable slot None false) before old after new result
   pub asks : KeepsAsking 0 before old after new
   pub goes_for : IsTrue before.tells → (last m : Machine) → StandsFor before old last m → GoesFor before last m m after new result
   pub only_reads : OnlyReads before after

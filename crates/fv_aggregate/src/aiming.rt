@@ -25,7 +25,7 @@ use std::sync::ledger::Ledger;
 /// What a command asks of one volume.
 #[derive(Clone, Copy)]
 pub(crate) enum Task {
-    /// To tell of its files: `get`, `len` and `ls`.
+    /// To tell of its files: `get`, `len`, `ls` and `probe`.
     Look,
     /// To change a file: `new` without a reserve, `put`, `cut` and `rm`.
     Change,
@@ -80,6 +80,9 @@ impl Session {
             }
             Command::Len { volume, .. } => aim_at(volumes, volume, true, Task::Look),
             Command::Ls { volume, .. } => aim_at(volumes, volume, true, Task::Look),
+            Command::Probe { volume, index, .. } => {
+                aim_at(volumes, volume, in_index(u64::from(*index)), Task::Look)
+            }
             Command::New {
                 volume,
                 reserve: 0,

@@ -35,7 +35,7 @@ impl Session {
         requires fresh { IsNone self.old.failed }
         requires stands { StandsReady (D.shown disk.old) self.old }
         requires aimed { IsChangeAt self.old.volumes slot command.now }
-        ensures makes { Makes file_room (AsksTable slot None) (D.shown disk.old) self.old command.now (D.shown disk.new) self.new (answer into.new result) }
+        ensures makes { Makes file_room (AsksTable slot None false) (D.shown disk.old) self.old command.now (D.shown disk.new) self.new (answer into.new result) }
         ensures roomy { MakesRoom file_room (D.shown disk.old) self.old (D.shown disk.new) (answer into.new result) }
         ensures unmade { self.old.pending + file_room ≤ dirty_limit → OnErr (answer into.new result) (IsUnmade (D.shown disk.old) self.old slot (D.shown disk.new) self.new) }
         ensures kept { IsNone self.new.failed → KeepsNumbersBut (λ s. (s ≡ slot) × (keeps_numbers command.now ≡ false)) self.old.volumes self.new.volumes }
@@ -57,7 +57,7 @@ impl Session {
         requires fresh { IsNone self.old.failed }
         requires stands { StandsReady (D.shown disk.old) self.old }
         requires aimed { IsChangeAt self.old.volumes slot command.now }
-        ensures makes { Makes file_room (AsksTable slot None) (D.shown disk.old) self.old command.now (D.shown disk.new) self.new (answer into.new result) }
+        ensures makes { Makes file_room (AsksTable slot None false) (D.shown disk.old) self.old command.now (D.shown disk.new) self.new (answer into.new result) }
         ensures roomy { MakesRoom file_room (D.shown disk.old) self.old (D.shown disk.new) (answer into.new result) }
         ensures unmade { self.old.pending + file_room ≤ dirty_limit → OnErr (answer into.new result) (IsUnmade (D.shown disk.old) self.old slot (D.shown disk.new) self.new) }
         ensures kept { IsNone self.new.failed → KeepsNumbersBut (λ s. (s ≡ slot) × (keeps_numbers command.now ≡ false)) self.old.volumes self.new.volumes }
@@ -87,9 +87,9 @@ impl Session {
         requires stands { StandsReady (D.shown disk.old) self.old }
         requires few { self.old.pending + file_room ≤ max dirty_limit file_room }
         requires aimed { IsChangeAt self.old.volumes slot command.now }
-        ensures makes { Makes file_room (AsksTable slot None) (D.shown disk.old) self.old command.now (D.shown disk.new) self.new (answer into.new result) }
+        ensures makes { Makes file_room (AsksTable slot None false) (D.shown disk.old) self.old command.now (D.shown disk.new) self.new (answer into.new result) }
         ensures reads { OnlyReads (D.shown disk.old) (D.shown disk.new) }
-        ensures damage { IfErr (answer into.new result) (IsTableFault (AsksTable slot None) (D.shown disk.new) self.old self.new) }
+        ensures damage { IfErr (answer into.new result) (IsTableFault (AsksTable slot None false) (D.shown disk.new) self.old self.new) }
         ensures unmade { OnErr (answer into.new result) (IsUnmade (D.shown disk.old) self.old slot (D.shown disk.new) self.new) }
         ensures kept { KeepsNumbersBut (λ s. (s ≡ slot) × (keeps_numbers command.now ≡ false)) self.old.volumes self.new.volumes }
     {

@@ -9,10 +9,11 @@ ghost use Rattle.fv_pool.specs.declared.fault.VolumeFault.TheVariants as of_volu
 ghost use Rattle.fv_volume.specs.OneVolume.{IsReady};
 ghost use Rattle.fv_volume.specs.States.{state_at};
 ghost use Rattle.fv_aggregate.specs.Answers.{answer};
-ghost use Rattle.fv_aggregate.specs.Calls.{IsUntouched};
+ghost use Rattle.fv_aggregate.specs.Calls.{IsUntouched, MakesNoStep};
 ghost use Rattle.fv_aggregate.specs.Commands.{finds_file, has_range, is_get, is_refusal, snapshot_asked, volume_asked};
 ghost use Rattle.fv_aggregate.specs.Known.{KeepsNumbers, KnowsNumbers};
 ghost use Rattle.fv_aggregate.specs.Looking.{AsksState, Breaks, IsAsked, Looks, Replied};
+ghost use Rattle.fv_aggregate.specs.Probing.{CountsPath};
 ghost use Rattle.fv_aggregate.specs.Standing.{StandsFor, StandsReady};
 
 use crate::aiming::volume_at;
@@ -28,7 +29,7 @@ use std::alloc::Global;
 use std::sync::ledger::Ledger;
 
 impl Session {
-    /// Answers a command that asks for files of the volume of a slot. `get` and `len` have the numbers of its files in memory; `ls` reads all
+    /// Answers a command that asks for files of the volume of a slot. `get`, `len` and `probe` have the numbers of its files in memory; `ls` reads all
     /// names itself, and a file of a snapshot is found without the numbers, which aren't those of its table.
     pub(crate) fn look_at<D: Disk, L: Ledger>(
         &mut self,
@@ -45,7 +46,8 @@ impl Session {
         ensures lost { has_range command.now ≡ true → IfSome (state_at self.old.volumes slot) (λ x. table_named x (snapshot_asked command.now) ≡ None → (answer into.new result ≡ Ok (Refused NoSnapshot)) × IsUntouched disk.old self.old disk.new self.new) }
         ensures only { answer into.new result ≡ Ok (Refused NoSnapshot) → IfSome (state_at self.old.volumes slot) (λ x. table_named x (snapshot_asked command.now) ≡ None) }
         ensures steps { is_get command.now ≡ false → steps.new ≡ steps.old }
-        ensures known { IsTrue (D.shown disk.old).tells → (last m : Machine) → StandsFor (D.shown disk.old) self.old last m → OnOk (answer into.new result) (steps.new ≡ steps.old) }
+        ensures known { IsTrue (D.shown disk.old).tells → (last m : Machine) → StandsFor (D.shown disk.old) self.old last m → MakesNoStep m command.now (answer into.new result) steps.old steps.new }
+        ensures counts { IsTrue (D.shown disk.old).tells → (last m : Machine) → StandsFor (D.shown disk.old) self.old last m → IfOk (answer into.new result) (λ reply. IfSome (state_at self.old.volumes slot) (λ x. CountsPath (D.shown disk.old) self.old.pool x steps.old steps.new reply command.now)) }
         ensures kept { KeepsNumbers self.old.volumes self.new.volumes }
         ensures finds { finds_file command.now ≡ true → OnOk (answer into.new result) (KnowsNumbers (state_at self.new.volumes slot)) }
     {
@@ -72,7 +74,8 @@ impl Session {
         ensures lost { has_range command.now ≡ true → IfSome (state_at self.old.volumes slot) (λ x. table_named x (snapshot_asked command.now) ≡ None → (answer into.new result ≡ Ok (Refused NoSnapshot)) × IsUntouched disk.old self.old disk.new self.new) }
         ensures only { answer into.new result ≡ Ok (Refused NoSnapshot) → IfSome (state_at self.old.volumes slot) (λ x. table_named x (snapshot_asked command.now) ≡ None) }
         ensures steps { is_get command.now ≡ false → steps.new ≡ steps.old }
-        ensures known { IsTrue (D.shown disk.old).tells → (last m : Machine) → StandsFor (D.shown disk.old) self.old last m → OnOk (answer into.new result) (steps.new ≡ steps.old) }
+        ensures known { IsTrue (D.shown disk.old).tells → (last m : Machine) → StandsFor (D.shown disk.old) self.old last m → MakesNoStep m command.now (answer into.new result) steps.old steps.new }
+        ensures counts { IsTrue (D.shown disk.old).tells → (last m : Machine) → StandsFor (D.shown disk.old) self.old last m → IfOk (answer into.new result) (λ reply. IfSome (state_at self.old.volumes slot) (λ x. CountsPath (D.shown disk.old) self.old.pool x steps.old steps.new reply command.now)) }
         ensures volumes { self.new.volumes ≡ self.old.volumes }
     {
         let state = volume_at(&mut self.volumes, slot);
@@ -133,6 +136,7 @@ fn finds(command: &Command) -> bool
         Command::Cut { .. } => true,
         Command::Get { snapshot, .. } => snapshot.is_none(),
         Command::Len { snapshot, .. } => snapshot.is_none(),
+        Command::Probe { .. } => true,
         _ => false,
     }
 }
@@ -194,6 +198,15 @@ fn ask_state<D: Disk, L: Ledger>(
             match state.list(alloc, pool, disk, snapshot.as_ref()) {
                 Ok(names) => {
                     list(into, names);
+                    return Ok(());
+                }
+                Err(fault) => return Err(fault),
+            }
+        }
+        Command::Probe { file, index, .. } => {
+            match state.probe(alloc, pool, disk, file, *index) {
+                Ok(pointers) => {
+                    count(into, u64::from(pointers));
                     return Ok(());
                 }
                 Err(fault) => return Err(fault),

@@ -108,9 +108,10 @@ impl Session {
     /// limit of 256 together with the blocks pending is preceded by a consistency point, and contracts say that no other one is. One that is
     /// refused changes nothing but the cache and the numbers of files in memory: so no point comes before it. Of a command on files whose room
     /// passes the limit contracts say this where the session stands for a machine. So far the commands that begin with `vol` or `snap`, `clone create`,
-    /// `cp`, `new` without a reserve, `put`, `get`, `len`, `cut`, `rm` and `ls` are built, and every other command is refused as none.
+    /// `cp`, `new` without a reserve, `put`, `get`, `len`, `cut`, `rm`, `ls` and `probe` are built, and every other command is refused as none.
     ///
-    /// `steps` counts the unknown pointers that a `get` passes; there are none in what a session stands for yet.
+    /// `steps` counts the unknown pointers that a `get` passes; there are none where the volume has no unknown place. A `probe` answers how many
+    /// lie on the path to its cell, and counts none.
     ///
     /// # Errors
     /// `DiskFault` comes only where a read, a write or a barrier failed in this call. Where it was a write or a barrier the session

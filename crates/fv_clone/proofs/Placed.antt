@@ -228,6 +228,7 @@ module _ (pool : Pool) (states : States) (name : List ℕ) (size : ℕ) (kind : 
       whole = base_whole;
       snapshots = cloned.is.snapshots;
       now = ap (λ h. h.now) cloned.is.head;
+      known = λ all. cloned.admits.can.known;
       files = cloned.is.rests.files;
       numbers = cloned.is.rests.numbers;
       ledger = cloned.is.ledger ∙ numbers_are;

@@ -79,20 +79,18 @@ fn write_tree<B: Blocks>(alloc: Global, blocks: &mut B) -> Result<Pointer, TreeF
     tree.flush(blocks, false)
 }
 
-/// The first byte of a cell; 0 for a hole.
-#[tactic(auto, using(fv_tree::proofs::Right::trusted_tree))]
+/// The first byte of a cell over blocks of which nothing is told; 0 for a hole.
 fn first_byte<B: Blocks>(tree: &mut Tree, blocks: &mut B, index: u32) -> Result<u8, TreeFault>
-    requires right { B.told → TrustsAll B.shown }
+    requires untold { B.told → ⊥ }
 {
     let mut block = [0; 4096];
     let there = tree.get(blocks, index, &mut block)?;
     if there { Ok(block[0]) } else { Ok(0) }
 }
 
-/// The first bytes of four cells of a tree of three levels.
-#[tactic(auto, using(fv_tree::proofs::Right::trusted_tree))]
+/// The first bytes of four cells of a tree of three levels, over such blocks.
 fn read_tree<B: Blocks>(alloc: Global, blocks: &mut B, root: Pointer) -> Result<[u8; 4], TreeFault>
-    requires right { B.told → TrustsAll B.shown }
+    requires untold { B.told → ⊥ }
     requires pointer { IsPointer root }
 {
     let mut tree = Tree::at(alloc, OWNER, 3, root);

@@ -98,7 +98,7 @@ module _ (pool : Pool) (states : States) (i : Image) (housed : AreHoused pool.co
   -- each label has its numbers
   label_has : (s : ℕ) (h : Head) → v.head s ≡ Some h → HasLabelNumbers h
   label_has = of_head (λ s h. HasLabelNumbers h) (λ s x is state. let label = state.labelled in
-      subst HasLabelNumbers (label_head x label.form label.named label.snapshots 0 1) (label_numbers (label_said x 0 1) (label.label 0 1 (omega arith) (omega arith) (omega arith))))
+      subst HasLabelNumbers (label_head x label.named label.snapshots 0 1) (label_numbers (label_said x 0 1) (label.label 0 1 (omega arith) (omega arith) (omega arith))))
 
   -- it needs nothing for reserves
   lone : (s : ℕ) (h : Head) → s < 64 → v.head s ≡ Some h → IsLone v s h

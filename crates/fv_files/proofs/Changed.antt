@@ -1,5 +1,5 @@
 -- A table of which the tree of one file in memory changed, and then its record.
-use Rattle.std.proofs.Common.{◌≡◌, ◌≢◌, ℕ, ◌/◌, true, false, cond, nat_eq, inl, inr, refl, sym, ap, subst, ◌∙◌, ⊎_elim, arith}
+use Rattle.std.proofs.Common.{◌≡◌, ◌≢◌, ℕ, ◌/◌, Bool, true, false, cond, nat_eq, inl, inr, refl, sym, ap, subst, ◌∙◌, ⊎_elim, arith}
 use Rattle.std.specs.Prelude.{Option, Some, None, is_some}
 use Rattle.std.specs.Option.{option_map}
 use Rattle.std.specs.BTreeMap as maps
@@ -76,10 +76,10 @@ owned_stands source f n t is sound =
     subst (StandsIn source.used) (kept_tree_is (under source) f n t there.file is there.is) (sound.trees (Some n))
 
 -- and leads to what its pointers say
-pub owned_stored : (source : Shown) (f : Files) (n : ℕ) (t : Tree) → tree_in f n ≡ Some t → AreStanding source f → IsStored source f → IsAsSaid (loaded source t)
-owned_stored source f n t is sound well =
+pub owned_stored : (known : Bool) (source : Shown) (f : Files) (n : ℕ) (t : Tree) → tree_in f n ≡ Some t → AreStanding source f → IsStored known source f → IsAsSaid known (loaded source t)
+owned_stored known source f n t is sound well =
     let there = has_record (file_at (rooted source f.inode) n) (sound.owners n t is).1 in
-    subst StoredIn (kept_tree_is (under source) f n t there.file is there.is) (well.trees (Some n))
+    subst (StoredIn known) (kept_tree_is (under source) f n t there.file is there.is) (well.trees (Some n))
 
 -- and its record is ready
 pub own_ready : (source : Shown) (f : Files) (n : ℕ) → is_some (tree_in f n) ≡ true → AreStanding source f → IsReadyFile f.inode n
@@ -147,8 +147,8 @@ module _ (old new : Shown) (f : Files) (m : maps.BTreeMap ℕ Tree) (n : ℕ) (t
     now_tree : loaded_trees (under new) g (Some n) ≡ Some (loaded new u)
     now_tree = kept_tree_is (under new) g n u was_there.file becomes.now (files_same old new f g n refl becomes.others sound own_spares n ∙ was_there.is)
 
-    pub kept_stored : IsAsSaid (loaded new u) → IsStored old f → IsStored new g
-    kept_stored well = file_stored old new f g n refl becomes.others sound own_spares (subst StoredIn (sym now_tree) well)
+    pub kept_stored : (known : Bool) → IsAsSaid known (loaded new u) → IsStored known old f → IsStored known new g
+    kept_stored known well = file_stored old new f g n refl becomes.others sound own_spares known (subst (StoredIn known) (sym now_tree) well)
 
     -- what happens to the places of that tree happens to the table's
     pub kept_leave : Leaves (loaded old t) (loaded new u) → LeavesTrees (loaded_trees (under old) f) (loaded_trees (under new) g)
@@ -266,11 +266,11 @@ module _ (source : Shown) (f : Files) (i : InodeFile) (n s : ℕ) (u : Tree) (ke
       (loading_spares source source (LeadsTo (loaded source f.inode.tree)) (LeadsTo (loaded source i.tree)) refl refl (λ v led. record { level = led.level; place = led.place; leads = no_more led.level led.place v led.leads }))
       own_same
 
-  pub record_stored : IsAsSaid (loaded source i.tree) → (NamesIndexes (rooted source f.inode) → NamesIndexes (rooted source i)) → LeadsNoMore (loaded source f.inode.tree) (loaded source i.tree) → AreStanding source f → IsStored source f → IsStored source h
-  record_stored well named no_more sound =
+  pub record_stored : (known : Bool) → IsAsSaid known (loaded source i.tree) → (NamesIndexes (rooted source f.inode) → NamesIndexes (rooted source i)) → LeadsNoMore (loaded source f.inode.tree) (loaded source i.tree) → AreStanding source f → IsStored known source f → IsStored known source h
+  record_stored known well named no_more sound =
       inode_stored source source f h n (λ k differs. refl) other_records sound
       (loading_spares source source (LeadsTo (loaded source f.inode.tree)) (LeadsTo (loaded source i.tree)) refl refl (λ v led. record { level = led.level; place = led.place; leads = no_more led.level led.place v led.leads }))
-      own_same well named
+      own_same known well named
 
 -- ---- both, one after the other
 
@@ -298,11 +298,13 @@ module _ (old new : Shown) (f : Files) (m : maps.BTreeMap ℕ Tree) (n : ℕ) (t
       record_led new (with_trees f m) i n s u becomes.now change (rewrites (under new)).files (leads (under new)) (keeps (under new)) (kept_stands old new f m n t u becomes sound spares same stands)
       (kept_led old new f m n t u becomes sound spares lets_go no_more led)
 
-  pub both_stored : AreStanding old f → Spares old new (LeadsTo (loaded old t)) (LeadsTo (loaded new u)) → u.owner ≡ t.owner → Stands new u → ((blocks : Under) → IsAsSaid (loaded_over blocks f.inode.tree) → IsAsSaid (loaded_over blocks i.tree))
-      → IsAsSaid (loaded new u) → IsStored old f → IsStored new (record { inode = i; trees = m; alloc = f.alloc })
-  both_stored sound spares same stands record_well well was =
-      let half = kept_stored old new f m n t u becomes sound spares well was in
-      record_stored new (with_trees f m) i n s u becomes.now change (rewrites (under new)).files (record_well (under new) (half.trees None)) (rewritten_indexes (rooted new f.inode) (rooted new i) n s _ (rewrites (under new))) (leads (under new)) (kept_stands old new f m n t u becomes sound spares same stands) half
+  pub both_stored : AreStanding old f → Spares old new (LeadsTo (loaded old t)) (LeadsTo (loaded new u)) → u.owner ≡ t.owner → Stands new u → (known : Bool)
+      → ((blocks : Under) (used : ℕ → Option Use) → IsSound used (loaded_over blocks f.inode.tree) → IsAsSaid known (loaded_over blocks f.inode.tree) → IsAsSaid known (loaded_over blocks i.tree)) → IsAsSaid known (loaded new u) → IsStored known old f
+      → IsStored known new (record { inode = i; trees = m; alloc = f.alloc })
+  both_stored sound spares same stands known record_well well was =
+      let kept = kept_stands old new f m n t u becomes sound spares same stands in
+      let half = kept_stored old new f m n t u becomes sound spares known well was in
+      record_stored new (with_trees f m) i n s u becomes.now change (rewrites (under new)).files known (record_well (under new) new.used (kept.trees None) (half.trees None)) (rewritten_indexes (rooted new f.inode) (rooted new i) n s _ (rewrites (under new))) (leads (under new)) kept half
 
   -- the places of the tree and of the inode file got the stamp, or are as before
   pub both_alter : AreStanding old f → Spares old new (LeadsTo (loaded old t)) (LeadsTo (loaded new u)) → u.owner ≡ t.owner → Stands new u → Alters s (loaded old t) (loaded new u) → Alters s (loaded new f.inode.tree) (loaded new i.tree)

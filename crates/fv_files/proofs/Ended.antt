@@ -1,5 +1,5 @@
 -- The end of a table's flush: the inode file is placed, and nothing is in memory.
-use Rattle.std.proofs.Common.{◌≡◌, ℕ, false, inl, Ok, Err, Result, refl, sym, ap, subst, ◌∙◌, arith}
+use Rattle.std.proofs.Common.{◌≡◌, ℕ, Bool, true, false, inl, Ok, Err, Result, refl, sym, ap, subst, ◌∙◌, arith}
 use Rattle.std.specs.Prelude.{Option, Some, None, is_some, IfOk, IfErr, OnOk}
 use Rattle.std.specs.Option.{option_map}
 use Rattle.std.specs.BTreeMap as maps
@@ -18,18 +18,19 @@ use Rattle.fv_tree.specs.Stored.{HasPlaces, IsStoredWell, KeepsPlaces, TellsPlac
 use Rattle.fv_tree.specs.Unknown.{KnowsRoots}
 use Rattle.fv_tree.specs.Beside.{unread}
 use Rattle.fv_tree.proofs.Beside.{unread_reaches}
+use Rattle.fv_tree.proofs.Unknown.{keeps_unknown}
 use Rattle.fv_inode.specs.declared.file.InodeFile.{InodeFile}
 use Rattle.fv_inode.specs.Files.{rooted, NamesIndexes}
 use Rattle.fv_inode.proofs.Indexed.{alike_indexes}
 use Rattle.fv_inode.proofs.Slots.{alike_files}
 use Rattle.fv_files.specs.declared.files.Files.{Files}
-use Rattle.fv_files.specs.Apart.{LeadsIn, LeadsFrom, StandsIn, StoredIn, AreLed, stored_trees}
+use Rattle.fv_files.specs.Apart.{LeadsIn, LeadsFrom, StandsIn, IsAsSaid, StoredIn, AreLed, stored_trees}
 use Rattle.fv_files.specs.Tables.{table_in, tree_in, file_loaded, loaded_trees, AreReached, AreStanding, IsLed, IsStored, IsStoredUnder}
-use Rattle.fv_files.specs.Calls.{KeepsStored, SparesOthers}
+use Rattle.fv_files.specs.Calls.{KeepsStored, StoresUnder, SparesOthers}
 use Rattle.fv_files.specs.Flushing.{FlushesTable, LaysTrees}
 use Rattle.fv_files.specs.Pending.{FitsTable}
 use Rattle.fv_files.proofs.Tables.{placed_alike}
-use Rattle.fv_files.proofs.Stored.{both_kept, places_of, reread_stored}
+use Rattle.fv_files.proofs.Stored.{places_of, reread_stored}
 use Rattle.fv_files.proofs.Roots.{table_roots}
 use Rattle.fv_files.proofs.Kept.{moved_tree, same_trees, records_told, inode_led, inode_spares, inode_stands, inode_stored, rest_leave}
 use Rattle.fv_files.proofs.Changed.{with_inode}
@@ -38,7 +39,7 @@ use Rattle.fv_files.proofs.Laid.{flush_goes, flush_uses, flushed_spares, lays_th
 use Rattle.fv_files.proofs.Sums.{no_cost}
 use Rattle.fv_files.proofs.Whole.{no_trees, none_there}
 use Rattle.fv_tree.specs.Altering.{PlacesAnew}
-use Rattle.fv_files.specs.Altering.{PlacesIn, FlushesPlaces}
+use Rattle.fv_files.specs.Altering.{AreLaid, PlacesIn, FlushesPlaces}
 use Rattle.fv_files.proofs.Altered.{leaves_places, none_laid}
 
 -- what the flush of an inode file answers and does
@@ -81,10 +82,22 @@ module _ (told : Type 0) (old new : Shown) (f : Files) (i : InodeFile) (r : Resu
     last_spares = inode_spares old new f h 0 (λ k differs. refl) (λ k differs. files k) sound (flushed_spares old new f.inode.tree i.tree (sound.trees None) (is.flushes tells (sound.trees None)))
         (same_trees (under old) (under new) f h 0 refl (files 0))
 
-    pub last_stored : KeepsPlaces old new → IsLed old f → IsStored old f → IsStored new h
-    last_stored places led was = inode_stored old new f h 0 (λ k differs. refl) (λ k differs. files k) sound (flushed_spares old new f.inode.tree i.tree (sound.trees None) (is.flushes tells (sound.trees None)))
+    -- what the inode file leads to is as its pointers say
+    last_said : (known : Bool) → (known ≡ true → KeepsPlaces old new) → IsLed old f → IsStored known old f → IsAsSaid known (loaded new i.tree)
+    last_said known places led was =
+        let stands = sound.trees None in
+        let own : IsAsSaid known (loaded old f.inode.tree) = was.trees None in record {
+          positions = is.stored_well tells stands own.positions;
+          leads = keeps_unknown (loaded old f.inode.tree) (loaded new i.tree) old.used new.used (is.flushes tells stands) stands own.leads;
+          places = λ all.
+              let each : IsStored true old f = subst (λ b. IsStored b old f) all was in
+              is.tells tells stands (places all (places_of old f sound led each)) (table_roots old f (no_trees f empty) each) (own.places all);
+        }
+
+    pub last_stored : (known : Bool) → (known ≡ true → KeepsPlaces old new) → IsLed old f → IsStored known old f → IsStored known new h
+    last_stored known places led was = inode_stored old new f h 0 (λ k differs. refl) (λ k differs. files k) sound (flushed_spares old new f.inode.tree i.tree (sound.trees None) (is.flushes tells (sound.trees None)))
         (same_trees (under old) (under new) f h 0 refl (files 0))
-        (both_kept (loaded old f.inode.tree) (loaded new i.tree) (is.stored_well tells (sound.trees None)) (is.tells tells (sound.trees None) (places (places_of old f sound led was)) (table_roots old f (no_trees f empty) was)) (was.trees None))
+        known (last_said known places led was)
         (alike_indexes (rooted old f.inode) (rooted new i) (is.flushes tells (sound.trees None)).alike) was
 
     last_fits : FitsTable old f new h
@@ -164,15 +177,15 @@ module _ (told : Type 0) (old new : Shown) (f : Files) (i : InodeFile) (root : P
       there None v leads = unread_leads (under new) i.tree (stored (under new) greatest_word i.tree.levels root) spelled v leads
       there (Some n) v leads = subst (λ o. LeadsIn o v) (file_is n) leads
 
-  pub ends_under : KeepsPlaces old new → IsLed old f → IsStored old f → IsStoredUnder (under new) i.tree.levels root
-  ends_under places before was = let here = last_stored told old new f i (Ok root) is empty tells sound places before was in record {
+  pub ends_under : (known : Bool) → (known ≡ true → KeepsPlaces old new) → IsLed old f → IsStored known old f → IsStoredUnder known (under new) i.tree.levels root
+  ends_under known places before was = let here = last_stored told old new f i (Ok root) is empty tells sound known places before was in record {
     trees = under_root here;
     inodes = subst NamesIndexes spelled here.inodes;
   }
     where
-      under_root : IsStored new g → (a : Option ℕ) → StoredIn (stored_trees (under new) i.tree.levels root a)
-      under_root here None = reread_stored (under new) i.tree greatest_word i.tree.levels root spelled (here.trees None)
-      under_root here (Some n) = subst StoredIn (file_is n) (here.trees (Some n))
+      under_root : IsStored known new g → (a : Option ℕ) → StoredIn known (stored_trees (under new) i.tree.levels root a)
+      under_root here None = reread_stored known (under new) i.tree greatest_word i.tree.levels root spelled (here.trees None)
+      under_root here (Some n) = subst (StoredIn known) (file_is n) (here.trees (Some n))
 
 -- ---- the whole flush
 
@@ -199,13 +212,13 @@ flush_done told old mid new f g i r first empty is = record {
 
 -- and what is led to is as the pointers say
 module _ (told : Type 0) (old mid new : Shown) (f g : Files) (i : InodeFile) (r : Result Pointer BlockFault) (first : LaysTrees {T = Unit {0}} told old mid f g (Ok tt)) (empty : maps.btree_map_len g.trees ≡ 0) (is : Places told mid new g.inode i r)
-    (tells : told) (keeps : KeepsStored old mid f g) (places : KeepsPlaces mid new) where
-  pub flush_stores : KeepsStored old new f (with_inode g i)
-  flush_stores = stores_then told old mid new f g (with_inode g i) tt first tells keeps (λ sound led was. last_stored told mid new g i r is empty tells sound places led was)
+    (tells : told) (laid : AreStanding old f → AreLaid (under old) f → AreLaid (under mid) g) (known : Bool) (keeps : KeepsStored known old mid f g) (places : known ≡ true → KeepsPlaces mid new) where
+  pub flush_stores : KeepsStored known old new f (with_inode g i)
+  flush_stores = stores_then told old mid new f g (with_inode g i) tt known first tells laid keeps (λ sound led laid was. last_stored told mid new g i r is empty tells sound known places led was)
 
-  pub flush_under : IfOk r (λ root. AreStanding old f → IsLed old f → IsStored old f → IsStoredUnder (under new) i.tree.levels root)
-  flush_under = at_ok r (λ root done sound led was.
-      ends_under told mid new g i root (subst (Places told mid new g.inode i) done is) empty tells (first.stands tells sound) places (first.led tells sound led) (keeps sound led was))
+  pub flush_under : IfOk r (λ root. StoresUnder known old f (under new) i.tree.levels root)
+  flush_under = at_ok r (λ root done sound led before was.
+      ends_under told mid new g i root (subst (Places told mid new g.inode i) done is) empty tells (first.stands tells sound) known places (first.led tells sound led) (keeps sound led before was))
 
 -- no tree was placed any more
 pub flush_failed : (told : Type 0) (old new : Shown) (f g : Files) (e : BlockFault) → LaysTrees {T = Pointer} told old new f g (Err e) → FlushesTable told old new f g (Err e)

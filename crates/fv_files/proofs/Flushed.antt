@@ -1,5 +1,5 @@
 -- The flush of a table, step by step: a file's tree, the root of it, and last the inode file.
-use Rattle.std.proofs.Common.{◌≡◌, ◌≤◌, ◌+◌, ℕ, true, false, cond, nat_eq, inl, Ok, Err, Result, refl, sym, ap, subst, ◌∙◌, ⊎_elim, arith, ◌/◌}
+use Rattle.std.proofs.Common.{◌≡◌, ◌≤◌, ◌+◌, ℕ, Bool, true, false, cond, nat_eq, inl, Ok, Err, Result, refl, sym, ap, subst, ◌∙◌, ⊎_elim, arith, ◌/◌}
 use Rattle.std.specs.Prelude.{Option, Some, None, is_some, IfErr}
 use Rattle.std.specs.Option.{option_map}
 use Rattle.std.specs.Ordering.{nat_cmp}
@@ -21,6 +21,7 @@ use Rattle.fv_tree.specs.Writing.{IsAlike}
 use Rattle.fv_tree.specs.Costs.{pending}
 use Rattle.fv_tree.specs.Flushing.{ReachesOnce, Stands, changed_of, loaded}
 use Rattle.fv_tree.specs.Stored.{KeepsPlaces}
+use Rattle.fv_tree.proofs.Unknown.{keeps_unknown}
 use Rattle.fv_tree.proofs.Causes.{calm_itself, counts_then}
 use Rattle.fv_inode.specs.declared.file.InodeFile.{InodeFile}
 use Rattle.fv_inode.specs.Files.{rooted, info_of, with_root}
@@ -33,13 +34,13 @@ use Rattle.fv_inode.specs.Changing.{SetsRoot}
 use Rattle.fv_files.specs.declared.files.Files.{Files}
 use Rattle.fv_files.specs.Tables.{table_in, tree_in, loaded_trees, AreStanding, IsLed, IsStored}
 use Rattle.fv_tree.proofs.Beside.{loading_spares}
-use Rattle.fv_files.specs.Apart.{LeadsAny}
+use Rattle.fv_files.specs.Apart.{IsAsSaid, LeadsAny}
 use Rattle.fv_files.specs.Calls.{KeepsStored, SparesOthers}
 use Rattle.fv_files.specs.Flushing.{FlushesKept, HasRoot, LaysTrees, KeptAnew, KeptKeeps}
 use Rattle.fv_files.specs.Pending.{pending_trees, tree_cost, FitsTable}
 use Rattle.fv_files.proofs.Looked.{Held, counts_done, counts_failed}
 use Rattle.fv_files.proofs.Tables.{placed_then}
-use Rattle.fv_files.proofs.Stored.{both_kept, places_of}
+use Rattle.fv_files.proofs.Stored.{loaded_said, places_of}
 use Rattle.fv_files.proofs.Changed.{with_trees, with_inode, owned_stands, owned_stored, has_record, kept_laid, kept_place, kept_there}
 use Rattle.fv_files.proofs.Prepared.{readied_led, readied_placed, readied_spares, readied_stands, readied_stored, readied_laid, readied_leave}
 use Rattle.fv_files.proofs.Sums.{most_cost}
@@ -91,8 +92,11 @@ module _ {T : Type 0} (told : Type 0) (old new : Shown) (f : Files) (i : InodeFi
     laid = λ tells. readied_laid old new f h loads.looks.untouched (alike tells) (λ k. refl) (leaves tells) (loads.leads tells);
   }
 
-  pub ready_stores : told → KeepsStored old new f h
-  ready_stores tells sound led = readied_stored old new f h loads.looks.untouched (alike tells) (λ k. refl) (both_kept (loaded old f.inode.tree) (loaded new i.tree) (loads.stored_well tells) (loads.tells tells)) (loads.leads tells) sound
+  pub ready_stores : (known : Bool) → (told → Leaves (loaded old f.inode.tree) (loaded new i.tree)) → told → KeepsStored known old new f h
+  ready_stores known leaves tells sound led laid =
+      let stands = sound.trees None in
+      readied_stored old new f h loads.looks.untouched (alike tells) (λ k. refl) known
+      (loaded_said known old new f.inode.tree i.tree loads.owner stands (loads.stands tells stands) loads.looks.untouched.held (loads.stored_well tells) (loads.tells tells) (leaves tells)) (loads.leads tells) sound
 
 -- the inode file was only read
 pub look_lays : {T : Type 0} (told : Type 0) (old new : Shown) (f : Files) (r : Result T BlockFault) → inodes.Looks told (rooted old f.inode) old new r → (told → AreStanding old f → IfErr r (λ e. e ≡ Memory)) → LaysTrees told old new f f r
@@ -213,11 +217,16 @@ module _ (told : Type 0) (old mid : Shown) (f : Files) (m : maps.BTreeMap ℕ Tr
       keeps tells kept.tree kept.next kept.becomes.was kept.becomes.now stood v
       (λ placed. none (kept_there old mid f m n kept.tree kept.next kept.becomes sound (flushed_spares old mid kept.tree kept.next stood (kept.flushes tells stood)) v placed))
 
-  pub kept_stores : told → KeepsPlaces old mid → KeepsStored old mid f g
-  kept_stores tells places sound led was =
+  pub kept_stores : (known : Bool) → told → (known ≡ true → KeepsPlaces old mid) → KeepsStored known old mid f g
+  kept_stores known tells places sound led laid was =
       let stood = owned_stands old f n kept.tree kept.becomes.was sound in
-      kept_flush_stored old mid f m n kept.tree kept.next kept.becomes sound stood (kept.flushes tells stood)
-      (both_kept (loaded old kept.tree) (loaded mid kept.next) (kept.stored_well tells stood) (kept.tells tells stood (sound.owners n kept.tree kept.becomes.was).0 (places (places_of old f sound led was))) (owned_stored old f n kept.tree kept.becomes.was sound was)) was
+      let flushes = kept.flushes tells stood in
+      let own : IsAsSaid known (loaded old kept.tree) = owned_stored known old f n kept.tree kept.becomes.was sound was in
+      kept_flush_stored old mid f m n kept.tree kept.next kept.becomes sound stood flushes known (record {
+        positions = kept.stored_well tells stood own.positions;
+        leads = keeps_unknown (loaded old kept.tree) (loaded mid kept.next) old.used mid.used flushes stood own.leads;
+        places = λ all. kept.tells tells stood (sound.owners n kept.tree kept.becomes.was).0 (places all (places_of old f sound led (subst (λ b. IsStored b old f) all was))) (own.places all);
+      }) was
 
 -- its root was laid, and it goes from memory
 module _ (told : Type 0) (old mid new : Shown) (f : Files) (m last : maps.BTreeMap ℕ Tree) (i : InodeFile) (n levels : ℕ) (root : Pointer) (kept : FlushesKept told old mid f.trees m n (Ok root)) (levels_is : (t : Tree) → maps.get nat_cmp f.trees n ≡ Some t → levels ≡ t.levels)
@@ -288,11 +297,6 @@ module _ (told : Type 0) (old mid new : Shown) (f : Files) (m last : maps.BTreeM
         (table_spares_then old mid new f two three (first.spares tells sound) (root_spares mid new two i n levels root kept.next kept.becomes.now loads.looks.untouched sets (loads.leads tells) placed_two))
         (gone_spares new three last n levels root kept.next kept.becomes.now gone placed_three own spelled reached)
 
-    all_stored : KeepsPlaces old mid → IsLed old f → IsStored old f → IsStored new four
-    all_stored places led was = gone_stored new three last n levels root kept.next kept.becomes.now gone placed_three own spelled reached
-        (root_stored mid new two i n levels root kept.next kept.becomes.now loads.looks.untouched sets (both_kept (loaded mid f.inode.tree) (loaded new i.tree) (loads.stored_well tells) (loads.tells tells)) (loads.leads tells) placed_two
-        (kept_stores told old mid f m n (Ok root) kept tells places sound led was))
-
     all_fits : FitsTable old f new four
     all_fits =
         let fits = kept.fits tells stood in
@@ -315,9 +319,6 @@ module _ (told : Type 0) (old mid new : Shown) (f : Files) (m last : maps.BTreeM
     counts = counts_then old mid new (Ok tt) first.counts.calm loads.looks.counts;
     cause = tt;
   }
-
-  pub lay_stores : told → KeepsPlaces old mid → KeepsStored old new f four
-  lay_stores tells places sound = all_stored tells sound places
 
   -- What it does to the places of the table's trees: where the tree isn't as its record said, the inode cell had changed.
   module _ (first_free free : ℕ → Type 0) (anew : told → KeptAnew first_free old mid f.trees m n) (sooner : (v : ℕ) → first_free v → free v) (other : (r : InodeRecord) → file_at (rooted old f.inode) n ≡ Some r → r.levels ≡ levels → r.root ≡ root → told → ⊥)
@@ -342,6 +343,12 @@ module _ (told : Type 0) (old mid new : Shown) (f : Files) (m last : maps.BTreeM
       inode_leaves : Leaves (loaded mid f.inode.tree) (loaded new i.tree)
       inode_leaves = leaves tells ((placed_two tells sound).trees None) marked
 
+      -- What the inode file leads to stays as its pointers say: for a cell that changed there is nothing to show.
+      inode_said : (known : Bool) → IsAsSaid known (loaded mid f.inode.tree) → IsAsSaid known (loaded new i.tree)
+      inode_said known =
+          let stands = (placed_two tells sound).trees None in
+          loaded_said known mid new f.inode.tree i.tree loads.owner stands (loads.stands tells stands) loads.looks.untouched.held (loads.stored_well tells) (loads.tells tells) inode_leaves
+
       done : (level place : ℕ) → changed_of kept.next level place ≡ false
       done = unchanged kept.next kept.nothing
 
@@ -363,6 +370,14 @@ module _ (told : Type 0) (old mid new : Shown) (f : Files) (m last : maps.BTreeM
       laid = λ tells sound laid. gone_laid new three last n levels root kept.next kept.becomes.now gone (placed_three tells sound) (own tells sound) (spelled tells sound) (reached tells sound)
           (root_laid mid new two i n levels root kept.next kept.becomes.now loads.looks.untouched (sets tells sound) (inode_leaves tells sound laid) (loads.leads tells) (placed_two tells sound) (marked tells sound laid) (two_laid tells sound laid));
     }
+
+    -- what is led to stays as its pointers say
+    pub lay_stores : (known : Bool) → told → (known ≡ true → KeepsPlaces old mid) → KeepsStored known old new f four
+    lay_stores known tells places sound led laid was =
+        gone_stored new three last n levels root kept.next kept.becomes.now gone (placed_three tells sound) (own tells sound) (spelled tells sound) (reached tells sound) known
+        (root_stored mid new two i n levels root kept.next kept.becomes.now loads.looks.untouched (sets tells sound) known
+        (inode_said tells sound laid known) (loads.leads tells) (placed_two tells sound)
+        (kept_stores told old mid f m n (Ok root) kept known tells places sound led laid was))
 
     -- and what it leaves under a VVBN
     pub lay_keeps : (first_keep next_keep keep : ℕ → Type 0) → ((v : ℕ) → first_keep v → next_keep v → keep v) → (told → KeptKeeps first_keep old mid f.trees m n) → ((v : ℕ) → next_keep v) → FlushesKeep told keep old new f four

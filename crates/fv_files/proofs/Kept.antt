@@ -1,5 +1,5 @@
 -- Tables that stand on their blocks, where the tree of one file or the inode file changed.
-use Rattle.std.proofs.Common.{◌≡◌, ◌≢◌, ℕ, ◌/◌, true, inl, refl, sym, ap, subst, ◌∙◌, ⊎_elim}
+use Rattle.std.proofs.Common.{◌≡◌, ◌≢◌, ℕ, ◌/◌, Bool, true, inl, refl, sym, ap, subst, ◌∙◌, ⊎_elim}
 use Rattle.std.specs.Prelude.{Option, Some, None, is_some}
 use Rattle.std.specs.Option.{option_map}
 use Rattle.std.proofs.lemmas.Bool.{cases_eq}
@@ -37,8 +37,8 @@ pub led_on_blocks : (f : Files) (old new : Shown) → new.held ≡ old.held → 
 led_on_blocks f old new held used led =
     subst (λ (h : Held). AreLed new.used (loaded_trees (λ v. fin.get h v) f)) (sym held) (subst (λ u. AreLed u (loaded_trees (under old) f)) (sym used) led)
 
-pub stored_on_blocks : (f : Files) (old new : Shown) → new.held ≡ old.held → IsStored old f → IsStored new f
-stored_on_blocks f old new held = subst (λ (h : Held). IsStoredOn (λ v. fin.get h v) f) (sym held)
+pub stored_on_blocks : (known : Bool) (f : Files) (old new : Shown) → new.held ≡ old.held → IsStored known old f → IsStored known new f
+stored_on_blocks known f old new held = subst (λ (h : Held). IsStoredOn known (λ v. fin.get h v) f) (sym held)
 
 -- ---- trees of files
 
@@ -111,9 +111,9 @@ module _ (old new : Shown) (f g : Files) (n : ℕ) (inode : g.inode ≡ f.inode)
   file_spares = spares_all old new (loaded_trees (under old) f) (loaded_trees (under new) g) (Some n) (trees_laid (under old) f) sound.trees sound.apart spares others
 
   -- what it leads to is as its pointers say,
-  pub file_stored : StoredIn (loaded_trees (under new) g (Some n)) → IsStored old f → IsStored new g
-  file_stored own was = record {
-    trees = stored_still old new (loaded_trees (under old) f) (loaded_trees (under new) g) (Some n) (trees_laid (under old) f) sound.trees sound.apart spares others own was.trees;
+  pub file_stored : (known : Bool) → StoredIn known (loaded_trees (under new) g (Some n)) → IsStored known old f → IsStored known new g
+  file_stored known own was = record {
+    trees = stored_still known old new (loaded_trees (under old) f) (loaded_trees (under new) g) (Some n) (trees_laid (under old) f) sound.trees sound.apart spares others own was.trees;
     inodes = alike_indexes (rooted old f.inode) (rooted new g.inode) inode_alike was.inodes;
   }
 
@@ -177,9 +177,9 @@ module _ (old new : Shown) (f g : Files) (n : ℕ) (trees : (k : ℕ) → k ≢ 
     pub inode_spares : SparesOthers old new f g
     inode_spares = spares_all old new (loaded_trees (under old) f) (loaded_trees (under new) g) None (trees_laid (under old) f) sound.trees sound.apart spares rest
 
-    pub inode_stored : IsAsSaid (loaded new g.inode.tree) → (NamesIndexes (rooted old f.inode) → NamesIndexes (rooted new g.inode)) → IsStored old f → IsStored new g
-    inode_stored own named was = record {
-      trees = stored_still old new (loaded_trees (under old) f) (loaded_trees (under new) g) None (trees_laid (under old) f) sound.trees sound.apart spares rest own was.trees;
+    pub inode_stored : (known : Bool) → IsAsSaid known (loaded new g.inode.tree) → (NamesIndexes (rooted old f.inode) → NamesIndexes (rooted new g.inode)) → IsStored known old f → IsStored known new g
+    inode_stored known own named was = record {
+      trees = stored_still known old new (loaded_trees (under old) f) (loaded_trees (under new) g) None (trees_laid (under old) f) sound.trees sound.apart spares rest own was.trees;
       inodes = named was.inodes;
     }
 

@@ -95,8 +95,8 @@ module _ {hides : Bool} (old new : Shown) (f : Files) (m : maps.BTreeMap ℕ Tre
   pub kept_flush_spares : SparesOthers old new f (with_trees f m)
   kept_flush_spares = kept_spares old new f m n t u becomes sound (flushed_spares old new t u stood flushes)
 
-  pub kept_flush_stored : IsAsSaid (loaded new u) → IsStored old f → IsStored new (with_trees f m)
-  kept_flush_stored = kept_stored old new f m n t u becomes sound (flushed_spares old new t u stood flushes)
+  pub kept_flush_stored : (known : Bool) → IsAsSaid known (loaded new u) → IsStored known old f → IsStored known new (with_trees f m)
+  kept_flush_stored known = kept_stored old new f m n t u becomes sound (flushed_spares old new t u stood flushes) known
 
   pub kept_stood : u.owner ≡ t.owner → AreStanding new (with_trees f m)
   kept_stood owner = kept_stands old new f m n t u becomes sound (flushed_spares old new t u stood flushes) owner flushes.sound
@@ -143,14 +143,14 @@ module _ (old new : Shown) (f : Files) (i : InodeFile) (n levels : ℕ) (root : 
       (subst (λ (m : Held). LeadsNoMore (loaded_over (λ v. fin.get m v) f.inode.tree) (loaded new i.tree)) (sym untouched.held) no_more)
       (sound_on f old new untouched.held untouched.used sound))
 
-  pub root_stored : (IsAsSaid (loaded old f.inode.tree) → IsAsSaid (loaded new i.tree)) → LeadsNoMore (loaded old f.inode.tree) (loaded new i.tree) → AreStanding old f → IsStored old f → IsStored new h
-  root_stored well no_more sound was =
+  pub root_stored : (known : Bool) → (IsAsSaid known (loaded old f.inode.tree) → IsAsSaid known (loaded new i.tree)) → LeadsNoMore (loaded old f.inode.tree) (loaded new i.tree) → AreStanding old f → IsStored known old f → IsStored known new h
+  root_stored known well no_more sound was =
       record_stored new f i n 0 u kept (with_root levels root)
       (λ k. subst (λ (m : Held). file_at (rooted new i) k ≡ cond (nat_eq k n) (option_map (with_root levels root) (file_at (standing (λ v. fin.get m v) f.inode.tree) n)) (file_at (standing (λ v. fin.get m v) f.inode.tree) k)) (sym untouched.held) (sets.files k))
-      (well (was.trees None)) (λ _. rooted_indexes (rooted old f.inode) (rooted new i) n levels root sets was.inodes)
+      known (well (was.trees None)) (λ _. rooted_indexes (rooted old f.inode) (rooted new i) n levels root sets was.inodes)
       (subst (λ (m : Held). LeadsNoMore (loaded_over (λ v. fin.get m v) f.inode.tree) (loaded new i.tree)) (sym untouched.held) no_more)
       (sound_on f old new untouched.held untouched.used sound)
-      (stored_on_blocks f old new untouched.held was)
+      (stored_on_blocks known f old new untouched.held was)
 
   -- where the inode cell had changed, nothing of the table's trees changed
   pub root_leave : Leaves (loaded old f.inode.tree) (loaded new i.tree) → LeadsNoMore (loaded old f.inode.tree) (loaded new i.tree) → AreStanding old f → LeavesTrees (loaded_trees (under old) f) (loaded_trees (under new) h)
@@ -238,11 +238,11 @@ module _ (source : Shown) (f : Files) (m : maps.BTreeMap ℕ Tree) (n levels : �
       (loading_spares source source (LeadsFrom (loaded_trees (under source) f) (Some n)) (LeadsFrom (loaded_trees (under source) g) (Some n)) refl refl
       (λ v led. subst (λ o. LeadsIn o v) (sym was_tree) (reread_leads (under source) u n levels root is v (subst (λ o. LeadsIn o v) now_tree led))))
 
-  pub gone_stored : IsStored source f → IsStored source g
-  gone_stored was = file_stored source source f g n refl others sound
+  pub gone_stored : (known : Bool) → IsStored known source f → IsStored known source g
+  gone_stored known was = file_stored source source f g n refl others sound
       (loading_spares source source (LeadsFrom (loaded_trees (under source) f) (Some n)) (LeadsFrom (loaded_trees (under source) g) (Some n)) refl refl
       (λ v led. subst (λ o. LeadsIn o v) (sym was_tree) (reread_leads (under source) u n levels root is v (subst (λ o. LeadsIn o v) now_tree led))))
-      (subst StoredIn (sym now_tree) (reread_stored (under source) u n levels root is (subst StoredIn was_tree (was.trees (Some n))))) was
+      known (subst (StoredIn known) (sym now_tree) (reread_stored known (under source) u n levels root is (subst (StoredIn known) was_tree (was.trees (Some n))))) was
 
   -- nothing of the table's trees changed, where no place of it differed from its block
   still_there : (o p : Option Tree) (k : ℕ) → p ≡ o → LeavesIn (option_map (λ r. file_loaded (under source) k r o) (file_at (rooted source f.inode) k)) (option_map (λ r. file_loaded (under source) k r p) (file_at (rooted source f.inode) k))
@@ -326,8 +326,8 @@ module _ (told : Type 0) (old mid new : Shown) (f g h : Files) where
     source = λ tells sound. IfErr-weaker r _ _ (λ e cause. cause_later old mid new e first.counts.calm cause) (second.source tells (first.stands tells sound));
   }
 
-  pub stores_then : {S : Type 0} (x : S) → LaysTrees told old mid f g (Ok x) → told → KeepsStored old mid f g → KeepsStored mid new g h → KeepsStored old new f h
-  stores_then x lays tells first second sound led was = second (lays.stands tells sound) (lays.led tells sound led) (first sound led was)
+  pub stores_then : {S : Type 0} (x : S) (known : Bool) → LaysTrees told old mid f g (Ok x) → told → (AreStanding old f → AreLaid (under old) f → AreLaid (under mid) g) → KeepsStored known old mid f g → KeepsStored known mid new g h → KeepsStored known old new f h
+  stores_then x known lays tells keeps_laid first second sound led laid was = second (lays.stands tells sound) (lays.led tells sound led) (keeps_laid sound laid) (first sound led laid was)
 
 -- what happens to the places of the table's trees
 pub places_then : {S : Type 0} (told : Type 0) (first_free next_free free : ℕ → Type 0) → ((v : ℕ) → first_free v → free v) → ((v : ℕ) → next_free v → free v) → (old mid new : Shown) (f g h : Files) (x : S)

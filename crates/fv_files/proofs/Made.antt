@@ -1,5 +1,5 @@
 -- A table in which a file was made.
-use Rattle.std.proofs.Common.{◌≡◌, ◌≢◌, ℕ, ◌/◌, true, false, cond, nat_eq, List, refl, sym, ap, subst, ◌∙◌, arith, inr, ⊎_elim}
+use Rattle.std.proofs.Common.{◌≡◌, ◌≢◌, ℕ, ◌/◌, true, false, cond, nat_eq, Bool, List, refl, sym, ap, subst, ◌∙◌, arith, inr, ⊎_elim}
 use Rattle.std.specs.Prelude.{Option, Some, None, is_some}
 use Rattle.std.specs.Option.{option_map}
 use Rattle.std.specs.FinMap as fin
@@ -85,10 +85,10 @@ module _ (old now : Shown) (f : Files) (i : InodeFile) (name : List ℕ) (reserv
       (loading_spares old now (LeadsTo (loaded old f.inode.tree)) (LeadsTo (loaded now i.tree)) held used (λ v led. record { level = led.level; place = led.place; leads = no_more led.level led.place v led.leads }))
       (inr bare) owner inode (λ t at. absurd (not_some (tree_in f n) t none at)) (λ k there. keeps_ready (k / records_each) (sound.ready k there))
 
-  pub made_stored : now.used ≡ old.used → IsAsSaid (loaded now i.tree) → LeadsNoMore (loaded old f.inode.tree) (loaded now i.tree) → IsStored old f → IsStored now g
-  made_stored used well no_more = inode_stored old now f g n (λ k differs. refl) others sound
+  pub made_stored : now.used ≡ old.used → (known : Bool) → IsAsSaid known (loaded now i.tree) → LeadsNoMore (loaded old f.inode.tree) (loaded now i.tree) → IsStored known old f → IsStored known now g
+  made_stored used known well no_more = inode_stored old now f g n (λ k differs. refl) others sound
       (loading_spares old now (LeadsTo (loaded old f.inode.tree)) (LeadsTo (loaded now i.tree)) held used (λ v led. record { level = led.level; place = led.place; leads = no_more led.level led.place v led.leads }))
-      (inr bare) well (rewritten_indexes (rooted old f.inode) (rooted now i) n s _ makes.rewrites)
+      (inr bare) known well (rewritten_indexes (rooted old f.inode) (rooted now i) n s _ makes.rewrites)
 
   -- what is in use is led to
   pub made_led : now.used ≡ old.used → LeadsNoMore (loaded old f.inode.tree) (loaded now i.tree) → LeadsNoMore (loaded now i.tree) (loaded old f.inode.tree) → IsLed old f → IsLed now g

@@ -1,5 +1,5 @@
 -- A file's tree is placed, and its record has its root already: the tree goes from memory, and the inode block stays.
-use Rattle.std.proofs.Common.{◌≡◌, ◌+◌, ℕ, true, false, cond, nat_eq, Ok, refl, sym, ap, subst, ◌∙◌, arith, ◌≤◌, Err, Result}
+use Rattle.std.proofs.Common.{◌≡◌, ◌+◌, ℕ, Bool, true, false, cond, nat_eq, Ok, refl, sym, ap, subst, ◌∙◌, arith, ◌≤◌, Err, Result}
 use Rattle.fv_files.proofs.Kept.{stored_on_blocks}
 use Rattle.fv_inode.specs.Readying.{IsReadyFile}
 use Rattle.fv_tree.specs.Writing.{IsAlike}
@@ -37,7 +37,7 @@ use Rattle.fv_files.proofs.Changed.{with_trees, owned_stands, kept_inode, own_re
 use Rattle.fv_files.proofs.Flushed.{kept_keeps, kept_lays, kept_stores, kept_places, ready_lays, ready_places, ready_stores, look_lays, look_places}
 use Rattle.fv_files.proofs.Laid.{flushed_spares, gone_led, gone_placed, gone_spares, gone_stands, gone_stored, table_spares_then, gone_laid, gone_leave, lays_then, places_then, stores_then}
 use Rattle.fv_tree.proofs.Stays.{unchanged}
-use Rattle.fv_files.specs.Altering.{FlushesKeep, FlushesPlaces, LeavesTrees}
+use Rattle.fv_files.specs.Altering.{AreLaid, FlushesKeep, FlushesPlaces, LeavesTrees}
 use Rattle.fv_files.proofs.Altered.{leaves_places_trees, places_trees_then}
 use Rattle.fv_files.proofs.Unplaced.{placed_stamps, unplaced_then, keeps_then}
 
@@ -105,9 +105,9 @@ module _ (told : Type 0) (old mid : Shown) (f : Files) (m last : maps.BTreeMap �
     all_spares : SparesOthers old mid f three
     all_spares = table_spares_then old mid mid f two three (first.spares tells sound) (gone_spares mid two last n levels root kept.next kept.becomes.now gone placed_two own spelled reached)
 
-    all_stored : KeepsPlaces old mid → IsLed old f → IsStored old f → IsStored mid three
-    all_stored places led well = gone_stored mid two last n levels root kept.next kept.becomes.now gone placed_two own spelled reached
-        (kept_stores told old mid f m n (Ok root) kept tells places sound led well)
+    all_stored : (known : Bool) → (known ≡ true → KeepsPlaces old mid) → IsLed old f → AreLaid (under old) f → IsStored known old f → IsStored known mid three
+    all_stored known places led laid well = gone_stored mid two last n levels root kept.next kept.becomes.now gone placed_two own spelled reached known
+        (kept_stores told old mid f m n (Ok root) kept known tells places sound led laid well)
 
     all_fits : FitsTable old f mid three
     all_fits =
@@ -131,8 +131,8 @@ module _ (told : Type 0) (old mid : Shown) (f : Files) (m last : maps.BTreeMap �
     cause = tt;
   }
 
-  pub pass_stores : told → KeepsPlaces old mid → KeepsStored old mid f three
-  pass_stores tells places sound = all_stored tells sound places
+  pub pass_stores : (known : Bool) → told → (known ≡ true → KeepsPlaces old mid) → KeepsStored known old mid f three
+  pass_stores known tells places sound = all_stored tells sound known places
 
   -- what it does to the places of the table's trees
   module _ (free : ℕ → Type 0) (anew : told → KeptAnew free old mid f.trees m n) where
@@ -173,9 +173,9 @@ module _ {T : Type 0} (told : Type 0) (old mid new : Shown) (f : Files) (m : map
   pub unset_lays : LaysTrees {T = T} told old new f (with_inode (with_trees f m) i) (Err e)
   unset_lays = lays_then told old mid new f (with_trees f m) (with_inode (with_trees f m) i) root (Err e) unset_first unset_next
 
-  pub unset_stores : told → KeepsPlaces old mid → KeepsStored old new f (with_inode (with_trees f m) i)
-  unset_stores tells places = stores_then told old mid new f (with_trees f m) (with_inode (with_trees f m) i) root unset_first tells (kept_stores told old mid f m n (Ok root) kept tells places)
-      (ready_stores told mid new (with_trees f m) i (Err e) loads unset_alike fewer unset_memory tells)
+  pub unset_stores : (first : ℕ → Type 0) → (told → KeptAnew first old mid f.trees m n) → (known : Bool) → told → (known ≡ true → KeepsPlaces old mid) → KeepsStored known old new f (with_inode (with_trees f m) i)
+  unset_stores first anew known tells places = stores_then told old mid new f (with_trees f m) (with_inode (with_trees f m) i) root known unset_first tells ((kept_places told old mid f m n (Ok root) kept first anew).laid tells)
+      (kept_stores told old mid f m n (Ok root) kept known tells places) (ready_stores told mid new (with_trees f m) i (Err e) loads unset_alike fewer unset_memory known loads.leaves tells)
 
   pub unset_places : (first free : ℕ → Type 0) → ((v : ℕ) → first v → free v) → (told → KeptAnew first old mid f.trees m n) → FlushesPlaces told free old new f (with_inode (with_trees f m) i)
   unset_places first free sooner anew = places_then told first first free sooner sooner old mid new f (with_trees f m) (with_inode (with_trees f m) i) root unset_first (kept_places told old mid f m n (Ok root) kept first anew)
@@ -195,8 +195,9 @@ module _ {S T : Type 0} (told : Type 0) (old mid new : Shown) (f g : Files) (x :
   pub found_lays : LaysTrees told old new f g r
   found_lays = lays_then told old mid new f f g x r found_first lays
 
-  pub found_stores : told → KeepsStored mid new f g → KeepsStored old new f g
-  found_stores tells stores = stores_then told old mid new f f g x found_first tells (λ sound led. stored_on_blocks f old mid looks.untouched.held) stores
+  pub found_stores : (known : Bool) → told → KeepsStored known mid new f g → KeepsStored known old new f g
+  found_stores known tells stores = stores_then told old mid new f f g x known found_first tells ((look_places told (λ v. Unit {0}) old mid f (Ok x) looks).laid tells)
+      (λ sound led laid. stored_on_blocks known f old mid looks.untouched.held) stores
 
   pub found_places : (next free : ℕ → Type 0) → ((v : ℕ) → next v → free v) → FlushesPlaces told next mid new f g → FlushesPlaces told free old new f g
   found_places next free later places = places_then told free next free (λ v is. is) later old mid new f f g x found_first (look_places told free old mid f (Ok x) looks) places

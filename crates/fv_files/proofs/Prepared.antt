@@ -46,7 +46,7 @@ use Rattle.fv_files.proofs.Looked.{Held, counts_failed, counts_done, handed_on, 
 use Rattle.fv_tree.proofs.Brought.{some_same}
 use Rattle.fv_files.proofs.Tables.{file_tree, kept_known, placed_alike, same_placed, stored_known}
 use Rattle.fv_files.proofs.Kept.{own_tree_is, moved_tree, same_trees, file_led, file_stands, file_stored, inode_led, inode_spares, inode_stands, inode_stored, rest_leave}
-use Rattle.fv_files.proofs.Stored.{both_kept, unread_stored}
+use Rattle.fv_files.proofs.Stored.{loaded_said, unread_stored}
 use Rattle.fv_files.proofs.Changed.{with_trees, with_inode, kept_tree_is}
 use Rattle.fv_files.proofs.Steps.{same_room}
 use Rattle.fv_tree.specs.Altering.{Leaves}
@@ -85,7 +85,7 @@ module _ (told well : Type 0) (old mid : Shown) (f g : Files) (info : Info) wher
     failed = first.same;
     untouched = first.looks.untouched;
     stands = λ tells asked. first.stands tells;
-    stored = λ tells asked. first.stored tells;
+    stored = λ tells asked sound known. first.stored tells sound known;
     strays = λ tells sound. first.looks.untouched.strays;
     room = same_room old mid first.looks.untouched;
     counts = counts_failed {S = Bool} old mid (Err e) e first.looks.counts;
@@ -98,7 +98,7 @@ module _ (told well : Type 0) (old mid : Shown) (f g : Files) (info : Info) wher
     failed = λ tells. tt;
     untouched = tt;
     stands = λ tells asked. first.stands tells;
-    stored = λ tells asked. first.stored tells;
+    stored = λ tells asked sound known. first.stored tells sound known;
     strays = λ tells sound. first.looks.untouched.strays;
     room = same_room old mid first.looks.untouched;
     counts = counts_done old mid there x first.looks.counts;
@@ -126,7 +126,7 @@ module _ (told well : Type 0) (old mid : Shown) (f g : Files) (info : Info) wher
       failed = λ tells. on_err_weaker r (λ same. same ∙ first.same tells) (second.failed tells);
       untouched = on_err_weaker r (λ same. untouched_then old mid new first.looks.untouched same) second.untouched;
       stands = λ tells asked sound. second.stands tells (so tells asked) (first.stands tells sound);
-      stored = λ tells asked sound was. second.stored tells (so tells asked) (first.stands tells sound) (first.stored tells sound was);
+      stored = λ tells asked sound known was. second.stored tells (so tells asked) (first.stands tells sound) known (first.stored tells sound known was);
       strays = λ tells sound. second.strays tells (first.stands tells sound) ∙ first.looks.untouched.strays;
       room = (let one = first.looks.untouched.room in let two = second.room in omega (arith, one, two));
       counts = counts_then old mid new r first.looks.counts.calm second.counts;
@@ -200,12 +200,12 @@ module _ (old new : Shown) (f g : Files) (untouched : IsUntouched old new) (alik
       (loading_spares old new (LeadsTo (loaded old f.inode.tree)) (LeadsTo (loaded new g.inode.tree)) untouched.held untouched.used (λ v led. record { level = led.level; place = led.place; leads = no_more led.level led.place v led.leads }))
       (same_trees (under old) (under new) f g 0 (trees 0) (files 0))
 
-  pub readied_stored : (IsAsSaid (loaded old f.inode.tree) → IsAsSaid (loaded new g.inode.tree)) → LeadsNoMore (loaded old f.inode.tree) (loaded new g.inode.tree) → AreStanding old f → IsStored old f → IsStored new g
-  readied_stored well no_more sound was =
+  pub readied_stored : (known : Bool) → (IsAsSaid known (loaded old f.inode.tree) → IsAsSaid known (loaded new g.inode.tree)) → LeadsNoMore (loaded old f.inode.tree) (loaded new g.inode.tree) → AreStanding old f → IsStored known old f → IsStored known new g
+  readied_stored known well no_more sound was =
       let files = alike_files (rooted old f.inode) (rooted new g.inode) alike in
       inode_stored old new f g 0 (λ k differs. trees k) (λ k differs. files k) sound
       (loading_spares old new (LeadsTo (loaded old f.inode.tree)) (LeadsTo (loaded new g.inode.tree)) untouched.held untouched.used (λ v led. record { level = led.level; place = led.place; leads = no_more led.level led.place v led.leads }))
-      (same_trees (under old) (under new) f g 0 (trees 0) (files 0)) (well (was.trees None)) (alike_indexes (rooted old f.inode) (rooted new g.inode) alike) was
+      (same_trees (under old) (under new) f g 0 (trees 0) (files 0)) known (well (was.trees None)) (alike_indexes (rooted old f.inode) (rooted new g.inode) alike) was
 
   pub readied_led : LeadsNoMore (loaded old f.inode.tree) (loaded new g.inode.tree) → LeadsNoMore (loaded new g.inode.tree) (loaded old f.inode.tree) → AreStanding old f → IsLed old f → IsLed new g
   readied_led no_more keeps sound =
@@ -280,13 +280,13 @@ module _ (source : Shown) (f : Files) (m : maps.BTreeMap ℕ Tree) (info : Info)
       (λ u at. (ap (λ (x : Tree). x.owner) (some_same u t (sym at ∙ now)) ∙ ap (λ (s : Rooted). s.owner) (stored_is.is (under source)), ap is_some is.there))
       (λ _. ready)
 
-  pub held_stored : AreStanding source f → IsStored source f → IsStored source g
-  held_stored sound well =
-      let was : IsAsSaid (unread (stored (under source) n is.file.levels is.file.root)) = subst StoredIn was_tree (well.trees (Some n)) in
+  pub held_stored : (known : Bool) → AreStanding source f → IsStored known source f → IsStored known source g
+  held_stored known sound well =
+      let was : IsAsSaid known (unread (stored (under source) n is.file.levels is.file.root)) = subst (StoredIn known) was_tree (well.trees (Some n)) in
       file_stored source source f g n refl others sound
       (loading_spares source source (LeadsFrom (loaded_trees (under source) f) (Some n)) (LeadsFrom (loaded_trees (under source) g) (Some n)) refl refl
       (λ v led. subst (λ o. LeadsIn o v) (sym was_tree) (unread_leads (under source) t (stored (under source) n is.file.levels is.file.root) (own_stored (under source)) v (subst (λ o. LeadsIn o v) now_tree led))))
-      (subst StoredIn (sym now_tree) (unread_stored (under source) t (stored (under source) n is.file.levels is.file.root) (own_stored (under source)) was)) well
+      known (subst (StoredIn known) (sym now_tree) (unread_stored known (under source) t (stored (under source) n is.file.levels is.file.root) (own_stored (under source)) was)) well
 
   pub held_led : AreStanding source f → IsLed source f → IsLed source g
   held_led sound =
@@ -365,8 +365,11 @@ module _ {T : Type 0} (told : Type 0) (old new : Shown) (f : Files) (i : InodeFi
   pub half_stands : told → AreStanding old f → AreStanding new half
   half_stands tells = readied_stands old new f half loads.looks.untouched (alike tells) trees loads.owner (loads.stands tells) (loads.leads tells) loads.keeps_ready
 
-  pub half_stored : told → AreStanding old f → IsStored old f → IsStored new half
-  half_stored tells = readied_stored old new f half loads.looks.untouched (alike tells) trees (both_kept (loaded old f.inode.tree) (loaded new i.tree) (loads.stored_well tells) (loads.tells tells)) (loads.leads tells)
+  pub half_stored : told → AreStanding old f → (known : Bool) → IsStored known old f → IsStored known new half
+  half_stored tells sound known =
+      let stood = sound.trees None in
+      readied_stored old new f half loads.looks.untouched (alike tells) trees known
+      (loaded_said known old new f.inode.tree i.tree loads.owner stood (loads.stands tells stood) loads.looks.untouched.held (loads.stored_well tells) (loads.tells tells) (leaves tells)) (loads.leads tells) sound
 
   pub half_led : told → KeepsLed old new f half
   half_led tells sound led = readied_led old new f half loads.looks.untouched (alike tells) trees (loads.leads tells) (loads.keeps tells) sound led
@@ -430,8 +433,8 @@ module _ (told : Type 0) (old new : Shown) (f : Files) (i : InodeFile) (m : maps
             same = λ tells. held_told new half_way m info holds.tree (known tells) new_one.0 new_one.1 holds.now holds.others ∙ half_same told old new f i f.trees info (Ok true) loads alike leaves (λ k. refl) is tells;
             alike = alike;
             stands = λ tells sound. held_stands new half_way m info holds.tree (known tells) new_one.0 new_one.1 holds.now holds.others ready.way (half_stands told old new f i f.trees info (Ok true) loads alike leaves (λ k. refl) is tells sound);
-            stored = λ tells sound was. held_stored new half_way m info holds.tree (known tells) new_one.0 new_one.1 holds.now holds.others (half_stands told old new f i f.trees info (Ok true) loads alike leaves (λ k. refl) is tells sound)
-                (half_stored told old new f i f.trees info (Ok true) loads alike leaves (λ k. refl) is tells sound was);
+            stored = λ tells sound all was. held_stored new half_way m info holds.tree (known tells) new_one.0 new_one.1 holds.now holds.others all (half_stands told old new f i f.trees info (Ok true) loads alike leaves (λ k. refl) is tells sound)
+                (half_stored told old new f i f.trees info (Ok true) loads alike leaves (λ k. refl) is tells sound all was);
             led = λ tells sound led. held_led new half_way m info holds.tree (known tells) new_one.0 new_one.1 holds.now holds.others (half_stands told old new f i f.trees info (Ok true) loads alike leaves (λ k. refl) is tells sound)
                 (half_led told old new f i f.trees info (Ok true) loads alike leaves (λ k. refl) is tells sound led);
             leaves = λ tells sound. leaves_trees_then (loaded_trees (under old) f) (loaded_trees (under new) half_way) (loaded_trees (under new) whole) (half_leave told old new f i f.trees info (Ok true) loads alike leaves (λ k. refl) is tells sound)

@@ -1,5 +1,5 @@
 -- A table from which a file was taken away.
-use Rattle.std.proofs.Common.{◌≡◌, ◌≢◌, ◌≤◌, ◌+◌, ◌*◌, ◌/◌, ◌^◌, ℕ, true, false, cond, nat_eq, nat_le, inr, Ok, sym, ap, subst, ◌∙◌, ⊎_elim, arith}
+use Rattle.std.proofs.Common.{◌≡◌, ◌≢◌, ◌≤◌, ◌+◌, ◌*◌, ◌/◌, ◌^◌, ℕ, Bool, true, false, cond, nat_eq, nat_le, inr, Ok, sym, ap, subst, ◌∙◌, ⊎_elim, arith}
 use Rattle.std.specs.Prelude.{Option, Some, None, is_some, map}
 use Rattle.std.specs.Option.{option_map}
 use Rattle.std.specs.Ordering.{nat_cmp}
@@ -20,9 +20,10 @@ use Rattle.fv_tree.specs.Writing.{IsAlike}
 use Rattle.fv_tree.specs.Erasing.{HoldsCells, IsGrownFrom}
 use Rattle.fv_tree.specs.Costs.{pending}
 use Rattle.fv_tree.specs.Flushing.{loaded, Stands}
-use Rattle.fv_files.proofs.Stored.{both_kept}
+use Rattle.fv_files.proofs.Stored.{released_said}
 use Rattle.fv_tree.specs.Beside.{LeadsTo, Spares}
 use Rattle.fv_tree.specs.Readying.{IsReady}
+use Rattle.fv_tree.specs.Releasing.{IsDropped}
 use Rattle.fv_inode.specs.Readying.{IsReadyFile}
 use Rattle.fv_tree.proofs.Beside.{removal_spares}
 use Rattle.fv_tree.proofs.Causes.{counts_then}
@@ -48,8 +49,8 @@ use Rattle.fv_files.proofs.Looked.{counts_done}
 use Rattle.fv_files.proofs.Adding.{grown_holds}
 use Rattle.fv_files.proofs.Counted.{few_positions, nothing_left, removal_counted, tree_holds}
 use Rattle.fv_files.proofs.Whole.{none_there}
-use Rattle.fv_files.proofs.Changed.{has_record, own_ready, with_trees, kept_inode, kept_leads, kept_led, kept_others, kept_stands, kept_stored, owned_stored, kept_alter, kept_other, kept_tree_is}
-use Rattle.fv_files.proofs.Steps.{cut_spares, cut_stood, none_some, removal_goes, removal_uses}
+use Rattle.fv_files.proofs.Changed.{has_record, own_ready, with_trees, kept_inode, kept_leads, kept_led, kept_others, kept_stands, kept_stored, kept_alter, kept_other, kept_tree_is}
+use Rattle.fv_files.proofs.Steps.{cut_said, cut_spares, cut_stood, none_some, removal_goes, removal_uses}
 use Rattle.fv_tree.specs.Altering.{Alters}
 use Rattle.fv_tree.proofs.Altered.{leaves_then}
 use Rattle.fv_files.specs.Altering.{AltersIn, AltersPlaces, AltersTrees, AreLaid}
@@ -112,8 +113,8 @@ module _ (old mid new : Shown) (f : Files) (m last : maps.BTreeMap ℕ Tree) (i 
         not_some o w none some = let wrong : false ≡ true = sym (ap is_some none) ∙ ap is_some some in cc
 
     -- what they lead to is as their pointers say,
-    pub removed_stored : IsAsSaid (loaded new i.tree) → IsStored mid g → IsStored new h
-    removed_stored well = inode_stored mid new g h n other_trees other_files middle second (inr (subst IsBare (sym nothing) tt)) well taken.indexes
+    pub removed_stored : (known : Bool) → IsAsSaid known (loaded new i.tree) → IsStored known mid g → IsStored known new h
+    removed_stored known well = inode_stored mid new g h n other_trees other_files middle second (inr (subst IsBare (sym nothing) tt)) known well taken.indexes
 
     -- what is in use is led to,
     pub removed_led : ((v : ℕ) → LeadsFrom (loaded_trees (under mid) g) (Some n) v → ⊥) → LetsGo new (LeadsTo (loaded mid f.inode.tree)) (LeadsTo (loaded new i.tree)) → UsesNoMore mid new (LeadsTo (loaded mid f.inode.tree)) (LeadsTo (loaded new i.tree)) → IsLed mid g → IsLed new h
@@ -180,11 +181,12 @@ module _ (told cut_calls take_calls : Type 0) (old mid new : Shown) (f : Files) 
     remove_stands : HoldsCells (rooted old f.inode) → ((k : ℕ) → k ≢ n → IsReadyFile f.inode k → IsReady i.tree (k / records_each)) → AreStanding new (record { inode = i; trees = last; alloc = f.alloc })
     remove_stands holds others_ready = removed_stands old mid new f m last i n s cuts.tree cuts.next cuts.becomes sound first cuts.removal.owner (cuts.removal.stands tells stood) gone second (takes.removed tells) holds takes.owner (takes.stands tells) others_ready
 
-    remove_stored : HoldsCells (rooted old f.inode) → IsStored old f → IsStored new (record { inode = i; trees = last; alloc = f.alloc })
-    remove_stored holds was =
-        let half = kept_stored old mid f m n cuts.tree cuts.next cuts.becomes sound first (both_kept (loaded old cuts.tree) (loaded mid cuts.next) (cuts.removal.stored_well tells stood) (cuts.removal.tells tells stood) (owned_stored old f n cuts.tree cuts.becomes.was sound was)) was in
-        removed_stored old mid new f m last i n s cuts.tree cuts.next cuts.becomes sound first cuts.removal.owner (cuts.removal.stands tells stood) gone second (takes.removed tells) holds
-        (both_kept (loaded mid f.inode.tree) (loaded new i.tree) (takes.stored_well tells (half_way.trees None)) (takes.tells tells (half_way.trees None)) (half.trees None)) half
+    remove_stored : HoldsCells (rooted old f.inode) → (known : Bool) → IsStored known old f → IsStored known new (record { inode = i; trees = last; alloc = f.alloc })
+    remove_stored holds known was =
+        let half = kept_stored old mid f m n cuts.tree cuts.next cuts.becomes sound first known (cut_said told cut_calls (Unit {0}) old mid f m n 0 start s own cuts tells sound known was) was in
+        let inode = half_way.trees None in
+        removed_stored old mid new f m last i n s cuts.tree cuts.next cuts.becomes sound first cuts.removal.owner (cuts.removal.stands tells stood) gone second (takes.removed tells) holds known
+        (released_said known mid new f.inode.tree i.tree (IsDropped (under mid) f.inode.tree i.tree) takes.owner inode (takes.stands tells inode) (takes.released tells) (takes.stored_well tells inode) (takes.tells tells inode) s (takes.alters tells inode) (half.trees None)) half
 
     remove_alters : HoldsCells (rooted old f.inode) → AltersTrees s (loaded_trees (under old) f) (loaded_trees (under new) (record { inode = i; trees = last; alloc = f.alloc }))
     remove_alters holds b =
@@ -249,7 +251,7 @@ module _ (told cut_calls take_calls : Type 0) (old mid new : Shown) (f : Files) 
         failed = λ tells. tt;
         untouched = tt;
         stands = λ tells holds sound. remove_stands tells sound holds others_ready;
-        stored = λ tells holds sound was. remove_stored tells sound holds was;
+        stored = λ tells holds sound known was. remove_stored tells sound holds known was;
         room = (let one = cuts.removal.room in let two = takes.room in omega (arith, one, two));
         strays = λ tells sound. takes.strays tells ((half_way tells sound).trees None) ∙ cuts.removal.strays tells (stood tells sound);
         counts = counts_done old new count x both;

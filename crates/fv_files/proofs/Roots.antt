@@ -1,9 +1,10 @@
--- The roots of files in an inode block: their places are known, where all that the files' trees lead to is as their pointers say.
+-- The roots of files in an inode block: their places are known, where every place is known and all that the files' trees lead to is as their
+-- pointers say.
 --
 -- An example: the record of file 3 has the root with VVBN 9. Nothing of file 3 is in memory, and each pointer of its tree tells its place.
 -- The first of those is the root itself.
-use Rattle.std.proofs.Common.{◌≡◌, ◌≢◌, ◌<◌, ◌+◌, ◌*◌, ◌/◌, ◌%◌, ℕ, zero, suc, inl, inr, Bool, true, false, not, ◌&&◌, ◌||◌, ◌==◌, length, get_or, drop, Ok, Err, Result, refl, sym, ap, subst, ◌∙◌, arith}
-use Rattle.std.specs.Prelude.{List, [], ◌∷◌, Option, Some, None, IfOk, is_ok, if◌then◌else◌}
+use Rattle.std.proofs.Common.{◌≡◌, ◌≢◌, ◌<◌, ◌+◌, ◌*◌, ℕ, suc, inl, inr, Bool, true, false, not, ◌&&◌, ◌||◌, ◌==◌, length, get_or, drop, Ok, Err, Result, refl, sym, ap, subst, ◌∙◌, arith}
+use Rattle.std.specs.Prelude.{List, [], ◌∷◌, Some, None, IfOk, is_ok, if◌then◌else◌}
 use Rattle.std.specs.Option.{option_map}
 use Rattle.std.specs.List.{list_any}
 use Rattle.std.proofs.lemmas.Bool.{cases_eq}
@@ -18,10 +19,10 @@ use Rattle.fv_codec.specs.Blocks.{greatest_word, pointer_fields, asks_pointer, p
 use Rattle.fv_codec.proofs.Ranges.{as_said, within}
 use Rattle.fv_codec.proofs.Picked.{record_of, record_said}
 use Rattle.fv_codec.proofs.Renewed.{sixteen_of}
-use Rattle.fv_tables.specs.Spelled.{Under, Rooted, block_at, pointer_at, stored}
+use Rattle.fv_tables.specs.Spelled.{Rooted, pointer_at, stored}
 use Rattle.fv_tables.specs.Told.{free_record, records_in, used_record, records_of, file_at}
 use Rattle.fv_tree.specs.Sources.{Shown}
-use Rattle.fv_tree.specs.Standing.{standing, under}
+use Rattle.fv_tree.specs.Standing.{under}
 use Rattle.fv_tree.specs.Flushing.{Loaded, loaded, has_unknown_root, is_unknown}
 use Rattle.fv_tree.specs.Beside.{unread}
 use Rattle.fv_tree.specs.Stored.{TellsPlaces}
@@ -30,7 +31,7 @@ use Rattle.fv_tree.proofs.Ways.{own_way}
 use Rattle.fv_inode.specs.Files.{rooted}
 use Rattle.fv_inode.proofs.Slots.{file_is}
 use Rattle.fv_files.specs.declared.files.Files.{Files}
-use Rattle.fv_files.specs.Apart.{StoredIn}
+use Rattle.fv_files.specs.Apart.{IsAsSaid, StoredIn}
 use Rattle.fv_files.specs.Tables.{tree_in, file_loaded, loaded_trees, IsStored}
 
 -- ---- tests
@@ -104,9 +105,10 @@ root_known t tells some none =
     let top : pointer_at t t.levels 0 ≡ t.root = (own_way t).top 0 in
     tells t.levels 0 (pointer_at t t.levels 0).vvbn (record { some = λ e. some (sym (ap (λ (p : Pointer). p.stamp) top) ∙ e); placed = refl; vvbn = refl }) (ap (λ (p : Pointer). p.pvbn) top ∙ none)
 
-pub table_roots : (source : Shown) (f : Files) → ((n : ℕ) → tree_in f n ≡ None) → IsStored source f → KnowsRoots (loaded source f.inode.tree)
+pub table_roots : (source : Shown) (f : Files) → ((n : ℕ) → tree_in f n ≡ None) → IsStored true source f → KnowsRoots (loaded source f.inode.tree)
 table_roots source f none well place block changed at = block_roots f.inode.tree.owner block (λ k r lt used.
     let n = 16 * place + k in
     let there : file_at (rooted source f.inode) n ≡ Some r = file_is (rooted source f.inode) place k lt ∙ ap (λ b. used_record (get_or (records_in b) k free_record)) at ∙ used in
     let is : loaded_trees (under source) f (Some n) ≡ Some (unread (stored (under source) n r.levels r.root)) = (λ j. option_map (λ r. file_loaded (under source) n r (none n j)) (there j)) in
-    root_known (stored (under source) n r.levels r.root) (subst StoredIn is (well.trees (Some n))).1)
+    let own : IsAsSaid true (unread (stored (under source) n r.levels r.root)) = subst (StoredIn true) is (well.trees (Some n)) in
+    root_known (stored (under source) n r.levels r.root) (own.places refl))

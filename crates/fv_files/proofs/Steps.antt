@@ -10,21 +10,23 @@ use Rattle.fv_tables.specs.Told.{file_at, records_each}
 use Rattle.fv_tree.specs.declared.kept.Tree.{Tree}
 use Rattle.fv_tree.specs.Sources.{Shown, IsUntouched}
 use Rattle.fv_tree.specs.Standing.{standing, under, Fails}
-use Rattle.fv_tree.specs.Flushing.{Stands, loaded, loaded_over, changed_of}
-use Rattle.fv_files.proofs.Stored.{both_kept}
+use Rattle.fv_tree.specs.Flushing.{Stands, loaded, changed_of}
 use Rattle.fv_tree.specs.Leading.{LeadsNoMore}
 use Rattle.fv_tree.specs.Removal.{Removal}
+use Rattle.fv_tree.specs.Releasing.{IsDropped}
 use Rattle.fv_tree.specs.Erasing.{HoldsCells}
 use Rattle.fv_tree.specs.Beside.{LeadsTo, Spares}
 use Rattle.fv_tree.proofs.Beside.{loading_spares, removal_spares}
 use Rattle.fv_inode.specs.declared.file.InodeFile.{InodeFile}
 use Rattle.fv_inode.specs.Changing.{Rewrites}
 use Rattle.fv_files.specs.declared.files.Files.{Files}
-use Rattle.fv_files.specs.Tables.{tree_in, AreStanding, loaded_trees}
+use Rattle.fv_files.specs.Apart.{IsAsSaid}
+use Rattle.fv_files.specs.Tables.{tree_in, AreStanding, IsStored, loaded_trees}
 use Rattle.fv_files.specs.Calls.{Changes, KeepsLed, KeptFails, PutsKept, CutsKept}
 use Rattle.fv_files.specs.Pending.{pending_trees}
 use Rattle.fv_files.proofs.Beside.{LetsGo, UsesNoMore, loading_lets_go, loading_uses}
 use Rattle.fv_files.proofs.Looked.{counts_failed}
+use Rattle.fv_files.proofs.Stored.{held_said, loaded_said, released_said, stamped_said}
 use Rattle.fv_tree.proofs.Brought.{some_same}
 use Rattle.fv_files.proofs.Changed.{with_trees, failed_told, kept_led, kept_stands, both_led, both_stand, owned_stands, owned_stored, kept_stored, both_stored, both_alter, both_laid, kept_laid, kept_leave}
 use Rattle.fv_tree.specs.Altering.{AltersHeld}
@@ -69,14 +71,20 @@ module _ (told calls : Type 0) (old new : Shown) (t u : Tree) (gone : ℕ → Bo
 -- ---- a cell is written
 
 module _ (told well : Type 0) (old new : Shown) (f : Files) (m : maps.BTreeMap ℕ Tree) (n index s : ℕ) (block : List ℕ) where
+  -- what the tree leads to is as its pointers say
+  put_said : (r : Result Unit BlockFault) (puts : PutsKept told old new f.trees m n index s block r) → told → AreStanding old f → (known : Bool) → IsStored known old f → IsAsSaid known (loaded new puts.next)
+  put_said r puts tells sound known was =
+      let stood = owned_stands old f n puts.tree puts.becomes.was sound in
+      stamped_said known old new puts.tree puts.next puts.owner stood (puts.stands tells stood) puts.untouched.held (puts.stored_well tells) (puts.tells tells) s (puts.alters tells)
+      (owned_stored known old f n puts.tree puts.becomes.was sound was)
+
   pub put_failed : (e : BlockFault) → PutsKept told old new f.trees m n index s block (Err e) → Changes {T = Unit {0}} told well old new f (with_trees f m) (KeptFails told old new f n) (Err e)
   put_failed e puts = record {
     failed = λ tells. failed_told old new f m n puts.tree puts.next puts.becomes puts.untouched.held (puts.failed tells);
     untouched = puts.untouched;
     stands = λ tells asked sound. kept_stands old new f m n puts.tree puts.next puts.becomes sound (loaded_spares old new puts.tree puts.next puts.untouched (puts.leads tells)) puts.owner
         (puts.stands tells (owned_stands old f n puts.tree puts.becomes.was sound));
-    stored = λ tells asked sound was. kept_stored old new f m n puts.tree puts.next puts.becomes sound (loaded_spares old new puts.tree puts.next puts.untouched (puts.leads tells))
-        (both_kept (loaded old puts.tree) (loaded new puts.next) (puts.stored_well tells) (puts.tells tells) (owned_stored old f n puts.tree puts.becomes.was sound was)) was;
+    stored = λ tells asked sound known was. kept_stored old new f m n puts.tree puts.next puts.becomes sound (loaded_spares old new puts.tree puts.next puts.untouched (puts.leads tells)) known (put_said (Err e) puts tells sound known was) was;
     strays = λ tells sound. puts.untouched.strays;
     room = same_room old new puts.untouched;
     counts = puts.counts;
@@ -90,8 +98,8 @@ module _ (told well : Type 0) (old new : Shown) (f : Files) (m : maps.BTreeMap �
     untouched = tt;
     stands = λ tells asked sound. both_stand old new f m n puts.tree puts.next puts.becomes i s change is.rewrites is.alters.owner is.alters.sound is.alters.leads is.alters.keeps_ready sound (loaded_spares old new puts.tree puts.next puts.untouched (puts.leads tells)) puts.owner
         (puts.stands tells (owned_stands old f n puts.tree puts.becomes.was sound));
-    stored = λ tells asked sound was. both_stored old new f m n puts.tree puts.next puts.becomes i s change is.rewrites is.alters.owner is.alters.sound is.alters.leads is.alters.keeps_ready sound (loaded_spares old new puts.tree puts.next puts.untouched (puts.leads tells)) puts.owner
-        (puts.stands tells (owned_stands old f n puts.tree puts.becomes.was sound)) (λ blocks. both_kept (loaded_over blocks f.inode.tree) (loaded_over blocks i.tree) (is.alters.stored_well blocks) (is.alters.tells blocks)) (both_kept (loaded old puts.tree) (loaded new puts.next) (puts.stored_well tells) (puts.tells tells) (owned_stored old f n puts.tree puts.becomes.was sound was)) was;
+    stored = λ tells asked sound known was. both_stored old new f m n puts.tree puts.next puts.becomes i s change is.rewrites is.alters.owner is.alters.sound is.alters.leads is.alters.keeps_ready sound (loaded_spares old new puts.tree puts.next puts.untouched (puts.leads tells)) puts.owner
+        (puts.stands tells (owned_stands old f n puts.tree puts.becomes.was sound)) known (held_said known f.inode.tree i.tree s is.alters) (put_said (Ok x) puts tells sound known was) was;
     strays = λ tells sound. puts.untouched.strays;
     room = same_room old new puts.untouched;
     counts = puts.counts;
@@ -145,9 +153,10 @@ module _ (told calls well : Type 0) (old new : Shown) (f : Files) (m : maps.BTre
     stands = λ tells asked sound.
         let stood = owned_stands old f n cuts.tree cuts.becomes.was sound in
         kept_stands old new f m n cuts.tree cuts.next cuts.becomes sound (loaded_spares old new cuts.tree cuts.next is.untouched (is.leads tells stood)) is.owner (is.stands tells stood);
-    stored = λ tells asked sound was.
+    stored = λ tells asked sound known was.
         let stood = owned_stands old f n cuts.tree cuts.becomes.was sound in
-        kept_stored old new f m n cuts.tree cuts.next cuts.becomes sound (loaded_spares old new cuts.tree cuts.next is.untouched (is.leads tells stood)) (both_kept (loaded old cuts.tree) (loaded new cuts.next) (is.stored_well tells stood) (is.tells tells stood) (owned_stored old f n cuts.tree cuts.becomes.was sound was)) was;
+        kept_stored old new f m n cuts.tree cuts.next cuts.becomes sound (loaded_spares old new cuts.tree cuts.next is.untouched (is.leads tells stood)) known
+        (loaded_said known old new cuts.tree cuts.next is.owner stood (is.stands tells stood) is.untouched.held (is.stored_well tells stood) (is.tells tells stood) (is.leaves tells) (owned_stored known old f n cuts.tree cuts.becomes.was sound was)) was;
     strays = λ tells sound. is.untouched.strays;
     room = is.room;
     counts = counts_failed {S = ℕ} old new (Err e) e is.counts;
@@ -161,15 +170,18 @@ module _ (told calls well : Type 0) (old new : Shown) (f : Files) (m : maps.BTre
     pub cut_spares : Spares old new (LeadsTo (loaded old cuts.tree)) (LeadsTo (loaded new cuts.next))
     cut_spares = removal_spares old new cuts.tree cuts.next (cuts.removal.released tells) (cuts.removal.leads tells cut_stood)
 
+    pub cut_said : (known : Bool) → IsStored known old f → IsAsSaid known (loaded new cuts.next)
+    cut_said known was = released_said known old new cuts.tree cuts.next (IsDropped (under old) cuts.tree cuts.next) cuts.removal.owner cut_stood (cuts.removal.stands tells cut_stood) (cuts.removal.released tells) (cuts.removal.stored_well tells cut_stood)
+        (cuts.removal.tells tells cut_stood) s (cuts.removal.alters tells cut_stood) (owned_stored known old f n cuts.tree cuts.becomes.was sound was)
+
   pub cut_done : (i : InodeFile) (change : InodeRecord → InodeRecord) (count : ℕ) → CutsKept told calls old new f.trees m n length start s (Ok count) → Restates f i n s change
       → Changes {T = ℕ} told well old new f (record { inode = i; trees = m; alloc = f.alloc }) (KeptFails told old new f n) (Ok count)
   cut_done i change count cuts is = record {
     failed = λ tells. tt;
     untouched = tt;
     stands = λ tells asked sound. both_stand old new f m n cuts.tree cuts.next cuts.becomes i s change is.rewrites is.alters.owner is.alters.sound is.alters.leads is.alters.keeps_ready sound (cut_spares count cuts tells sound) cuts.removal.owner (cuts.removal.stands tells (cut_stood count cuts tells sound));
-    stored = λ tells asked sound was. both_stored old new f m n cuts.tree cuts.next cuts.becomes i s change is.rewrites is.alters.owner is.alters.sound is.alters.leads is.alters.keeps_ready sound (cut_spares count cuts tells sound) cuts.removal.owner (cuts.removal.stands tells (cut_stood count cuts tells sound))
-        (λ blocks. both_kept (loaded_over blocks f.inode.tree) (loaded_over blocks i.tree) (is.alters.stored_well blocks) (is.alters.tells blocks))
-        (both_kept (loaded old cuts.tree) (loaded new cuts.next) (cuts.removal.stored_well tells (cut_stood count cuts tells sound)) (cuts.removal.tells tells (cut_stood count cuts tells sound)) (owned_stored old f n cuts.tree cuts.becomes.was sound was)) was;
+    stored = λ tells asked sound known was. both_stored old new f m n cuts.tree cuts.next cuts.becomes i s change is.rewrites is.alters.owner is.alters.sound is.alters.leads is.alters.keeps_ready sound (cut_spares count cuts tells sound) cuts.removal.owner (cuts.removal.stands tells (cut_stood count cuts tells sound))
+        known (held_said known f.inode.tree i.tree s is.alters) (cut_said count cuts tells sound known was) was;
     strays = λ tells sound. cuts.removal.strays tells (cut_stood count cuts tells sound);
     room = cuts.removal.room;
     counts = cuts.removal.counts;

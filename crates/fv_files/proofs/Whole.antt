@@ -76,12 +76,12 @@ module _ (f : Files) (levels : ℕ) (root : Pointer) (is : (blocks : Under) → 
     }
 
   -- what it leads to is as its pointers say
-  pub stored_wells : maps.btree_map_len f.trees ≡ 0 → (blocks : Under) → IsStoredUnder blocks levels root → IsStoredOn blocks f
-  stored_wells none blocks well = record { trees = each; inodes = subst NamesIndexes (sym (is blocks)) well.inodes }
+  pub stored_wells : maps.btree_map_len f.trees ≡ 0 → (known : Bool) (blocks : Under) → IsStoredUnder known blocks levels root → IsStoredOn known blocks f
+  stored_wells none known blocks well = record { trees = each; inodes = subst NamesIndexes (sym (is blocks)) well.inodes }
     where
-      each : (a : Option ℕ) → StoredIn (loaded_trees blocks f a)
-      each None = unread_stored blocks f.inode.tree (stored blocks greatest_word levels root) (is blocks) (well.trees None)
-      each (Some n) = subst StoredIn (sym (file_is none blocks n)) (well.trees (Some n))
+      each : (a : Option ℕ) → StoredIn known (loaded_trees blocks f a)
+      each None = unread_stored known blocks f.inode.tree (stored blocks greatest_word levels root) (is blocks) (well.trees None)
+      each (Some n) = subst (StoredIn known) (sym (file_is none blocks n)) (well.trees (Some n))
 
   stored_there : maps.btree_map_len f.trees ≡ 0 → (blocks : Under) (a : Option ℕ) (v : ℕ) → LeadsFrom (stored_trees blocks levels root) a v → LeadsFrom (loaded_trees blocks f) a v
   stored_there none blocks None v led = reread_leads blocks f.inode.tree greatest_word levels root (is blocks) v led

@@ -2,7 +2,7 @@
 --
 -- A table's trees are numbered by `None`, its inode file, and `Some n`, the tree of file n. An example: where two records lead to one
 -- root, its VVBN is led to from two trees, so the trees of that table don't lie apart.
-use Rattle.std.specs.Prelude.{◌≡◌, ◌≢◌, ℕ, Option, Some, None}
+use Rattle.std.specs.Prelude.{◌≡◌, ◌≢◌, ℕ, Bool, true, Option, Some, None}
 use Rattle.std.specs.Option.{option_map}
 use Rattle.fv_codec.specs.declared.pointer.Pointer.{Pointer}
 use Rattle.fv_codec.specs.Blocks.{greatest_word}
@@ -12,6 +12,7 @@ use Rattle.fv_tree.specs.Sources.{Use}
 use Rattle.fv_tree.specs.Flushing.{Loaded, IsSound}
 use Rattle.fv_tree.specs.Beside.{unread, LeadsTo}
 use Rattle.fv_tree.specs.Stored.{IsStoredWell, TellsPlaces}
+use Rattle.fv_tree.specs.Unknown.{LeadsUnknown}
 
 -- the trees of a table as they stand to their blocks
 abbrev pub Trees : Type 0
@@ -43,18 +44,21 @@ AreApart x = (a b : Option ℕ) (v : ℕ) → a ≢ b → LeadsFrom x a v → Le
 abbrev pub AreLed : (ℕ → Option Use) → Trees → Type 0
 AreLed used x = (v : ℕ) → ((a : Option ℕ) → LeadsFrom x a v → ⊥) → used v ≡ None
 
--- What a tree leads to is as its pointers say: the block of each node names its position, and each pointer tells its place.
-abbrev pub IsAsSaid : Loaded → Type 0
-IsAsSaid s = IsStoredWell s × TellsPlaces s
+-- What a tree leads to is as its pointers say. The block of each node names its position. An unknown pointer stands only where the one that leads
+-- to it is unknown, too. In a volume of which every place is known each pointer tells its place.
+pub record IsAsSaid (known : Bool) (s : Loaded) : Type 0 where
+  pub positions : IsStoredWell s
+  pub leads : LeadsUnknown s
+  pub places : known ≡ true → TellsPlaces s
 
 -- so it is of a tree, where there is one
-abbrev pub StoredIn : Option Loaded → Type 0
-StoredIn None = Unit {0}
-StoredIn (Some s) = IsAsSaid s
+abbrev pub StoredIn : Bool → Option Loaded → Type 0
+StoredIn known None = Unit {0}
+StoredIn known (Some s) = IsAsSaid known s
 
 -- so it is of each tree of a table
-abbrev pub AreStoredWell : Trees → Type 0
-AreStoredWell x = (a : Option ℕ) → StoredIn (x a)
+abbrev pub AreStoredWell : Bool → Trees → Type 0
+AreStoredWell known x = (a : Option ℕ) → StoredIn known (x a)
 
 -- the trees of a table of which nothing is in memory
 abbrev pub stored_trees : Under → ℕ → Pointer → Trees

@@ -14,20 +14,21 @@ use Rattle.fv_tree.specs.declared.kept.Tree.{Tree}
 use Rattle.fv_tree.specs.Sources.{Shown, Counts, IsUntouched, Use}
 use Rattle.fv_tree.specs.Standing.{standing, under, Fails}
 use Rattle.fv_tree.specs.Writing.{IsAlike, Writes, Remains}
-use Rattle.fv_tree.specs.Flushing.{IsSound, ReachesOnce, Stands, loaded, loaded_over}
+use Rattle.fv_tree.specs.Flushing.{Loaded, IsSound, ReachesOnce, Stands, loaded, loaded_over}
 use Rattle.fv_tree.specs.Altering.{Alters, Leaves}
 use Rattle.fv_tree.specs.Leading.{LeadsNoMore}
 use Rattle.fv_tree.specs.Stored.{IsStoredWell, TellsPlaces}
 use Rattle.fv_tree.specs.Removal.{Removal}
 use Rattle.fv_tree.specs.Erasing.{HoldsCells}
-use Rattle.fv_tree.specs.Costs.{pending, way_cost, Rises}
+use Rattle.fv_tree.specs.Costs.{pending, Rises}
+use Rattle.fv_tree.specs.Lookups.{way_cost}
 use Rattle.fv_inode.specs.declared.info.Info.{Info}
 use Rattle.fv_inode.specs.Files.{rooted, IsInfo}
 use Rattle.fv_inode.specs.Readying.{IsReadyFile}
 use Rattle.fv_files.specs.declared.files.Files.{Files}
 use Rattle.fv_tree.specs.Beside.{Spares}
-use Rattle.fv_files.specs.Apart.{LeadsAny}
-use Rattle.fv_files.specs.Tables.{table_in, tree_in, tree_known, loaded_trees, AreStanding, IsInfoOf, IsLed, IsStored, IsTold}
+use Rattle.fv_files.specs.Apart.{LeadsAny, Trees}
+use Rattle.fv_files.specs.Tables.{table_in, tree_in, tree_known, loaded_trees, AreStanding, IsInfoOf, IsLed, IsStored, IsStoredUnder, IsTold}
 use Rattle.fv_files.specs.Altering.{AreLaid, LeavesTrees}
 use Rattle.fv_files.specs.Failing.{Looks}
 use Rattle.fv_files.specs.Pending.{pending_trees}
@@ -43,9 +44,14 @@ or_zeros (Some block) = block
 abbrev pub GivesCell : Standing → ℕ → ℕ → List ℕ → Type 0
 GivesCell x n i into = (f : File) → file_in x n ≡ Some f → into ≡ or_zeros (fin.get f.blocks i)
 
--- what the pointers cost that are followed from the root of a table to the record of a file, and from there to its cell i
-abbrev pub path_cost : (Pointer → ℕ) → Standing → Info → ℕ → ℕ
-path_cost cost x info i = way_cost cost x.inode (info.number / records_each) + way_cost cost (tree_known x info) i
+-- what the pointers cost that are followed to a cell of a tree, where there is one
+abbrev pub way_in : (Pointer → ℕ) → Option Loaded → ℕ → ℕ
+way_in cost None i = 0
+way_in cost (Some s) i = way_cost cost s i
+
+-- what those cost that are followed from the root of a table to the record of file n, and from there to its cell i
+abbrev pub path_cost : (Pointer → ℕ) → Trees → ℕ → ℕ → ℕ
+path_cost cost trees n i = way_in cost (trees None) (n / records_each) + way_in cost (trees (Some n)) i
 
 -- ---- writes
 
@@ -105,7 +111,7 @@ pub record Changes {T : Type 0} (told well : Type 0) (old new : Shown) (f g : Fi
   pub failed : told → OnErr result (IsTold old f new g)
   pub untouched : OnErr result (IsUntouched old new)
   pub stands : told → well → AreStanding old f → AreStanding new g
-  pub stored : told → well → AreStanding old f → IsStored old f → IsStored new g
+  pub stored : told → well → AreStanding old f → (known : Bool) → IsStored known old f → IsStored known new g
   pub strays : told → AreStanding old f → new.strays ≡ old.strays
   pub room : old.room ≤ new.room
   pub counts : Counts old new result
@@ -120,9 +126,14 @@ KeepsLed old new f g = AreStanding old f → IsLed old f → IsLed new g
 abbrev pub SparesOthers : Shown → Shown → Files → Files → Type 0
 SparesOthers old new f g = Spares old new (LeadsAny (loaded_trees (under old) f)) (LeadsAny (loaded_trees (under new) g))
 
--- what such a table leads to stays as its pointers say
-abbrev pub KeepsStored : Shown → Shown → Files → Files → Type 0
-KeepsStored old new f g = AreStanding old f → IsLed old f → IsStored old f → IsStored new g
+-- What such a table leads to stays as its pointers say, whether every place is known (`known`) or not. Where trees in memory aren't as their
+-- records say, their inode blocks have changed.
+abbrev pub KeepsStored : Bool → Shown → Shown → Files → Files → Type 0
+KeepsStored known old new f g = AreStanding old f → IsLed old f → AreLaid (under old) f → IsStored known old f → IsStored known new g
+
+-- so it is with the table under the root that it has then
+abbrev pub StoresUnder : Bool → Shown → Files → Under → ℕ → Pointer → Type 0
+StoresUnder known old f blocks levels root = AreStanding old f → IsLed old f → AreLaid (under old) f → IsStored known old f → IsStoredUnder known blocks levels root
 
 -- the tree of file n, which is in memory, failed
 abbrev pub KeptFails : Type 0 → Shown → Shown → Files → ℕ → BlockFault → Type 0
@@ -141,7 +152,7 @@ pub record Prepares (told : Type 0) (old new : Shown) (f g : Files) (info : Info
   pub same : told → IsTold old f new g
   pub alike : told → IsAlike (rooted old f.inode) (rooted new g.inode)
   pub stands : told → AreStanding old f → AreStanding new g
-  pub stored : told → AreStanding old f → IsStored old f → IsStored new g
+  pub stored : told → AreStanding old f → (known : Bool) → IsStored known old f → IsStored known new g
   pub led : told → KeepsLed old new f g
   pub leaves : told → AreStanding old f → LeavesTrees (loaded_trees (under old) f) (loaded_trees (under new) g)
   pub laid : told → AreStanding old f → AreLaid (under old) f → AreLaid (under new) g

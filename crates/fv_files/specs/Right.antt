@@ -1,4 +1,4 @@
--- The trees of a table whose pointers are right, so that they may be read.
+-- The trees of a table whose pointers are right, so that a call may load by them, and those that may be read by their pointers alone.
 use Rattle.std.specs.Prelude.{◌≡◌, ℕ, Option, Some, None}
 use Rattle.fv_tables.specs.Spelled.{Under, stored}
 use Rattle.fv_tree.specs.declared.kept.Tree.{Tree}
@@ -6,7 +6,7 @@ use Rattle.fv_tree.specs.Sources.{Shown}
 use Rattle.fv_tree.specs.Standing.{under}
 use Rattle.fv_tree.specs.Flushing.{Loaded, loaded_over}
 use Rattle.fv_tree.specs.Beside.{unread}
-use Rattle.fv_tree.specs.Places.{AreRight, HasRightPlaces}
+use Rattle.fv_tree.specs.Places.{AreRight, HasRightPlaces, MayRead}
 use Rattle.fv_inode.specs.declared.info.Info.{Info}
 use Rattle.fv_files.specs.declared.files.Files.{Files}
 use Rattle.fv_files.specs.Tables.{loaded_trees, tree_in}
@@ -32,3 +32,18 @@ HasRightFile source f info = AreRight source.right (known_loaded (under source) 
 -- So are those of the tree of a number in memory, where there is one.
 abbrev pub HasRightKept : Shown → Option Tree → Type 0
 HasRightKept source o = (t : Tree) → o ≡ Some t → HasRightPlaces source t
+
+-- ---- trees that may be read by their pointers alone where they didn't change
+
+-- a tree, where there is one, may be read so
+abbrev pub ReadableIn : (ℕ → ℕ → Type 0) → Option Loaded → Type 0
+ReadableIn right None = Unit {0}
+ReadableIn right (Some s) = MayRead right s
+
+-- so may each tree of a table
+abbrev pub AreReadableTrees : Shown → Files → Type 0
+AreReadableTrees source f = (a : Option ℕ) → ReadableIn source.right (loaded_trees (under source) f a)
+
+-- so may the tree of a file
+abbrev pub IsReadableFile : Shown → Files → Info → Type 0
+IsReadableFile source f info = MayRead source.right (known_loaded (under source) info (tree_in f info.number))

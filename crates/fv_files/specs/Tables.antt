@@ -1,5 +1,5 @@
 -- A table whose changed trees are in memory, and how it stands to its blocks.
-use Rattle.std.specs.Prelude.{◌≡◌, ℕ, ◌/◌, true, Option, Some, None, is_some}
+use Rattle.std.specs.Prelude.{◌≡◌, ℕ, ◌/◌, Bool, true, Option, Some, None, is_some}
 use Rattle.std.specs.Ordering.{nat_cmp}
 use Rattle.std.specs.Option.{option_map}
 use Rattle.std.specs.BTreeMap as tree
@@ -67,17 +67,17 @@ pub record AreReached (blocks : Under) (used : ℕ → Option Use) (levels : ℕ
   pub files : (n : ℕ) (r : InodeRecord) → file_at (stored blocks greatest_word levels root) n ≡ Some r → ReachesOnce used (stored blocks n r.levels r.root)
   pub apart : AreApart (stored_trees blocks levels root)
 
--- What the table leads to is as its pointers say, and each inode block names its index.
-pub record IsStoredOn (blocks : Under) (f : Files) : Type 0 where
-  pub trees : AreStoredWell (loaded_trees blocks f)
+-- What the table leads to is as its pointers say, and each inode block names its index. `known` says whether every place is known.
+pub record IsStoredOn (known : Bool) (blocks : Under) (f : Files) : Type 0 where
+  pub trees : AreStoredWell known (loaded_trees blocks f)
   pub inodes : NamesIndexes (standing blocks f.inode.tree)
 
-abbrev pub IsStored : Shown → Files → Type 0
-IsStored source = IsStoredOn (under source)
+abbrev pub IsStored : Bool → Shown → Files → Type 0
+IsStored known source = IsStoredOn known (under source)
 
 -- So it is with the table under a root.
-pub record IsStoredUnder (blocks : Under) (levels : ℕ) (root : Pointer) : Type 0 where
-  pub trees : AreStoredWell (stored_trees blocks levels root)
+pub record IsStoredUnder (known : Bool) (blocks : Under) (levels : ℕ) (root : Pointer) : Type 0 where
+  pub trees : AreStoredWell known (stored_trees blocks levels root)
   pub inodes : NamesIndexes (stored blocks greatest_word levels root)
 
 -- what is known of a file is what its record says

@@ -1,6 +1,6 @@
 //! A table of which what changed is in memory.
 
-ghost use Rattle.std.specs.Prelude.{◌≡◌, ◌≤◌, ℕ, Option, None};
+ghost use Rattle.std.specs.Prelude.{◌≡◌, ◌≤◌, ℕ, Bool, Option, None};
 ghost use Rattle.fv_codec.specs.Blocks.{IsPointer};
 ghost use Rattle.fv_tables.specs.Spelled.{Under, hole};
 ghost use Rattle.fv_tables.specs.Told.{standing_at};
@@ -35,7 +35,7 @@ impl Files {
     pub fn new(alloc: Global) -> Files
         ensures stored { (blocks : Under) → standing_in blocks (changed result) ≡ standing_at blocks 0 hole }
         ensures none { (n : ℕ) → tree_in result n ≡ None }
-        ensures well { (blocks : Under) → IsStoredOn blocks result }
+        ensures well { (known : Bool) (blocks : Under) → IsStoredOn known blocks result }
         ensures laid { (blocks : Under) → AreLaid blocks result }
         ensures pending { pending_in result ≡ 0 }
     {
@@ -55,7 +55,7 @@ impl Files {
         ensures stands { (blocks : Under) (used : ℕ → Option Use) → AreReached blocks used levels root → AreSound blocks used result }
         ensures alike { (blocks : Under) → AreAlike (loaded_trees blocks result) (stored_trees blocks levels root) }
         ensures led { (blocks : Under) (used : ℕ → Option Use) → AreLed used (stored_trees blocks levels root) → AreLed used (loaded_trees blocks result) }
-        ensures well { (blocks : Under) → IsStoredUnder blocks levels root → IsStoredOn blocks result }
+        ensures well { (known : Bool) (blocks : Under) → IsStoredUnder known blocks levels root → IsStoredOn known blocks result }
         ensures laid { (blocks : Under) → AreLaid blocks result }
         ensures pending { pending_in result ≡ 0 }
     {

@@ -1,6 +1,6 @@
 //! Placing what changed of a table: its files by number, and the inode file last.
 
-ghost use Rattle.std.specs.Prelude.{◌≡◌, ◌≤◌, ◌+◌, ◌-◌, ℕ, true, false, Some, None, is_some, IfNone, IfOk, IfSome, OnOk};
+ghost use Rattle.std.specs.Prelude.{◌≡◌, ◌≤◌, ◌+◌, ◌-◌, ℕ, Bool, true, false, Some, None, is_some, IfNone, IfOk, IfSome, OnOk};
 ghost use Rattle.std.specs.Ordering.{nat_cmp};
 ghost use Rattle.std.specs.BTreeMap as maps;
 ghost use Rattle.fv_tables.specs.Told.{file_at};
@@ -10,8 +10,8 @@ ghost use Rattle.fv_tree.specs.Sources.{WasFree};
 ghost use Rattle.fv_tree.specs.Standing.{under};
 ghost use Rattle.fv_tree.specs.Stored.{KeepsPlaces};
 ghost use Rattle.fv_inode.specs.Files.{rooted};
-ghost use Rattle.fv_files.specs.Tables.{tree_in, AreStanding, IsLed, IsStored, IsStoredUnder};
-ghost use Rattle.fv_files.specs.Calls.{KeepsStored};
+ghost use Rattle.fv_files.specs.Tables.{tree_in, AreStanding};
+ghost use Rattle.fv_files.specs.Calls.{KeepsStored, StoresUnder};
 ghost use Rattle.fv_files.specs.Flushing.{FlushesKept, FlushesTable, HasRoot, KeptAnew, KeptKeeps, LaysTrees};
 ghost use Rattle.fv_files.specs.Altering.{AreLaid, FlushesKeep, FlushesPlaces};
 
@@ -39,8 +39,8 @@ impl Files {
         requires right { B.told → TrustsAll B.shown }
         ensures flushes { FlushesTable B.told (B.shown blocks.old) (B.shown blocks.new) self.old self.new result }
         ensures places { FlushesPlaces B.told (WasFree B.shown B.goes blocks.old blocks.new) (B.shown blocks.old) (B.shown blocks.new) self.old self.new }
-        ensures stored_well { B.told → B.known → KeepsStored (B.shown blocks.old) (B.shown blocks.new) self.old self.new }
-        ensures stored_under { B.told → B.known → IfOk result (λ root. AreStanding (B.shown blocks.old) self.old → IsLed (B.shown blocks.old) self.old → IsStored (B.shown blocks.old) self.old → IsStoredUnder (under (B.shown blocks.new)) self.new.inode.tree.levels root) }
+        ensures stored_well { B.told → (known : Bool) → (known ≡ true → B.known) → KeepsStored known (B.shown blocks.old) (B.shown blocks.new) self.old self.new }
+        ensures stored_under { B.told → (known : Bool) → (known ≡ true → B.known) → IfOk result (λ root. StoresUnder known (B.shown blocks.old) self.old (under (B.shown blocks.new)) self.new.inode.tree.levels root) }
         ensures keeps { B.told → AreStanding (B.shown blocks.old) self.old → AreLaid (under (B.shown blocks.old)) self.old → (v : ℕ) → (B.shown blocks.new).used v ≡ None → B.keeps v blocks.old blocks.new }
         ensures calls { B.goes blocks.old blocks.new }
     {
@@ -55,7 +55,7 @@ fn flush_trees<B: Blocks>(files: &mut Files, blocks: &mut B) -> Result<(), Files
     ensures lays { LaysTrees B.told (B.shown blocks.old) (B.shown blocks.new) files.old files.new result }
     ensures places { FlushesPlaces B.told (WasFree B.shown B.goes blocks.old blocks.new) (B.shown blocks.old) (B.shown blocks.new) files.old files.new }
     ensures keeps { FlushesKeep B.told (λ v. B.keeps v blocks.old blocks.new) (B.shown blocks.old) (B.shown blocks.new) files.old files.new }
-    ensures stored_well { B.told → B.known → KeepsStored (B.shown blocks.old) (B.shown blocks.new) files.old files.new }
+    ensures stored_well { B.told → (known : Bool) → (known ≡ true → B.known) → KeepsStored known (B.shown blocks.old) (B.shown blocks.new) files.old files.new }
     ensures none { OnOk result (maps.btree_map_len files.new.trees ≡ 0) }
     ensures calls { B.goes blocks.old blocks.new }
 {
@@ -71,7 +71,7 @@ fn flush_first<B: Blocks>(files: &mut Files, blocks: &mut B) -> Result<(), Files
     ensures lays { LaysTrees B.told (B.shown blocks.old) (B.shown blocks.new) files.old files.new result }
     ensures places { FlushesPlaces B.told (WasFree B.shown B.goes blocks.old blocks.new) (B.shown blocks.old) (B.shown blocks.new) files.old files.new }
     ensures keeps { FlushesKeep B.told (λ v. B.keeps v blocks.old blocks.new) (B.shown blocks.old) (B.shown blocks.new) files.old files.new }
-    ensures stored_well { B.told → B.known → KeepsStored (B.shown blocks.old) (B.shown blocks.new) files.old files.new }
+    ensures stored_well { B.told → (known : Bool) → (known ≡ true → B.known) → KeepsStored known (B.shown blocks.old) (B.shown blocks.new) files.old files.new }
     ensures fewer { OnOk result (maps.btree_map_len files.new.trees ≡ maps.btree_map_len files.old.trees - 1) }
     ensures calls { B.goes blocks.old blocks.new }
 {
@@ -89,11 +89,11 @@ fn flush_file<B: Blocks>(files: &mut Files, blocks: &mut B, number: u32) -> Resu
     ensures lays { LaysTrees B.told (B.shown blocks.old) (B.shown blocks.new) files.old files.new result }
     ensures places { FlushesPlaces B.told (WasFree B.shown B.goes blocks.old blocks.new) (B.shown blocks.old) (B.shown blocks.new) files.old files.new }
     ensures keeps { FlushesKeep B.told (λ v. B.keeps v blocks.old blocks.new) (B.shown blocks.old) (B.shown blocks.new) files.old files.new }
-    ensures stored_well { B.told → B.known → KeepsStored (B.shown blocks.old) (B.shown blocks.new) files.old files.new }
+    ensures stored_well { B.told → (known : Bool) → (known ≡ true → B.known) → KeepsStored known (B.shown blocks.old) (B.shown blocks.new) files.old files.new }
     ensures fewer { OnOk result (maps.btree_map_len files.new.trees + 1 ≡ maps.btree_map_len files.old.trees) }
     ensures calls { B.goes blocks.old blocks.new }
 {
-    match files.inode.look(blocks, number)? {
+    match files.inode.look_held(blocks, number)? {
         None => {
             forget(&mut files.trees, number);
             Ok(())
@@ -116,7 +116,7 @@ fn lay_file<B: Blocks>(
     ensures lays { LaysTrees B.told (B.shown blocks.old) (B.shown blocks.new) files.old files.new result }
     ensures places { FlushesPlaces B.told (WasFree B.shown B.goes blocks.old blocks.new) (B.shown blocks.old) (B.shown blocks.new) files.old files.new }
     ensures keeps { FlushesKeep B.told (λ v. B.keeps v blocks.old blocks.new) (B.shown blocks.old) (B.shown blocks.new) files.old files.new }
-    ensures stored_well { B.told → B.known → KeepsStored (B.shown blocks.old) (B.shown blocks.new) files.old files.new }
+    ensures stored_well { B.told → (known : Bool) → (known ≡ true → B.known) → KeepsStored known (B.shown blocks.old) (B.shown blocks.new) files.old files.new }
     ensures fewer { OnOk result (maps.btree_map_len files.new.trees + 1 ≡ maps.btree_map_len files.old.trees) }
     ensures calls { B.goes blocks.old blocks.new }
 {

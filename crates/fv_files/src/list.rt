@@ -4,8 +4,9 @@ ghost use Rattle.std.specs.Prelude.{◌≡◌, ◌+◌, ◌/◌, IfOk, OnOk};
 ghost use Rattle.std.specs.Option.{option_map};
 ghost use Rattle.std.specs.FinMap as fin;
 ghost use Rattle.fv_tables.specs.Told.{file_at, records_each};
-ghost use Rattle.fv_tree.specs.Places.{HasRightPlaces};
-ghost use Rattle.fv_tree.specs.Costs.{way_cost};
+ghost use Rattle.fv_tree.specs.Places.{HasRightPlaces, IsReadable};
+ghost use Rattle.fv_tree.specs.Flushing.{loaded};
+ghost use Rattle.fv_tree.specs.Lookups.{way_cost};
 ghost use Rattle.fv_inode.specs.Files.{rooted, info_of, Finds, IsFreeNumber, IsInfoIf, IsNumberIf};
 ghost use Rattle.fv_inode.specs.Listing.{names_told};
 ghost use Rattle.fv_inode.specs.Failing as inodes;
@@ -42,9 +43,9 @@ impl Files {
     ///
     /// As `InodeFile::look`.
     pub fn look<B: Blocks>(&self, blocks: &mut B, number: u32) -> Result<Option<Info>, FilesFault>
-        requires right { B.told → HasRightPlaces (B.shown blocks.old) self.now.inode.tree }
+        requires right { B.told → IsReadable (B.shown blocks.old) self.now.inode.tree }
         ensures found { B.told → IfOk result (λ found. found ≡ option_map (info_of number) (file_at (rooted (B.shown blocks.old) self.now.inode) number)) }
-        ensures spent { B.told → OnOk result ((B.shown blocks.new).spent ≡ (B.shown blocks.old).spent + way_cost (B.shown blocks.old).cost (rooted (B.shown blocks.old) self.now.inode) (number / records_each)) }
+        ensures spent { B.told → OnOk result ((B.shown blocks.new).spent ≡ (B.shown blocks.old).spent + way_cost (B.shown blocks.old).cost (loaded (B.shown blocks.old) self.now.inode.tree) (number / records_each)) }
         ensures range { IfOk result IsInfoIf }
         ensures looks { inodes.Looks B.told (rooted (B.shown blocks.old) self.now.inode) (B.shown blocks.old) (B.shown blocks.new) result }
         ensures reads { B.reads blocks.old blocks.new }

@@ -66,7 +66,7 @@ impl Files {
     {
         match numbers.get(name) {
             None => Ok(None),
-            Some(number) => self.look(blocks, number),
+            Some(number) => self.inode.look_held(blocks, number),
         }
     }
 }

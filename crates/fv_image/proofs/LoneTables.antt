@@ -50,13 +50,9 @@ not_split : (b : Bool) → not b ≡ true → b ≡ false
 not_split true e = absurd cc
 not_split false e = refl
 
--- a head of a form that there is isn't being split,
+-- a head of a form that there is isn't being split
 pub form_whole : (h : Head) → has_form h ≡ true → is_splitting h.base ≡ false
-form_whole h form = not_split (is_splitting h.base) (and_parts (not (is_splitting h.base)) h.known form).0
-
--- and no unknown place
-pub form_known : (h : Head) → has_form h ≡ true → h.known ≡ true
-form_known h form = (and_parts (not (is_splitting h.base)) h.known form).1
+form_whole h form = not_split (is_splitting h.base) form
 
 -- ---- the entries that a table leads to
 

@@ -14,9 +14,9 @@ use Rattle.fv_image.specs.HintRules.{is_splitting}
 use Rattle.fv_image.specs.ReachRules.{all_roots}
 use Rattle.fv_image.specs.Soundness.{IsSound, is_sound}
 
--- The forms of volumes by what a label says of them: any snapshots, any base from which it isn't being split, and no unknown place.
+-- The forms of volumes by what a label says of them: any snapshots, any base from which it isn't being split, and places that are known or not.
 abbrev pub has_form : Head → Bool
-has_form h = not (is_splitting h.base) && h.known
+has_form h = not (is_splitting h.base)
 
 -- no file has a reserve
 unfoldable pub has_no_reserves : Seen → Bool

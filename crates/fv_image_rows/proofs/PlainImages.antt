@@ -60,8 +60,8 @@ no_base None e = refl
 no_base (Some b) e = absurd cc
 
 -- a volume without a base isn't being split
-plain_form : (b : Option Footing) (known : Bool) → (is_none b && known) ≡ true → (not (is_splitting b) && known) ≡ true
-plain_form None known e = e
+plain_form : (b : Option Footing) (known : Bool) → (is_none b && known) ≡ true → not (is_splitting b) ≡ true
+plain_form None known e = refl
 plain_form (Some b) known e = absurd cc
 
 module _ (w : View) (empty : plain.is_all_plain w ≡ true) (levels : (s : ℕ) (h : Head) → s < 64 → w.head s ≡ Some h → h.active.root.stamp ≡ 0 → h.active.levels ≡ 0) where

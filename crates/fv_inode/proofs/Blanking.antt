@@ -1,5 +1,5 @@
 -- An inode file whose pointers tell no places where a later flush writes them.
-use Rattle.std.proofs.Common.{◌≡◌, ◌==◌, ℕ, Bool, true, false, Some, None, if◌then◌else◌, refl, ◌/◌, ◌%◌, cond, List, Option, get_or, is_some, sym, ap, subst, ◌∙◌, arith}
+use Rattle.std.proofs.Common.{◌≡◌, ◌==◌, ℕ, Bool, true, false, Some, None, if◌then◌else◌, refl, ◌/◌, ◌%◌, cond, map, List, Option, get_or, is_some, sym, ap, subst, ◌∙◌, arith}
 use Rattle.std.specs.Ordering.{nat_cmp}
 use Rattle.std.specs.Option.{option_map}
 use Rattle.std.specs.BTreeMap as maps
@@ -16,12 +16,26 @@ use Rattle.fv_tree.specs.declared.kept.KeptCell.{KeptCell}
 use Rattle.fv_tree.specs.Standing.{standing, cell_in}
 use Rattle.fv_tree.specs.Flushing.{changed_of, loaded_over}
 use Rattle.fv_tree.specs.Blanking.{Blanks, WritesUnknown}
-use Rattle.fv_tree.specs.Rooting.{BlanksRoots}
+use Rattle.fv_tree.specs.Rooting.{hintless_spelled, BlanksBlock, BlanksPlace, BlanksRoots}
 use Rattle.fv_tree.proofs.BlankedRoots.{still_used}
 use Rattle.fv_tree.proofs.Blanking.{hintless_unknown}
+use Rattle.fv_tree.proofs.Brought.{some_same}
 use Rattle.fv_tree.proofs.Cases.{false_is_true}
 use Rattle.fv_inode.specs.Blanking.{BlanksFiles}
+use Rattle.fv_inode.specs.Files.{IsInodesOf, NamesIndexes}
 use Rattle.fv_inode.specs.Readying.{HoldsFile}
+
+-- an inode block names its index without places, too
+named_block : (changed : Bool) (index : ℕ) (was now : List ℕ) → BlanksBlock changed was now → IsInodesOf index was → IsInodesOf index now
+named_block false index was now is names = subst (IsInodesOf index) (sym (is.same refl)) names
+named_block true index was now is names = record { files = map hintless_record names.files; spells = is.inodes refl ∙ ap hintless_spelled names.spells }
+
+named_place : (changed : Bool) (index : ℕ) (was now : Option (List ℕ)) → BlanksPlace changed was now
+    → ((block : List ℕ) → was ≡ Some block → IsInodesOf index block) → (block : List ℕ) → now ≡ Some block → IsInodesOf index block
+named_place changed index None None is names block there = names block there
+named_place changed index None (Some now) is names block there = absurd is
+named_place changed index (Some was) None is names block there = absurd is
+named_place changed index (Some was) (Some now) is names block there = subst (IsInodesOf index) (some_same now block there) (named_block changed index was now is (names was refl))
 
 module _ (t v u : Tree) (first : Blanks t v) (second : BlanksRoots v u) where
   same_file : (held : Under) (n : ℕ) → file_at (standing held v) n ≡ file_at (standing held t) n
@@ -41,6 +55,11 @@ module _ (t v u : Tree) (first : Blanks t v) (second : BlanksRoots v u) where
         ∙ ap (λ (b : Option (List ℕ)). is_some (used_record (get_or (records_in b) (n % records_each) free_record))) (cell_same (n / records_each)) ∙ is.used;
   }
 
+  indexes : (held : Under) → NamesIndexes (standing held t) → NamesIndexes (standing held u)
+  indexes held names index block there =
+      named_place (changed_of v 0 index) index (block_at (standing held v) index) (block_at (standing held u) index) (second.blocks held index)
+      (λ was is. names index was (sym ((first.alike held).blocks index) ∙ is)) block there
+
   pub blanks_files : BlanksFiles t u
   blanks_files = record {
     owner = second.owner ∙ first.owner;
@@ -58,6 +77,7 @@ module _ (t v u : Tree) (first : Blanks t v) (second : BlanksRoots v u) where
     keeps = λ held level place w led. second.keeps held level place w (first.keeps held level place w led);
     stored_well = λ held is. second.stored_well held (first.stored_well held is);
     leads_unknown = λ held is. second.leads_unknown held (first.leads_unknown held is);
+    indexes = indexes;
     ready = ready;
   }
 

@@ -19,7 +19,8 @@ use Rattle.fv_tables.proofs.Pointers.{past, no_block}
 use Rattle.fv_codec.specs.declared.pointer.Pointer.{Pointer}
 use Rattle.fv_inode.specs.Files.{AreRecords, blank_record}
 use Rattle.fv_tree.specs.Writing.{IsAlike}
-use Rattle.fv_tree.specs.Costs.{is_kept, load_cost, place_cost, cost_below, way_cost}
+use Rattle.fv_tree.specs.Flushing.{Loaded}
+use Rattle.fv_tree.specs.Lookups.{load_cost, place_cost, cost_below, way_cost}
 use Rattle.fv_tree.proofs.Levels.{fan_pos}
 use Rattle.fv_codec.specs.Fields.{name_filled, all_name, all_zero}
 
@@ -103,22 +104,22 @@ no_cell t cell far =
     no_block t cell (ap (λ (p : Pointer). p.stamp) (past t 0 cell (omega (arith, far, whole))))
 
 -- nor does a way to one cost a look-up
-hole_cost : (cost : Pointer → ℕ) (kept : Bool) (p : Pointer) → p.stamp ≡ 0 → load_cost cost kept p ≡ 0
+hole_cost : (cost : Pointer → ℕ) (changed : Bool) (p : Pointer) → p.stamp ≡ 0 → load_cost cost changed p ≡ 0
 hole_cost cost true p none = refl
 hole_cost cost false p none = let test : (p.stamp == 0) ≡ true = grind (arith, nat_tests, none) in rw test refl
 
-pub no_way : (cost : Pointer → ℕ) (t : Rooted) (cell : ℕ) → fan ^ t.levels ≤ cell → way_cost cost t cell ≡ 0
+pub no_way : (cost : Pointer → ℕ) (s : Loaded) (cell : ℕ) → fan ^ s.tree.levels ≤ cell → way_cost cost s cell ≡ 0
 unfolding cost_below
-no_way cost t cell far = below (suc t.levels) (omega arith)
+no_way cost s cell far = below (suc s.tree.levels) (omega arith)
   where
-    none : (level : ℕ) → level ≤ t.levels → place_cost cost t level (cell / fan ^ level) ≡ 0
+    none : (level : ℕ) → level ≤ s.tree.levels → place_cost cost s level (cell / fan ^ level) ≡ 0
     none level low =
-        let whole : (t.levels - level) + level ≡ t.levels = omega (arith, low) in
-        let parts : fan ^ (t.levels - level) * fan ^ level ≡ fan ^ t.levels = sym (pow-add fan (t.levels - level) level) ∙ ap (λ k. fan ^ k) whole in
-        let wide : fan ^ (t.levels - level) ≤ cell / fan ^ level = le-div (fan ^ (t.levels - level)) cell (fan ^ level) (fan_pos level) (omega (arith, parts, far)) in
-        hole_cost cost (is_kept t level (cell / fan ^ level)) (pointer_at t level (cell / fan ^ level)) (ap (λ (p : Pointer). p.stamp) (past t level (cell / fan ^ level) wide))
+        let whole : (s.tree.levels - level) + level ≡ s.tree.levels = omega (arith, low) in
+        let parts : fan ^ (s.tree.levels - level) * fan ^ level ≡ fan ^ s.tree.levels = sym (pow-add fan (s.tree.levels - level) level) ∙ ap (λ k. fan ^ k) whole in
+        let wide : fan ^ (s.tree.levels - level) ≤ cell / fan ^ level = le-div (fan ^ (s.tree.levels - level)) cell (fan ^ level) (fan_pos level) (omega (arith, parts, far)) in
+        hole_cost cost (s.changed level (cell / fan ^ level)) (pointer_at s.tree level (cell / fan ^ level)) (ap (λ (p : Pointer). p.stamp) (past s.tree level (cell / fan ^ level) wide))
 
-    below : (k : ℕ) → k ≤ suc t.levels → cost_below cost t cell k ≡ 0
+    below : (k : ℕ) → k ≤ suc s.tree.levels → cost_below cost s cell k ≡ 0
     below zero le = refl
     below (suc k) le = λ i. none k (omega (arith, le)) i + below k (omega (arith, le)) i
 

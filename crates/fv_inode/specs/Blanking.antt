@@ -16,6 +16,7 @@ use Rattle.fv_tree.specs.Stored.{IsStoredWell}
 use Rattle.fv_tree.specs.Unknown.{LeadsUnknown}
 use Rattle.fv_tree.specs.Costs.{pending, Rises}
 use Rattle.fv_tree.specs.Blanking.{will_be_written}
+use Rattle.fv_inode.specs.Files.{NamesIndexes}
 use Rattle.fv_inode.specs.Readying.{HoldsFile}
 
 -- No pointer that a later flush of an inode file writes tells a place any more, and all else is as before: over whatever blocks each file is but
@@ -39,4 +40,5 @@ pub record BlanksFiles (old new : Tree) : Type 0 where
   pub keeps : (held : Under) → LeadsNoMore (loaded_over held new) (loaded_over held old)
   pub stored_well : (held : Under) → IsStoredWell (loaded_over held old) → IsStoredWell (loaded_over held new)
   pub leads_unknown : (held : Under) → LeadsUnknown (loaded_over held old) → LeadsUnknown (loaded_over held new)
+  pub indexes : (held : Under) → NamesIndexes (standing held old) → NamesIndexes (standing held new)
   pub ready : (n : ℕ) → HoldsFile old n → HoldsFile new n

@@ -6,16 +6,17 @@ ghost use Rattle.std.specs.Option.{option_map};
 ghost use Rattle.fv_codec.specs.Blocks.{IsInodeRecord};
 ghost use Rattle.fv_tables.specs.Spelled.{Rooted};
 ghost use Rattle.fv_tables.specs.Told.{records_each, used_record, file_at};
-ghost use Rattle.fv_tree.specs.Places.{HasRightPlaces};
+ghost use Rattle.fv_tree.specs.Places.{HasRightPlaces, IsReadable};
 ghost use Rattle.fv_tree.specs.Standing.{standing, under};
-ghost use Rattle.fv_tree.specs.Costs.{way_cost};
+ghost use Rattle.fv_tree.specs.Flushing.{loaded};
+ghost use Rattle.fv_tree.specs.Lookups.{way_cost};
 ghost use Rattle.fv_inode.specs.Files.{rooted, info_of, AreRecords, IsInfoIf, Finds, FindsBelow, HasNoneBelow};
 ghost use Rattle.fv_inode.specs.Readying.{IsReadyFile};
 ghost use Rattle.fv_inode.specs.Failing.{Looks};
 
 use crate::file::InodeFile;
 use crate::info::{Info, InodeFault};
-use crate::records::{EACH, cells, is_named, read_file, read_files};
+use crate::records::{EACH, cells, is_named, read_file, read_file_held, read_files};
 use fv_codec::InodeRecord;
 use fv_model::Name;
 use fv_tree::{Blocks, Tree};
@@ -45,22 +46,43 @@ impl InodeFile {
         find_named(&self.tree, blocks, name)
     }
 
-    /// What is known of the file of a number; `None` exactly where no file has it. It loads at most the file's inode
-    /// block and the nodes over it, and keeps nothing in memory.
+    /// What is known of the file of a number; `None` exactly where no file has it. It loads the file's inode block
+    /// and the nodes over it, but for what changed in memory, and keeps nothing. So its look-ups are told by what lies on the disk.
     ///
     /// # Errors
     ///
     /// As `find`.
     pub fn look<B: Blocks>(&self, blocks: &mut B, number: u32) -> Result<Option<Info>, InodeFault>
-        requires right { B.told → HasRightPlaces (B.shown blocks.old) self.now.tree }
+        requires right { B.told → IsReadable (B.shown blocks.old) self.now.tree }
         ensures found { B.told → IfOk result (λ found. found ≡ option_map (info_of number) (file_at (rooted (B.shown blocks.old) self.now) number)) }
         ensures range { IfOk result IsInfoIf }
-        ensures spent { B.told → OnOk result ((B.shown blocks.new).spent ≡ (B.shown blocks.old).spent + way_cost (B.shown blocks.old).cost (rooted (B.shown blocks.old) self.now) (number / records_each)) }
-        ensures held { B.told → IsReadyFile self.now number → OnErr result ⊥ }
+        ensures spent { B.told → OnOk result ((B.shown blocks.new).spent ≡ (B.shown blocks.old).spent + way_cost (B.shown blocks.old).cost (loaded (B.shown blocks.old) self.now.tree) (number / records_each)) }
         ensures looks { Looks B.told (rooted (B.shown blocks.old) self.now) (B.shown blocks.old) (B.shown blocks.new) result }
         ensures reads { B.reads blocks.old blocks.new }
     {
         let file = read_file(&self.tree, blocks, number)?;
+        Ok(info_in(number, &file))
+    }
+
+    /// As `look`, but a node or the inode block is taken from memory wherever it is there: a file whose inode block is ready is
+    /// looked up without a fault. How many look-ups it makes isn't told.
+    ///
+    /// # Errors
+    ///
+    /// As `find`.
+    pub fn look_held<B: Blocks>(
+        &self,
+        blocks: &mut B,
+        number: u32,
+    ) -> Result<Option<Info>, InodeFault>
+        requires right { B.told → HasRightPlaces (B.shown blocks.old) self.now.tree }
+        ensures found { B.told → IfOk result (λ found. found ≡ option_map (info_of number) (file_at (rooted (B.shown blocks.old) self.now) number)) }
+        ensures range { IfOk result IsInfoIf }
+        ensures held { B.told → IsReadyFile self.now number → OnErr result ⊥ }
+        ensures looks { Looks B.told (rooted (B.shown blocks.old) self.now) (B.shown blocks.old) (B.shown blocks.new) result }
+        ensures reads { B.reads blocks.old blocks.new }
+    {
+        let file = read_file_held(&self.tree, blocks, number)?;
         Ok(info_in(number, &file))
     }
 }

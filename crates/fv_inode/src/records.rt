@@ -11,10 +11,11 @@ ghost use Rattle.fv_model.specs.Spelling.{is_same_name};
 ghost use Rattle.fv_model.specs.Trees.{fan};
 ghost use Rattle.fv_tables.specs.Told.{records_each, file_at, free_record, used_record, records_in};
 ghost use Rattle.fv_tables.specs.Spelled.{Under};
-ghost use Rattle.fv_tree.specs.Places.{HasRightPlaces};
+ghost use Rattle.fv_tree.specs.Places.{HasRightPlaces, IsReadable};
 ghost use Rattle.fv_tree.specs.Standing.{standing, under};
 ghost use Rattle.fv_tree.specs.Readying.{IsReady};
-ghost use Rattle.fv_tree.specs.Costs.{way_cost, Rises};
+ghost use Rattle.fv_tree.specs.Costs.{Rises};
+ghost use Rattle.fv_tree.specs.Lookups.{way_cost};
 ghost use Rattle.fv_tree.specs.Altering.{Alters, AltersHeld};
 ghost use Rattle.fv_tree.specs.Flushing.{changed_of, loaded};
 ghost use Rattle.fv_inode.specs.Files.{AreRecords, blank_record, has_name};
@@ -70,7 +71,7 @@ pub fn cells(tree: &Tree) -> u32
 }
 
 /// The records of the inode block at a cell; free ones where there is no cell, and past the levels without a load.
-/// It loads at most a node for each level and the inode block.
+/// It loads at most a node for each level and the inode block, those that aren't in memory.
 ///
 /// # Errors
 ///
@@ -86,7 +87,6 @@ pub fn read_files<B: Blocks>(
     ensures range { IfOk result (All IsInodeRecord) }
     ensures long { IfOk result (λ files. length files ≡ 16) }
     ensures within { IfOk result (λ files. all_free files ≡ false → cell < 2097152) }
-    ensures spent { B.told → OnOk result ((B.shown blocks.new).spent ≡ (B.shown blocks.old).spent + way_cost (B.shown blocks.old).cost (standing (under (B.shown blocks.old)) tree.now) cell) }
     ensures held { B.told → (n : ℕ) → n / records_each ≡ cell → HoldsFile tree.now n → OnErr result ⊥ }
     ensures few { tree.now.levels ≤ 3 }
     ensures looks { Looks B.told (standing (under (B.shown blocks.old)) tree.now) (B.shown blocks.old) (B.shown blocks.new) result }
@@ -96,14 +96,14 @@ pub fn read_files<B: Blocks>(
         return Ok(free_files());
     }
     let mut block = [0; 4096];
-    match tree.read(blocks, cell, &mut block)? {
+    match tree.read_held(blocks, cell, &mut block)? {
         None => Ok(free_files()),
         Some(at) => files_of(at, &block),
     }
 }
 
-/// The record of a number; a free one where no file has it. It loads what `read_files` does, and of a block that spells
-/// an inode block it reads that record alone.
+/// The record of a number; a free one where no file has it. It loads what a tree's `read` does, so its look-ups
+/// are told by what lies on the disk, and of a block that spells an inode block it reads that record alone.
 ///
 /// # Errors
 ///
@@ -113,11 +113,10 @@ pub fn read_file<B: Blocks>(
     blocks: &mut B,
     number: u32,
 ) -> Result<InodeRecord, InodeFault>
-    requires right { B.told → HasRightPlaces (B.shown blocks.old) tree.now }
+    requires right { B.told → IsReadable (B.shown blocks.old) tree.now }
     ensures file { B.told → IfOk result (λ file. used_record file ≡ file_at (standing (under (B.shown blocks.old)) tree.now) number) }
     ensures range { IfOk result IsInodeRecord }
-    ensures spent { B.told → OnOk result ((B.shown blocks.new).spent ≡ (B.shown blocks.old).spent + way_cost (B.shown blocks.old).cost (standing (under (B.shown blocks.old)) tree.now) (number / records_each)) }
-    ensures held { B.told → HoldsFile tree.now number → OnErr result ⊥ }
+    ensures spent { B.told → OnOk result ((B.shown blocks.new).spent ≡ (B.shown blocks.old).spent + way_cost (B.shown blocks.old).cost (loaded (B.shown blocks.old) tree.now) (number / records_each)) }
     ensures looks { Looks B.told (standing (under (B.shown blocks.old)) tree.now) (B.shown blocks.old) (B.shown blocks.new) result }
     ensures reads { B.reads blocks.old blocks.new }
 {
@@ -131,6 +130,27 @@ pub fn read_file<B: Blocks>(
         None => Ok(free_record()),
         Some(at) => file_of(at, is_inodes, &block, number % EACH),
     }
+}
+
+/// As `read_file`, from the records that `read_files` gives.
+///
+/// # Errors
+///
+/// As `read_files`.
+pub fn read_file_held<B: Blocks>(
+    tree: &Tree,
+    blocks: &mut B,
+    number: u32,
+) -> Result<InodeRecord, InodeFault>
+    requires right { B.told → HasRightPlaces (B.shown blocks.old) tree.now }
+    ensures file { B.told → IfOk result (λ file. used_record file ≡ file_at (standing (under (B.shown blocks.old)) tree.now) number) }
+    ensures range { IfOk result IsInodeRecord }
+    ensures held { B.told → HoldsFile tree.now number → OnErr result ⊥ }
+    ensures looks { Looks B.told (standing (under (B.shown blocks.old)) tree.now) (B.shown blocks.old) (B.shown blocks.new) result }
+    ensures reads { B.reads blocks.old blocks.new }
+{
+    let files = read_files(tree, blocks, number / EACH)?;
+    Ok(files[(number % EACH) as usize])
 }
 
 /// One record of the inode block that a block spells, which was read at a place.

@@ -80,12 +80,11 @@ pub fn write<B: Blocks>(
     }
 }
 
-/// Reads a block of a file; false where there is no such file.
+/// Reads a block of a file over blocks of which nothing is told; false where there is no such file.
 ///
 /// # Errors
 ///
 /// As `Files::find` and `Files::read`.
-#[tactic(auto, using(fv_files::proofs::Tables::first_info, fv_tree::proofs::Right::trusted_tree, fv_files::proofs::Right::trusted_trees))]
 pub fn read<B: Blocks>(
     table: &mut Files,
     blocks: &mut B,
@@ -93,7 +92,7 @@ pub fn read<B: Blocks>(
     index: u32,
     into: &mut [u8; 4096],
 ) -> Done
-    requires right { B.told → TrustsAll B.shown }
+    requires untold { B.told → ⊥ }
 {
     match table.find(blocks, name)? {
         None => Ok(false),

@@ -34,14 +34,14 @@ module _ (disk : Disk) (slots new : Slots) (slot v : ℕ) (e : Entry) (sets : Se
     | inr differs ↦ ap (λ (m : Option Mapped). own_entry m w) (sets.others at differs)
   ]
 
-  along_other : (n : ℕ) (at : Option ℕ) (w : ℕ) → w ≢ v → along new n at w ≡ along slots n at w
+  pub along_other : (n : ℕ) (at : Option ℕ) (w : ℕ) → w ≢ v → along new n at w ≡ along slots n at w
   unfolding along
   along_other zero at w other = refl
   along_other (suc n) None w other = refl
   along_other (suc n) (Some at) w other =
       ap₂ or_else (own_other at w other) (ap (λ (parents : List (Option ℕ)). along new n (slice_index_or parents at None) w) sets.parents ∙ along_other n (parent_at slots at) w other)
 
-  chain_new : chain_entry new slot v ≡ Some e
+  pub chain_new : chain_entry new slot v ≡ Some e
   chain_new = along_step new 64 slot v (omega arith) ∙ ap (λ o. or_else o (along new (64 - 1) (parent_at new slot) v)) sets.here
 
 -- leaves that came into memory change no entry
@@ -117,13 +117,13 @@ held_some map slots slot v few taken =
     let both : (nat_le v 1048575 && taken_in map.slots v) ≡ true = grind (arith, nat_tests, few, taken) in
     ap (λ t. cond t (chain_entry slots slot v) None) both
 
-held_same : (map after : Volume) (slots new : Slots) (slot w : ℕ) → taken_in after.slots w ≡ taken_in map.slots w → chain_entry new slot w ≡ chain_entry slots slot w → held_entry after new slot w ≡ held_entry map slots slot w
+pub held_same : (map after : Volume) (slots new : Slots) (slot w : ℕ) → taken_in after.slots w ≡ taken_in map.slots w → chain_entry new slot w ≡ chain_entry slots slot w → held_entry after new slot w ≡ held_entry map slots slot w
 unfolding held_entry
 held_same map after slots new slot w taken chain = ap₂ (λ t o. cond (nat_le w 1048575 && t) o None) taken chain
 
 -- ---- kept blocks
 
-seen_new : (kept : Blocks) (b : ℕ) (block : List ℕ) (i : Image) → seen (fin.insert kept b block) i b ≡ block
+pub seen_new : (kept : Blocks) (b : ℕ) (block : List ℕ) (i : Image) → seen (fin.insert kept b block) i b ≡ block
 seen_new kept b block i =
     let same : eq_by_cmp nat_cmp b b ≡ true = grind (arith, nat_tests) in
     ap (λ o. kept_or o (i b)) (fin.get-insert nat_cmp_total kept b block b ∙ ap (λ t. cond t (Some block) (fin.get kept b)) same)
@@ -141,7 +141,7 @@ not_next committed next b free = right (is_member committed b) (is_member next b
     right true t isnt = let wrong : true ≡ false = isnt in cc
     right false t isnt = isnt
 
-block_other : (kept : Blocks) (b : ℕ) (block : List ℕ) (i : Image) (space : Space) (entry : Option Entry) → is_held space.committed space.next b ≡ false → IfSome entry (IsKeptBack space)
+pub block_other : (kept : Blocks) (b : ℕ) (block : List ℕ) (i : Image) (space : Space) (entry : Option Entry) → is_held space.committed space.next b ≡ false → IfSome entry (IsKeptBack space)
     → block_of (fin.insert kept b block) i entry ≡ block_of kept i entry
 block_other kept b block i space None free held = refl
 block_other kept b block i space (Some e) free held = ap Some (seen_other kept b e.pvbn block i (λ same. let no : true ≡ false = sym held ∙ (ap (is_member space.next) same ∙ not_next space.committed space.next b free) in cc))
@@ -153,17 +153,17 @@ map_some None f p = tt
 map_some (Some a) f p = f a p
 
 -- two ways to say of an option what holds of its value
-as_if : {A : Type 0} {P : A → Type 0} (o : Option A) → ForSome o P → IfSome o P
+pub as_if : {A : Type 0} {P : A → Type 0} (o : Option A) → ForSome o P → IfSome o P
 as_if None all = tt
 as_if (Some a) all = all a refl
 
-as_for : {A : Type 0} (P : A → Type 0) (o : Option A) → IfSome o P → ForSome o P
+pub as_for : {A : Type 0} (P : A → Type 0) (o : Option A) → IfSome o P → ForSome o P
 as_for {A = A} P o p a is = subst (λ (x : Option A). IfSome x P) is p
 
-as_ifs : {A : Type 0} {P : A → A → Type 0} (o q : Option A) → ForSome o (λ a. ForSome q (P a)) → IfSome o (λ a. IfSome q (P a))
+pub as_ifs : {A : Type 0} {P : A → A → Type 0} (o q : Option A) → ForSome o (λ a. ForSome q (P a)) → IfSome o (λ a. IfSome q (P a))
 as_ifs o q all = map_some o (λ a inner. as_if q inner) (as_if o all)
 
-as_fors : {A : Type 0} (P : A → A → Type 0) (o q : Option A) → IfSome o (λ a. IfSome q (P a)) → ForSome o (λ a. ForSome q (P a))
+pub as_fors : {A : Type 0} (P : A → A → Type 0) (o q : Option A) → IfSome o (λ a. IfSome q (P a)) → ForSome o (λ a. ForSome q (P a))
 as_fors P o q both a is b there = as_for (P a) q (as_for (λ x. IfSome q (P x)) o both a is) b there
 
 module _ (old : Space) (b : ℕ) (free : is_held old.committed old.next b ≡ false) (within : b < length old.next) where
@@ -223,7 +223,7 @@ module _ (old new : Space) (b v kind : ℕ) (own own_after family after : ℕ �
   both None P Q p q = tt
   both (Some e) P Q p q = (p, q)
 
-  kept_back : (w : ℕ) → IfSome (after w) (IsKeptBack new)
+  pub kept_back : (w : ℕ) → IfSome (after w) (IsKeptBack new)
   kept_back w = elim (cases_eq w v) [
     | inl same ↦ subst (λ (n : ℕ). IfSome (after n) (IsKeptBack new)) (sym same) (subst (λ (o : Option Entry). IfSome o (IsKeptBack new)) (sym is) back_new)
     | inr other ↦ subst (λ (o : Option Entry). IfSome o (IsKeptBack new)) (sym (others w other))
@@ -231,7 +231,7 @@ module _ (old new : Space) (b v kind : ℕ) (own own_after family after : ℕ �
         (both (family w) (IsKeptBack old) (λ e. IfSome (own v) (λ d. e.pvbn ≢ d.pvbn)) (family_is.back w) (swap (own v) (family w) (family_is.apart v w other))))
   ]
 
-  still_apart : (x w : ℕ) → w ≢ x → IfSome (own_after x) (λ e. IfSome (after w) (OtherPlace e))
+  pub still_apart : (x w : ℕ) → w ≢ x → IfSome (own_after x) (λ e. IfSome (after w) (OtherPlace e))
   still_apart x w differs = elim (cases_eq x v) [
     | inl same ↦ subst (λ (n : ℕ). IfSome (own_after n) (λ e. IfSome (after w) (OtherPlace e))) (sym same)
         (subst (λ (o : Option Entry). IfSome o (λ e. IfSome (after w) (OtherPlace e))) (sym own_is)

@@ -1,5 +1,5 @@
 -- What a change of a table leaves, over the blocks that are left of what a session lends.
-use Rattle.std.proofs.Common.{◌≡◌, ◌≤◌, ◌+◌, ℕ, Option, subst}
+use Rattle.std.proofs.Common.{◌≡◌, ◌≤◌, ◌+◌, ℕ, Bool, Option, subst}
 use Rattle.std.specs.Prelude.{Result, Ok, Err, OnOk, OnErr}
 use Rattle.std.specs.FinMap as fin
 use Rattle.fv_disk.specs.declared.fault.BlockFault.{BlockFault}
@@ -33,8 +33,8 @@ module _ (old new : Lent) (drops : DropsOver old new) where
   left_led : (g : Files) → IsLed (shown_over new) g → IsLed (sees old.pool new.map old.disk old.home) g
   left_led g is = subst (λ (u : ℕ → Option Use). AreLed u (loaded_trees (under (sees old.pool new.map old.disk old.home)) g)) left_used (subst (λ (u : Under). AreLed (shown_over new).used (loaded_trees u g)) left_over is)
 
-  left_stored : (g : Files) → IsStored (shown_over new) g → IsStored (sees old.pool new.map old.disk old.home) g
-  left_stored g is = subst (λ (u : Under). IsStoredOn u g) left_over is
+  left_stored : (known : Bool) (g : Files) → IsStored known (shown_over new) g → IsStored known (sees old.pool new.map old.disk old.home) g
+  left_stored known g is = subst (λ (u : Under). IsStoredOn known u g) left_over is
 
   -- what it did to the places of its trees
   left_altered : (f g : Files) (stamp : ℕ) → AltersTrees stamp (loaded_trees (under (shown_over old)) f) (loaded_trees (under (shown_over new)) g) → AltersTrees stamp (loaded_trees (under (shown_over old)) f) (loaded_trees (under (sees old.pool new.map old.disk old.home)) g)
@@ -51,7 +51,7 @@ module _ (old new : Lent) (drops : DropsOver old new) where
       stands = λ t w is. left_standing g (changes.stands t (holds w) is);
       failed = λ t. tt;
       led = λ t w is reached. left_led g (led t w is reached);
-      stored = λ t w is stored. left_stored g (changes.stored t (holds w) is stored);
+      stored = λ t w is known stored. left_stored known g (changes.stored t (holds w) is known stored);
       alters = λ t w is. left_altered f g stamp (alters.alters t (holds w) is);
       laid = λ t w is was. left_laid g (alters.laid t (holds w) is was);
       room = fits;
@@ -60,7 +60,7 @@ module _ (old new : Lent) (drops : DropsOver old new) where
       stands = λ t w is. left_standing g (changes.stands t (holds w) is);
       failed = λ t. subst (λ (u : Under). table_told (standing_in u (changed g)) ≡ table_told (table_in (shown_over old) f)) left_over (changes.failed t);
       led = λ t w is reached. left_led g (led t w is reached);
-      stored = λ t w is stored. left_stored g (changes.stored t (holds w) is stored);
+      stored = λ t w is known stored. left_stored known g (changes.stored t (holds w) is known stored);
       alters = λ t w is. left_altered f g stamp (alters.alters t (holds w) is);
       laid = λ t w is was. left_laid g (alters.laid t (holds w) is was);
       room = fits;

@@ -2,6 +2,7 @@ mod Writing
 mod Lent
 mod Setting
 pub mod Holding
+pub mod Moved
 pub mod AlongChains
 pub mod Shows
 mod PlaceShown

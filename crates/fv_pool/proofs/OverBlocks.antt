@@ -1,6 +1,6 @@
 -- A table of which nothing is in memory, over other blocks that agree wherever it leads: it stands on them, and is stored well in them, as in
 -- its own.
-use Rattle.std.proofs.Common.{◌≡◌, ℕ, Option, Some, None, refl, sym, ap, subst, ◌∙◌}
+use Rattle.std.proofs.Common.{◌≡◌, ℕ, inr, Bool, true, Option, Some, None, refl, sym, ap, subst, ◌∙◌}
 use Rattle.std.specs.Option.{option_map, option_map_or}
 use Rattle.fv_codec.specs.declared.inode.InodeRecord.{InodeRecord}
 use Rattle.fv_codec.specs.declared.pointer.Pointer.{Pointer}
@@ -12,10 +12,12 @@ use Rattle.fv_tables.specs.Told.{file_at}
 use Rattle.fv_tables.proofs.Pointers.{same_pointer}
 use Rattle.fv_tables.proofs.TablePlaces.{pointer_in}
 use Rattle.fv_tables.proofs.Tables.{same_record}
+use Rattle.fv_tree.specs.Altering.{Leaves}
 use Rattle.fv_tree.specs.Beside.{unread}
-use Rattle.fv_tree.specs.Flushing.{Leads, IsNodeOf, ReachesOnce}
+use Rattle.fv_tree.specs.Flushing.{Leads, Loaded, IsNodeOf, ReachesOnce}
 use Rattle.fv_tree.specs.Sources.{Use}
 use Rattle.fv_tree.proofs.Beside.{beside_alike, beside_keeps, beside_leads, beside_pointers, beside_sound, unread_laid, unread_reaches, unread_sound}
+use Rattle.fv_tree.proofs.Unknown.{alike_contents, leaves_unknown}
 use Rattle.fv_inode.proofs.Indexed.{alike_indexes}
 use Rattle.fv_files.specs.Apart.{LeadsFrom, LeadsIn, IsAsSaid, StoredIn, stored_trees}
 use Rattle.fv_files.specs.Tables.{AreReached, IsStoredUnder}
@@ -39,11 +41,16 @@ module _ (m n : Under) (owner levels : ℕ) (root : Pointer) (agree : AgreeOnTre
   tree_reached uses is = unread_reaches uses (stored n owner levels root)
       (beside_sound (unread own) n (unread_laid own) stay uses uses (λ level place v leads. refl) (unread_sound uses own (λ level place. refl) (λ index. refl) is))
 
-  tree_stored : IsAsSaid (unread own) → IsAsSaid (unread (stored n owner levels root))
-  tree_stored is = (
-    (λ level place v low led. let was = tree_leads level place v led in subst (IsNodeOf owner level place) (sym (stay level place v was)) (is.0 level place v low was)),
-    (λ level place v led none. is.1 level place v (tree_leads level place v led) (ap (λ (p : Pointer). p.pvbn) (sym (beside_pointers (unread own) n (unread_laid own) stay level place)) ∙ none)),
-  )
+  tree_leaves : Leaves (unread own) (unread (stored n owner levels root))
+  tree_leaves = record { levels = refl; root = refl; places = λ level place. inr (record { pointer = beside_pointers (unread own) n (unread_laid own) stay level place; changed = refl }) }
+
+  -- What it leads to is as its pointers say in them, too.
+  pub tree_stored : (known : Bool) → IsAsSaid known (unread own) → IsAsSaid known (unread (stored n owner levels root))
+  tree_stored known is = record {
+    positions = λ level place v low led. let was = tree_leads level place v led in subst (IsNodeOf owner level place) (sym (stay level place v was)) (is.positions level place v low was);
+    leads = leaves_unknown (unread own) (unread (stored n owner levels root)) refl (alike_contents (unread own) (unread (stored n owner levels root)) (beside_alike (unread own) n (unread_laid own) stay)) tree_leaves is.leads;
+    places = λ all level place v led none. is.places all level place v (tree_leads level place v led) (ap (λ (p : Pointer). p.pvbn) (sym (beside_pointers (unread own) n (unread_laid own) stay level place)) ∙ none);
+  }
 
 -- ---- a table
 
@@ -82,19 +89,29 @@ module _ (m n : Under) (levels : ℕ) (root : Pointer) (agree : AgreeOnTable m n
   }
 
   -- and is stored well in them.
-  pub over_stored : IsStoredUnder m levels root → IsStoredUnder n levels root
-  over_stored is = record {
+  pub over_stored : (known : Bool) → IsStoredUnder known m levels root → IsStoredUnder known n levels root
+  over_stored known is = record {
     trees = each;
     inodes = alike_indexes inode (stored n greatest_word levels root) (beside_alike (unread inode) n (unread_laid inode) (stay m n greatest_word levels root agree.inode)) is.inodes;
   }
     where
-      each : (a : Option ℕ) → StoredIn (stored_trees n levels root a)
-      each None = tree_stored m n greatest_word levels root agree.inode (is.trees None)
-      each (Some k) = subst (λ (o : Option InodeRecord). StoredIn (option_map (λ r. unread (stored n k r.levels r.root)) o)) (sym (same_file k)) (by (file_at inode k) refl (is.trees (Some k)))
+      each : (a : Option ℕ) → StoredIn known (stored_trees n levels root a)
+      each None = tree_stored m n greatest_word levels root agree.inode known (is.trees None)
+      each (Some k) = subst (λ (o : Option InodeRecord). StoredIn known (option_map (λ r. unread (stored n k r.levels r.root)) o)) (sym (same_file k)) (by (file_at inode k) refl (is.trees (Some k)))
         where
-          by : (o : Option InodeRecord) → file_at inode k ≡ o → StoredIn (option_map (λ r. unread (stored m k r.levels r.root)) o) → StoredIn (option_map (λ r. unread (stored n k r.levels r.root)) o)
+          by : (o : Option InodeRecord) → file_at inode k ≡ o → StoredIn known (option_map (λ r. unread (stored m k r.levels r.root)) o) → StoredIn known (option_map (λ r. unread (stored n k r.levels r.root)) o)
           by None e well = tt
-          by (Some r) e well = tree_stored m n k r.levels r.root (agree.files k r e) well
+          by (Some r) e well = tree_stored m n k r.levels r.root (agree.files k r e) known well
+
+-- ---- where fewer places have to be known
+
+-- What a table leads to is as its pointers say where every place is known only if it was before.
+pub less_known : (m : Under) (levels : ℕ) (root : Pointer) (known other : Bool) → (other ≡ true → known ≡ true) → IsStoredUnder known m levels root → IsStoredUnder other m levels root
+less_known m levels root known other less is = record { trees = λ a. by (stored_trees m levels root a) (is.trees a); inodes = is.inodes }
+  where
+    by : (o : Option Loaded) → StoredIn known o → StoredIn other o
+    by None well = tt
+    by (Some s) well = record { positions = well.positions; leads = well.leads; places = λ all. well.places (less all) }
 
 -- ---- the same places over other blocks
 

@@ -1,5 +1,5 @@
 -- What the calls of a table over what a session lends leave, and why they fail.
-use Rattle.std.specs.Prelude.{◌≡◌, ◌≢◌, ◌≤◌, ◌+◌, ◌⊎◌, ℕ, true, Result, Ok, Err, OnOk, OnErr, IfOk}
+use Rattle.std.specs.Prelude.{◌≡◌, ◌≢◌, ◌≤◌, ◌+◌, ◌⊎◌, ℕ, Bool, true, Result, Ok, Err, OnOk, OnErr, IfOk}
 use Rattle.fv_disk.specs.Shown.{Shown as Disk}
 use Rattle.fv_disk.specs.DiskCalls.{OnlyReads}
 use Rattle.fv_disk.specs.declared.fault.BlockFault.{BlockFault}
@@ -18,7 +18,7 @@ use Rattle.fv_files.specs.Failing.{IsFileTree}
 use Rattle.fv_files.specs.Pending.{pending_in}
 use Rattle.fv_files.specs.Calls.{CutsFile, TakesByCut}
 use Rattle.fv_files.specs.Tables.{loaded_trees, table_in, AreStanding, IsInfoOf, IsLed, IsStored}
-use Rattle.fv_files.specs.Right.{HasRightTrees}
+use Rattle.fv_files.specs.Right.{AreReadableTrees, HasRightTrees}
 use Rattle.fv_files.specs.Altering.{AltersTrees, AreLaid}
 use Rattle.fv_pool.specs.declared.fault.VolumeFault.{VolumeFault}
 use Rattle.fv_pool.specs.declared.fault.VolumeFault.TheVariants.{Refused, DiskFault, Damaged, Memory}
@@ -43,7 +43,7 @@ pub record LeavesTable {T : Type 0} (told well : Type 0) (old new : Shown) (f g 
   pub stands : told → well → AreStanding old f → AreStanding new g
   pub failed : told → OnErr result (table_told (table_in new g) ≡ table_told (table_in old f))
   pub led : told → well → AreStanding old f → IsLed old f → IsLed new g
-  pub stored : told → well → AreStanding old f → IsStored old f → IsStored new g
+  pub stored : told → well → AreStanding old f → (known : Bool) → IsStored known old f → IsStored known new g
   pub alters : told → well → AreStanding old f → AltersTrees stamp (loaded_trees (under old) f) (loaded_trees (under new) g)
   pub laid : told → well → AreStanding old f → AreLaid (under old) f → AreLaid (under new) g
   pub room : told → well → AreStanding old f → pending_in g ≤ pending_in f + 14
@@ -52,7 +52,11 @@ pub record LeavesTable {T : Type 0} (told well : Type 0) (old new : Shown) (f g 
 abbrev pub TellsTable : Disk → Pool → Maps → Home → Files → Type 0
 TellsTable disk pool map home f = IsTold disk pool map home.slot × HasRightTrees (sees pool map disk home) f
 
--- and of a file
+-- and where its trees may be read by their pointers alone
+abbrev pub TellsReadable : Disk → Pool → Maps → Home → Files → Type 0
+TellsReadable disk pool map home f = IsTold disk pool map home.slot × AreReadableTrees (sees pool map disk home) f
+
+-- what is told for a table, and of a file
 abbrev pub TellsInfo : Disk → Pool → Maps → Home → Files → Info → Type 0
 TellsInfo disk pool map home f info = TellsTable disk pool map home f × IsInfoOf (rooted (sees pool map disk home) f.inode) info
 

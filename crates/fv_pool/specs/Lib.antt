@@ -11,3 +11,4 @@ pub mod PuttingLaws
 pub mod Tables
 pub mod Calls
 pub mod Placing
+pub mod Moving

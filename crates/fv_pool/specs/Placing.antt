@@ -1,5 +1,5 @@
 -- What the flush of a table over what a session lends leaves, and why it isn't done.
-use Rattle.std.specs.Prelude.{◌≡◌, ◌≢◌, ◌≤◌, ◌+◌, ◌⊎◌, ℕ, true, false, Option, None, Result, Ok, Err, IfErr, IfOk, OnOk}
+use Rattle.std.specs.Prelude.{◌≡◌, ◌≢◌, ◌≤◌, ◌+◌, ◌⊎◌, ℕ, Bool, true, false, Option, None, Result, Ok, Err, IfErr, IfOk, OnOk}
 use Rattle.fv_disk.specs.Shown.{Rose, Shown as Disk}
 use Rattle.fv_disk.specs.declared.fault.BlockFault.{BlockFault}
 use Rattle.fv_disk.specs.declared.fault.BlockFault.TheVariants as block
@@ -14,7 +14,8 @@ use Rattle.fv_tree.specs.Standing.{under}
 use Rattle.fv_files.specs.declared.files.Files.{Files}
 use Rattle.fv_files.specs.Pending.{pending_in}
 use Rattle.fv_files.specs.Apart.{AreLed, stored_trees}
-use Rattle.fv_files.specs.Tables.{changed, loaded_trees, table_in, AreReached, AreSound, AreStanding, IsLed, IsStored, IsStoredOn, IsStoredUnder}
+use Rattle.fv_files.specs.Calls.{StoresUnder}
+use Rattle.fv_files.specs.Tables.{changed, loaded_trees, table_in, AreReached, AreSound, AreStanding, IsLed, IsStored, IsStoredOn}
 use Rattle.fv_files.specs.Trees.{standing_in}
 use Rattle.fv_container.specs.Chains.{Slots, container_at, own_entry}
 use Rattle.fv_bits.specs.Members.{is_member}
@@ -37,7 +38,7 @@ pub record PlacesTable (told : Type 0) (before : Shown) (blocks : Under) (uses :
   pub placed : told → AreStanding before f → IsPlacedTable (table_in before f) (standing_in blocks (changed g))
   pub stands : told → AreStanding before f → AreSound blocks uses g
   pub led : told → AreStanding before f → IsLed before f → AreLed uses (loaded_trees blocks g)
-  pub well : told → AreStanding before f → IsLed before f → IsStored before f → IsStoredOn blocks g
+  pub well : told → AreStanding before f → IsLed before f → AreLaid (under before) f → (known : Bool) → IsStored known before f → IsStoredOn known blocks g
   pub anew : told → AreStanding before f → AreLaid (under before) f → PlacesTrees free (loaded_trees (under before) f) (loaded_trees blocks g)
   pub laid : told → AreStanding before f → AreLaid (under before) f → AreLaid blocks g
   pub levels : told → AreStanding before f → g.inode.tree.levels ≡ f.inode.tree.levels
@@ -45,7 +46,7 @@ pub record PlacesTable (told : Type 0) (before : Shown) (blocks : Under) (uses :
   pub stored : told → IfOk result (λ root. AreStanding before f → standing_in blocks (changed g) ≡ standing_at blocks g.inode.tree.levels root)
   pub reached : told → IfOk result (λ root. AreStanding before f → AreReached blocks uses g.inode.tree.levels root)
   pub stored_led : told → IfOk result (λ root. AreStanding before f → IsLed before f → AreLed uses (stored_trees blocks g.inode.tree.levels root))
-  pub stored_well : told → IfOk result (λ root. AreStanding before f → IsLed before f → IsStored before f → IsStoredUnder blocks g.inode.tree.levels root)
+  pub stored_well : told → (known : Bool) → IfOk result (λ root. StoresUnder known before f blocks g.inode.tree.levels root)
 
 -- Blocks were read, placed and given up for one volume, in some steps.
 pub record Goes (old : Lent) (pool : Pool) (map : Volume) (disk : Disk) (room : ℕ) : Type 0 where

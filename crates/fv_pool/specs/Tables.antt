@@ -1,5 +1,5 @@
 -- The table of a volume: by its trees in memory, and where there are none by its root.
-use Rattle.std.specs.Prelude.{ℕ, Option, Some, None}
+use Rattle.std.specs.Prelude.{ℕ, Bool, Option, Some, None}
 use Rattle.fv_tables.specs.Spelled.{Under}
 use Rattle.fv_tables.specs.Told.{Standing, standing_at}
 use Rattle.fv_tree.specs.Sources.{Use}
@@ -41,7 +41,8 @@ abbrev pub AreLedBy : Under → (ℕ → Option Use) → Rooted → Option Files
 AreLedBy blocks uses root None = AreLed uses (stored_trees blocks root.levels root.root)
 AreLedBy blocks uses root (Some f) = AreLed uses (loaded_trees blocks f)
 
--- what the trees of a table lead to is as their pointers say: of those in memory, or of those under its root
-abbrev pub AreStoredBy : Under → Rooted → Option Files → Type 0
-AreStoredBy blocks root None = IsStoredUnder blocks root.levels root.root
-AreStoredBy blocks root (Some f) = IsStoredOn blocks f
+-- What the trees of a table lead to is as their pointers say: of those in memory, or of those under its root. `known` says whether every place is
+-- known.
+abbrev pub AreStoredBy : Bool → Under → Rooted → Option Files → Type 0
+AreStoredBy known blocks root None = IsStoredUnder known blocks root.levels root.root
+AreStoredBy known blocks root (Some f) = IsStoredOn known blocks f

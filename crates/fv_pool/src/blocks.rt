@@ -32,7 +32,7 @@ use fv_volmap::{BASE_SLOT, VolMap};
 use std::sync::ledger::Ledger;
 
 /// The greatest VVBN.
-const LAST: u64 = 1_048_575;
+pub(crate) const LAST: u64 = 1_048_575;
 
 /// The volume whose blocks are meant.
 #[derive(Clone, Copy, Debug, PartialEq, Eq)]
@@ -185,7 +185,7 @@ pub fn place_block<D: Disk>(
 }
 
 /// Holds the leaf of a VVBN of a slot in memory, and keeps a block. Nothing can fail behind that.
-fn prepare_place<D: Disk>(
+pub(crate) fn prepare_place<D: Disk>(
     pool: &mut Pool,
     disk: &mut D,
     slot: u8,
@@ -264,7 +264,7 @@ fn take_numbers(
 }
 
 /// One number was wanted, and none is left.
-fn lacking(at: u64) -> BlockFault
+pub(crate) fn lacking(at: u64) -> BlockFault
     ensures { result ≡ Damaged at 1 0 }
 {
     BlockFault::Damaged {
@@ -285,7 +285,12 @@ fn return_numbers(space: &mut AggMap, map: &mut VolMap, placed: &Placed)
 }
 
 /// Sets the entry of a VVBN of a slot whose leaf is in memory, and answers the one that stood there.
-fn set_entry(containers: &mut Containers, slot: u8, vvbn: u32, entry: Entry) -> Option<Entry>
+pub(crate) fn set_entry(
+    containers: &mut Containers,
+    slot: u8,
+    vvbn: u32,
+    entry: Entry,
+) -> Option<Entry>
     requires slot { slot < slot_count }
     requires within { vvbn < length (entries_in (container_at containers.old slot)) }
     requires here { IfSome (paged_at containers.old slot) (λ paged. is_here paged (vvbn / 256) ≡ true) }
@@ -303,7 +308,7 @@ fn set_entry(containers: &mut Containers, slot: u8, vvbn: u32, entry: Entry) -> 
 
 /// Says that the next root won't hold the block of an entry.
 #[tactic(auto, using(fv_aggmap::proofs::Room::no_fewer))]
-fn give_back(space: &mut AggMap, entry: Option<Entry>)
+pub(crate) fn give_back(space: &mut AggMap, entry: Option<Entry>)
     ensures given { space.new ≡ given_back space.old entry }
     ensures no_fewer { free_blocks space.old ≤ free_blocks space.new }
 {
@@ -420,7 +425,7 @@ fn find_entry<D: Disk, L: Ledger>(
 
 /// Whether a slot of the maps has a VVBN, the base's among them. Costs a step for each slot.
 #[tactic(auto, using(crate::proofs::Lent::taken_anywhere))]
-fn is_taken(map: &VolMap, vvbn: u32) -> bool
+pub(crate) fn is_taken(map: &VolMap, vvbn: u32) -> bool
     ensures { result ≡ taken_in map.now.slots vvbn }
 {
     known_maps(map);

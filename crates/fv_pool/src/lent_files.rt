@@ -1,13 +1,14 @@
 //! The table of one volume over what a session lends: each call of the table, over the volume's blocks.
 
-ghost use Rattle.std.specs.Prelude.{◌≡◌, ◌≤◌, ◌+◌, ℕ, cond, IfOk, OnOk, IfSome, Option, Some, None};
+ghost use Rattle.std.specs.Prelude.{◌≡◌, ◌≤◌, ◌+◌, ℕ, Bool, cond, IfOk, OnOk, IfSome, Option, Some, None};
 ghost use Rattle.std.specs.FinMap as fin;
 ghost use Rattle.fv_codec.specs.Blocks.{IsPointer};
 ghost use Rattle.fv_laws.specs.WellFormed.{IsWellTable};
 ghost use Rattle.fv_tables.specs.Spelled.{Under};
 ghost use Rattle.fv_tables.specs.Told.{table_told};
-ghost use Rattle.fv_files.specs.Right.{HasRightTrees};
+ghost use Rattle.fv_files.specs.Right.{AreReadableTrees, HasRightTrees};
 ghost use Rattle.fv_tree.specs.Sources.{Use};
+ghost use Rattle.fv_tree.specs.Standing.{under};
 ghost use Rattle.fv_inode.specs.Files.{rooted, Finds, IsInfo, IsInfoIf};
 ghost use Rattle.fv_inode.specs.Listing.{names_told};
 ghost use Rattle.fv_files.specs.Calls.{path_cost, GivesCell};
@@ -43,7 +44,7 @@ pub fn take_table(files: &mut Option<Files>, active: &Rooted, alloc: Global) -> 
     ensures trees { (blocks : Under) (used : ℕ → Option Use) → AreSoundBy blocks used active.now files.old → AreSound blocks used result }
     ensures alike { (blocks : Under) → AreAlike (loaded_trees blocks result) (trees_by blocks active.now files.old) }
     ensures led { (blocks : Under) (used : ℕ → Option Use) → AreLedBy blocks used active.now files.old → AreLed used (loaded_trees blocks result) }
-    ensures well { (blocks : Under) → AreStoredBy blocks active.now files.old → IsStoredOn blocks result }
+    ensures well { (known : Bool) (blocks : Under) → AreStoredBy known blocks active.now files.old → IsStoredOn known blocks result }
     ensures pending { pending_in result ≡ pending_of files.old }
     ensures held { IfSome files.old (λ f. result ≡ f) }
     ensures left { files.new ≡ None }
@@ -175,11 +176,11 @@ pub fn cell_told<K: Guard, D: Disk, L: Ledger>(
 ) -> Result<(), BlockFault>
     requires lent { CanLend pool.old map.old (D.shown disk.old) home.now.slot }
     requires told { K.told → IsTold (D.shown disk.old) pool.old map.old home.now.slot }
-    requires right { K.told → HasRightTrees (sees pool.old map.old (D.shown disk.old) home.now) files.old }
+    requires right { K.told → AreReadableTrees (sees pool.old map.old (D.shown disk.old) home.now) files.old }
     requires range { IsInfo info.now }
     requires there { K.told → IsInfoOf (rooted (sees pool.old map.old (D.shown disk.old) home.now) files.old.inode) info.now }
     ensures block { K.told → OnOk result (GivesCell (table_in (sees pool.old map.old (D.shown disk.old) home.now) files.old) info.now.number index into.new) }
-    ensures steps { K.told → OnOk result (steps.new ≡ steps.old + path_cost (sees pool.old map.old (D.shown disk.old) home.now).cost (table_in (sees pool.old map.old (D.shown disk.old) home.now) files.old) info.now index) }
+    ensures steps { K.told → OnOk result (steps.new ≡ steps.old + path_cost (sees pool.old map.old (D.shown disk.old) home.now).cost (loaded_trees (under (sees pool.old map.old (D.shown disk.old) home.now)) files.old) info.now.number index) }
     ensures files { files.new ≡ files.old }
     ensures map { map.new ≡ map.old }
     ensures reads { Reads (D.shown disk.old) pool.old (D.shown disk.new) pool.new }

@@ -12,6 +12,8 @@ mod lent_files;
 mod lent_placing;
 mod lent_removals;
 mod lent_staying;
+mod looking;
+mod moving;
 mod noted;
 mod pool;
 mod rooted;
@@ -28,6 +30,8 @@ pub use lent_files::{cell_told, find_told, kept_table, list_told, numbers_told, 
 pub use lent_placing::place_table;
 pub use lent_removals::{cut_told, remove_told};
 pub use lent_staying::{staying_new_told, staying_told, taken_cut_told, taken_removal_told};
+pub use looking::find_held;
+pub use moving::move_block;
 pub use noted::Noted;
 pub use pool::Pool;
 pub use rooted::Rooted;

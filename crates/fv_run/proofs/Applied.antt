@@ -136,6 +136,7 @@ built_reads (Len v s f) e = refl
 built_reads (Cut v f length) e = refl
 built_reads (Remove v f) e = refl
 built_reads (Ls v s) e = refl
+built_reads (Probe v f i) e = refl
 built_reads c e = absurd cc
 
 -- the room of a command is that of its line
@@ -168,6 +169,7 @@ unbuilt_asks session (Len v s f) e = absurd cc
 unbuilt_asks session (Cut v f length) e = absurd cc
 unbuilt_asks session (Remove v f) e = absurd cc
 unbuilt_asks session (Ls v s) e = absurd cc
+unbuilt_asks session (Probe v f i) e = absurd cc
 unbuilt_asks session (SnapCreate v s) e = absurd cc
 unbuilt_asks session (SnapDelete v s) e = absurd cc
 unbuilt_asks session (VolDestroy v) e = absurd cc
@@ -240,6 +242,7 @@ unfolding is_built
 unbuilt_look (Get v s f i) e = absurd cc
 unbuilt_look (Len v s f) e = absurd cc
 unbuilt_look (Ls v s) e = absurd cc
+unbuilt_look (Probe v f i) e = absurd cc
 unbuilt_look c e = refl
 
 -- what isn't built reads no file

@@ -188,15 +188,15 @@ module _ (x : VolumeState) (whole : IsVolume x.map) (slot : ℕ) (free : IsLeast
     root = active_stands d p x held.stands none held.led held.well
 
     root_now : RootStands d p y 0 y.active
-    root_now = root_moves d p x y refl 0 0 (at_other 0 not_active) refl x.active root
+    root_now = root_moves d p x y refl 0 0 (at_other 0 not_active) refl refl x.active root
 
     table_is : table_for d p y ≡ table_for d p x
     table_is = table_moves d p x y refl refl none none root root_now (at_other 0 not_active)
 
     kept_now : All (IsKeptTable d p y) (tables_of y)
-    kept_now = All-append (IsKeptTable d p y) (base_table x.base) y.snapshots (base_kept d p x y refl refl at_base held.stands.kept) (all_inserted (IsKeptTable d p y) x.snapshots (position_or_len (λ q. nat_lt slot q.slot) x.snapshots) new
-        (all_apart slot (IsKeptTable d p x) (IsKeptTable d p y) (λ q differs is. (is.0, root_moves d p x y refl q.slot q.slot (at_other q.slot differs) refl q.table is.1)) x.snapshots free.free (snaps_all (IsKeptTable d p x) x held.stands.kept))
-        (not_first, root_moves d p x y refl slot 0 at_new refl x.active root))
+    kept_now = All-append (IsKeptTable d p y) (base_table x.base) y.snapshots (base_kept d p x y refl refl at_base refl held.stands.kept) (all_inserted (IsKeptTable d p y) x.snapshots (position_or_len (λ q. nat_lt slot q.slot) x.snapshots) new
+        (all_apart slot (IsKeptTable d p x) (IsKeptTable d p y) (λ q differs is. (is.0, root_moves d p x y refl q.slot q.slot (at_other q.slot differs) refl refl q.table is.1)) x.snapshots free.free (snaps_all (IsKeptTable d p x) x held.stands.kept))
+        (not_first, root_moves d p x y refl slot 0 at_new refl refl x.active root))
       where
         not_first : slot ≢ 0
         not_first = let above = free.above in λ same. absurd (omega (arith, above, same))

@@ -90,13 +90,13 @@ module _ (x : VolumeState) (whole : IsVolume x.map) (labelled : IsLabelled x.slo
     kept = found_among (IsKeptTable d p x) (λ (q : Snap). is_same_name name q.name) x.snapshots (snaps_all (IsKeptTable d p x) x stands.kept) q found
 
     pub root_now : RootStands d p y 0 y.active
-    root_now = root_moves d p x y refl 0 q.slot at_first refl q.table kept.1
+    root_now = root_moves d p x y refl 0 q.slot at_first refl refl q.table kept.1
 
     pub kept_now : All (IsKeptTable d p y) (tables_of y)
     kept_now = λ k s low. one (slice_index_or (tables_of x) k s) (stands.kept k s low)
       where
         one : (r : Snap) → IsKeptTable d p x r → IsKeptTable d p y r
-        one r is = (is.0, root_moves d p x y refl r.slot r.slot (at_other r.slot is.0) refl r.table is.1)
+        one r is = (is.0, root_moves d p x y refl r.slot r.slot (at_other r.slot is.0) refl refl r.table is.1)
 
     snaps_are : (snaps : List Snap) → All (IsKeptTable d p x) snaps → map (snap_by (blocks_in d p y)) snaps ≡ map (snap_by (blocks_in d p x)) snaps
     snaps_are [] all = refl

@@ -160,14 +160,14 @@ module _ (x : VolumeState) (whole : IsVolume x.map) (labelled : IsLabelled x.slo
     root = active_stands disk p x held.stands none held.led held.well
 
     pub root_now : RootStands disk p y 0 y.active
-    root_now = root_moves disk p x y refl 0 0 (at_other 0 not_active) refl x.active root
+    root_now = root_moves disk p x y refl 0 0 (at_other 0 not_active) refl refl x.active root
 
     table_is : table_for disk p y ≡ table_for disk p x
     table_is = table_moves disk p x y refl refl none none root root_now (at_other 0 not_active)
 
     pub kept_now : All (IsKeptTable disk p y) (tables_of y)
-    kept_now = All-append (IsKeptTable disk p y) (base_table x.base) y.snapshots (base_kept disk p x y refl refl at_base held.stands.kept) (left_apart (IsKeptTable disk p x) (IsKeptTable disk p y) x.snapshots at d labelled.snapshots.slots.rising within
-        (λ q differs is. (is.0, root_moves disk p x y refl q.slot q.slot (at_other q.slot differs) refl q.table is.1)) (snaps_all (IsKeptTable disk p x) x held.stands.kept))
+    kept_now = All-append (IsKeptTable disk p y) (base_table x.base) y.snapshots (base_kept disk p x y refl refl at_base refl held.stands.kept) (left_apart (IsKeptTable disk p x) (IsKeptTable disk p y) x.snapshots at d labelled.snapshots.slots.rising within
+        (λ q differs is. (is.0, root_moves disk p x y refl q.slot q.slot (at_other q.slot differs) refl refl q.table is.1)) (snaps_all (IsKeptTable disk p x) x held.stands.kept))
 
     pub numbers_now : AreNumbersIf y.numbers (table_for disk p y)
     numbers_now = subst (AreNumbersIf x.numbers) (sym table_is) held.stands.numbers

@@ -1,7 +1,8 @@
 -- The pointers of a node, and the way from the root down.
-use Rattle.std.proofs.Common.{◌≡◌, ◌≢◌, ◌≤◌, ℕ, suc, ◌-◌, ◌/◌, ◌%◌, ◌^◌, true, false, List, [], Some, None, get_or, refl, sym, ap, ◌∙◌, arith, ◌==◌}
+use Rattle.std.proofs.Common.{◌≡◌, ◌≢◌, ◌≤◌, ℕ, suc, ◌-◌, ◌/◌, ◌%◌, ◌^◌, true, false, List, [], Option, Some, None, get_or, refl, sym, ap, ◌∙◌, arith, ◌==◌}
 use Rattle.std.proofs.Math.Nat.{div-div-eq-div-mul, pow-suc}
 use Rattle.std.proofs.lemmas.Bool.Decides.{nat_tests}
+use Rattle.std.specs.Option.{option_map}
 use Rattle.fv_codec.specs.declared.pointer.Pointer.{Pointer}
 use Rattle.fv_model.specs.Trees.{fan}
 use Rattle.fv_tree.specs.Spelled.{Rooted, hole, pointers_at, pointers_in, pointer_below, pointer_at}
@@ -23,6 +24,14 @@ kept_pointers t level place p xs some is = rw (something p.stamp some, is) refl
 pub read_pointers : (t : Rooted) (level place : ℕ) (p : Pointer) → p.stamp ≢ 0 → t.nodes level place ≡ None → pointers_at t level place p ≡ pointers_in (t.under p.vvbn)
 unfolding pointers_at
 read_pointers t level place p some is = rw (something p.stamp some, is) refl
+
+-- one pointer of a node in memory
+pub own_child : (t : Rooted) (level place slot : ℕ) (p child : Pointer) → p.stamp ≢ 0 → option_map (λ (xs : List Pointer). get_or xs slot hole) (t.nodes level place) ≡ Some child → child ≡ get_or (pointers_at t level place p) slot hole
+own_child t level place slot p child some is = by (t.nodes level place) refl is
+  where
+    by : (o : Option (List Pointer)) → t.nodes level place ≡ o → option_map (λ (xs : List Pointer). get_or xs slot hole) o ≡ Some child → child ≡ get_or (pointers_at t level place p) slot hole
+    by None none own = absurd cc
+    by (Some xs) node own = (let same : get_or xs slot hole ≡ child = cc in sym same) ∙ sym (ap (λ (ys : List Pointer). get_or ys slot hole) (kept_pointers t level place p xs some node))
 
 pub range_above : (i level : ℕ) → 1 ≤ level → i / fan ^ (level - 1) / fan ≡ i / fan ^ level
 range_above i level low =

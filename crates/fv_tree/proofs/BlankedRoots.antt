@@ -30,7 +30,7 @@ use Rattle.fv_tree.specs.Unknown.{LeadsUnknown}
 use Rattle.fv_tree.specs.Readying.{KeepsReady}
 use Rattle.fv_tree.specs.Costs.{changes_in}
 use Rattle.fv_tables.specs.Alike.{hintless, hintless_record}
-use Rattle.fv_tree.specs.Rooting.{hintless_spelled, BlanksCell, BlanksCells, BlanksKept, BlanksRoots}
+use Rattle.fv_tree.specs.Rooting.{hintless_spelled, BlanksCell, BlanksCells, BlanksKept, BlanksPlace, BlanksRoots}
 use Rattle.fv_tree.proofs.Cases.{bit, false_is_true, some_none}
 use Rattle.fv_tree.proofs.Readied.{way_as}
 use Rattle.fv_tree.proofs.Ways.{IsWay, is_way, own_way, past}
@@ -153,6 +153,18 @@ kept_same None (Some now) is same = absurd is
 kept_same (Some was) None is same = absurd is
 kept_same (Some was) (Some now) is same = ap Some (is.block.same same)
 
+-- nothing differs of what didn't change
+itself : (place : Option (List ℕ)) → BlanksPlace false place place
+itself None = tt
+itself (Some block) = record { same = λ same. refl; inodes = λ is. false_is_true false refl is; other = λ fault is. refl }
+
+-- a cell in memory, or its block
+kept_blanks : (o n : Option KeptCell) (below : Option (List ℕ)) → BlanksKept o n → BlanksPlace (cell_changed o) (block_or (content o) below) (block_or (content n) below)
+kept_blanks None None below is = itself below
+kept_blanks None (Some now) below is = absurd is
+kept_blanks (Some was) None below is = absurd is
+kept_blanks (Some was) (Some now) below is = is.block
+
 -- the records of a cell in memory, or of its block
 kept_records : (o n : Option KeptCell) (below : Option (List ℕ)) → BlanksKept o n
     → records_in (block_or (content n) below) ≡ cond (cell_changed o) (map hintless_record (records_in (block_or (content o) below))) (records_in (block_or (content o) below))
@@ -221,9 +233,17 @@ module _ (t u : Tree) (owner : u.owner ≡ t.owner) (levels : u.levels ≡ t.lev
     stamp : (level place : ℕ) → (pointer_at w.tree level place).stamp ≡ (p level place).stamp
     stamp level place = ap (λ (q : Pointer). q.stamp) (pointers level place)
 
-    blocks : (i : ℕ) → changed_of t 0 i ≡ false → block_at w.tree i ≡ block_at s.tree i
+    blocks : (i : ℕ) → BlanksPlace (changed_of t 0 i) (block_at s.tree i) (block_at w.tree i)
     unfolding block_at
-    blocks i same = λ j. if (pointers 0 i j).stamp == 0 then None else block_or (same_cell i same j) (held (pointers 0 i j).vvbn)
+    blocks i = subst (BlanksPlace (changed_of t 0 i) (block_at s.tree i)) (λ j. if (sym (pointers 0 i) j).stamp == 0 then None else block_or (cell_in u i) (held (sym (pointers 0 i) j).vvbn)) (by ((p 0 i).stamp == 0))
+      where
+        by : (b : Bool) → BlanksPlace (cell_changed (was_at i)) (if b then None else block_or (cell_in t i) (held (p 0 i).vvbn)) (if b then None else block_or (cell_in u i) (held (p 0 i).vvbn))
+        by true = tt
+        by false = kept_blanks (was_at i) (now_at i) (held (p 0 i).vvbn) (cells.each i)
+
+    same_block : (i : ℕ) → changed_of t 0 i ≡ false → block_at w.tree i ≡ block_at s.tree i
+    unfolding block_at
+    same_block i same = λ j. if (pointers 0 i j).stamp == 0 then None else block_or (same_cell i same j) (held (pointers 0 i j).vvbn)
 
     records_now : (i : ℕ) → records_in (block_at w.tree i) ≡ cond (changed_of t 0 i) (map hintless_record (records_in (block_at s.tree i))) (records_in (block_at s.tree i))
     unfolding block_at records_in
@@ -291,7 +311,7 @@ module _ (t u : Tree) (owner : u.owner ≡ t.owner) (levels : u.levels ≡ t.lev
       roots = λ place block some same lies holds.
           let was = sym (changed 0 place) ∙ same in
           ap (λ (q : Pointer). q.pvbn) (pointers 0 place)
-          ∙ is.roots place block (λ e. some (stamp 0 place ∙ e)) was (sym (blocks place was) ∙ lies) (ap (λ n. has_unknown_root n block) (sym owner) ∙ holds);
+          ∙ is.roots place block (λ e. some (stamp 0 place ∙ e)) was (sym (same_block place was) ∙ lies) (ap (λ n. has_unknown_root n block) (sym owner) ∙ holds);
     }
 
   ready : KeepsReady t u

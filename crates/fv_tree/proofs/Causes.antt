@@ -1,5 +1,5 @@
 -- Why calls of a tree fail, over several calls of its source.
-use Rattle.std.proofs.Common.{◌≡◌, ◌≢◌, ◌≤◌, ℕ, zero, suc, true, inl, inr, ap, subst, sym, ◌∙◌, arith, refl, Option, Some, None, Result, Ok, Err, OnOk, OnErr, is_some}
+use Rattle.std.proofs.Common.{◌≡◌, ◌≢◌, ◌≤◌, ℕ, zero, suc, true, [], inl, inr, ap, subst, sym, ◌∙◌, arith, refl, Option, Some, None, Result, Ok, Err, OnOk, OnErr, is_some}
 use Rattle.std.specs.Prelude.{IfErr, IsErrAnd}
 use Rattle.std.specs.FinMap as fin
 use Rattle.std.proofs.lemmas.Result.{IfErr-weaker}
@@ -9,7 +9,7 @@ use Rattle.fv_disk.specs.declared.fault.BlockFault.TheVariants.{DiskFault, Damag
 use Rattle.fv_codec.specs.declared.pointer.Pointer.{Pointer}
 use Rattle.fv_tree.specs.declared.kept.Tree.{Tree}
 use Rattle.fv_tree.specs.declared.kept.KeptNode.{KeptNode}
-use Rattle.fv_tree.specs.Spelled.{Under, Rooted, pointer_at}
+use Rattle.fv_tree.specs.Spelled.{Under, Rooted, pointer_at, pointers_in, pointers_of}
 use Rattle.fv_tree.specs.Sources.{Shown, Counts, IsCalm, IsDamaged, IsUntouched}
 use Rattle.fv_tree.specs.Carried.{kept_at}
 use Rattle.fv_tree.specs.Keeping.{IsSame}
@@ -78,6 +78,36 @@ node_fails told t old new level place p (Damaged at want found) held low high is
 )
 node_fails told t old new level place p Memory held low high is fresh h = h
 
+-- a node that was asked of its block, whatever is in memory: memory has no node over a block without pointers
+pub followed_fails : (told : Type 0) (t : Rooted) (old new : Shown) (level place : ℕ) (p : Pointer) (e : BlockFault) → t.under ≡ under old → 1 ≤ level → level ≤ t.levels → (told → pointer_at t level place ≡ p)
+    → (told → p.stamp ≢ 0 → pointers_in (under old p.vvbn) ≡ [] → is_some (t.nodes level place) ≡ true → ⊥) → LoadFails told old new p e → Fails told t old new e
+followed_fails told t old new level place p DiskFault held low high is fresh h = h
+followed_fails told t old new level place p (Damaged at want found) held low high is fresh (faults, inl h) =
+    (faults, inl (h.0, λ tells. let away = h.1 tells in lacks_block t level place high (node_unread t level place low (fresh tells away.0 (ap pointers_in away.1))) p (sym (is tells)) (under old) held away))
+followed_fails told t old new level place p (Damaged at want found) held low high is fresh (faults, inr h) = (
+  faults,
+  inr (
+    h.0,
+    λ tells. let bad = h.1 tells in record {
+      level = level;
+      place = place;
+      low = low;
+      high = high;
+      unread = node_unread t level place low (fresh tells bad.some (ap pointers_in bad.lies ∙ ap pointers_of bad.fault));
+      damage = subst (λ q. IsBlockDamage old new q at want found) (sym (is tells)) bad;
+    },
+  ),
+)
+followed_fails told t old new level place p Memory held low high is fresh h = h
+
+-- so with a cell: memory has none over a VVBN that isn't held
+cell_read_fails : (told : Type 0) (t : Rooted) (old new : Shown) (index : ℕ) (p : Pointer) (e : BlockFault) → t.under ≡ under old → (told → p ≡ pointer_at t 0 index) → (told → p.stamp ≢ 0 → under old p.vvbn ≡ None → is_some (t.cells index) ≡ true → ⊥)
+    → PointerFails told old new p e → Fails told t old new e
+cell_read_fails told t old new index p DiskFault held is fresh (cause, away) = cause
+cell_read_fails told t old new index p (Damaged at want found) held is fresh ((faults, was), away) =
+    (faults, inl (was, λ tells. let gone = away tells tt in lacks_block t 0 index (omega arith) (none_there (t.cells index) (fresh tells gone.0 gone.1)) p (is tells) (under old) held gone))
+cell_read_fails told t old new index p Memory held is fresh (cause, away) = cause
+
 -- ---- over several calls
 
 pub untouched_itself : (source : Shown) → IsUntouched source source
@@ -142,6 +172,14 @@ pointed_fails told old mid new t i p r calm same pointer held cause =
     let at : under old ≡ under mid = ap (λ h v. fin.get h v) (sym same) in
     IfErr-weaker r (λ e. (is_some (cell_in t i) ≡ true → ⊥) × PointerFails told mid new p e) (Fails told (standing (under old) t) old new)
     (λ e q. fails_later told (standing (under old) t) old mid new e calm same (cell_fails told (standing (under old) t) mid new i p e at pointer q.0 q.1)) (err_unless (is_some (cell_in t i) ≡ true) (PointerFails told mid new p) r held cause)
+
+-- or wasn't loaded, since it didn't change
+pub read_fails : {T : Type 0} (told : Type 0) (old mid new : Shown) (t : Tree) (i : ℕ) (p : Pointer) (changed : Type 0) (r : Result T BlockFault) → IsCalm old mid → mid.held ≡ old.held → (told → p ≡ pointer_at (standing (under old) t) 0 i)
+    → (told → (changed → ⊥) → p.stamp ≢ 0 → under mid p.vvbn ≡ None → is_some (cell_in t i) ≡ true → ⊥) → (changed → OnErr r ⊥) → IfErr r (PointerFails told mid new p) → IfErr r (Fails told (standing (under old) t) old new)
+read_fails told old mid new t i p changed r calm same pointer fresh still cause =
+    let at : under old ≡ under mid = ap (λ h v. fin.get h v) (sym same) in
+    IfErr-weaker r (λ e. (changed → ⊥) × PointerFails told mid new p e) (Fails told (standing (under old) t) old new)
+    (λ e q. fails_later told (standing (under old) t) old mid new e calm same (cell_read_fails told (standing (under old) t) mid new i p e at pointer (λ tells. fresh tells q.0) q.1)) (err_unless changed (PointerFails told mid new p) r still cause)
 
 pub at_ok : {T E P : Type 0} (r : Result T E) → P → OnOk r P
 at_ok (Ok x) p = p

@@ -1,36 +1,12 @@
--- What the way to a cell costs, and how much a flush has to place.
-use Rattle.std.specs.Prelude.{◌≤◌, ℕ, zero, suc, ◌+◌, ◌/◌, ◌^◌, Bool, cond, ◌||◌, ◌==◌, if◌then◌else◌, is_some, count_by, Result, IfErr}
+-- How much a flush has to place, and how much is in memory.
+use Rattle.std.specs.Prelude.{◌≤◌, ℕ, ◌+◌, count_by, Result, IfErr}
 use Rattle.std.specs.BTreeMap as maps
-use Rattle.fv_codec.specs.declared.pointer.Pointer.{Pointer}
 use Rattle.fv_disk.specs.declared.fault.BlockFault.{BlockFault}
-use Rattle.fv_model.specs.Trees.{fan, Spot}
+use Rattle.fv_model.specs.Trees.{Spot}
 use Rattle.fv_tree.specs.declared.kept.Tree.{Tree}
 use Rattle.fv_tree.specs.declared.kept.KeptNode.{KeptNode}
 use Rattle.fv_tree.specs.declared.kept.KeptCell.{KeptCell}
-use Rattle.fv_tree.specs.Spelled.{Rooted, pointer_at}
 use Rattle.fv_tree.specs.Sources.{Shown, IsDamaged}
-
--- ---- look-ups
-
--- a cell or a node is in memory
-abbrev pub is_kept : Rooted → ℕ → ℕ → Bool
-is_kept t level place = if level == 0 then is_some (t.cells place) else is_some (t.nodes level place)
-
--- the look-ups of a pointer that is followed: none where it is a hole, or where what it leads to is in memory
-abbrev pub load_cost : (Pointer → ℕ) → Bool → Pointer → ℕ
-load_cost cost kept p = cond (kept || p.stamp == 0) 0 (cost p)
-
-abbrev pub place_cost : (Pointer → ℕ) → Rooted → ℕ → ℕ → ℕ
-place_cost cost t level place = load_cost cost (is_kept t level place) (pointer_at t level place)
-
--- the look-ups of the way to a cell, below so many levels
-unfoldable pub cost_below : (Pointer → ℕ) → Rooted → ℕ → ℕ → ℕ
-cost_below cost t i zero = 0
-cost_below cost t i (suc level) = place_cost cost t level (i / fan ^ level) + cost_below cost t i level
-
--- the look-ups of the whole way, from the root to the cell
-abbrev pub way_cost : (Pointer → ℕ) → Rooted → ℕ → ℕ
-way_cost cost t i = cost_below cost t i (suc t.levels)
 
 -- ---- what differs from its block
 

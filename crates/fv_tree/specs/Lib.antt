@@ -21,6 +21,7 @@ pub mod Reading
 pub mod Seeking
 pub mod Beside
 pub mod Costs
+pub mod Lookups
 pub mod Altering
 pub mod Taking
 pub mod Calls

@@ -2,7 +2,7 @@
 --
 -- An example: files 3 and 4 stand in one inode block, and the record of file 3 was changed since the last flush. Then the roots of both have
 -- PVBN 0 in the inode block in memory, since the next flush writes the whole block.
-use Rattle.std.specs.Prelude.{◌≡◌, ℕ, ◌/◌, Bool, true, false, cond, map, List, Option, Some, None, Result}
+use Rattle.std.specs.Prelude.{◌≡◌, ℕ, ◌/◌, Bool, true, false, cond, map, List, Option, Some, None, Result, Err}
 use Rattle.std.specs.Option.{option_map}
 use Rattle.std.specs.Result.{result_map_both}
 use Rattle.std.specs.Ordering.{nat_cmp}
@@ -36,6 +36,14 @@ hintless_spelled = result_map_both hintless_inodes (λ fault. fault)
 pub record BlanksBlock (changed : Bool) (old new : List ℕ) : Type 0 where
   pub same : changed ≡ false → new ≡ old
   pub inodes : changed ≡ true → inodes_at new ≡ hintless_spelled (inodes_at old)
+  pub other : (fault : Shape) → inodes_at old ≡ Err fault → new ≡ old
+
+-- so it is of what a place holds, which may be nothing
+abbrev pub BlanksPlace : Bool → Option (List ℕ) → Option (List ℕ) → Type 0
+BlanksPlace changed None None = Unit {0}
+BlanksPlace changed None (Some now) = ⊥
+BlanksPlace changed (Some was) None = ⊥
+BlanksPlace changed (Some was) (Some now) = BlanksBlock changed was now
 
 -- so it is of a cell in memory
 pub record BlanksCell (old new : KeptCell) : Type 0 where
@@ -68,7 +76,7 @@ pub record BlanksRoots (old new : Tree) : Type 0 where
   pub placed : (level place : ℕ) → placed_of new level place ≡ placed_of old level place
   pub pending : pending new ≡ pending old
   pub pointers : (held : Under) (level place : ℕ) → pointer_at (standing held new) level place ≡ pointer_at (standing held old) level place
-  pub blocks : (held : Under) (i : ℕ) → changed_of old 0 i ≡ false → block_at (standing held new) i ≡ block_at (standing held old) i
+  pub blocks : (held : Under) (i : ℕ) → BlanksPlace (changed_of old 0 i) (block_at (standing held old) i) (block_at (standing held new) i)
   pub files : (held : Under) (n : ℕ)
       → file_at (standing held new) n ≡ cond (changed_of old 0 (n / records_each)) (option_map hintless_record (file_at (standing held old) n)) (file_at (standing held old) n)
   pub sound : (held : Under) (used : ℕ → Option Use) → IsSound used (loaded_over held old) → IsSound used (loaded_over held new)

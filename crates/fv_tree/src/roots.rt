@@ -1,6 +1,7 @@
 //! Taking the places out of the roots of files.
 
-ghost use Rattle.std.specs.Prelude.{◌≡◌, map};
+ghost use Rattle.std.specs.Prelude.{◌≡◌, map, Err};
+ghost use Rattle.fv_codec.specs.declared.shape.Shape.{Shape};
 ghost use Rattle.fv_codec.specs.declared.inode.InodeRecord.{InodeRecord};
 ghost use Rattle.fv_codec.specs.Blocks.{inodes_at};
 ghost use Rattle.fv_tables.specs.Alike.{hintless_record};
@@ -45,7 +46,8 @@ fn blank_cell(cell: &mut KeptCell)
 
 /// Takes the places out of the roots in a block, where it is an inode block.
 fn blank_block(block: &mut [u8; 4096])
-    ensures { inodes_at block.new ≡ hintless_spelled (inodes_at block.old) }
+    ensures inodes { inodes_at block.new ≡ hintless_spelled (inodes_at block.old) }
+    ensures other { (fault : Shape) → inodes_at block.old ≡ Err fault → block.new ≡ block.old }
 {
     if let Ok(mut inodes) = InodeBlock::decode(block) {
         blank_files(&mut inodes.files);

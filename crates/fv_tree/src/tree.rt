@@ -6,14 +6,15 @@ ghost use Rattle.std.specs.FinMap as fin;
 ghost use Rattle.std.specs.Ordering.{nat_cmp};
 ghost use Rattle.fv_model.specs.Trees as trees;
 ghost use Rattle.fv_codec.specs.Blocks.{IsPointer};
-ghost use Rattle.fv_tree.specs.Places.{HasRightPlaces};
+ghost use Rattle.fv_tree.specs.Places.{HasRightPlaces, IsReadable};
 ghost use Rattle.fv_tree.specs.Spelled.{Under, hole, stored, block_at};
 ghost use Rattle.fv_tree.specs.Sources.{Counts, Use, IsUntouched};
 ghost use Rattle.fv_tree.specs.Standing.{standing, under, Shows, Fails};
 ghost use Rattle.fv_tree.specs.Writing.{IsWritten, Writes, Remains};
 ghost use Rattle.fv_tree.specs.Flushing.{changed_of, loaded, loaded_over, IsSound, ReachesOnce, Stands};
 ghost use Rattle.fv_tree.specs.Altering.{Alters, Leaves};
-ghost use Rattle.fv_tree.specs.Costs.{pending, way_cost};
+ghost use Rattle.fv_tree.specs.Costs.{pending};
+ghost use Rattle.fv_tree.specs.Lookups.{way_cost};
 ghost use Rattle.fv_tree.specs.Calls.{Steady};
 
 use crate::blocks::{Blocks, TreeFault};
@@ -57,7 +58,7 @@ impl Tree {
     }
 
     /// The content of the cell at `index`, which is below 2,097,152; false exactly for a hole. It keeps
-    /// nothing in memory and loads at most one block for each level and one for the cell.
+    /// nothing in memory and loads the blocks that `read` does.
     ///
     /// # Errors
     ///
@@ -70,10 +71,10 @@ impl Tree {
         index: u32,
         into: &mut [u8; 4096],
     ) -> Result<bool, TreeFault>
-        requires right { B.told → HasRightPlaces (B.shown blocks.old) self.old }
+        requires right { B.told → IsReadable (B.shown blocks.old) self.old }
         ensures cell { B.told → IfOk result (λ there. block_at (standing (under (B.shown blocks.old)) self.old) index ≡ cond there (Some into.new) None) }
         ensures seen { B.told → (seen : trees.Tree) (contents : fin.FinMap nat_cmp (List ℕ)) → Shows (standing (under (B.shown blocks.old)) self.old) seen contents → IfOk result (λ there. fin.get contents index ≡ cond there (Some into.new) None) }
-        ensures spent { B.told → OnOk result ((B.shown blocks.new).spent ≡ (B.shown blocks.old).spent + way_cost (B.shown blocks.old).cost (standing (under (B.shown blocks.old)) self.old) index) }
+        ensures spent { B.told → OnOk result ((B.shown blocks.new).spent ≡ (B.shown blocks.old).spent + way_cost (B.shown blocks.old).cost (loaded (B.shown blocks.old) self.old) index) }
         ensures tree { self.new ≡ self.old }
         ensures stands { Stands (B.shown blocks.old) self.old → Stands (B.shown blocks.new) self.new }
         ensures untouched { IsUntouched (B.shown blocks.old) (B.shown blocks.new) }

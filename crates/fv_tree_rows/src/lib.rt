@@ -6,6 +6,8 @@ mod memory;
 mod silent;
 #[cfg(test)]
 mod tests;
+mod untold;
 
 pub use memory::MemBlocks;
 pub use silent::Silent;
+pub use untold::Untold;

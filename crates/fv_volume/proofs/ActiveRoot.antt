@@ -109,7 +109,7 @@ module _ (disk : Disk) (pool : Pool) (x : VolumeState) (active : RootStands disk
 
     -- and stored well.
     pub root_well : IsStoredWell disk pool x
-    root_well = subst (AreStoredBy whole x.active) (sym none) (over_stored blocks whole x.active.levels x.active.root agrees active.well)
+    root_well = subst (AreStoredBy x.known whole x.active) (sym none) (over_stored blocks whole x.active.levels x.active.root agrees x.known active.well)
 
     -- So it stands for a volume of the machine, where the names of its snapshots differ, its tables share as they have to, and its ledger is right.
     pub root_standing : IsTold disk pool x.map x.slot → All (IsKeptTable disk pool x) (tables_of x) → are_distinct (map (λ q. q.name) x.snapshots) ≡ true

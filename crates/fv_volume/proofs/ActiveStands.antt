@@ -129,7 +129,7 @@ module _ (disk : Disk) (pool : Pool) (x : VolumeState) (is : IsStanding disk poo
         table = subst (IsWellTable x.now) (sym same_told) (subst (λ (o : Option Files). IsWellTable x.now (table_told (standing_by (blocks_of shown) x.active o))) none is.table);
         reserves = subst HasNoReserve (sym same_told) (subst (λ (o : Option Files). HasNoReserve (table_told (standing_by (blocks_of shown) x.active o))) none is.reserves);
         trees = active_reached;
-        well = over_stored (blocks_of shown) blocks x.active.levels x.active.root agrees (subst (AreStoredBy (blocks_of shown) x.active) none well);
+        well = over_stored (blocks_of shown) blocks x.active.levels x.active.root agrees x.known (subst (AreStoredBy x.known (blocks_of shown) x.active) none well);
         reach = active_reach;
       }
 

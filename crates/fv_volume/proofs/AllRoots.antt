@@ -192,8 +192,8 @@ shares_again d p x y some was each q r one two =
 
 -- Where the slot of the base has the same numbers, the base table lies in it as before, and is told as before.
 module _ (d : Disk) (p : Pool) (x y : VolumeState) (same : y.slot ≡ x.slot) (now : y.now ≡ x.now) (at : slot_at y.map slot_of_base ≡ slot_at x.map slot_of_base) where
-  pub base_kept : All (IsKeptTable d p x) (tables_of x) → All (IsKeptTable d p y) (base_table x.base)
-  base_kept all = base_slot (IsKeptTable d p x) (IsKeptTable d p y) (λ q here is. (is.0, root_moves d p x y same q.slot q.slot (ap (slot_at y.map) here ∙ at ∙ sym (ap (slot_at x.map) here)) now q.table is.1))
+  pub base_kept : y.known ≡ x.known → All (IsKeptTable d p x) (tables_of x) → All (IsKeptTable d p y) (base_table x.base)
+  base_kept known all = base_slot (IsKeptTable d p x) (IsKeptTable d p y) (λ q here is. (is.0, root_moves d p x y same q.slot q.slot (ap (slot_at y.map) here ∙ at ∙ sym (ap (slot_at x.map) here)) now known q.table is.1))
       x.base (base_all (IsKeptTable d p x) x all)
 
   pub base_told : base_told_by (blocks_in d p y) x.base ≡ base_told_by (blocks_in d p x) x.base

@@ -20,6 +20,7 @@ use Rattle.fv_pool.specs.Lending.{use_of}
 use Rattle.fv_volume.specs.NewClone.{RestsOn}
 use Rattle.fv_volume.specs.OneVolume.{blocks_in, uses_in, RootStands}
 use Rattle.fv_pool.proofs.Holding.{has_taken}
+use Rattle.fv_pool.proofs.OverBlocks.{less_known}
 
 module _ (disk : Disk) (pool : Pool) (x : VolumeState) (k : ℕ) (y : VolumeState) (j : ℕ) (rests : RestsOn pool.containers x k y j) where
   chain_same : (v : ℕ) → has v (slot_at x.map k) ≡ true → chain_entry pool.containers x.slot v ≡ chain_entry pool.containers y.slot v
@@ -59,12 +60,13 @@ module _ (disk : Disk) (pool : Pool) (x : VolumeState) (k : ℕ) (y : VolumeStat
           ap (λ (t : Bool). cond t (Some (use_of (held_entry x.map pool.containers x.slot v))) None) free
           ∙ sym (ap (λ (t : Bool). cond t (Some (use_of (held_entry y.map pool.containers y.slot v))) None) (sym (rests.same v) ∙ free))
 
-  -- so the table of a root that lies whole there lies whole here, where it is well-formed after the changes that this volume counts.
-  pub based_root : (root : Rooted) → RootStands disk pool y j root → IsWellTable x.now (table_told (standing_at (blocks_in disk pool y j) root.levels root.root)) → RootStands disk pool x k root
-  based_root root is well = record {
+  -- So the table of a root that lies whole there lies whole here, where it is well-formed after the changes that this volume counts, and where the
+  -- parent knows all places if this volume does.
+  pub based_root : (x.known ≡ true → y.known ≡ true) → (root : Rooted) → RootStands disk pool y j root → IsWellTable x.now (table_told (standing_at (blocks_in disk pool y j) root.levels root.root)) → RootStands disk pool x k root
+  based_root known root is well = record {
     table = subst (λ (b : Under). IsWellTable x.now (table_told (standing_at b root.levels root.root))) (sym based_blocks) well;
     reserves = subst (λ (b : Under). HasNoReserve (table_told (standing_at b root.levels root.root))) (sym based_blocks) is.reserves;
     trees = subst (λ (b : Under). AreReached b (uses_in pool x k) root.levels root.root) (sym based_blocks) (subst (λ (o : ℕ → Option Use). AreReached (blocks_in disk pool y j) o root.levels root.root) (sym based_uses) is.trees);
-    well = subst (λ (b : Under). IsStoredUnder b root.levels root.root) (sym based_blocks) is.well;
+    well = subst (λ (b : Under). IsStoredUnder x.known b root.levels root.root) (sym based_blocks) (less_known (blocks_in disk pool y j) root.levels root.root y.known x.known known is.well);
     reach = λ v. rests.same v ∙ is.reach v ∙ sym (ap (λ (b : Under). is_listed (items (standing_at b root.levels root.root)) v) based_blocks);
   }

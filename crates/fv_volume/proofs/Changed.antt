@@ -138,7 +138,7 @@ module _ (d e f : Disk) (p q r : Pool) (first : Reads d p e q) (second : Reads e
             told = told;
             table = subst (IsWellTable x.now) (sym table) is.table;
             reserves = subst HasNoReserve (sym table) is.reserves;
-            kept = kept_tables d f p r x with_files (omega arith) slots kept_entries kept_blocks (tables_of x) is.kept;
+            kept = kept_tables d f p r x with_files (omega arith) slots kept_entries kept_blocks refl (tables_of x) is.kept;
             names = is.names;
             shared = kept_shared d f p r x with_files (omega arith) slots kept_entries kept_blocks (trees_by (under (shows f r with_map)) x.active files) (tables_of x) is.kept (shared_now places.alters);
             ledger = subst (λ v. IsLedgerOf v x.ledger) (sym failed_volume) is.ledger;
@@ -163,7 +163,7 @@ module _ (d e f : Disk) (p q r : Pool) (first : Reads d p e q) (second : Reads e
         told = told;
         table = subst (λ n. IsWellTable n (table_for f r counted)) (sym next) (subst (IsWellTable (x.now + 1)) (sym (table_now ∙ made)) well);
         reserves = subst HasNoReserve (sym (table_now ∙ made)) unreserved;
-        kept = kept_tables d f p r x counted later slots kept_entries kept_blocks (tables_of x) is.kept;
+        kept = kept_tables d f p r x counted later slots kept_entries kept_blocks refl (tables_of x) is.kept;
         names = is.names;
         shared = kept_shared d f p r x counted later slots kept_entries kept_blocks (trees_by (under (shows f r with_map)) x.active files) (tables_of x) is.kept (shared_now places.alters);
         ledger = subst (λ v. IsLedgerOf v ledger) (sym made_volume) is_ledger;

@@ -128,7 +128,7 @@ module _ (y : VolumeState) (b : Base) (slot : ℕ) (name : List ℕ) (size : ℕ
     pub clone_labelled : IsLabelled slot x
     clone_labelled = record {
       slot_is = is.slot_is;
-      form = ap has_form is.head ∙ ap (λ (t : Bool). not t && true) whole;
+      form = ap has_form is.head ∙ ap (λ (t : Bool). not t) whole;
       span = omega (arith, span_is, fits);
       map = maps_span (slot_at y.map b.slot) span x.map is.maps ∙ sym span_is;
       snapshots = sayable;

@@ -92,7 +92,7 @@ module _ (disk : Disk) (pool : Pool) (x : VolumeState) (shared : AreShared (tree
 
   one_to_one : IsOneToOne (its ++ [])
   one_to_one = subst IsOneToOne (sym (append-nil its))
-      (one_table (blocks_in disk pool x q.slot) (uses_in pool x q.slot) (slot_at x.map q.slot) x.now q.table lies (kept_share disk pool x shared q q there there))
+      (one_table x.known (blocks_in disk pool x q.slot) (uses_in pool x q.slot) (slot_at x.map q.slot) x.now q.table lies (kept_share disk pool x shared q q there there))
 
   has_item : (e : Item) → In e its → has e.pointer.vvbn (slot_at x.map q.slot) ≡ true
   has_item e inside = lies.reach e.pointer.vvbn ∙ listed_in its e inside

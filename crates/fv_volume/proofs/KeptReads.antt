@@ -14,26 +14,24 @@ use Rattle.fv_tables.specs.Spelled.{Rooted as Spelled, Under, pointer_at, stored
 use Rattle.fv_tables.specs.Told.{Standing, file_at, standing_at}
 use Rattle.fv_tables.proofs.Tables.{same_record}
 use Rattle.fv_tree.specs.Beside.{loaded_on, unread, IsLaid}
-use Rattle.fv_tree.specs.Flushing.{Leads, IsNodeOf, IsSound, ReachesOnce}
+use Rattle.fv_tree.specs.Flushing.{Leads, IsSound, ReachesOnce}
 use Rattle.fv_tree.specs.Sources.{Use}
 use Rattle.fv_tree.specs.Standing.{under}
-use Rattle.fv_tree.proofs.Beside.{beside_alike, beside_leads, beside_pointers, beside_sound, unread_laid, unread_sound}
-use Rattle.fv_inode.specs.declared.info.Info.{Info}
+use Rattle.fv_tree.proofs.Beside.{beside_alike, beside_sound, unread_laid, unread_sound}
 use Rattle.fv_inode.proofs.Indexed.{alike_indexes}
 use Rattle.fv_files.specs.Apart.{IsAsSaid, StoredIn}
-use Rattle.fv_files.specs.Tables.{tree_known, IsInfoOf}
-use Rattle.fv_files.proofs.Tables.{file_tree}
 use Rattle.fv_pool.specs.declared.pool.Pool.{Pool}
 use Rattle.fv_pool.specs.declared.rooted.Rooted.{Rooted}
 use Rattle.fv_volume.specs.declared.state.Snap.{Snap}
 use Rattle.fv_volume.specs.declared.state.VolumeState.{VolumeState}
 use Rattle.fv_volume.specs.declared.tables.TableAsked.{TableAsked}
 use Rattle.fv_volume.specs.declared.tables.TableAsked.TheVariants.{Active, Kept}
-use Rattle.fv_volume.specs.Asking.{root_asked, snap_named, standing_asked, standing_of, standing_read, table_named, IsTableOf, TellsAsked, TellsRead}
+use Rattle.fv_volume.specs.Asking.{root_asked, snap_named, standing_asked, standing_of, standing_read, table_named, IsTableOf}
 use Rattle.fv_pool.specs.Calls.{CallCause, Reads, TableFails}
 use Rattle.fv_pool.specs.Causes.{of_block}
 use Rattle.fv_pool.specs.declared.fault.VolumeFault.{VolumeFault}
 use Rattle.fv_pool.proofs.CallCauses.{failed_cause}
+use Rattle.fv_pool.proofs.OverBlocks.{tree_stored}
 use Rattle.fv_pool.specs.Lending.{lent_for}
 use Rattle.fv_volume.specs.OneVolume.{blocks_in, home_in, shows, standing_for, uses_in, IsKeptTable, IsReady, IsStanding}
 use Rattle.fv_volume.specs.Placing.{IsStoredWell}
@@ -90,7 +88,7 @@ asked_levels_fit d p x ready (Kept root) of = kept_levels_fit d p x ready root o
 
 -- A tree that stands whole on the blocks of a slot does so on all that the volume holds.
 module _ (d : Disk) (p : Pool) (x : VolumeState) (k owner levels : ℕ) (root : Pointer) (reaches : ReachesOnce (uses_in p x k) (stored (blocks_in d p x k) owner levels root))
-    (is : IsAsSaid (unread (stored (blocks_in d p x k) owner levels root))) where
+    (is : IsAsSaid x.known (unread (stored (blocks_in d p x k) owner levels root))) where
   abbrev blocks : Under
   blocks = under (shows d p x)
 
@@ -106,17 +104,14 @@ module _ (d : Disk) (p : Pool) (x : VolumeState) (k owner levels : ℕ) (root : 
   stay : (level place v : ℕ) → Leads (unread own) level place v → blocks v ≡ blocks_in d p x k v
   stay level place v leads = slot_held d p x k v (sound.held level place v leads)
 
-  slot_tree : HoldsWell blocks (uses_in p x k) (stored blocks owner levels root)
+  slot_tree : HoldsWell x.known blocks (uses_in p x k) (stored blocks owner levels root)
   slot_tree = record {
     loaded = loaded_on blocks (unread own);
     tree = refl;
     on = refl;
     sound = beside_sound (unread own) blocks laid stay (uses_in p x k) (uses_in p x k) (λ level place v leads. refl) sound;
     laid = unread_laid (stored blocks owner levels root);
-    well = (
-      (λ level place v low led. let was = beside_leads (unread own) blocks laid stay level place v led in subst (IsNodeOf owner level place) (sym (stay level place v was)) (is.0 level place v low was)),
-      (λ level place v led none. is.1 level place v (beside_leads (unread own) blocks laid stay level place v led) (ap (λ (p : Pointer). p.pvbn) (sym (beside_pointers (unread own) blocks laid stay level place)) ∙ none)),
-    );
+    well = tree_stored (blocks_in d p x k) blocks owner levels root (λ level place some. slot_held d p x k (pointer_at own level place).vvbn (reaches.held level place some)) x.known is;
   }
 
 module _ (d : Disk) (p : Pool) (x : VolumeState) (q : Snap) (is : IsKeptTable d p x q) where
@@ -139,19 +134,13 @@ module _ (d : Disk) (p : Pool) (x : VolumeState) (q : Snap) (is : IsKeptTable d 
   inode_leads level place v leads = slot_held d p x q.slot v ((unread_sound (uses_in p x q.slot) inode (λ level place. refl) (λ index. refl) is.1.trees.inode).held level place v leads)
 
   -- So does each tree of a snapshot's table.
-  pub kept_holds : TableHolds whole (uses_in p x q.slot) (standing_at whole q.table.levels q.table.root)
+  pub kept_holds : TableHolds x.known whole (uses_in p x q.slot) (standing_at whole q.table.levels q.table.root)
   kept_holds = record {
     inode = slot_tree d p x q.slot greatest_word q.table.levels q.table.root is.1.trees.inode (is.1.well.trees None);
     files = λ n r there. slot_tree d p x q.slot n r.levels r.root (is.1.trees.files n r (in_slot n r there))
-        (subst (λ (o : Option InodeRecord). StoredIn (option_map (λ r. unread (stored its n r.levels r.root)) o)) (in_slot n r there) (is.1.well.trees (Some n)));
+        (subst (λ (o : Option InodeRecord). StoredIn x.known (option_map (λ r. unread (stored its n r.levels r.root)) o)) (in_slot n r there) (is.1.well.trees (Some n)));
     names = alike_indexes inode (stored whole greatest_word q.table.levels q.table.root) (beside_alike (unread inode) whole (unread_laid inode) inode_leads) is.1.well.inodes;
   }
-
--- the tree of a file of which this is known
-pub known_holds : (blocks : Under) (uses : ℕ → Option Use) (t : Standing) → TableHolds blocks uses t → (info : Info) → IsInfoOf t.inode info → HoldsWell blocks uses (tree_known t info)
-known_holds blocks uses t holds info known =
-    let of = file_tree t info known in
-    subst (HoldsWell blocks uses) (sym of.tree) (holds.files of.number of.file of.there)
 
 module _ (d : Disk) (p : Pool) (x : VolumeState) (is : IsStanding d p x) where
   module _ (root : Rooted) (of : IsTableOf x (Kept root)) where
@@ -161,15 +150,15 @@ module _ (d : Disk) (p : Pool) (x : VolumeState) (is : IsStanding d p x) where
     abbrev table : Standing
     table = standing_of d p x (Kept root)
 
-    pub root_holds : TableHolds (under (shows d p x)) (uses_in p x kept.snap.slot) table
-    root_holds = subst (λ (r : Rooted). TableHolds (under (shows d p x)) (uses_in p x kept.snap.slot) (standing_of d p x (Kept r))) kept.table (kept_holds d p x kept.snap kept.has)
+    pub root_holds : TableHolds x.known (under (shows d p x)) (uses_in p x kept.snap.slot) table
+    root_holds = subst (λ (r : Rooted). TableHolds x.known (under (shows d p x)) (uses_in p x kept.snap.slot) (standing_of d p x (Kept r))) kept.table (kept_holds d p x kept.snap kept.has)
 
   -- ---- the table that is asked
 
   -- A table stands whole on the blocks that the volume holds, some of which are in use.
   pub record HoldsTable (t : Standing) : Type 0 where
     pub uses : ℕ → Option Use
-    pub holds : TableHolds (under (shows d p x)) uses t
+    pub holds : TableHolds x.known (under (shows d p x)) uses t
 
   module _ (well : IsStoredWell d p x) where
     of_holds : (t : TableAsked) → IsTableOf x t → HoldsTable (standing_of d p x t)
@@ -198,11 +187,11 @@ module _ (d : Disk) (p : Pool) (x : VolumeState) (s : Option (List ℕ)) where
     read_is = sym (ap (λ (o : Option Standing). unwrap_or o (standing_for d p x)) asked_is)
 
     -- the cause of a call that a fault of blocks of this table ended
-    pub asked_cause : {T : Type 0} (steps left : ℕ) (e : BlockFault) (r : Result T VolumeFault) → r ≡ Err (of_block e)
-        → TableFails (TellsAsked d p x t) (standing_of d p x t) (lent_for p x.map d steps (home_in x) 0) left e → CallCause (TellsRead d p x s) (standing_read d p x s) (lent_for p x.map d steps (home_in x) 0) left r
-    asked_cause steps left e r failed cause = subst (λ (u : TableAsked). CallCause (TellsAsked d p x u) (standing_read d p x s) (lent_for p x.map d steps (home_in x) 0) left r) (sym (ap (λ (o : Option TableAsked). unwrap_or o Active) named))
-        (subst (λ (u : Standing). CallCause (TellsAsked d p x t) u (lent_for p x.map d steps (home_in x) 0) left r) read_is
-        (failed_cause (TellsAsked d p x t) (standing_of d p x t) (lent_for p x.map d steps (home_in x) 0) left e r failed cause))
+    pub asked_cause : (Told : TableAsked → Type 0) {T : Type 0} (steps left : ℕ) (e : BlockFault) (r : Result T VolumeFault) → r ≡ Err (of_block e)
+        → TableFails (Told t) (standing_of d p x t) (lent_for p x.map d steps (home_in x) 0) left e → CallCause (Told (unwrap_or (table_named x s) Active)) (standing_read d p x s) (lent_for p x.map d steps (home_in x) 0) left r
+    asked_cause Told steps left e r failed cause = subst (λ (u : TableAsked). CallCause (Told u) (standing_read d p x s) (lent_for p x.map d steps (home_in x) 0) left r) (sym (ap (λ (o : Option TableAsked). unwrap_or o Active) named))
+        (subst (λ (u : Standing). CallCause (Told t) u (lent_for p x.map d steps (home_in x) 0) left r) read_is
+        (failed_cause (Told t) (standing_of d p x t) (lent_for p x.map d steps (home_in x) 0) left e r failed cause))
 
 -- ---- after reads
 

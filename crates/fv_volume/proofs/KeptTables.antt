@@ -94,16 +94,17 @@ module _ (d e : Disk) (p q : Pool) (x y : VolumeState) (later : x.now ≤ y.now)
   }
 
   -- and it lies whole in its slot.
-  pub kept_tables : (snaps : List Snap) → All (IsKeptTable d p x) snaps → All (IsKeptTable e q y) snaps
-  kept_tables snaps all = λ k s lt. one (slice_index_or snaps k s) (all k s lt)
+  pub kept_tables : y.known ≡ x.known → (snaps : List Snap) → All (IsKeptTable d p x) snaps → All (IsKeptTable e q y) snaps
+  kept_tables known snaps all = λ k s lt. one (slice_index_or snaps k s) (all k s lt)
     where
       one : (s : Snap) → IsKeptTable d p x s → IsKeptTable e q y s
       one s is = (
         is.0,
-        subst (λ (u : Under). IsTableIn u (uses_in q y s.slot) (slot_at y.map s.slot) y.now s.table) (sym (same_blocks s.slot is.0))
-            (subst (λ (uses : ℕ → Option Use). IsTableIn (blocks_in d p x s.slot) uses (slot_at y.map s.slot) y.now s.table) (sym (same_uses s.slot is.0))
-            (subst (λ (map : Slot). IsTableIn (blocks_in d p x s.slot) (uses_in p x s.slot) map y.now s.table) (sym (slots s.slot is.0)) (after s is.1))),
+        subst (λ (u : Under). IsTableIn y.known u (uses_in q y s.slot) (slot_at y.map s.slot) y.now s.table) (sym (same_blocks s.slot is.0))
+            (subst (λ (uses : ℕ → Option Use). IsTableIn y.known (blocks_in d p x s.slot) uses (slot_at y.map s.slot) y.now s.table) (sym (same_uses s.slot is.0))
+            (subst (λ (map : Slot). IsTableIn y.known (blocks_in d p x s.slot) (uses_in p x s.slot) map y.now s.table) (sym (slots s.slot is.0))
+            (subst (λ (b : Bool). IsTableIn b (blocks_in d p x s.slot) (uses_in p x s.slot) (slot_at x.map s.slot) y.now s.table) (sym known) (after s is.1)))),
       )
         where
-          after : (r : Snap) → IsTableIn (blocks_in d p x r.slot) (uses_in p x r.slot) (slot_at x.map r.slot) x.now r.table → IsTableIn (blocks_in d p x r.slot) (uses_in p x r.slot) (slot_at x.map r.slot) y.now r.table
+          after : (r : Snap) → IsTableIn x.known (blocks_in d p x r.slot) (uses_in p x r.slot) (slot_at x.map r.slot) x.now r.table → IsTableIn x.known (blocks_in d p x r.slot) (uses_in p x r.slot) (slot_at x.map r.slot) y.now r.table
           after r was = record { table = later_table x.now y.now _ later was.table; reserves = was.reserves; trees = was.trees; well = was.well; reach = was.reach }

@@ -3,16 +3,13 @@ use Rattle.std.proofs.Common.{◌≡◌, ◌≢◌, ℕ, ◌+◌, ◌-◌, ◌<�
 use Rattle.std.specs.Prelude.{All, IfSome, ◌%◌, ◌==◌, if◌then◌else◌, min}
 use Rattle.std.specs.Option.{option_map}
 use Rattle.std.proofs.Math.Seq.{take-append_seam}
-use Rattle.std.proofs.lemmas.Bool.{and_parts}
 use Rattle.std.proofs.lemmas.Bool.Decides.{nat_tests}
 use Rattle.fv_codec.specs.Blocks.{IsLabel, IsPointer, IsSnapRecord, is_used, last_place, most_stamps}
 use Rattle.fv_codec.specs.Fields.{up_to}
-use Rattle.fv_image.specs.WholeMachine.{has_form}
 use Rattle.fv_model.specs.Numbers.{most_snapshots}
 use Rattle.fv_model.specs.declared.commands.Kind.{Kind}
 use Rattle.fv_model.specs.declared.commands.Kind.TheVariants.{Volume as Whole, File as ByFile, Thin}
 use Rattle.fv_model.specs.Spelling.{is_name}
-use Rattle.fv_image.specs.HintRules.{is_splitting}
 use Rattle.fv_image.specs.Views.{Footing, head_of, kind_named}
 use Rattle.fv_container.specs.Chains.{slot_count}
 use Rattle.fv_files.specs.declared.files.Files.{Files}
@@ -52,9 +49,13 @@ pub record IsBaseSaid (p slot s known : ℕ) : Type 0 where
   pub splitting : s ≤ up_to (is_used p) 1
   pub all_known : known ≤ up_to (s == 0) 1
 
-base_said : (o : Option Footing) → IfSome o IsSayableBase → IsBaseSaid (parent_said o) (base_slot_said o) (splitting_said o) 1
-base_said None is = record { parent = omega arith; base_least = omega arith; base_greatest = omega arith; splitting = omega arith; all_known = omega arith }
-base_said (Some b) is =
+at_most_one : (t : Bool) → cond t 1 0 ≤ 1
+at_most_one true = omega arith
+at_most_one false = omega arith
+
+base_said : (o : Option Footing) → IfSome o IsSayableBase → (known : Bool) → IsBaseSaid (parent_said o) (base_slot_said o) (splitting_said o) (cond known 1 0)
+base_said None is known = record { parent = omega arith; base_least = omega arith; base_greatest = omega arith; splitting = omega arith; all_known = at_most_one known }
+base_said (Some b) is known =
     let used : is_used (b.parent + 1) ≡ true = (let some : ((b.parent + 1) == 0) ≡ false = grind (arith, nat_tests) in ap not some) in
     let inside = is.inside in
     record {
@@ -62,7 +63,7 @@ base_said (Some b) is =
       base_least = subst (λ (t : Bool). up_to t 1 ≤ b.slot) (sym used) is.least;
       base_greatest = subst (λ (t : Bool). b.slot ≤ up_to t most_snapshots) (sym used) is.greatest;
       splitting = subst (λ (s : Bool). cond s 1 0 ≤ up_to (is_used (b.parent + 1)) 1) (sym is.whole) (omega arith);
-      all_known = subst (λ (s : Bool). 1 ≤ up_to (cond s 1 0 == 0) 1) (sym is.whole) (omega arith);
+      all_known = subst (λ (s : Bool). cond known 1 0 ≤ up_to (cond s 1 0 == 0) 1) (sym is.whole) (at_most_one known);
     }
 
 -- a volume whose numbers are such as a label can say
@@ -89,11 +90,15 @@ label_range x is container height placed least greatest =
     let name_greatest = sizes.1.0 in
     let name = filled x.name is.name in
     let kind = kind_least x.kind in
-    let base = base_said (head_in x).base is.base in
+    let base = base_said (head_in x).base is.base x.known in
     let snapshots = all_said (head_in x) is.snapshots in
     search (is, name_least, name_greatest, name, kind, base, placed, least, greatest, snapshots)
 
 -- ---- what the label says
+
+flag_again : (t : Bool) → (cond t 1 0 == 1) ≡ t
+flag_again true = refl
+flag_again false = refl
 
 kind_again : (k : Kind) → kind_named (kind_number k) ≡ k
 kind_again Whole = refl
@@ -110,18 +115,13 @@ base_again (Some b) =
     let some : ((b.parent + 1) == 0) ≡ false = grind (arith, nat_tests) in
     let parent : b.parent + 1 - 1 ≡ b.parent = omega arith in
     ap (λ (t : Bool). if t then None else Some (record { parent = b.parent + 1 - 1; slot = b.slot; splitting = cond b.splitting 1 0 == 1 })) some
-    ∙ (λ i. Some (record { parent = parent i; slot = b.slot; splitting = same b.splitting i }))
-  where
-    same : (t : Bool) → (cond t 1 0 == 1) ≡ t
-    same true = refl
-    same false = refl
+    ∙ (λ i. Some (record { parent = parent i; slot = b.slot; splitting = flag_again b.splitting i }))
 
 -- a label says its volume's head
-pub label_head : (x : VolumeState) → has_form (head_in x) ≡ true → is_name x.name ≡ true → AreSayable (head_in x) → (container height : ℕ) → head_of (label_said x container height) ≡ head_in x
+pub label_head : (x : VolumeState) → is_name x.name ≡ true → AreSayable (head_in x) → (container height : ℕ) → head_of (label_said x container height) ≡ head_in x
 unfolding head_of label_said
-label_head x form named said container height =
+label_head x named said container height =
     let name : take (length x.name) (x.name ++ replicate (64 - length x.name) 0) ≡ x.name = take-append_seam x.name (replicate (64 - length x.name) 0) in
-    let known : x.known ≡ true = (and_parts (not (is_splitting (head_in x).base)) x.known form).1 in
     (λ i. record {
       name = name i;
       kind = kind_again x.kind i;
@@ -130,7 +130,7 @@ label_head x form named said container height =
       span = x.span;
       now = x.now;
       base = base_again (head_in x).base i;
-      known = sym known i;
+      known = flag_again x.known i;
       active = record { levels = x.active.levels; root = x.active.root };
       snapshots = snaps_again (head_in x) said i;
     })
@@ -151,7 +151,7 @@ same_label x y head container height = (λ i. record {
   parent = parent_said (head i).base;
   base_slot = base_slot_said (head i).base;
   splitting = splitting_said (head i).base;
-  known = 1;
+  known = cond (head i).known 1 0;
   container = container;
   height = height;
   levels = (head i).active.levels;

@@ -25,6 +25,7 @@ pub mod SnapReads
 pub mod Asked
 mod CallCauses
 pub mod Followed
+pub mod Probed
 pub mod Changed
 pub mod Charged
 mod FileCounts

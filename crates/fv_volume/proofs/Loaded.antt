@@ -33,18 +33,13 @@ use Rattle.fv_volume.specs.Loading.{form_in}
 -- a label without the forms that can't be loaded
 pub record IsBare (l : Label) : Type 0 where
   pub whole : (l.splitting == 0) ≡ true
-  pub known : (l.known == 0) ≡ false
 
 pub bare : (l : Label) → form_in l ≡ None → IsBare l
 unfolding form_in
 bare l none = either (l.splitting == 0) refl none
   where
-    mid : (b : Bool) → (l.known == 0) ≡ b → (l.splitting == 0) ≡ true → if◌then◌else◌ {A = Option (ℕ × ℕ)} b (Some (1, 0)) None ≡ None → IsBare l
-    mid true is p e = cc
-    mid false is p e = record { whole = p; known = is }
-
-    either : (b : Bool) → (l.splitting == 0) ≡ b → if◌then◌else◌ {A = Option (ℕ × ℕ)} (not b) (Some (0, l.splitting)) (if◌then◌else◌ {A = Option (ℕ × ℕ)} (l.known == 0) (Some (1, 0)) None) ≡ None → IsBare l
-    either true is e = mid (l.known == 0) refl is e
+    either : (b : Bool) → (l.splitting == 0) ≡ b → if◌then◌else◌ {A = Option (ℕ × ℕ)} (not b) (Some (0, l.splitting)) None ≡ None → IsBare l
+    either true is e = record { whole = is }
     either false is e = cc
 
 -- it says no volume that is being split
@@ -75,15 +70,10 @@ base_sayable l range is = by (l.parent == 0) refl
         wrong : true ≡ false → ⊥
         wrong e = cc
 
-is_known : (l : Label) → IsLabel l → IsBare l → (l.known == 1) ≡ true
-is_known l range is =
-    let few = up_to-le (l.splitting == 0) 1 in
-    grind (arith, nat_tests, is.known, range.known, few)
-
 -- such a label's head has a form that there is
 pub head_bare : (l : Label) → IsLabel l → IsBare l → has_form (head_of l) ≡ true
 unfolding head_of
-head_bare l range is = (λ i. not (is_whole l is i) && is_known l range is i)
+head_bare l range is = (λ i. not (is_whole l is i))
 
 -- the head of a volume that is made of such a label
 abbrev pub head_with : Label → List ℕ → Kind → Option Base → List StateSnap → Head

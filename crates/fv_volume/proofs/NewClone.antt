@@ -88,7 +88,7 @@ module _ (disk : Disk) (pool : Pool) (x y : VolumeState) (q : Snap) (b : Base) (
 
   -- the snapshot's table lies whole in both slots
   root_here : (k : ℕ) → RestsOn pool.containers x k y q.slot → RootStands disk pool x k q.table
-  root_here k rests = based_root disk pool x k y q.slot rests q.table its.1 well
+  root_here k rests = based_root disk pool x k y q.slot rests is.known q.table its.1 well
 
   pub root_now : RootStands disk pool x 0 x.active
   root_now = subst (RootStands disk pool x 0) (sym is.active) (root_here 0 is.active_slot)

@@ -79,8 +79,8 @@ module _ (d e : Disk) (p q : Pool) (x : VolumeState) (spaces : q.map ≡ p.map) 
   same_uses = λ i k v. cond (has v (slot_at x.map k)) (Some (use_of (held_entry x.map (slots i) x.slot v))) None
 
   same_kept : All (IsKeptTable d p x) (tables_of x) → All (IsKeptTable e q x) (tables_of x)
-  same_kept all = subst (λ (u : ℕ → Under). All (λ (s : Snap). (s.slot ≢ 0) × IsTableIn (u s.slot) (uses_in q x s.slot) (slot_at x.map s.slot) x.now s.table) (tables_of x)) (sym same_slots)
-      (subst (λ (u : ℕ → ℕ → Option Use). All (λ (s : Snap). (s.slot ≢ 0) × IsTableIn (blocks_in d p x s.slot) (u s.slot) (slot_at x.map s.slot) x.now s.table) (tables_of x)) (sym same_uses) all)
+  same_kept all = subst (λ (u : ℕ → Under). All (λ (s : Snap). (s.slot ≢ 0) × IsTableIn x.known (u s.slot) (uses_in q x s.slot) (slot_at x.map s.slot) x.now s.table) (tables_of x)) (sym same_slots)
+      (subst (λ (u : ℕ → ℕ → Option Use). All (λ (s : Snap). (s.slot ≢ 0) × IsTableIn x.known (blocks_in d p x s.slot) (u s.slot) (slot_at x.map s.slot) x.now s.table) (tables_of x)) (sym same_uses) all)
 
   same_shared : AreShared (trees_for d p x) (blocks_in d p x) (tables_of x) → AreShared (trees_for e q x) (blocks_in e q x) (tables_of x)
   same_shared is = subst (λ (u : Under). AreShared (trees_by u x.active x.files) (blocks_in e q x) (tables_of x)) (sym same_under)
@@ -163,4 +163,4 @@ still_led d e p q reads x led = subst (λ (uses : ℕ → Option Use). AreLedBy 
 
 -- And its blocks are stored well still.
 pub still_well : (d e : Disk) (p q : Pool) → Reads d p e q → (x : VolumeState) → IsStoredWell d p x → IsStoredWell e q x
-still_well d e p q reads x well = subst (λ (blocks : Under). AreStoredBy blocks x.active x.files) (sym (still_under d e p q reads x)) well
+still_well d e p q reads x well = subst (λ (blocks : Under). AreStoredBy x.known blocks x.active x.files) (sym (still_under d e p q reads x)) well

@@ -133,9 +133,9 @@ module _ (a b : Trees) (still : (o : Option ℕ) (level place : ℕ) → differs
 -- ---- one table
 
 -- Where a table that lies whole in a slot shares with itself as tables have to, the VVBNs and ids of what it reaches are one to one.
-pub one_table : (blocks : Under) (uses : ℕ → Option Use) (slot : Slot) (now : ℕ) (root : Rooted) → IsTableIn blocks uses slot now root
+pub one_table : (known : Bool) (blocks : Under) (uses : ℕ → Option Use) (slot : Slot) (now : ℕ) (root : Rooted) → IsTableIn known blocks uses slot now root
     → SharesWith (stored_trees blocks root.levels root.root) (stored_trees blocks root.levels root.root) → IsOneToOne (items (standing_at blocks root.levels root.root))
-one_table blocks uses slot now root is shares = record {
+one_table known blocks uses slot now root is shares = record {
   ids = λ a b one two. one_id (stored_trees blocks root.levels root.root) (stored_trees blocks root.levels root.root) still still shares a b (stands a one) (stands b two);
   vvbns = λ a b one two. one_vvbn (stored_trees blocks root.levels root.root) (stored_trees blocks root.levels root.root) still still shares a b (stands a one) (stands b two);
 }

@@ -93,8 +93,8 @@ module _ (d : Disk) (p : Pool) (x : VolumeState) (f : Files) (held : x.files ≡
   pub was_led : IsLedTo d p x → IsLed before f
   was_led led = subst (AreLedBy (under before) before.used x.active) held led
 
-  pub was_well : IsStoredWell d p x → IsStored before f
-  was_well well = subst (AreStoredBy (under before) x.active) held well
+  pub was_well : IsStoredWell d p x → IsStored x.known before f
+  was_well well = subst (AreStoredBy x.known (under before) x.active) held well
 
   -- its inode file has as many levels as a label can say
   pub few_levels : IsStanding d p x → (g : Files) → g.inode.tree.levels ≡ f.inode.tree.levels → min g.inode.tree.levels 2 ≡ g.inode.tree.levels
@@ -130,7 +130,7 @@ module _ (d : Disk) (p : Pool) (x : VolumeState) (f : Files) (held : x.files ≡
       left_base = kept_base d e p q x left (omega arith) slots keeps.entries blocks x.base
 
       left_kept : All (IsKeptTable e q left) (tables_of x)
-      left_kept = kept_tables d e p q x left (omega arith) slots keeps.entries blocks (tables_of x) is.kept
+      left_kept = kept_tables d e p q x left (omega arith) slots keeps.entries blocks refl (tables_of x) is.kept
 
     pub left_volume : IsStanding d p x → volume_for e q left ≡ volume_for d p x
     left_volume is = λ i. record (volume_for d p x) { active = left_table i; snapshots = left_snaps is i; base = base_as x.base (left_base is i) }
@@ -227,9 +227,9 @@ module _ (d e : Disk) (p q : Pool) (x : VolumeState) (f : Files) (held : x.files
         (subst (λ n. AreLed after.used (stored_trees (under after) n root)) (sym few) (table.stored_led told told.1 (was_led d p x f held led))))
 
     pub done_well : IsLedTo d p x → IsStoredWell d p x → IsStoredWell e q (record x { active = active; map = map; files = files; changed = true })
-    done_well led well = subst (λ (o : Option Files). AreStoredBy (under after) active o) (sym none)
-        (subst (λ (r : Rooted). IsStoredUnder (under after) r.levels r.root) (sym rooted)
-        (subst (λ n. IsStoredUnder (under after) n root) (sym few) (table.stored_well told told.1 (was_led d p x f held led) (was_well d p x f held well))))
+    done_well led well = subst (λ (o : Option Files). AreStoredBy x.known (under after) active o) (sym none)
+        (subst (λ (r : Rooted). IsStoredUnder x.known (under after) r.levels r.root) (sym rooted)
+        (subst (λ n. IsStoredUnder x.known (under after) n root) (sym few) (table.stored_well told x.known told.1 (was_led d p x f held led) (was_laid d p x f held is) (was_well d p x f held well))))
 
   -- placed in part
   module _ (fault : BlockFault) (table : PlacesTable (Told d p x f) (shows d p x) (under after) after.used (IsInNoSnap d p x.map x.slot) f g (Err fault)) (is : IsStanding d p x) where
@@ -247,4 +247,4 @@ module _ (d e : Disk) (p q : Pool) (x : VolumeState) (f : Files) (held : x.files
     failed_led led = table.led told_then told_then.1 (was_led d p x f held led)
 
     pub failed_well : IsLedTo d p x → IsStoredWell d p x → IsStoredWell e q (record x { map = map; files = Some g; changed = true })
-    failed_well led well = table.well told_then told_then.1 (was_led d p x f held led) (was_well d p x f held well)
+    failed_well led well = table.well told_then told_then.1 (was_led d p x f held led) (was_laid d p x f held is) x.known (was_well d p x f held well)

@@ -1,9 +1,9 @@
 -- What the rules of soundness ask of a volume without a base, by what is known of each pointer that its roots reach.
-use Rattle.std.proofs.Common.{◌≡◌, ◌≢◌, ℕ, ◌<◌, ◌≤◌, Bool, true, false, not, ◌&&◌, ◌||◌, Option, Some, None, is_some, refl, sym, ap, subst, ◌∙◌, arith, ⊎_elim}
+use Rattle.std.proofs.Common.{◌≡◌, ◌≢◌, ◌⊎◌, ℕ, ◌<◌, ◌≤◌, Bool, true, false, not, ◌&&◌, ◌||◌, Option, Some, None, is_some, refl, sym, ap, subst, ◌∙◌, arith, ⊎_elim}
 use Rattle.std.specs.Prelude.{flat_map, map, nat_le, nat_lt, ◌==◌}
 use Rattle.std.specs.List.{list_all}
 use Rattle.std.specs.Option.{is_none}
-use Rattle.std.proofs.lemmas.Bool.{and_from, and_parts, cases_Bool}
+use Rattle.std.proofs.lemmas.Bool.{and_from, and_parts, cases_Bool, or_left, or_right}
 use Rattle.std.proofs.lemmas.Bool.Decides.{nat_tests}
 use Rattle.std.proofs.lemmas.List.Folds.{list_all-append, list_all-map}
 use Rattle.fv_codec.specs.declared.pointer.Pointer.{Pointer}
@@ -39,17 +39,19 @@ pub record IsRuled (w : View) (s : ℕ) (h : Head) (led : Option ℕ → ℕ →
   pub at : Placed
   pub lies : place w s e.pointer.vvbn ≡ Some at
   pub kind : at.kind ≡ kind_of e
-  pub known : e.pointer.pvbn ≢ 0
-  pub hint : at.pvbn ≡ e.pointer.pvbn
-  pub least : first_block w.blocks ≤ e.pointer.pvbn
-  pub greatest : e.pointer.pvbn < w.blocks
+  -- its place, where all are known, and what leads to the block in which it stands, where it tells none
+  pub known : h.known ≡ true → e.pointer.pvbn ≢ 0
+  pub unknown : e.pointer.pvbn ≡ 0 → (e.holder.stamp ≡ 0) ⊎ (e.holder.pvbn ≡ 0)
+  pub hint : (e.pointer.pvbn ≡ 0) ⊎ (e.pointer.pvbn ≡ at.pvbn)
+  pub least : first_block w.blocks ≤ at.pvbn
+  pub greatest : at.pvbn < w.blocks
   pub shape : is_fine (shape_for e at.block) ≡ true
   pub position : is_of_position e at.block ≡ true
   pub stamp : e.pointer.stamp ≤ h.now
   pub mark : e.level < e.levels → e.pointer.stamp ≤ e.holder.stamp
 
--- the pointers of the table of one root: each is known, one VVBN is led to from one place of one tree, and the number of a file isn't that of
--- the inode file
+-- the pointers of the table of one root: so much is known of each, one VVBN is led to from one place of one tree, and the number of a
+-- file isn't that of the inode file
 pub record AreRuled (w : View) (s : ℕ) (h : Head) (r : Rooted) (led : Option ℕ → ℕ → ℕ → Pointer) : Type 0 where
   pub each : (test : Item → Bool) → ((e : Item) → IsRuled w s h led e → test e ≡ true) → list_all test (items (standing_of w s r)) ≡ true
   pub once : (a b : Option ℕ) (level index k j : ℕ) → (led a level index).stamp ≢ 0 → (led b k j).stamp ≢ 0 → (led a level index).vvbn ≡ (led b k j).vvbn → (a ≡ b) × ((level ≡ k) × (index ≡ j))
@@ -157,14 +159,11 @@ module _ (w : View) (s : ℕ) (h : Head) (led : ℕ → Rooted → Option ℕ �
   shapes = of_each (λ e. block_is (λ block. is_fine (shape_for e.item block)) e.at) (λ places e k. ap (block_is (λ block. is_fine (shape_for e block))) k.lies ∙ k.shape)
 
   pub ranges : list_all (λ (r : Root). list_all (λ e. nat_lt e.item.pointer.vvbn h.span && is_hint w.blocks e.item.pointer.pvbn) r.reached) (volume_seen w s h).roots ≡ true
-  ranges = of_each (λ e. nat_lt e.item.pointer.vvbn h.span && is_hint w.blocks e.item.pointer.pvbn) (λ places e k. and_from (nat_lt e.pointer.vvbn h.span) _ (below e.pointer.vvbn h.span k.low) (within e.pointer.pvbn k.least k.greatest))
-    where
-      within : (p : ℕ) → first_block w.blocks ≤ p → p < w.blocks → is_hint w.blocks p ≡ true
-      within p least greatest = by (p == 0) (and_from (nat_le (first_block w.blocks) p) (nat_lt p w.blocks) (at_most (first_block w.blocks) p least) (below p w.blocks greatest))
-        where
-          by : (t : Bool) → (nat_le (first_block w.blocks) p && nat_lt p w.blocks) ≡ true → (t || (nat_le (first_block w.blocks) p && nat_lt p w.blocks)) ≡ true
-          by true e = refl
-          by false e = e
+  ranges = of_each (λ e. nat_lt e.item.pointer.vvbn h.span && is_hint w.blocks e.item.pointer.pvbn) (λ places e k. and_from (nat_lt e.pointer.vvbn h.span) _ (below e.pointer.vvbn h.span k.low) (⊎_elim
+      (λ (none : e.pointer.pvbn ≡ 0). or_left (e.pointer.pvbn == 0) _ (equals e.pointer.pvbn 0 none))
+      (λ (told : e.pointer.pvbn ≡ k.at.pvbn). or_right (e.pointer.pvbn == 0) _ (ap (λ (p : ℕ). nat_le (first_block w.blocks) p && nat_lt p w.blocks) told
+      ∙ and_from (nat_le (first_block w.blocks) k.at.pvbn) (nat_lt k.at.pvbn w.blocks) (at_most (first_block w.blocks) k.at.pvbn k.least) (below k.at.pvbn w.blocks k.greatest)))
+      k.hint))
 
   pub positions : list_all (λ (r : Root). list_all (λ e. block_is (is_of_position e.item) e.at) r.reached) (volume_seen w s h).roots ≡ true
   positions = of_each (λ e. block_is (is_of_position e.item) e.at) (λ places e k. ap (block_is (is_of_position e)) k.lies ∙ k.position)
@@ -180,27 +179,30 @@ module _ (w : View) (s : ℕ) (h : Head) (led : ℕ → Rooted → Option ℕ �
       lower a b test = grind (arith, nat_tests, test)
 
   pub hints : list_all (λ (r : Root). list_all (λ e. is_true_hint e.item.pointer e.at) r.reached) (volume_seen w s h).roots ≡ true
-  hints = of_each (λ e. is_true_hint e.item.pointer e.at) (λ places e k. ap (is_true_hint e.pointer) k.lies ∙ by (e.pointer.pvbn == 0) (equals k.at.pvbn e.pointer.pvbn k.hint))
-    where
-      by : {b : Bool} (t : Bool) → b ≡ true → (t || b) ≡ true
-      by true e = refl
-      by false e = e
+  hints = of_each (λ e. is_true_hint e.item.pointer e.at) (λ places e k. ap (is_true_hint e.pointer) k.lies ∙ ⊎_elim
+      (λ (none : e.pointer.pvbn ≡ 0). or_left (e.pointer.pvbn == 0) (k.at.pvbn == e.pointer.pvbn) (equals e.pointer.pvbn 0 none))
+      (λ (told : e.pointer.pvbn ≡ k.at.pvbn). or_right (e.pointer.pvbn == 0) (k.at.pvbn == e.pointer.pvbn) (equals k.at.pvbn e.pointer.pvbn (sym told)))
+      k.hint)
 
-  isnt_unknown : (places : Option ℕ → ℕ → ℕ → Pointer) (e : Item) → IsRuled w s h places e → is_unknown e.pointer ≡ false
-  isnt_unknown places e k = so (e.pointer.stamp == 0) (zero_not e.pointer.pvbn k.known)
-    where
-      zero_not : (p : ℕ) → p ≢ 0 → (p == 0) ≡ false
-      zero_not p some = grind (arith, nat_tests, some)
+  -- an unknown pointer has no place
+  tells_none : (e : Item) → is_unknown e.pointer ≡ true → e.pointer.pvbn ≡ 0
+  tells_none e so = meant e.pointer.pvbn 0 (and_parts (not (e.pointer.stamp == 0)) (e.pointer.pvbn == 0) so).1
 
-      so : (t : Bool) → (e.pointer.pvbn == 0) ≡ false → (not t && (e.pointer.pvbn == 0)) ≡ false
-      so true e = refl
-      so false e = e
+  isnt_unknown : (e : Item) → e.pointer.pvbn ≢ 0 → is_unknown e.pointer ≡ false
+  isnt_unknown e known = by (is_unknown e.pointer) refl
+    where
+      by : (t : Bool) → is_unknown e.pointer ≡ t → t ≡ false
+      by true so = absurd (known (tells_none e so))
+      by false so = refl
 
   pub unknown : list_all (λ (r : Root). list_all (λ e. not (is_unknown e.item.pointer) || (is_in_label e.item || (e.item.holder.pvbn == 0))) r.reached) (volume_seen w s h).roots ≡ true
-  unknown = of_each (λ e. not (is_unknown e.item.pointer) || (is_in_label e.item || (e.item.holder.pvbn == 0))) (λ places e k. ap (λ (t : Bool). not t || (is_in_label e || (e.holder.pvbn == 0))) (isnt_unknown places e k))
+  unknown = of_each (λ e. not (is_unknown e.item.pointer) || (is_in_label e.item || (e.item.holder.pvbn == 0))) (λ places e k. either (is_unknown e.pointer) _ (λ so. ⊎_elim
+      (λ (none : e.holder.stamp ≡ 0). or_left (is_in_label e) (e.holder.pvbn == 0) (equals e.holder.stamp 0 none))
+      (λ (none : e.holder.pvbn ≡ 0). or_right (is_in_label e) (e.holder.pvbn == 0) (equals e.holder.pvbn 0 none))
+      (k.unknown (tells_none e so))))
 
   pub known_places : list_all (λ (r : Root). list_all (λ e. not h.known || not (is_unknown e.item.pointer)) r.reached) (volume_seen w s h).roots ≡ true
-  known_places = of_each (λ e. not h.known || not (is_unknown e.item.pointer)) (λ places e k. either h.known _ (λ so. ap not (isnt_unknown places e k)))
+  known_places = of_each (λ e. not h.known || not (is_unknown e.item.pointer)) (λ places e k. either h.known _ (λ all. ap not (isnt_unknown e (k.known all))))
 
   -- ---- one place for each VVBN of a root
 

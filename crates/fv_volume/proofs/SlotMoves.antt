@@ -72,9 +72,10 @@ module _ (d : Disk) (p : Pool) (x y : VolumeState) (at : y.slot ≡ x.slot) wher
         (λ is. ap (λ (o : Option Entry). Some (use_of o)) (entry_moves v is)) i
 
     -- and a table that lay whole in that lies whole in this.
-    pub root_moves : y.now ≡ x.now → (r : Rooted) → RootStands d p x j r → RootStands d p y k r
-    root_moves now r is =
-        subst (λ (n : ℕ). IsTableIn (blocks_in d p y k) (uses_in p y k) (slot_at y.map k) n r) (sym now)
-        (subst (λ (u : Under). IsTableIn u (uses_in p y k) (slot_at y.map k) x.now r) (sym blocks_move)
-        (subst (λ (uses : ℕ → Option Use). IsTableIn (blocks_in d p x j) uses (slot_at y.map k) x.now r) (sym uses_move)
-        (subst (λ (s : Slot). IsTableIn (blocks_in d p x j) (uses_in p x j) s x.now r) (sym same) is)))
+    pub root_moves : y.now ≡ x.now → y.known ≡ x.known → (r : Rooted) → RootStands d p x j r → RootStands d p y k r
+    root_moves now known r is =
+        subst (λ (b : Bool). IsTableIn b (blocks_in d p y k) (uses_in p y k) (slot_at y.map k) y.now r) (sym known)
+        (subst (λ (n : ℕ). IsTableIn x.known (blocks_in d p y k) (uses_in p y k) (slot_at y.map k) n r) (sym now)
+        (subst (λ (u : Under). IsTableIn x.known u (uses_in p y k) (slot_at y.map k) x.now r) (sym blocks_move)
+        (subst (λ (uses : ℕ → Option Use). IsTableIn x.known (blocks_in d p x j) uses (slot_at y.map k) x.now r) (sym uses_move)
+        (subst (λ (s : Slot). IsTableIn x.known (blocks_in d p x j) (uses_in p x j) s x.now r) (sym same) is))))

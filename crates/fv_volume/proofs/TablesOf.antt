@@ -48,7 +48,7 @@ none_counted x is = no_length (tables_of x) (grind (arith, nat_tests, is))
 
 -- a volume whose label can be written isn't being split
 pub head_whole : (slot : ℕ) (x : VolumeState) → IsLabelled slot x → is_splitting (head_in x).base ≡ false
-head_whole slot x labelled = opposite (is_splitting (head_in x).base) (and_parts _ x.known labelled.form).0
+head_whole slot x labelled = opposite (is_splitting (head_in x).base) labelled.form
   where
     opposite : (t : Bool) → not t ≡ true → t ≡ false
     opposite true e = absurd cc

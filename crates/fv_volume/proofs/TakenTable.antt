@@ -1,5 +1,5 @@
 -- What a change of a volume's table by a call over what is lent leaves: the table was taken, changed and put back.
-use Rattle.std.proofs.Common.{◌≡◌, ◌+◌, ℕ, Option, Some, IfOk, OnErr, OnOk, true, refl, sym, subst, arith}
+use Rattle.std.proofs.Common.{◌≡◌, ◌+◌, ℕ, Bool, Option, Some, IfOk, OnErr, OnOk, true, refl, sym, subst, arith}
 use Rattle.std.specs.Prelude.{Result, IfSome}
 use Rattle.fv_disk.specs.Shown.{Shown as Disk}
 use Rattle.fv_disk.specs.declared.fault.BlockFault.{BlockFault}
@@ -79,7 +79,7 @@ module _ (d : Disk) (p : Pool) (x : VolumeState) (f : Files) (takes : (blocks : 
 
       -- the volume with the table and the map that the call left, where the table is as the call asks
       pub taken_alters : (Asked : Type 0) (asked : IsStanding d p x → Asked) (held : IfSome x.files (λ g. f ≡ g)) (led : (blocks : Under) (used : ℕ → Option Use) → AreLedBy blocks used x.active x.files → AreLed used (loaded_trees blocks f))
-          (well : (blocks : Under) → AreStoredBy blocks x.active x.files → IsStoredOn blocks f) (taken : pending_in f ≡ pending_of x.files) (e : Disk) (q : Pool) (map : Maps) (g : Files)
+          (well : (known : Bool) (blocks : Under) → AreStoredBy known blocks x.active x.files → IsStoredOn known blocks f) (taken : pending_in f ≡ pending_of x.files) (e : Disk) (q : Pool) (map : Maps) (g : Files)
           → LeavesTable IsGiven Asked (shows d p x) (sees p map d (home_in x)) f g (x.now + 1) result → GivesUp x.map map → Reads d p e q → (IsGiven → IsTold e q map x.slot)
           → AltersTable d p e q x (record x { map = map; files = Some g; changed = true }) result
       taken_alters Asked asked held led well taken e q map g leaves maps reads told = record {
@@ -92,13 +92,13 @@ module _ (d : Disk) (p : Pool) (x : VolumeState) (f : Files) (takes : (blocks : 
         laid = λ is. leaves.laid (is_given is) (asked is) (sound is) (taken_laid (under (shows d p x)) x.active x.files f table held is.laid);
         failed = λ tells. subst (λ (s : Standing). OnErr result (table_told (table_in (sees p map d (home_in x)) g) ≡ table_told s)) table (leaves.failed (by_tells tells));
         led = λ is was. leaves.led (is_given is) (asked is) (sound is) (led (under (shows d p x)) (shows d p x).used was);
-        well = λ is was. leaves.stored (is_given is) (asked is) (sound is) (well (under (shows d p x)) was);
+        well = λ is was. leaves.stored (is_given is) (asked is) (sound is) x.known (well x.known (under (shows d p x)) was);
         room = λ is. let grown = leaves.room (is_given is) (asked is) (sound is) in omega (arith, taken, grown);
       }
 
       -- a change that leaves the maps
       pub kept_alters : (held : IfSome x.files (λ g. f ≡ g)) (led : (blocks : Under) (used : ℕ → Option Use) → AreLedBy blocks used x.active x.files → AreLed used (loaded_trees blocks f))
-          (well : (blocks : Under) → AreStoredBy blocks x.active x.files → IsStoredOn blocks f) (taken : pending_in f ≡ pending_of x.files) (e : Disk) (q : Pool) (map : Maps) (g : Files)
+          (well : (known : Bool) (blocks : Under) → AreStoredBy known blocks x.active x.files → IsStoredOn known blocks f) (taken : pending_in f ≡ pending_of x.files) (e : Disk) (q : Pool) (map : Maps) (g : Files)
           → LeavesTable IsGiven (Unit {0}) (shows d p x) (sees p map d (home_in x)) f g (x.now + 1) result → map ≡ x.map → Reads d p e q
           → AltersTable d p e q x (record x { map = map; files = Some g; changed = true }) result
       kept_alters held led well taken e q map g leaves same reads = taken_alters (Unit {0}) (λ is. tt) held led well taken e q map g leaves (same_maps x.map map same) reads

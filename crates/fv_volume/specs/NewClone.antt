@@ -17,7 +17,7 @@ pub record RestsOn (slots : Slots) (x : VolumeState) (k : ℕ) (y : VolumeState)
   pub ends : (v : ℕ) → along slots 64 (Some y.slot) v ≡ along slots 63 (Some y.slot) v
 
 -- What a clone of a volume's snapshot is as it is made: no entry of its own, the snapshot's numbers in its active slot and in that of its base, and
--- the snapshot's root for both.
+-- the snapshot's root for both. It knows all places only where its parent does.
 pub record IsNewClone (pool : Pool) (x y : VolumeState) (q : Snap) (b : Base) : Type 0 where
   pub active_slot : RestsOn pool.containers x 0 y q.slot
   pub base_slot : RestsOn pool.containers x slot_of_base y q.slot
@@ -29,6 +29,7 @@ pub record IsNewClone (pool : Pool) (x y : VolumeState) (q : Snap) (b : Base) : 
   pub whole : b.splitting ≡ false
   pub snapshots : x.snapshots ≡ []
   pub now : x.now ≡ y.now
+  pub known : x.known ≡ true → y.known ≡ true
   pub files : x.files ≡ None
   pub numbers : x.numbers ≡ None
   pub ledger : x.ledger ≡ ledger_of_empty x.size x.kind x.span

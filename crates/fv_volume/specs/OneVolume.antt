@@ -1,5 +1,5 @@
 -- What one volume is seen as, in its pool, over what the disk reads and with the trees that are in memory.
-use Rattle.std.specs.Prelude.{◌≡◌, ◌≢◌, ◌≤◌, ◌+◌, ℕ, true, false, cond, List, [], ◌∷◌, ◌++◌, map, Option, Some, None, All, replicate}
+use Rattle.std.specs.Prelude.{◌≡◌, ◌≢◌, ◌≤◌, ◌+◌, ℕ, Bool, true, false, cond, List, [], ◌∷◌, ◌++◌, map, Option, Some, None, All, replicate}
 use Rattle.std.specs.Option.{option_map, option_and_then}
 use Rattle.std.specs.FinMap as fin
 use Rattle.fv_disk.specs.Shown.{Shown as Disk}
@@ -86,17 +86,17 @@ abbrev pub snaps_by : (ℕ → Under) → List Snap → fin.FinMap name_cmp Tabl
 snaps_by blocks snaps = fin.from_entries {R = name_cmp} (map (snap_by blocks) snaps)
 
 -- A table lies whole in a slot, after so many changes: it is well-formed, no file of it has a reserve, each of its trees stands on the blocks
--- of the slot and is stored well in them, and the slot has the VVBNs that it reaches and no others.
-pub record IsTableIn (blocks : Under) (uses : ℕ → Option Use) (slot : Slot) (now : ℕ) (root : Rooted) : Type 0 where
+-- of the slot and is stored well in them, and the slot has the VVBNs that it reaches and no others. `known` says whether every place is known.
+pub record IsTableIn (known : Bool) (blocks : Under) (uses : ℕ → Option Use) (slot : Slot) (now : ℕ) (root : Rooted) : Type 0 where
   pub table : IsWellTable now (table_told (standing_at blocks root.levels root.root))
   pub reserves : HasNoReserve (table_told (standing_at blocks root.levels root.root))
   pub trees : AreReached blocks uses root.levels root.root
-  pub well : IsStoredUnder blocks root.levels root.root
+  pub well : IsStoredUnder known blocks root.levels root.root
   pub reach : (v : ℕ) → has v slot ≡ is_listed (items (standing_at blocks root.levels root.root)) v
 
 -- The table of a root of a volume lies whole in a slot of its maps, with nothing of it in memory.
 abbrev pub RootStands : Disk → Pool → VolumeState → ℕ → Rooted → Type 0
-RootStands disk pool x k root = IsTableIn (blocks_in disk pool x k) (uses_in pool x k) (slot_at x.map k) x.now root
+RootStands disk pool x k root = IsTableIn x.known (blocks_in disk pool x k) (uses_in pool x k) (slot_at x.map k) x.now root
 
 -- So the table of a snapshot lies in its slot, which isn't the active table's.
 abbrev pub IsKeptTable : Disk → Pool → VolumeState → Snap → Type 0

@@ -10,7 +10,7 @@ ghost use Rattle.fv_model.specs.declared.answers.Refusal.TheVariants.{Range};
 ghost use Rattle.fv_model.specs.declared.answers.Reply.TheVariants as reply;
 ghost use Rattle.fv_model.specs.declared.commands.Command.TheVariants.{Get, Len, Ls};
 ghost use Rattle.fv_charge.specs.Ledgers.{IsLedgerOf};
-ghost use Rattle.fv_volume.specs.Asking.{standing_read, IsRefusedUnread, RefusesLost, TellsActive, TellsRead};
+ghost use Rattle.fv_volume.specs.Asking.{standing_read, trees_read, IsRefusedUnread, ReadsRead, RefusesLost, TellsActive, TellsRead};
 ghost use Rattle.fv_pool.specs.Calls.{BlockCause, CallCause, Reads};
 ghost use Rattle.fv_volume.specs.Calls.{Asks, Has};
 ghost use Rattle.fv_pool.specs.Lending.{lent_for};
@@ -104,7 +104,7 @@ impl VolumeState {
     /// changes but its cache. At `Err` the content of `into` is open.
     ///
     /// The steps rise by the unknown pointers on the path from the root of the table that is asked to the file's record and from there to
-    /// the cell, so not at all where all are known. The search for the name isn't counted, and a refused call makes no step.
+    /// the cell, whatever of it is in memory, but for those to what isn't placed yet; so not at all where all are known. The search for the name isn't counted, and a refused call makes no step.
     ///
     /// # Errors
     ///
@@ -127,11 +127,11 @@ impl VolumeState {
             → Asks (Has self.old.name (volume_for (D.shown disk.old) pool.old self.old)) (Get self.old.name (option_copied snapshot.entry) file.now index) (λ _. reply.Content into.new) result }
         ensures range { is_index index ≡ false → IsRefusedUnread Range disk.old pool.old disk.new pool.new result }
         ensures snapshot { is_index index ≡ true → RefusesLost self.old (option_copied snapshot.entry) disk.old pool.old disk.new pool.new result }
-        ensures steps { IsStanding (D.shown disk.old) pool.old self.old → OnOk result (StepsTo (standing_read (D.shown disk.old) pool.old self.old (option_copied snapshot.entry)) file.now index steps.old steps.new) }
+        ensures steps { IsStanding (D.shown disk.old) pool.old self.old → OnOk result (StepsTo (standing_read (D.shown disk.old) pool.old self.old (option_copied snapshot.entry)) (trees_read (D.shown disk.old) pool.old self.old (option_copied snapshot.entry)) file.now index steps.old steps.new) }
         ensures unmoved { IfErr result (λ e. (r : Refusal) → e ≡ Refused r → steps.new ≡ steps.old) }
         ensures same { self.new ≡ self.old }
         ensures reads { Reads (D.shown disk.old) pool.old (D.shown disk.new) pool.new }
-        ensures cause { CallCause (TellsRead (D.shown disk.old) pool.old self.old (option_copied snapshot.entry)) (standing_read (D.shown disk.old) pool.old self.old (option_copied snapshot.entry))
+        ensures cause { CallCause (ReadsRead (D.shown disk.old) pool.old self.old (option_copied snapshot.entry)) (standing_read (D.shown disk.old) pool.old self.old (option_copied snapshot.entry))
             (lent_for pool.old self.old.map (D.shown disk.old) 0 (home_in self.old) 0) (D.shown disk.new).faults result }
     {
         if !in_index(u64::from(index)) {

@@ -42,9 +42,6 @@ fn form_in(label: &Label) -> Option<(u64, u64)>
     if label.splitting != 0 {
         return Some((0, u64::from(label.splitting)));
     }
-    if label.known == 0 {
-        return Some((1, 0));
-    }
     None
 }
 
@@ -229,11 +226,11 @@ fn filled(bytes: &[u8]) -> [u8; 64]
     field
 }
 
-/// Reads the label at a PVBN. It is in range, and says a volume that isn't being split and whose places are all known.
+/// Reads the label at a PVBN. It is in range, and says a volume that isn't being split.
 ///
 /// # Errors
 /// `Damaged` comes only where the block that was read there isn't such a label: it lacks the shape of one, or says that the volume is being
-/// split, or unknown places, which can't be loaded. `DiskFault` comes only where the read failed.
+/// split, which can't be loaded. `DiskFault` comes only where the read failed.
 ///
 /// Costs at most one block, and takes no memory. `docs/FORMAT.md` has the label.
 pub fn read_label<D: Disk>(store: &mut Store, disk: &mut D, place: u32) -> Result<Label, BlockFault>

@@ -14,6 +14,7 @@ mod making;
 mod moving;
 mod numbering;
 mod placing;
+mod probing;
 mod promising;
 mod removing;
 mod room;

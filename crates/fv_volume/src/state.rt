@@ -5,7 +5,6 @@ ghost use Rattle.std.specs.List.{position_or_len};
 ghost use Rattle.fv_model.specs.Numbers.{greatest_span, most_snapshots, most_asked};
 ghost use Rattle.fv_codec.specs.Blocks.{IsLabel, IsSnapRecord};
 ghost use Rattle.fv_image.specs.Views.{head_of, snaps_from};
-ghost use Rattle.fv_image.specs.WholeMachine.{has_form};
 ghost use Rattle.fv_model.specs.Spelling.{is_name};
 ghost use Rattle.fv_volmap.specs.Slots.{empty_volume, stored_count};
 ghost use Rattle.fv_volume.specs.Asking.{snap_named};
@@ -398,10 +397,9 @@ impl VolumeState {
     }
 
     /// The label that says this volume, with the place of its container's root, 0 where that is all holes, and
-    /// with the container's height. The volume isn't being split, and knows all places. It takes no memory.
+    /// with the container's height. It takes no memory.
     #[tactic(auto, unfolding(crate::specs::Labels::label_said))]
     pub fn label(&self, container: u32, height: u8) -> Label
-        requires form { has_form (head_in self.now) ≡ true }
         requires base { IfSome self.now.base (λ base. base.parent < slot_count) }
         ensures { result ≡ label_said self.entry.now container height }
     {
@@ -418,7 +416,7 @@ impl VolumeState {
             parent,
             base_slot,
             splitting,
-            known: 1,
+            known: u8::from(self.known),
             container,
             height,
             levels: self.active.levels,

@@ -11,7 +11,7 @@ ghost use Rattle.fv_files.specs.Tables.{changed, IsInfoOf};
 ghost use Rattle.fv_files.specs.Trees.{standing_in};
 ghost use Rattle.fv_codec.specs.Blocks.{IsPointer};
 ghost use Rattle.fv_tables.specs.Spelled.{Under};
-ghost use Rattle.fv_volume.specs.Asking.{closed, numbers_asked, root_asked, standing_of, standing_opened, table_named, IsTableOf, OpensAs, TellsAsked};
+ghost use Rattle.fv_volume.specs.Asking.{closed, numbers_asked, root_asked, standing_of, standing_opened, table_named, trees_of, IsTableOf, OpensAs, ReadsAsked, TellsAsked};
 ghost use Rattle.fv_pool.specs.Calls.{BlockCause, Reads};
 ghost use Rattle.fv_pool.specs.Lending.{lent_for};
 ghost use Rattle.fv_volume.specs.OneVolume.{home_in, IsReady, IsStanding};
@@ -183,10 +183,10 @@ pub(crate) fn read_in<D: Disk, L: Ledger>(
     requires range { IsInfo info.now }
     requires there { TellsAsked (D.shown disk.old) pool.old volume.old table.now → IsInfoOf (standing_of (D.shown disk.old) pool.old volume.old table.now).inode info.now }
     ensures block { IsStanding (D.shown disk.old) pool.old volume.old → OnOk result (GivesCell (standing_of (D.shown disk.old) pool.old volume.old table.now) info.now.number index into.new) }
-    ensures steps { IsStanding (D.shown disk.old) pool.old volume.old → OnOk result (steps.new ≡ steps.old + unknown_over (standing_of (D.shown disk.old) pool.old volume.old table.now) info.now index) }
+    ensures steps { IsStanding (D.shown disk.old) pool.old volume.old → OnOk result (steps.new ≡ steps.old + unknown_over (trees_of (D.shown disk.old) pool.old volume.old table.now) info.now.number index) }
     ensures same { volume.new ≡ volume.old }
     ensures reads { Reads (D.shown disk.old) pool.old (D.shown disk.new) pool.new }
-    ensures cause { BlockCause (TellsAsked (D.shown disk.old) pool.old volume.old table.now) (standing_of (D.shown disk.old) pool.old volume.old table.now)
+    ensures cause { BlockCause (ReadsAsked (D.shown disk.old) pool.old volume.old table.now) (standing_of (D.shown disk.old) pool.old volume.old table.now)
         (lent_for pool.old volume.old.map (D.shown disk.old) steps.old (home_in volume.old) 0) (D.shown disk.new).faults result }
 {
     let home = Home {

@@ -15,7 +15,7 @@ use Rattle.fv_model.specs.Machines.{first_block}
 use Rattle.fv_model.specs.Numbers.{most_files}
 use Rattle.fv_model.specs.Trees.{fan}
 use Rattle.fv_laws.specs.WellFormed.{IsTree, IsWellTable}
-use Rattle.fv_tables.specs.Reached.{Item, item_of, items}
+use Rattle.fv_tables.specs.Reached.{Item, holder_of, item_of, items}
 use Rattle.fv_tables.specs.Spelled.{Rooted as Tree, Under, hole, pointer_at, position, stored}
 use Rattle.fv_tables.specs.Told.{Standing, file_at, file_in, file_told, records_each, standing_at, table_told, tree_of, tree_told}
 use Rattle.fv_tables.specs.Kept.{AgreeOnTable}
@@ -26,11 +26,12 @@ use Rattle.fv_tables.proofs.Tables.{files_told, stamps_told}
 use Rattle.fv_tree.specs.Beside.{unread}
 use Rattle.fv_tree.specs.Flushing.{IsRight, NamesPosition, ReachesOnce, kind_for}
 use Rattle.fv_tree.specs.Sources.{Use}
+use Rattle.fv_tree.specs.Unknown.{LeadsUnknown}
 use Rattle.fv_inode.specs.Files.{IsInodesOf}
 use Rattle.fv_files.specs.Apart.{LeadsFrom, LeadsIn, stored_trees}
 use Rattle.fv_files.specs.Sharing.{owner_in}
 use Rattle.fv_files.specs.Tables.{AreReached, IsStoredUnder}
-use Rattle.fv_files.proofs.Stored.{inodes_under, known_under, node_under}
+use Rattle.fv_files.proofs.Stored.{inodes_under, known_under, leads_under, node_under}
 use Rattle.fv_image.specs.Chains.{place, under}
 use Rattle.fv_image.specs.ReachRules.{inodes_are, is_of_position, node_is, shape_for}
 use Rattle.fv_image.specs.BlockRules.{is_fine}
@@ -50,6 +51,7 @@ use Rattle.fv_volume.specs.OneVolume.{blocks_in, uses_in, RootStands}
 use Rattle.fv_volume.specs.States.{States, head_in, parent_in, state_at, table_in, view_over}
 use Rattle.fv_pool.proofs.Shows.{slot_below}
 use Rattle.fv_volumes.proofs.Agreed.{place_held, root_agrees}
+use Rattle.fv_volumes.proofs.Holders.{held_unknown, root_unknown, top_of, IsHeldUnknown}
 use Rattle.fv_volume.proofs.KeptStamps.{stamp_some}
 use Rattle.fv_volume.proofs.Ruled.{AreRuled, IsRuled, owner_number}
 
@@ -79,20 +81,20 @@ right_some : (kind : ℕ) (p : Pointer) (o : Option Use) → IsRight kind p o �
 right_some kind p None right = absurd right
 right_some kind p (Some x) right = refl
 
--- what is known of the block that a pointer of a tree leads to
-record IsStoredAt (t : Tree) (level place : ℕ) : Type 0 where
-  known : (pointer_at t level place).pvbn ≢ 0
+-- what is known of the block that a pointer of a tree leads to, where `all` says whether every place is known
+record IsStoredAt (all : Bool) (t : Tree) (level place : ℕ) : Type 0 where
+  known : all ≡ true → (pointer_at t level place).pvbn ≢ 0
   node : 1 ≤ level → NamesPosition t level place
   inodes : (block : List ℕ) → level ≡ 0 → t.owner ≡ greatest_word → t.under (pointer_at t level place).vvbn ≡ Some block → IsInodesOf place block
 
-module _ (top : Pointer) (t : Tree) (block : List ℕ) where
+module _ (all : Bool) (top : Pointer) (t : Tree) (block : List ℕ) where
   high : (level : ℕ) → (level == 0) ≡ false → 1 ≤ level
   high level test = grind (arith, nat_tests, test)
 
   low_level : (level : ℕ) → (level == 0) ≡ true → level ≡ 0
   low_level level test = grind (arith, nat_tests, test)
 
-  shape_at : (level index : ℕ) → IsStoredAt t level index → t.under (pointer_at t level index).vvbn ≡ Some block → is_fine (shape_for (item_of top t level index) block) ≡ true
+  shape_at : (level index : ℕ) → IsStoredAt all t level index → t.under (pointer_at t level index).vvbn ≡ Some block → is_fine (shape_for (item_of top t level index) block) ≡ true
   shape_at level index well lies = by (level == 0) refl (t.owner == greatest_word) refl
     where
       by : (z : Bool) → (level == 0) ≡ z → (b : Bool) → (t.owner == greatest_word) ≡ b → is_fine (if z then (if b then verdict_of (inodes_at block) else Ok tt) else verdict_of (node_at block)) ≡ true
@@ -104,7 +106,7 @@ module _ (top : Pointer) (t : Tree) (block : List ℕ) where
       by true level_is true e =
           ap (λ r. is_fine (verdict_of r)) (well.inodes block (low_level level level_is) (grind (arith, nat_tests, e)) lies).spells
 
-  position_at : (level index : ℕ) → IsStoredAt t level index → t.under (pointer_at t level index).vvbn ≡ Some block → is_of_position (item_of top t level index) block ≡ true
+  position_at : (level index : ℕ) → IsStoredAt all t level index → t.under (pointer_at t level index).vvbn ≡ Some block → is_of_position (item_of top t level index) block ≡ true
   position_at level index well lies = by (level == 0) refl (t.owner == greatest_word) refl
     where
       fine : (children : List Pointer) → is_fine (position t.owner level index (record { level = level; owner = t.owner; place = index; children = children })) ≡ true
@@ -184,7 +186,7 @@ module _ (disk : Disk) (pool : Pool) (states : States) (x : VolumeState) (k : �
   reached : AreReached blocks uses root.levels root.root
   reached = is.trees
 
-  well_stored : IsStoredUnder blocks root.levels root.root
+  well_stored : IsStoredUnder x.known blocks root.levels root.root
   well_stored = is.well
 
   blocks_is : w.blocks ≡ pool.found.blocks
@@ -238,14 +240,14 @@ module _ (disk : Disk) (pool : Pool) (states : States) (x : VolumeState) (k : �
   -- what is known of a place of a tree
   ruled : (from : Option ℕ) (top : Pointer) (t : Tree) → t.owner ≡ owner_number from → t.under ≡ blocks → ((level index : ℕ) → places from level index ≡ pointer_at t level index) → ReachesOnce uses t
       → ((level index : ℕ) → (pointer_at t level index).stamp ≢ 0 → under w s (pointer_at t level index).vvbn ≡ blocks (pointer_at t level index).vvbn)
-      → ((level index : ℕ) → (pointer_at t level index).stamp ≢ 0 → IsStoredAt t level index) → (start : ℕ) (cells : List ℕ) → IsTree x.now start cells (tree_told t)
+      → ((level index : ℕ) → (pointer_at t level index).stamp ≢ 0 → IsStoredAt x.known t level index)
+      → ((level index : ℕ) → (pointer_at t level index).stamp ≢ 0 → (pointer_at t level index).pvbn ≡ 0 → IsHeldUnknown (holder_of top t level index)) → (start : ℕ) (cells : List ℕ) → IsTree x.now start cells (tree_told t)
       → (level index : ℕ) → (pointer_at t level index).stamp ≢ 0 → IsRuled w s h places (item_of top t level index)
-  ruled from top t owner over led once seen_alike well start cells tree level index some =
+  ruled from top t owner over led once seen_alike well held start cells tree level index some =
       let p = pointer_at t level index in
       let stored_at = well level index some in
       let one = place_at (kind_for t.owner level) p (kind_least t.owner level) (once.used level index some) (subst (λ (u : Under). is_some (u p.vvbn) ≡ true) over (once.held level index some)) (seen_alike level index some) in
       let lies : t.under p.vvbn ≡ Some (seen pool.kept disk.reads one.entry.pvbn) = ap (λ (u : Under). u p.vvbn) over ∙ one.block in
-      let hint = hinted p one.entry stored_at.known one.right.0 in
       let allocatable = within p.vvbn one.entry one.stands in
       record {
         from = from;
@@ -257,35 +259,46 @@ module _ (disk : Disk) (pool : Pool) (states : States) (x : VolumeState) (k : �
         lies = one.lies;
         kind = one.right.1;
         known = stored_at.known;
-        hint = hint;
-        least = subst (λ (n : ℕ). first_block n ≤ p.pvbn) (sym blocks_is) (subst (λ (b : ℕ). first_block pool.found.blocks ≤ b) hint allocatable.0);
-        greatest = subst (λ (n : ℕ). p.pvbn < n) (sym blocks_is) (subst (λ (b : ℕ). b < pool.found.blocks) hint allocatable.1);
-        shape = shape_at top t (seen pool.kept disk.reads one.entry.pvbn) level index stored_at lies;
-        position = position_at top t (seen pool.kept disk.reads one.entry.pvbn) level index stored_at lies;
+        unknown = held level index some;
+        hint = one.right.0;
+        least = subst (λ (n : ℕ). first_block n ≤ one.entry.pvbn) (sym blocks_is) allocatable.0;
+        greatest = subst (λ (n : ℕ). one.entry.pvbn < n) (sym blocks_is) allocatable.1;
+        shape = shape_at x.known top t (seen pool.kept disk.reads one.entry.pvbn) level index stored_at lies;
+        position = position_at x.known top t (seen pool.kept disk.reads one.entry.pvbn) level index stored_at lies;
         stamp = stamp_at x.now start cells t tree level index some;
         mark = mark_at x.now start cells t tree top level index some;
       }
-    where
-      hinted : (p : Pointer) (e : Entry) → p.pvbn ≢ 0 → (p.pvbn ≡ 0) ⊎ (p.pvbn ≡ e.pvbn) → e.pvbn ≡ p.pvbn
-      hinted p e known (inl none) = absurd (known none)
-      hinted p e known (inr same) = sym same
 
-  inode_well : (level index : ℕ) → (pointer_at inodes level index).stamp ≢ 0 → IsStoredAt inodes level index
+  inode_well : (level index : ℕ) → (pointer_at inodes level index).stamp ≢ 0 → IsStoredAt x.known inodes level index
   inode_well level index some = record {
-    known = known_under blocks root.levels root.root well_stored None inodes refl level index some;
-    node = λ low. node_under blocks root.levels root.root well_stored None inodes refl level index low some;
-    inodes = λ block zero owner lies. inodes_under blocks root.levels root.root well_stored index block
+    known = λ all. known_under x.known blocks root.levels root.root well_stored None inodes refl all level index some;
+    node = λ low. node_under x.known blocks root.levels root.root well_stored None inodes refl level index low some;
+    inodes = λ block zero owner lies. inodes_under x.known blocks root.levels root.root well_stored index block
         (subst (λ (l : ℕ). (pointer_at inodes l index).stamp ≢ 0) zero some) (subst (λ (l : ℕ). inodes.under (pointer_at inodes l index).vvbn ≡ Some block) zero lies);
   }
 
-  file_well : (n : ℕ) (r : InodeRecord) → file_at inodes n ≡ Some r → (level index : ℕ) → (pointer_at (file_tree n r) level index).stamp ≢ 0 → IsStoredAt (file_tree n r) level index
+  file_well : (n : ℕ) (r : InodeRecord) → file_at inodes n ≡ Some r → (level index : ℕ) → (pointer_at (file_tree n r) level index).stamp ≢ 0 → IsStoredAt x.known (file_tree n r) level index
   file_well n r found level index some =
       let is : stored_trees blocks root.levels root.root (Some n) ≡ Some (unread (file_tree n r)) = ap (option_map (λ r. unread (file_tree n r))) found in
       record {
-        known = known_under blocks root.levels root.root well_stored (Some n) (file_tree n r) is level index some;
-        node = λ low. node_under blocks root.levels root.root well_stored (Some n) (file_tree n r) is level index low some;
+        known = λ all. known_under x.known blocks root.levels root.root well_stored (Some n) (file_tree n r) is all level index some;
+        node = λ low. node_under x.known blocks root.levels root.root well_stored (Some n) (file_tree n r) is level index low some;
         inodes = λ block zero owner lies. (let few = told_table.numbers n (file_told (file_tree n r) r) (file_there n r found) in absurd (omega (arith, few, owner)));
       }
+
+  -- what leads to the block in which an unknown pointer stands
+  inode_leads : LeadsUnknown (unread inodes)
+  inode_leads = leads_under x.known blocks root.levels root.root well_stored None inodes refl
+
+  inode_held : (level index : ℕ) → (pointer_at inodes level index).stamp ≢ 0 → (pointer_at inodes level index).pvbn ≡ 0 → IsHeldUnknown (holder_of hole inodes level index)
+  inode_held = held_unknown hole inodes inode_leads (λ some none. inl refl)
+
+  file_held : (n : ℕ) (r : InodeRecord) → file_at inodes n ≡ Some r → (level index : ℕ) → (pointer_at (file_tree n r) level index).stamp ≢ 0 → (pointer_at (file_tree n r) level index).pvbn ≡ 0
+      → IsHeldUnknown (holder_of (top_of blocks root.levels root.root n) (file_tree n r) level index)
+  file_held n r found =
+      let is : stored_trees blocks root.levels root.root (Some n) ≡ Some (unread (file_tree n r)) = ap (option_map (λ r. unread (file_tree n r))) found in
+      held_unknown (top_of blocks root.levels root.root n) (file_tree n r) (leads_under x.known blocks root.levels root.root well_stored (Some n) (file_tree n r) is)
+      (λ some none. inr (root_unknown blocks root.levels root.root inode_leads n r found some none))
 
   led_file : (n : ℕ) (r : InodeRecord) → file_at inodes n ≡ Some r → (level index : ℕ) → places (Some n) level index ≡ pointer_at (file_tree n r) level index
   led_file n r found level index = ap (λ (o : Option InodeRecord). option_map_or (λ r. pointer_at (file_tree n r) level index) o hole) found
@@ -293,9 +306,9 @@ module _ (disk : Disk) (pool : Pool) (states : States) (x : VolumeState) (k : �
   each_ruled : (test : Item → Bool) → ((e : Item) → IsRuled w s h places e → test e ≡ true) → list_all test (items (standing_of w s (table_in root))) ≡ true
   each_ruled test f = subst (λ (es : List Item). list_all test es ≡ true) (sym (kept_items blocks (under w s) root.levels root.root agreed))
       (from_trees test y
-      (λ level index some. f _ (ruled None hole inodes refl refl (λ level index. refl) reached.inode agreed.inode inode_well 0 inode_tree.0 inode_tree.1 level index some))
+      (λ level index some. f _ (ruled None hole inodes refl refl (λ level index. refl) reached.inode agreed.inode inode_well inode_held 0 inode_tree.0 inode_tree.1 level index some))
       (λ n r found level index some. let tree = file_is_tree n r found in
-      f _ (ruled (Some n) (pointer_at inodes 0 (n / records_each)) (file_tree n r) refl refl (led_file n r found) (reached.files n r found) (agreed.files n r found) (file_well n r found) tree.0 tree.1.0 tree.1.1 level index some)))
+      f _ (ruled (Some n) (pointer_at inodes 0 (n / records_each)) (file_tree n r) refl refl (led_file n r found) (reached.files n r found) (agreed.files n r found) (file_well n r found) (file_held n r found) tree.0 tree.1.0 tree.1.1 level index some)))
 
   -- a place with a pointer is one of a tree
   leads : (a : Option ℕ) (level index : ℕ) → (places a level index).stamp ≢ 0 → LeadsFrom (stored_trees blocks root.levels root.root) a (places a level index).vvbn

@@ -10,6 +10,7 @@ pub mod Apart
 pub mod Alone
 pub mod Chains
 pub mod Agreed
+mod Holders
 pub mod LoadedTables
 pub mod LoadedStored
 mod Counting

@@ -16,13 +16,14 @@ use Rattle.fv_model.specs.Places.{Owner, InodeFile, OfFile}
 use Rattle.fv_laws.proofs.Lists.{In}
 use Rattle.fv_tables.specs.Reached.{Item, items}
 use Rattle.fv_tables.specs.Spelled.{Rooted as Tree, block_at, hole, pointer_at, stored}
-use Rattle.fv_tables.specs.Told.{file_at}
+use Rattle.fv_tables.specs.Told.{file_at, standing_at}
+use Rattle.fv_tables.proofs.Items.{kept_items}
 use Rattle.fv_tree.specs.Beside.{unread}
 use Rattle.fv_tree.specs.Flushing.{IsNodeOf}
 use Rattle.fv_inode.specs.Files.{IsInodesOf, NamesIndexes}
 use Rattle.fv_files.specs.Apart.{AreStoredWell, StoredIn, stored_trees}
 use Rattle.fv_image.specs.Chains.{place, under}
-use Rattle.fv_image.specs.HintRules.{has_known_places, is_unknown}
+use Rattle.fv_image.specs.HintRules.{has_known_places, is_unknown, leads_unknown}
 use Rattle.fv_image.specs.ReachRules.{block_is, has_reached_positions, has_reached_shapes, inodes_are, is_of_position, node_is, shape_for}
 use Rattle.fv_image.specs.Seen.{roots_of, volume_seen}
 use Rattle.fv_image.specs.BlockRules.{is_fine}
@@ -34,7 +35,8 @@ use Rattle.fv_image.proofs.SameSeen.{of_volume}
 use Rattle.fv_pool.specs.declared.pool.Pool.{Pool}
 use Rattle.fv_volume.specs.declared.state.VolumeState.{VolumeState}
 use Rattle.fv_volume.specs.States.{States, head_in, view_over}
-use Rattle.fv_volumes.proofs.LoadedTables.{StandsInView, at, blocks, here, led, led_is, low_at, member_at, same_block, some_at}
+use Rattle.fv_volumes.proofs.Holders.{file_leads, inode_leads, is_led}
+use Rattle.fv_volumes.proofs.LoadedTables.{StandsInView, agree, at, blocks, few, here, led, led_is, low_at, member_at, same_block, some_at}
 
 -- ---- what a block says of its position
 
@@ -117,6 +119,11 @@ module _ (disk : Disk) (pool : Pool) (states : States) (x : VolumeState) (is : S
   all_positions = of_root w s (head_in x) is.small there is.tables k r one (λ y r e. block_is (is_of_position e.item) e.at)
       (of_volume w (λ s y. list_all (λ r. list_all (λ e. block_is (is_of_position e.item) e.at) r.reached) y.roots) s (head_in x) is.tables.positions is.small there)
 
+  all_led : list_all is_led reached_items ≡ true
+  unfolding leads_unknown
+  all_led = of_root w s (head_in x) is.small there is.tables k r one (λ y r e. is_led e.item)
+      (of_volume w (λ s y. list_all (λ r. list_all (λ e. is_led e.item) r.reached) y.roots) s (head_in x) is.tables.unknown is.small there)
+
   all_known : list_all (λ e. not x.known || not (is_unknown e.pointer)) reached_items ≡ true
   unfolding has_known_places volume_seen
   all_known = of_root w s (head_in x) is.small there is.tables k r one (λ y r e. not y.head.known || not (is_unknown e.item.pointer))
@@ -183,10 +190,10 @@ module _ (disk : Disk) (pool : Pool) (states : States) (x : VolumeState) (is : S
         (sym (ap (block_is (is_of_position (item position_is.levels position_is.holder))) lies) ∙ position_is.passes)
         first second)
 
-    known_here : p.pvbn ≢ 0
-    known_here =
+    known_here : x.known ≡ true → p.pvbn ≢ 0
+    known_here all =
         let told = passes_here (λ e. not x.known || not (is_unknown e.pointer)) all_known in
-        known_one p (sym (ap (λ (b : Bool). not b || not (is_unknown p)) is.known) ∙ told.passes) some
+        known_one p (sym (ap (λ (b : Bool). not b || not (is_unknown p)) all) ∙ told.passes) some
 
   -- ---- its trees
 
@@ -198,26 +205,32 @@ module _ (disk : Disk) (pool : Pool) (states : States) (x : VolumeState) (is : S
   node_led o level index some low = subst (λ (p : Pointer). IsNodeOf (number (under w s) r.levels r.root o) level index (blocks disk pool states x is k r one p.vvbn)) (sym (led_is disk pool states x is k r one o level index))
       (node_here o level index (some_at disk pool states x is k r one o level index some) low)
 
-  known_led : (o : Owner) (level index : ℕ) → (led disk pool states x is k r one o level index).stamp ≢ 0 → (led disk pool states x is k r one o level index).pvbn ≢ 0
-  known_led o level index some = subst (λ (p : Pointer). p.pvbn ≢ 0) (sym (led_is disk pool states x is k r one o level index)) (known_here o level index (some_at disk pool states x is k r one o level index some))
+  known_led : x.known ≡ true → (o : Owner) (level index : ℕ) → (led disk pool states x is k r one o level index).stamp ≢ 0 → (led disk pool states x is k r one o level index).pvbn ≢ 0
+  known_led all o level index some = subst (λ (p : Pointer). p.pvbn ≢ 0) (sym (led_is disk pool states x is k r one o level index)) (known_here o level index (some_at disk pool states x is k r one o level index some) all)
+
+  -- the blocks of its slot have what the view has there
+  led_here : list_all is_led (items (standing_at (blocks disk pool states x is k r one) r.levels r.root)) ≡ true
+  led_here = subst (λ (es : List Item). list_all is_led es ≡ true) (sym (kept_items (under w s) (blocks disk pool states x is k r one) r.levels r.root (agree disk pool states x is k r one))) all_led
 
   -- So each of its trees is stored well.
-  pub stands_stored : AreStoredWell (stored_trees (blocks disk pool states x is k r one) r.levels r.root)
-  stands_stored None = (
-    (λ level place v low leads. subst (λ (n : ℕ). IsNodeOf greatest_word level place (blocks disk pool states x is k r one n)) leads.vvbn (node_led InodeFile level place leads.some low)),
-    (λ level place v leads. known_led InodeFile level place leads.some),
-  )
+  pub stands_stored : AreStoredWell x.known (stored_trees (blocks disk pool states x is k r one) r.levels r.root)
+  stands_stored None = record {
+    positions = λ level place v low leads. subst (λ (n : ℕ). IsNodeOf greatest_word level place (blocks disk pool states x is k r one n)) leads.vvbn (node_led InodeFile level place leads.some low);
+    leads = inode_leads (blocks disk pool states x is k r one) r.levels r.root (few disk pool states x is k r one) led_here;
+    places = λ all level place v leads. known_led all InodeFile level place leads.some;
+  }
   stands_stored (Some n) = by (file_at inodes n) refl
     where
-      by : (o : Option InodeRecord) → file_at inodes n ≡ o → StoredIn (option_map (λ f. unread (stored (blocks disk pool states x is k r one) n f.levels f.root)) o)
+      by : (o : Option InodeRecord) → file_at inodes n ≡ o → StoredIn x.known (option_map (λ f. unread (stored (blocks disk pool states x is k r one) n f.levels f.root)) o)
       by None found = tt
       by (Some f) found =
           let same : (level index : ℕ) → led disk pool states x is k r one (OfFile n) level index ≡ pointer_at (stored (blocks disk pool states x is k r one) n f.levels f.root) level index =
-          λ level index. ap (λ (o : Option InodeRecord). option_map_or (λ f. pointer_at (stored (blocks disk pool states x is k r one) n f.levels f.root) level index) o hole) found in (
-            (λ level place v low leads. subst (λ (v : ℕ). IsNodeOf n level place (blocks disk pool states x is k r one v)) (ap (λ (p : Pointer). p.vvbn) (same level place) ∙ leads.vvbn)
-                (node_led (OfFile n) level place (subst (λ (p : Pointer). p.stamp ≢ 0) (sym (same level place)) leads.some) low)),
-            (λ level place v leads. subst (λ (p : Pointer). p.pvbn ≢ 0) (same level place) (known_led (OfFile n) level place (subst (λ (p : Pointer). p.stamp ≢ 0) (sym (same level place)) leads.some))),
-          )
+          λ level index. ap (λ (o : Option InodeRecord). option_map_or (λ f. pointer_at (stored (blocks disk pool states x is k r one) n f.levels f.root) level index) o hole) found in record {
+            positions = λ level place v low leads. subst (λ (v : ℕ). IsNodeOf n level place (blocks disk pool states x is k r one v)) (ap (λ (p : Pointer). p.vvbn) (same level place) ∙ leads.vvbn)
+                (node_led (OfFile n) level place (subst (λ (p : Pointer). p.stamp ≢ 0) (sym (same level place)) leads.some) low);
+            leads = file_leads (blocks disk pool states x is k r one) r.levels r.root (few disk pool states x is k r one) led_here n f found;
+            places = λ all level place v leads. subst (λ (p : Pointer). p.pvbn ≢ 0) (same level place) (known_led all (OfFile n) level place (subst (λ (p : Pointer). p.stamp ≢ 0) (sym (same level place)) leads.some));
+          }
 
   -- and each inode block names its index
   pub stands_indexes : NamesIndexes inodes

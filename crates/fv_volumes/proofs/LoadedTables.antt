@@ -4,7 +4,6 @@ use Rattle.std.proofs.Common.{◌≡◌, ◌≢◌, ℕ, ◌<◌, ◌≤◌, Boo
 use Rattle.std.specs.Prelude.{◌⊎◌, ◌==◌, nat_le, IfSome}
 use Rattle.std.specs.List.{list_all}
 use Rattle.std.specs.Option.{option_map, option_map_or}
-use Rattle.std.proofs.lemmas.Bool.{and_parts}
 use Rattle.std.proofs.lemmas.Bool.Decides.{nat_tests}
 use Rattle.fv_disk.specs.Shown.{Shown as Disk}
 use Rattle.fv_codec.specs.declared.pointer.Pointer.{Pointer}
@@ -70,7 +69,6 @@ use Rattle.fv_volumes.proofs.Viewed.{viewed}
 pub record StandsInView (disk : Disk) (pool : Pool) (states : States) (x : VolumeState) : Type 0 where
   pub small : x.slot < 64
   pub there : state_at states x.slot ≡ Some x
-  pub known : x.known ≡ true
   pub parents : (s : ℕ) → parent_at pool.containers s ≡ parent_in (state_at states s)
   pub span : x.span ≤ 1048576
   pub numbers : HasLabelNumbers (head_in x)
@@ -144,7 +142,7 @@ module _ (disk : Disk) (pool : Pool) (states : States) (x : VolumeState) (is : S
     pub low_at : (o : Owner) (level index : ℕ) → (at o level index).stamp ≢ 0 → (at o level index).vvbn < x.span
     low_at = led_below w s h is.small here is.tables k r one
 
-    agree : AgreeOnTable (under w s) blocks r.levels r.root
+    pub agree : AgreeOnTable (under w s) blocks r.levels r.root
     agree = agree_when_listed (under w s) blocks r.levels r.root (λ v listed. same v (root_reach w s h is.small here is.tables k r one few is.maps v ∙ listed))
       where
         same : (v : ℕ) → volume_bit w s h.span k v ≡ true → blocks v ≡ under w s v
@@ -307,7 +305,6 @@ in_view disk pool states long few parents loaded none m is whole x there labelle
     record {
       small = small;
       there = there;
-      known = (and_parts _ x.known labelled.form).1;
       parents = parents;
       span = labelled.span;
       numbers = numbers_at (root_found pool.found) disk.reads whole x.slot (head_in x) (ap (λ (v : View). v.head x.slot) (sym alike) ∙ head_there pool states disk.reads x.slot x there);

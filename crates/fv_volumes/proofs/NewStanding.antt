@@ -1,10 +1,9 @@
 -- A volume that was just made stands for the machine's new one.
-use Rattle.std.proofs.Common.{◌≡◌, ℕ, Bool, true, List, [], Option, Some, None, sym, ap, subst, ◌∙◌, arith, ◌++◌}
-use Rattle.std.specs.Prelude.{IsTrue, ◌==◌, if◌then◌else◌}
+use Rattle.std.proofs.Common.{◌≡◌, ℕ, [], Option, Some, None, sym, ap, subst, ◌∙◌, ◌++◌}
+use Rattle.std.specs.Prelude.{IsTrue}
 use Rattle.std.specs.Option.{option_map}
 use Rattle.std.specs.Ordering.{nat_cmp}
 use Rattle.std.specs.FinMap as fin
-use Rattle.std.proofs.lemmas.Bool.Decides.{nat_tests}
 use Rattle.fv_disk.specs.Shown.{Shown as Disk}
 use Rattle.fv_codec.specs.declared.inode.InodeRecord.{InodeRecord}
 use Rattle.fv_codec.specs.declared.pointer.Pointer.{Pointer}
@@ -16,17 +15,17 @@ use Rattle.fv_model.specs.Effects.{empty_volume}
 use Rattle.fv_laws.specs.WellFormed.{IsWellTable}
 use Rattle.fv_laws.specs.Positions.{HasNoReserve}
 use Rattle.fv_laws.proofs.Tables.{empty_well}
-use Rattle.fv_tables.specs.Spelled.{Under, block_at, hole, pointer_at, stored}
+use Rattle.fv_tables.specs.Spelled.{Under, hole, stored}
 use Rattle.fv_tables.specs.Told.{standing_at, table_told}
 use Rattle.fv_tables.proofs.Bare.{bare_file, bare_table, none_at}
 use Rattle.fv_tree.specs.Beside.{unread}
 use Rattle.fv_tree.specs.Sources.{Use}
 use Rattle.fv_tree.specs.Standing.{under}
 use Rattle.fv_tree.proofs.Whole.{hole_reaches}
-use Rattle.fv_inode.specs.Files.{NamesIndexes}
 use Rattle.fv_files.specs.declared.files.Files.{Files}
-use Rattle.fv_files.specs.Apart.{AreStoredWell, LeadsFrom, LeadsIn, StoredIn, stored_trees}
-use Rattle.fv_files.specs.Tables.{AreReached, IsStoredUnder}
+use Rattle.fv_files.specs.Apart.{LeadsFrom, LeadsIn, stored_trees}
+use Rattle.fv_files.specs.Tables.{AreReached}
+use Rattle.fv_files.proofs.Stored.{hole_stored}
 use Rattle.fv_image.specs.Views.{Head}
 use Rattle.fv_charge.specs.Ledgers.{IsLedgerOf}
 use Rattle.fv_container.specs.declared.entry.Entry.{Entry}
@@ -63,24 +62,6 @@ module _ (blocks : Under) (used : ℕ → Option Use) (levels : ℕ) (root : Poi
       no_record : (r : InodeRecord) → None ≡ Some r → ⊥
       no_record r e = cc
 
-  bare_trees : AreStoredWell (stored_trees blocks levels root)
-  bare_trees None = (
-    (λ level place v low leads. absurd (leads_nowhere None v (record { level = level; place = place; leads = leads }))),
-    (λ level place v leads. absurd (leads_nowhere None v (record { level = level; place = place; leads = leads }))),
-  )
-  bare_trees (Some n) = subst (λ (o : Option InodeRecord). StoredIn (option_map (λ r. unread (stored blocks n r.levels r.root)) o)) (sym (bare_file (stored blocks greatest_word levels root) bare n)) tt
-
-  bare_indexes : NamesIndexes (stored blocks greatest_word levels root)
-  unfolding block_at
-  bare_indexes index block lies =
-      let none : (pointer_at (stored blocks greatest_word levels root) 0 index).stamp ≡ 0 = none_at (stored blocks greatest_word levels root) bare 0 index in
-      let test : ((pointer_at (stored blocks greatest_word levels root) 0 index).stamp == 0) ≡ true = grind (arith, nat_tests, none) in
-      let wrong : ◌≡◌ {A = Option (List ℕ)} None (Some block) = sym (ap (λ (b : Bool). if b then None else blocks (pointer_at (stored blocks greatest_word levels root) 0 index).vvbn) test) ∙ lies in
-      absurd cc
-
-  pub bare_well : IsStoredUnder blocks levels root
-  bare_well = record { trees = bare_trees; inodes = bare_indexes }
-
 module _ (disk : Disk) (pool : Pool) (x : VolumeState) (size : ℕ) (kind : Kind) (head : head_in x ≡ empty_head x.name size kind (span_of size 0 0)) (ledger : x.ledger ≡ ledger_of_empty size kind (span_of size 0 0)) (none : x.files ≡ None) where
   levels : x.active.levels ≡ 0
   levels = ap (λ (h : Head). h.active.levels) head
@@ -110,7 +91,7 @@ module _ (disk : Disk) (pool : Pool) (x : VolumeState) (size : ℕ) (kind : Kind
 
   -- and leads nowhere
   pub made_well : IsStoredWell disk pool x
-  made_well = subst (AreStoredBy (under (shows disk pool x)) x.active) (sym none) (bare_well (under (shows disk pool x)) (shows disk pool x).used x.active.levels x.active.root bare)
+  made_well = subst (AreStoredBy x.known (under (shows disk pool x)) x.active) (sym none) (hole_stored x.known (under (shows disk pool x)) x.active.levels x.active.root bare)
 
   -- it is told as the machine's new volume
   pub made_volume : volume_for disk pool x ≡ empty_volume size kind

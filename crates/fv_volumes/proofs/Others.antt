@@ -52,8 +52,8 @@ module _ (d e : Disk) (p q : Pool) (y : VolumeState)
   same_uses = λ i k v. cond (has v (slot_at y.map k)) (Some (use_of (same_held v i))) None
 
   same_kept : All (IsKeptTable d p y) (tables_of y) → All (IsKeptTable e q y) (tables_of y)
-  same_kept all = subst (λ (u : ℕ → Under). All (λ (s : Snap). (s.slot ≢ 0) × IsTableIn (u s.slot) (uses_in q y s.slot) (slot_at y.map s.slot) y.now s.table) (tables_of y)) (sym same_slots)
-      (subst (λ (u : ℕ → ℕ → Option Use). All (λ (s : Snap). (s.slot ≢ 0) × IsTableIn (blocks_in d p y s.slot) (u s.slot) (slot_at y.map s.slot) y.now s.table) (tables_of y)) (sym same_uses) all)
+  same_kept all = subst (λ (u : ℕ → Under). All (λ (s : Snap). (s.slot ≢ 0) × IsTableIn y.known (u s.slot) (uses_in q y s.slot) (slot_at y.map s.slot) y.now s.table) (tables_of y)) (sym same_slots)
+      (subst (λ (u : ℕ → ℕ → Option Use). All (λ (s : Snap). (s.slot ≢ 0) × IsTableIn y.known (blocks_in d p y s.slot) (u s.slot) (slot_at y.map s.slot) y.now s.table) (tables_of y)) (sym same_uses) all)
 
   same_shared : AreShared (trees_for d p y) (blocks_in d p y) (tables_of y) → AreShared (trees_for e q y) (blocks_in e q y) (tables_of y)
   same_shared is = subst (λ (u : Under). AreShared (trees_by u y.active y.files) (blocks_in e q y) (tables_of y)) (sym same_under)
@@ -67,7 +67,7 @@ module _ (d e : Disk) (p q : Pool) (y : VolumeState)
       (subst (λ (u : Under). AreLedBy u (shows d p y).used y.active y.files) (sym same_under) led)
 
   pub stays_well : IsStoredWell d p y → IsStoredWell e q y
-  stays_well well = subst (λ (u : Under). AreStoredBy u y.active y.files) (sym same_under) well
+  stays_well well = subst (λ (u : Under). AreStoredBy y.known u y.active y.files) (sym same_under) well
 
   module _ (own : (v : ℕ) → own_entry (container_at q.containers y.slot) v ≡ own_entry (container_at p.containers y.slot) v) (tells : e.tells ≡ d.tells)
       (next_own : (v : ℕ) (x : Entry) → own_entry (container_at p.containers y.slot) v ≡ Some x → is_member q.map.next x.pvbn ≡ true)

@@ -57,7 +57,7 @@ module _ (d e : Shown) (stays : Stays d e) (pool : Pool) where
   led_still x is = subst (λ (i : Image). AreLedBy (under (shows (over i) pool x)) (shows d pool x).used x.active x.files) (sym stays.reads) is
 
   well_still : (x : VolumeState) → IsStoredWell d pool x → IsStoredWell e pool x
-  well_still x is = subst (λ (i : Image). AreStoredBy (under (shows (over i) pool x)) x.active x.files) (sym stays.reads) is
+  well_still x is = subst (λ (i : Image). AreStoredBy x.known (under (shows (over i) pool x)) x.active x.files) (sym stays.reads) is
 
   -- calls can be made on it
   pub ready_rests : (s : ℕ) (o : Option VolumeState) → IfSome o (IsReadyIn d pool s) → IfSome o (IsReadyIn e pool s)

@@ -338,7 +338,7 @@ module _ (disk : Disk) (pool : Pool) (states : States) (x : VolumeState) (is : S
 
     -- What it leads to is stored well.
     pub seen_well : IsStoredWell disk pool x
-    seen_well = subst (AreStoredBy (blocks_of source) x.active) (sym none) (over_stored (blocks_in disk pool x 0) (blocks_of source) x.active.levels x.active.root held_agrees active.well)
+    seen_well = subst (AreStoredBy x.known (blocks_of source) x.active) (sym none) (over_stored (blocks_in disk pool x 0) (blocks_of source) x.active.levels x.active.root held_agrees x.known active.well)
 
   -- ---- what it stands on
 
@@ -380,7 +380,7 @@ module _ (disk : Disk) (pool : Pool) (states : States) (x : VolumeState) (is : S
 
       -- The base table lies whole in the slot of the base,
       base_stands : RootStands disk pool x slot_of_base b.table
-      base_stands = subst (RootStands disk pool x slot_of_base) (sym on.table) (based_root disk pool x slot_of_base y b.slot rests on.snap.table (seen_root disk pool states y its.1 b.slot root one) well)
+      base_stands = subst (RootStands disk pool x slot_of_base) (sym on.table) (based_root disk pool x slot_of_base y b.slot rests (λ all. on.known) on.snap.table (seen_root disk pool states y its.1 b.slot root one) well)
 
       -- as the view has it in the parent's.
       base_lies : LiesIn (blocks_in disk pool x slot_of_base) (table_in b.table)

@@ -112,7 +112,7 @@ module _ (found : Found) (i : Image) (s : ℕ) (x : VolumeState) (old : Mapped) 
   said = label_said x is.root (height_of (entry_count x.span))
 
   pub head_said : head_of said ≡ head_in x
-  head_said = label_head x state.form state.named state.snapshots is.root (height_of (entry_count x.span))
+  head_said = label_head x state.named state.snapshots is.root (height_of (entry_count x.span))
 
   label_some : label_place u s ≢ 0
   label_some none = let some = is.some in omega (arith, some, at, none)

@@ -279,7 +279,7 @@ module _ (pool : Pool) (states : States) (before : Image) (housed : AreHoused po
     numbers s h inside is_head =
         let x = state_of s h (sym (stays_there.heads s) ∙ is_head) in
         let state = labelled s x.0 x.1 in
-        subst HasLabelNumbers (label_head x.0 state.form state.named state.snapshots 0 1 ∙ x.2) (label_numbers (label_said x.0 0 1) (state.label 0 1 (omega arith) (omega arith) (omega arith)))
+        subst HasLabelNumbers (label_head x.0 state.named state.snapshots 0 1 ∙ x.2) (label_numbers (label_said x.0 0 1) (state.label 0 1 (omega arith) (omega arith) (omega arith)))
 
     -- no volume has more entries of its own than it uses
     pub uses_there : UsesOwn y.view

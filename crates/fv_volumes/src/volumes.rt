@@ -67,7 +67,7 @@ impl Volumes {
     ///
     /// # Errors
     /// `Damaged` comes only where a block that this call read isn't as it has to be: a label without its
-    /// shape, or of a volume that is being split or has an unknown place, neither of which can be loaded yet; a node
+    /// shape, or of a volume that is being split, which can't be loaded yet; a node
     /// of a container without its shape, whatever position it names; or a block of a map with a bit set
     /// past the span. `DiskFault` comes only where a read failed in this call, and `Memory` where memory ran out. The
     /// pool's containers stay then.

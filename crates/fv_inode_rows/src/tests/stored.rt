@@ -8,7 +8,7 @@ use fv_files::{Files, FilesFault};
 use fv_inode::InodeFile;
 use fv_model::Name;
 use fv_tree::Tree;
-use fv_tree_rows::MemBlocks;
+use fv_tree_rows::{MemBlocks, Untold};
 use std::alloc::Global;
 use std::test::Fail;
 
@@ -35,7 +35,7 @@ pub(crate) fn has(
     byte: u8,
 ) -> Result<bool, Wrong> {
     let mut into = full(255);
-    let there = read(table, blocks, name, index, &mut into)?;
+    let there = read(table, &mut Untold { blocks }, name, index, &mut into)?;
     Ok(there && into[0] == byte && into[4095] == byte)
 }
 

@@ -7,6 +7,7 @@ use crate::memory::MemBlocks;
 use crate::silent::Silent;
 use crate::tests::pair::{INDEXES, OWNER, block, tree_at};
 use crate::tests::spelled::{MARK, large, node, small, wrong};
+use crate::untold::Untold;
 use fv_codec::Pointer;
 use fv_tree::{Tree, TreeFault};
 use std::alloc::Global;
@@ -136,7 +137,7 @@ fn make(tree: &mut Tree, blocks: &mut MemBlocks, call: Call) -> Result<(), TreeF
         Call::Get(index) => {
             if index < INDEXES {
                 let mut into = [0; 4096];
-                tree.get(blocks, index, &mut into)?;
+                tree.get(&mut Untold { blocks }, index, &mut into)?;
             }
             Ok(())
         }
@@ -179,6 +180,8 @@ fn loads_of_calls(rt: HostRuntime) -> Result<(), Fail> {
         (Call::Refill(1), Call::Refill(2), ([2, 0], (0, 0))),
         (Call::Remove(128), Call::Remove(0), ([2, 1], (3, 0))),
         (Call::Cut(129), Call::Cut(2), ([2, 1], (2, 0))),
+        (Call::Cut(129), Call::Get(128), ([2, 3], (0, 0))),
+        (Call::Put(2), Call::Get(0), ([2, 1], (0, 0))),
         (Call::Cut(16_384), Call::Cut(0), ([0, 3], (6, 0))),
     ];
     for (first, second, want) in rows {
@@ -219,7 +222,10 @@ fn refilled(alloc: Global, index: u32) -> Result<(bool, bool, u64, u64), TreeFau
     let root = tree.flush(&mut blocks, false)?;
     let placed = blocks.calls().saturating_sub(before);
     let mut into = [0; 4096];
-    let found = tree.get(&mut blocks, index, &mut into)?;
+    let mut lent = Untold {
+        blocks: &mut blocks,
+    };
+    let found = tree.get(&mut lent, index, &mut into)?;
     Ok((there, found && into == block(77), placed, root.stamp))
 }
 

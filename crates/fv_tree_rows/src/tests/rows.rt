@@ -5,6 +5,7 @@ use crate::tests::pair::{
     Change, INDEXES, Kind, Pair, Wrong, block, change_both, flush, new_pair, replayed,
 };
 use crate::tests::walk::spells;
+use crate::untold::Untold;
 use std::alloc::Global;
 use std::test::Fail;
 
@@ -67,10 +68,10 @@ fn agree_at(pair: &mut Pair, index: u32) -> Result<bool, Wrong> {
         return Ok(true);
     }
     let mut into = [0; 4096];
-    let there = pair
-        .stored
-        .tree
-        .get(&mut pair.stored.blocks, index, &mut into)?;
+    let mut blocks = Untold {
+        blocks: &mut pair.stored.blocks,
+    };
+    let there = pair.stored.tree.get(&mut blocks, index, &mut into)?;
     Ok(match pair.machine.stamps().get(&(0, index)) {
         Some(stamp) => there && into == block(*stamp),
         None => !there,

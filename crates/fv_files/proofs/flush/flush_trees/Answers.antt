@@ -17,8 +17,8 @@ loop-preserved g c =
       keeps = keeps_then g.B.Blocks.told (WasFree g.B.Blocks.shown g.B.Blocks.goes c.args.blocks.now c.loop.blocks) (WasFree g.B.Blocks.shown g.B.Blocks.goes c.loop.blocks c.flush_first.new.blocks) (λ v. g.B.Blocks.keeps v c.args.blocks.now c.loop.blocks)
           (λ v. g.B.Blocks.keeps v c.loop.blocks c.flush_first.new.blocks) (λ v. g.B.Blocks.keeps v c.args.blocks.now c.flush_first.new.blocks) (λ v. g.met.B.Blocks.keeps_on v c.args.blocks.now c.loop.blocks c.flush_first.new.blocks)
           (g.B.Blocks.shown c.args.blocks.now) (g.B.Blocks.shown c.loop.blocks) (g.B.Blocks.shown c.flush_first.new.blocks) c.args.files.now c.loop.files c.flush_first.new.files tt (Ok tt) was.lays now.lays was.places now.places was.keeps now.keeps;
-      stored_well = λ told known. stores_then g.B.Blocks.told (g.B.Blocks.shown c.args.blocks.now) (g.B.Blocks.shown c.loop.blocks) (g.B.Blocks.shown c.flush_first.new.blocks) c.args.files.now c.loop.files c.flush_first.new.files tt was.lays told
-          (was.stored_well told known) (now.stored_well told known);
+      stored_well = λ told known all. stores_then g.B.Blocks.told (g.B.Blocks.shown c.args.blocks.now) (g.B.Blocks.shown c.loop.blocks) (g.B.Blocks.shown c.flush_first.new.blocks) c.args.files.now c.loop.files c.flush_first.new.files tt known was.lays told
+          (was.places.laid told) (was.stored_well told known all) (now.stored_well told known all);
       count = omega (arith, now.fewer, was.count);
       calls = g.met.B.Blocks.goes_on c.args.blocks.now c.loop.blocks c.flush_first.new.blocks was.calls now.calls;
     }
@@ -31,9 +31,9 @@ returns-in_err-flush_first-clause-lays g c =
     c.in_err-flush_first.ensures.lays)
 
 pub returns-in_err-flush_first-clause-stored_well : goal.returns-in_err-flush_first-clause-stored_well
-returns-in_err-flush_first-clause-stored_well g c = λ told known.
-    stores_then g.B.Blocks.told (g.B.Blocks.shown c.args.blocks.now) (g.B.Blocks.shown c.loop.blocks) (g.B.Blocks.shown c.flush_first.new.blocks) c.args.files.now c.loop.files c.flush_first.new.files tt c.loop.invariant.lays told
-    (c.loop.invariant.stored_well told known) (c.in_err-flush_first.ensures.stored_well told known)
+returns-in_err-flush_first-clause-stored_well g c = λ told known all.
+    stores_then g.B.Blocks.told (g.B.Blocks.shown c.args.blocks.now) (g.B.Blocks.shown c.loop.blocks) (g.B.Blocks.shown c.flush_first.new.blocks) c.args.files.now c.loop.files c.flush_first.new.files tt known c.loop.invariant.lays told
+    (c.loop.invariant.places.laid told) (c.loop.invariant.stored_well told known all) (c.in_err-flush_first.ensures.stored_well told known all)
 
 pub returns-in_err-flush_first-clause-places : goal.returns-in_err-flush_first-clause-places
 returns-in_err-flush_first-clause-places g c =

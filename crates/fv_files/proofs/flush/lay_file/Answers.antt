@@ -47,19 +47,22 @@ returns-clause-lays g c =
     c.in_ok-root.ensures.flushes c.kept_levels-levels.ensures.levels c.in_ok-set_root.ensures.loads c.in_ok-set_root.ensures.set c.in_ok-set_root.ensures.rises.pending c.forget-2.ensures.gone c.forget-2.ensures.cost
 
 pub returns-in_err-root-clause-stored_well : goal.returns-in_err-root-clause-stored_well
-returns-in_err-root-clause-stored_well g c = λ told known.
-    kept_stores g.B.Blocks.told (g.B.Blocks.shown c.args.blocks.now) (g.B.Blocks.shown c.flush_kept.new.blocks) c.args.files.now c.flush_kept.new.trees c.args.number (Err c.in_err-root.field-0.0) c.in_err-root.ensures.flushes told
-    (c.in_err-root.ensures.places known)
+returns-in_err-root-clause-stored_well g c = λ told known all.
+    kept_stores g.B.Blocks.told (g.B.Blocks.shown c.args.blocks.now) (g.B.Blocks.shown c.flush_kept.new.blocks) c.args.files.now c.flush_kept.new.trees c.args.number (Err c.in_err-root.field-0.0) c.in_err-root.ensures.flushes known told
+    (λ is. c.in_err-root.ensures.places (all is))
 
 pub returns-in_err-set_root-clause-stored_well : goal.returns-in_err-set_root-clause-stored_well
-returns-in_err-set_root-clause-stored_well g c = λ told known.
+returns-in_err-set_root-clause-stored_well g c = λ told known all.
     unset_stores g.B.Blocks.told (g.B.Blocks.shown c.args.blocks.now) (g.B.Blocks.shown c.flush_kept.new.blocks) (g.B.Blocks.shown c.set_root.new.blocks) c.args.files.now c.flush_kept.new.trees c.set_root.new.self c.args.number c.in_ok-root.root c.in_err-set_root.field-0.0
-    c.in_ok-root.ensures.flushes c.in_err-set_root.ensures.loads c.in_err-set_root.ensures.still c.in_err-set_root.ensures.held told (c.in_ok-root.ensures.places known)
+    c.in_ok-root.ensures.flushes c.in_err-set_root.ensures.loads c.in_err-set_root.ensures.still c.in_err-set_root.ensures.held
+    (WasFree g.B.Blocks.shown g.B.Blocks.goes c.args.blocks.now c.flush_kept.new.blocks) c.in_ok-root.ensures.anew known told (λ is. c.in_ok-root.ensures.places (all is))
 
 pub returns-clause-stored_well : goal.returns-clause-stored_well
-returns-clause-stored_well g c = λ told known.
+returns-clause-stored_well g c = λ told known all. let did = c.in_ok-set_root.ensures in
     lay_stores g.B.Blocks.told (g.B.Blocks.shown c.args.blocks.now) (g.B.Blocks.shown c.flush_kept.new.blocks) (g.B.Blocks.shown c.set_root.new.blocks) c.args.files.now c.flush_kept.new.trees c.forget-2.new.trees c.set_root.new.self c.args.number c.kept_levels-levels.result c.in_ok-root.root
-    c.in_ok-root.ensures.flushes c.kept_levels-levels.ensures.levels c.in_ok-set_root.ensures.loads c.in_ok-set_root.ensures.set c.in_ok-set_root.ensures.rises.pending c.forget-2.ensures.gone c.forget-2.ensures.cost told (c.in_ok-root.ensures.places known)
+    c.in_ok-root.ensures.flushes c.kept_levels-levels.ensures.levels did.loads did.set did.rises.pending c.forget-2.ensures.gone c.forget-2.ensures.cost
+    (WasFree g.B.Blocks.shown g.B.Blocks.goes c.args.blocks.now c.flush_kept.new.blocks) (WasFree g.B.Blocks.shown g.B.Blocks.goes c.args.blocks.now c.set_root.new.blocks) c.in_ok-root.ensures.anew (sooner g c) (other_root g c) did.leaves
+    known told (λ is. c.in_ok-root.ensures.places (all is))
 
 pub returns-then-has_root-clause-lays : goal.returns-then-has_root-clause-lays
 returns-then-has_root-clause-lays g c =
@@ -68,10 +71,10 @@ returns-then-has_root-clause-lays g c =
     (told_root g c) c.forget.ensures.gone c.forget.ensures.cost
 
 pub returns-then-has_root-clause-stored_well : goal.returns-then-has_root-clause-stored_well
-returns-then-has_root-clause-stored_well g c = λ told known.
+returns-then-has_root-clause-stored_well g c = λ told known all.
     pass_stores g.B.Blocks.told (g.B.Blocks.shown c.args.blocks.now) (g.B.Blocks.shown c.flush_kept.new.blocks) c.args.files.now c.flush_kept.new.trees c.forget.new.trees c.args.number c.kept_levels-levels.result c.in_ok-root.root
     c.in_ok-root.ensures.flushes c.kept_levels-levels.ensures.levels
-    (told_root g c) c.forget.ensures.gone c.forget.ensures.cost told (c.in_ok-root.ensures.places known)
+    (told_root g c) c.forget.ensures.gone c.forget.ensures.cost known told (λ is. c.in_ok-root.ensures.places (all is))
 
 pub returns-in_err-root-clause-places : goal.returns-in_err-root-clause-places
 returns-in_err-root-clause-places g c =

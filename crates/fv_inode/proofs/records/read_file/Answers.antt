@@ -1,11 +1,11 @@
-use Rattle.std.proofs.Common.{ℕ, ◌/◌, Some, sym, ap, subst, ◌∙◌, refl, arith}
+use Rattle.std.proofs.Common.{ℕ, ◌/◌, Some, sym, ap, subst, ◌∙◌, arith}
 use Rattle.std.specs.Option.{option_map}
 use Rattle.std.proofs.lemmas.Result.{IfOk-weaker}
 use Rattle.fv_codec.specs.Blocks.{IsInodeRecord}
 use Rattle.fv_tree.specs.Standing.{standing, under}
+use Rattle.fv_tree.specs.Flushing.{loaded}
 use Rattle.fv_inode.proofs.Looked.{looks_self, looks_done, looks_judged}
 use Rattle.fv_inode.proofs.Slots.{no_cell, no_way, own_used, own_none, blank_fits}
-use Rattle.fv_inode.proofs.Readied.{has_shape, is_refuted}
 use Rattle.fv_inode.proofs.records.read_file.Goals as goal
 
 pub returns-then-cell-cells-clause-file : goal.returns-then-cell-cells-clause-file
@@ -25,7 +25,7 @@ returns-then-cell-cells-clause-looks g c =
 pub returns-then-cell-cells-clause-spent : goal.returns-then-cell-cells-clause-spent
 returns-then-cell-cells-clause-spent g c = λ told.
     let old = g.B.Blocks.shown c.args.blocks.now in
-    let none = no_way old.cost (standing (under old) c.args.tree.now) (c.args.number / 16) (omega (arith, c.if-cell-cells.true, c.cells.ensures.is)) in
+    let none = no_way old.cost (loaded old c.args.tree.now) (c.args.number / 16) (omega (arith, c.if-cell-cells.true, c.cells.ensures.is)) in
     omega (arith, none)
 
 pub returns-in-None-clause-file : goal.returns-in-None-clause-file
@@ -47,11 +47,3 @@ returns-in-Some-clause-looks g c =
     let read = c.in_ok-read_as.ensures in
     looks_judged g.B.Blocks.told (standing (under old) c.args.tree.now) old (g.B.Blocks.shown c.read_as.new.blocks) c.file_of.result (c.args.number / 16) c.in-Some.at c.read_as.new.into read.untouched read.counts.calm
     (λ told. read.cell told ∙ ap (option_map (λ (place : ℕ). c.read_as.new.into)) c.in-Some.is) (λ told. read.place told c.in-Some.at c.in-Some.is) c.file_of.ensures.damage
-
-pub returns-in_err-read_as-clause-held : goal.returns-in_err-read_as-clause-held
-returns-in_err-read_as-clause-held g c = λ told holds. absurd (c.in_err-read_as.ensures.held holds.way)
-
-pub returns-in-Some-clause-held : goal.returns-in-Some-clause-held
-returns-in-Some-clause-held g c = λ told holds.
-    is_refuted c.file_of.result _ c.file_of.ensures.damage
-    (λ e bad. has_shape (under (g.B.Blocks.shown c.args.blocks.now)) c.args.tree.now c.args.number (c.args.number / 16) c.read_as.new.into bad.0 refl holds (c.in_ok-read_as.ensures.cell told ∙ ap (option_map (λ (place : ℕ). c.read_as.new.into)) c.in-Some.is) bad.1)

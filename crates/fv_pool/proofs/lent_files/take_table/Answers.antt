@@ -17,9 +17,9 @@ returns-in-None-clause-led c = λ blocks used led.
     c.at.ensures.led blocks used (subst (AreLedBy blocks used c.args.active.now) none led)
 
 pub returns-in-None-clause-well : goal.returns-in-None-clause-well
-returns-in-None-clause-well c = λ blocks well.
+returns-in-None-clause-well c = λ known blocks well.
     let none : c.args.files.now ≡ None = search rules in
-    c.at.ensures.well blocks (subst (AreStoredBy blocks c.args.active.now) none well)
+    c.at.ensures.well known blocks (subst (AreStoredBy known blocks c.args.active.now) none well)
 
 pub returns-in-None-clause-alike : goal.returns-in-None-clause-alike
 returns-in-None-clause-alike c = λ blocks.

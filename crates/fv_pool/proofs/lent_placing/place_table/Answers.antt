@@ -26,7 +26,7 @@ returns-clause-table g c =
       placed = did.lays.placed;
       stands = did.lays.stands;
       led = did.lays.led;
-      well = λ told. c.flush-placed.ensures.stored_well told tt;
+      well = λ told stands led laid known. c.flush-placed.ensures.stored_well told known (λ is. tt) stands led laid;
       anew = λ told stands laid. placed_free _ _ _ _ (λ v was. let is = c.requires.told told in was_unkept _ _ was.before.3.goes (is.0, is.2) is.1 v was.held) (c.flush-placed.ensures.places.anew told stands laid);
       laid = c.flush-placed.ensures.places.laid;
       levels = did.levels;
@@ -34,7 +34,7 @@ returns-clause-table g c =
       stored = did.stored;
       reached = did.reached;
       stored_led = did.stored_led;
-      stored_well = λ told. c.flush-placed.ensures.stored_under told tt;
+      stored_well = λ told known. c.flush-placed.ensures.stored_under told known (λ is. tt);
     })
 
 pub returns-clause-unused : goal.returns-clause-unused

@@ -1,10 +1,9 @@
-use Rattle.std.proofs.Common.{◌+◌, get_or, is_some, List, ap, sym, ◌∙◌, arith}
+use Rattle.std.proofs.Common.{get_or, List, ap, sym, ◌∙◌}
 use Rattle.std.specs.Option.{option_map}
 use Rattle.fv_codec.specs.declared.pointer.Pointer.{Pointer}
 use Rattle.fv_tree.specs.Spelled.{hole}
-use Rattle.fv_tree.specs.Standing.{standing, under, node_in}
+use Rattle.fv_tree.specs.Standing.{standing, under}
 use Rattle.fv_tree.proofs.Below.{no_pointers, kept_pointers, read_pointers}
-use Rattle.fv_tree.proofs.Costly.{hole_costs, kept_costs, loads_costs}
 use Rattle.fv_tree.proofs.way.child.Goals as goal
 
 pub returns-then-pointer-eq0-clause-child : goal.returns-then-pointer-eq0-clause-child
@@ -18,21 +17,3 @@ returns-in-Some-clause-child g c = λ told.
 pub returns-in_ok-child-in-None-clause-child : goal.returns-in_ok-child-in-None-clause-child
 returns-in_ok-child-in-None-clause-child g c = λ told.
     sym (ap (λ (xs : List Pointer). get_or xs c.args.slot hole) (read_pointers (standing (under (g.B.Blocks.shown c.args.blocks.now)) c.args.tree.now) c.args.level c.args.place c.args.pointer.now c.if-pointer-eq0.false (sym (ap (option_map (λ kept. kept.children)) c.in-None.ensures.value))) ∙ c.in_ok-child-in-None.ensures.child told)
-
-pub returns-then-pointer-eq0-clause-spent : goal.returns-then-pointer-eq0-clause-spent
-returns-then-pointer-eq0-clause-spent g c =
-    let old = g.B.Blocks.shown c.args.blocks.now in
-    let none = hole_costs old.cost (is_some (node_in c.args.tree.now c.args.level c.args.place)) c.args.pointer.now c.if-pointer-eq0.true in
-    omega (arith, none)
-
-pub returns-in-Some-clause-spent : goal.returns-in-Some-clause-spent
-returns-in-Some-clause-spent g c =
-    let old = g.B.Blocks.shown c.args.blocks.now in
-    let none = kept_costs old.cost (is_some (node_in c.args.tree.now c.args.level c.args.place)) c.args.pointer.now (ap is_some (sym (ap (option_map (λ kept. kept.children)) c.in-Some.ensures.value))) in
-    omega (arith, none)
-
-pub returns-in_ok-child-in-None-clause-spent : goal.returns-in_ok-child-in-None-clause-spent
-returns-in_ok-child-in-None-clause-spent g c =
-    let old = g.B.Blocks.shown c.args.blocks.now in
-    c.in_ok-child-in-None.ensures.spent ∙ ap (λ n. old.spent + n) (sym (loads_costs old.cost (is_some (node_in c.args.tree.now c.args.level c.args.place)) c.args.pointer.now
-    (ap is_some (sym (ap (option_map (λ kept. kept.children)) c.in-None.ensures.value))) c.if-pointer-eq0.false))

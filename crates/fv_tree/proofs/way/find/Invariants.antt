@@ -3,15 +3,16 @@ use Rattle.fv_model.specs.Trees.{fan}
 use Rattle.fv_tree.specs.Spelled.{pointer_below}
 use Rattle.fv_tree.specs.Sources.{IsCalm, IsUntouched}
 use Rattle.fv_tree.specs.Standing.{standing, under}
-use Rattle.fv_tree.specs.Costs.{cost_below, way_cost}
+use Rattle.fv_tree.specs.Flushing.{loaded}
+use Rattle.fv_tree.specs.Lookups.{cost_below, way_cost}
 use Rattle.fv_tree.proofs.way.find.Given as goal
 
 abbrev pub invariant-loop-level : goal.invariant-loop-level
 invariant-loop-level g l = record {
   high : l.level ≤ l.fn.tree.levels;
   pointer : g.B.Blocks.told → l.pointer ≡ pointer_below (standing (under (g.B.Blocks.shown l.fn.blocks)) l.fn.tree) (l.fn.tree.levels - l.level) (l.index / fan ^ l.level);
-  spent : g.B.Blocks.told → (g.B.Blocks.shown l.blocks).spent + cost_below (g.B.Blocks.shown l.fn.blocks).cost (standing (under (g.B.Blocks.shown l.fn.blocks)) l.fn.tree) l.index (suc l.level)
-      ≡ (g.B.Blocks.shown l.fn.blocks).spent + way_cost (g.B.Blocks.shown l.fn.blocks).cost (standing (under (g.B.Blocks.shown l.fn.blocks)) l.fn.tree) l.index;
+  spent : g.B.Blocks.told → (g.B.Blocks.shown l.blocks).spent + cost_below (g.B.Blocks.shown l.fn.blocks).cost (loaded (g.B.Blocks.shown l.fn.blocks) l.fn.tree) l.index (suc l.level)
+      ≡ (g.B.Blocks.shown l.fn.blocks).spent + way_cost (g.B.Blocks.shown l.fn.blocks).cost (loaded (g.B.Blocks.shown l.fn.blocks) l.fn.tree) l.index;
   untouched : IsUntouched (g.B.Blocks.shown l.fn.blocks) (g.B.Blocks.shown l.blocks);
   calm : IsCalm (g.B.Blocks.shown l.fn.blocks) (g.B.Blocks.shown l.blocks);
   reads : g.B.Blocks.reads l.fn.blocks l.blocks;

@@ -11,6 +11,6 @@ said_below : (base : Option Base) â†’ parent_said (option_map footing_in base) â
 said_below None said = tt
 said_below (Some b) said = omega (arith, said)
 
-pub label-requires-clause-base : goal.label-requires-clause-base
+pub label-requires : goal.label-requires
 unfolding label_said
-label-requires-clause-base g c = said_below c.args.state.now.base (c.requires.state.label 0 1 (omega arith) (omega arith) (omega arith)).parent
+label-requires g c = record { base = said_below c.args.state.now.base (c.requires.state.label 0 1 (omega arith) (omega arith) (omega arith)).parent }

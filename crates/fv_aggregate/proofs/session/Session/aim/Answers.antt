@@ -17,6 +17,11 @@ returns-in-Len c = record { aims = aims_over _ _ c.self.view_is c.args.command.n
 pub returns-in-Ls : goal.returns-in-Ls
 returns-in-Ls c = record { aims = aims_over _ _ c.self.view_is c.args.command.now c.in-Ls.volume true task.Look c.aim_at-in-Ls.result (ap volume_asked c.in-Ls.is) (ap has_range c.in-Ls.is) c.aim_at-in-Ls.ensures; fits = fits_over _ _ c.self.view_is c.requires.fresh c.self.invariant.0 }
 
+pub returns-in-Probe : goal.returns-in-Probe
+returns-in-Probe c =
+    let same : c.from-in-Probe.result ≡ c.in-Probe.index = search rules in
+    record { aims = aims_over _ _ c.self.view_is c.args.command.now c.in-Probe.volume c.in_index-in-Probe.result task.Look c.aim_at-in-Probe.result (ap volume_asked c.in-Probe.is) (ap has_range c.in-Probe.is ∙ ap is_index (sym same) ∙ sym c.in_index-in-Probe.ensures) c.aim_at-in-Probe.ensures; fits = fits_over _ _ c.self.view_is c.requires.fresh c.self.invariant.0 }
+
 pub returns-in-New-default-default-eq0 : goal.returns-in-New-default-default-eq0
 returns-in-New-default-default-eq0 c =
     let none : c.in-New-default-default-eq0.reserve ≡ 0 = search rules in

@@ -14,7 +14,7 @@ use Rattle.fv_aggregate.specs.Commands.{changed_by, dirty_limit, managed_by, roo
 use Rattle.fv_aggregate.proofs.Answered.{fails}
 use Rattle.fv_aggregate.proofs.Added.{not_refused}
 use Rattle.fv_aggregate.proofs.Applied.{cp_asks, cp_built, cp_goes, cp_goes_for, cp_no_files, cp_no_list, cp_no_names, cp_no_snap, cp_no_whole, cp_replies, list_no_point, list_after, list_done, list_fails, list_replies, no_files}
-use Rattle.fv_aggregate.proofs.Applying.{booked_each, no_step, not_dead, pointed_same, rests_as}
+use Rattle.fv_aggregate.proofs.Applying.{asks_none, booked_each, no_step, not_dead, pointed_same, rests_as}
 use Rattle.fv_aggregate.specs.Deciding.{makes_volume}
 use Rattle.fv_aggregate.proofs.Decided.{undecided}
 use Rattle.fv_aggregate.proofs.Keeping.{keeps_but}
@@ -89,7 +89,7 @@ returns-in-Cp g c =
       entries = λ other. absurd (other c.in-Cp.is);
       files = λ tells none without. c.reclaim.ensures.files tells;
       same = λ tells none stays places same. pointed_same d s n (answer c.reclaim.new.into c.reclaim.result) c.reclaim.ensures.points.left tells;
-      steps = record { other = λ none. refl; known = λ tells last m stands. no_step (answer c.reclaim.new.into c.reclaim.result) c.args.steps.now; dead = λ failed. refl };
+      steps = record { other = λ none. refl; known = λ tells last m stands knows. no_step (answer c.reclaim.new.into c.reclaim.result) c.args.steps.now; path = λ tells last m stands name of. asks_none _ command name (no_files command (ap volume_asked c.in-Cp.is) (ap changed_by c.in-Cp.is)) of; dead = λ failed. refl };
       numbers = λ alive. keeps_but _ s.volumes n.volumes (c.reclaim.ensures.runs.numbers alive);
       dead = λ failed. not_dead _ s fresh failed;
     }

@@ -4,7 +4,7 @@ use Rattle.fv_volume.specs.declared.state.VolumeState.{VolumeState}
 use Rattle.fv_volume.specs.Asking.{table_named}
 use Rattle.fv_aggregate.specs.Answers.{answer}
 use Rattle.fv_aggregate.specs.Commands.{snapshot_asked}
-use Rattle.fv_aggregate.proofs.Asked.{asks_lent, known_lent, looks_lent}
+use Rattle.fv_aggregate.proofs.Asked.{asks_lent, counts_lent, known_lent, looks_lent}
 use Rattle.fv_aggregate.proofs.Commits.{commits_same}
 use Rattle.fv_aggregate.proofs.Looked.{fit_lent}
 use Rattle.fv_aggregate.proofs.Lost.{lost_lent, replied_only}
@@ -38,6 +38,11 @@ returns-clause-looks g c = looks_lent (g.D.Disk.shown c.args.disk.now) (g.D.Disk
 
 pub returns-clause-known : goal.returns-clause-known
 returns-clause-known g c = λ tells. known_lent (g.D.Disk.shown c.args.disk.now) (g.D.Disk.shown c.ask_state-asked.new.disk) (g.met.D.Disk.laws c.args.disk.now) _ _ c.self.view_is c.self.invariant.0 c.requires.fresh c.requires.stands
+    c.args.command.now c.args.slot c.volume_at-state.result.now c.volume_at-state.ensures.state c.requires.asked c.ask_state-asked.new.pool c.ask_state-asked.new.state c.ask_state-asked.ensures.same c.args.steps.now
+    c.ask_state-asked.new.steps (answer c.ask_state-asked.new.into c.ask_state-asked.result) c.ask_state-asked.ensures.asks c.replied.new.self (answer c.replied.new.into c.replied.result) c.replied.ensures
+
+pub returns-clause-counts : goal.returns-clause-counts
+returns-clause-counts g c = λ tells. counts_lent (g.D.Disk.shown c.args.disk.now) (g.D.Disk.shown c.ask_state-asked.new.disk) (g.met.D.Disk.laws c.args.disk.now) _ _ c.self.view_is c.self.invariant.0 c.requires.fresh c.requires.stands
     c.args.command.now c.args.slot c.volume_at-state.result.now c.volume_at-state.ensures.state c.requires.asked c.ask_state-asked.new.pool c.ask_state-asked.new.state c.ask_state-asked.ensures.same c.args.steps.now
     c.ask_state-asked.new.steps (answer c.ask_state-asked.new.into c.ask_state-asked.result) c.ask_state-asked.ensures.asks c.replied.new.self (answer c.replied.new.into c.replied.result) c.replied.ensures
 

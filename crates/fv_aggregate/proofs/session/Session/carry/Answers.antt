@@ -1,7 +1,12 @@
-use Rattle.std.proofs.Common.{◌≡◌, ℕ, None, Some, true≢false, sym, subst, ◌∙◌}
+use Rattle.std.proofs.Common.{◌≡◌, ℕ, None, Some, true≢false, sym, subst, ◌∙◌, false}
+use Rattle.std.specs.Prelude.{IfOk, IfSome, IsTrue}
+use Rattle.fv_model.specs.Machines.{Machine}
+use Rattle.fv_volume.specs.States.{state_at}
 use Rattle.fv_aggregate.specs.Answers.{answer}
 use Rattle.fv_aggregate.specs.Commands.{AsksTable, file_room, changed_by}
 use Rattle.fv_aggregate.specs.Looking.{Looks, Makes}
+use Rattle.fv_aggregate.specs.Probing.{CountsPath}
+use Rattle.fv_aggregate.specs.Standing.{StandsFor}
 use Rattle.fv_aggregate.proofs.Aimed.{suits_as}
 use Rattle.fv_aggregate.proofs.Asked.{asked_at}
 use Rattle.fv_aggregate.proofs.Carried.{aimed_at}
@@ -34,6 +39,8 @@ returns-in-Look g c =
       only = λ said. lacking s.volumes slot aimed.name command aimed.within aimed.named (did.only said);
       other = did.steps;
       known = did.known;
+      counts = subst (λ (k : ℕ). IsTrue (g.D.Disk.shown c.args.disk.now).tells → (last m : Machine) → StandsFor (g.D.Disk.shown c.args.disk.now) s last m → IfOk (answer c.look_at.new.into c.look_at.result) (λ reply. IfSome (state_at s.volumes k) (λ x. CountsPath (g.D.Disk.shown c.args.disk.now) s.pool x c.args.steps.now c.look_at.new.steps reply command)))
+          (sym (slot_there s.volumes slot aimed.name aimed.named aimed.within)) did.counts;
       kept = did.kept;
       finds = λ finds near. knows_on s.volumes aimed.name slot c.look_at.new.self.volumes aimed.named (answer c.look_at.new.into c.look_at.result) (did.finds finds);
     })
@@ -44,7 +51,7 @@ returns-in-Change g c =
     let did = c.change_at.ensures in
     let change : changed_by command ≡ Some aimed.name = suits_as _ _ _ _ _ c.in-Change.is aimed in
     make_applied command aimed.name change (g.D.Disk.shown c.args.disk.now) c.args.disk.now s (g.D.Disk.shown c.change_at.new.disk) c.change_at.new.disk c.change_at.new.self c.args.steps.now (answer c.change_at.new.into c.change_at.result)
-    c.requires.fresh (subst (λ (k : ℕ). Makes file_room (AsksTable k None) (g.D.Disk.shown c.args.disk.now) s command (g.D.Disk.shown c.change_at.new.disk) c.change_at.new.self (answer c.change_at.new.into c.change_at.result)) (sym (slot_there s.volumes slot aimed.name aimed.named aimed.within)) did.makes) did.roomy
+    c.requires.fresh (subst (λ (k : ℕ). Makes file_room (AsksTable k None false) (g.D.Disk.shown c.args.disk.now) s command (g.D.Disk.shown c.change_at.new.disk) c.change_at.new.self (answer c.change_at.new.into c.change_at.result)) (sym (slot_there s.volumes slot aimed.name aimed.named aimed.within)) did.makes) did.roomy
     (λ low. unmade_named (g.D.Disk.shown c.args.disk.now) s slot aimed.name (g.D.Disk.shown c.change_at.new.disk) c.change_at.new.self aimed.within aimed.named (answer c.change_at.new.into c.change_at.result) (did.unmade low))
     (record {
       range = λ far. absurd (true≢false (sym aimed.near ∙ far));

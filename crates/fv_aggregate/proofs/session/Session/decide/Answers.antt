@@ -1,4 +1,4 @@
-use Rattle.std.proofs.Common.{◌≡◌, rules, None, Ok, Err, refl, sym, subst, arith}
+use Rattle.std.proofs.Common.{◌≡◌, rules, None, Ok, Err, refl, sym, subst, arith, false}
 use Rattle.std.specs.Prelude.{IsSome}
 use Rattle.fv_model.specs.declared.answers.Reply.{Reply}
 use Rattle.fv_aggregate.specs.Answers.{answer}
@@ -21,7 +21,7 @@ pub returns-in-Some-clause-makes : goal.returns-in-Some-clause-makes
 returns-in-Some-clause-makes g c =
     let d = g.D.Disk.shown c.args.disk.now in let e = g.D.Disk.shown c.judge.new.disk in
     let is = judged_refusal c.judge.new.into c.in-Some.field-0 (sym c.in-Some.ensures) in
-    subst (λ (y : Reply). Makes file_room (AsksTable c.args.slot None) d c.args.self.now c.args.command.now e c.judge.new.self (Ok y)) (sym is)
+    subst (λ (y : Reply). Makes file_room (AsksTable c.args.slot None false) d c.args.self.now c.args.command.now e c.judge.new.self (Ok y)) (sym is)
     (judged_refused c.args.slot d c.args.self.now c.args.command.now e c.judge.new.self c.in-Some.field-0
     (subst (λ (y : Reply). HasJudged c.args.slot d c.args.self.now c.args.command.now e c.judge.new.self (Ok y)) is c.in_ok-judge.ensures.judged))
 
@@ -31,7 +31,7 @@ returns-in_err-make_room-in-None-clause-makes g c =
     let s = c.args.self.now in let aimed = c.requires.aimed in
     let past = passes_limit s.pending 16 _ c.has_room.ensures c.if-has_room.false in
     let failed : answer c.judge.new.into c.from_residual-in_err-make_room-in-None.result ≡ Err c.in_err-make_room-in-None.field-0.0 = fails c.judge.new.into c.from_residual-in_err-make_room-in-None.result c.in_err-make_room-in-None.field-0.0 (search rules) in
-    subst (Makes file_room (AsksTable c.args.slot None) d s c.args.command.now h c.make_room.new.self) (sym failed)
+    subst (Makes file_room (AsksTable c.args.slot None false) d s c.args.command.now h c.make_room.new.self) (sym failed)
     (room_failed d s c.args.command.now past c.requires.fresh c.args.slot (subst IsSome (sym aimed.there) refl) e c.judge.new.self c.judge.new.into c.in_ok-judge.ensures.judged h c.make_room.new.self c.in_err-make_room-in-None.field-0.0
     c.in_err-make_room-in-None.ensures.runs.goes c.in_err-make_room-in-None.ensures.runs.goes_for)
 

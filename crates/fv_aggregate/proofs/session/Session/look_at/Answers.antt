@@ -8,7 +8,7 @@ use Rattle.fv_aggregate.specs.Commands.{finds_file, snapshot_asked}
 use Rattle.fv_aggregate.proofs.Answered.{fails}
 use Rattle.fv_aggregate.proofs.Asked.{asked_read}
 use Rattle.fv_aggregate.proofs.Lost.{active_there, finds_active, no_refusal, none_lost}
-use Rattle.fv_aggregate.proofs.Numbered.{known_numbered, look_numbered, look_unnumbered}
+use Rattle.fv_aggregate.proofs.Numbered.{counts_numbered, known_numbered, look_numbered, look_unnumbered}
 use Rattle.fv_aggregate.proofs.session.Session.look_at.Goals as goal
 
 pub returns-in_err-read_numbers-clause-looks : goal.returns-in_err-read_numbers-clause-looks
@@ -31,6 +31,13 @@ returns-clause-known g c =
     let d = g.D.Disk.shown c.args.disk.now in let e = g.D.Disk.shown c.read_numbers.new.disk in let of = c.requires.asked in
     known_numbered d c.args.self.now c.args.command.now c.requires.fresh c.args.slot (subst IsSome (sym of.there) refl) e c.read_numbers.new.self tt c.in_ok-read_numbers.ensures.numbered
     (g.D.Disk.shown c.ask-2.new.disk) c.ask-2.new.self (answer c.ask-2.new.into c.ask-2.result) c.args.steps.now c.ask-2.new.steps c.ask-2.ensures.known
+
+pub returns-clause-counts : goal.returns-clause-counts
+returns-clause-counts g c =
+    let d = g.D.Disk.shown c.args.disk.now in let e = g.D.Disk.shown c.read_numbers.new.disk in let of = c.requires.asked in
+    let finds : finds_file c.args.command.now ≡ true = sym c.finds.ensures ∙ c.if-not-finds.false in
+    counts_numbered d c.args.self.now c.args.command.now c.requires.fresh c.args.slot (subst IsSome (sym of.there) refl) e c.read_numbers.new.self tt c.in_ok-read_numbers.ensures.numbered
+    (g.D.Disk.shown c.ask-2.new.disk) c.ask-2.new.self (answer c.ask-2.new.into c.ask-2.result) (finds_active c.args.command.now of.state.name of.asks finds) c.args.steps.now c.ask-2.new.steps c.ask-2.ensures.counts
 
 -- a table whose files are found by their numbers is there
 pub returns-in_err-read_numbers-clause-lost : goal.returns-in_err-read_numbers-clause-lost

@@ -2,8 +2,7 @@ use Rattle.std.proofs.Common.{refl, inl, arith}
 use Rattle.fv_files.proofs.Tables.{alike}
 use Rattle.fv_inode.specs.Files.{rooted}
 use Rattle.std.specs.Prelude.{None}
-use Rattle.fv_tree.specs.Flushing.{loaded}
-use Rattle.fv_files.proofs.Stored.{both_kept}
+use Rattle.fv_files.proofs.Stored.{loaded_said, stamped_said}
 use Rattle.fv_files.proofs.Altered.{only_leaves_trees}
 use Rattle.fv_files.proofs.Changed.{with_inode}
 use Rattle.fv_files.proofs.Looked.{counts_done, counts_failed}
@@ -27,8 +26,10 @@ returns-in-Ok-clause-changes g c =
       untouched = tt;
       stands = λ told asked sound. made_sound (g.B.Blocks.shown c.args.blocks.now) (g.B.Blocks.shown c.create.new.blocks) c.args.self.now c.create.new.self c.args.name.now c.args.reserve c.args.stamp c.in-Ok.field-0
           looks.untouched.held (c.in-Ok.ensures.made told) sound looks.untouched.used loads.owner (loads.stands told (sound.trees None)) (loads.leads told) loads.keeps_ready;
-      stored = λ told asked sound was. made_stored (g.B.Blocks.shown c.args.blocks.now) (g.B.Blocks.shown c.create.new.blocks) c.args.self.now c.create.new.self c.args.name.now c.args.reserve c.args.stamp c.in-Ok.field-0
-          looks.untouched.held (c.in-Ok.ensures.made told) sound looks.untouched.used (both_kept (loaded (g.B.Blocks.shown c.args.blocks.now) c.args.self.now.inode.tree) (loaded (g.B.Blocks.shown c.create.new.blocks) c.create.new.self.tree) (loads.stored_well told) (loads.tells told) (was.trees None)) (loads.leads told) was;
+      stored = λ told asked sound known was. made_stored (g.B.Blocks.shown c.args.blocks.now) (g.B.Blocks.shown c.create.new.blocks) c.args.self.now c.create.new.self c.args.name.now c.args.reserve c.args.stamp c.in-Ok.field-0
+          looks.untouched.held (c.in-Ok.ensures.made told) sound looks.untouched.used known
+          (stamped_said known (g.B.Blocks.shown c.args.blocks.now) (g.B.Blocks.shown c.create.new.blocks) c.args.self.now.inode.tree c.create.new.self.tree loads.owner (sound.trees None) (loads.stands told (sound.trees None)) looks.untouched.held (loads.stored_well told) (loads.tells told)
+          c.args.stamp (c.in-Ok.ensures.alters told) (was.trees None)) (loads.leads told) was;
       strays = λ told sound. looks.untouched.strays;
       room = same_room (g.B.Blocks.shown c.args.blocks.now) (g.B.Blocks.shown c.create.new.blocks) looks.untouched;
       counts = counts_done (g.B.Blocks.shown c.args.blocks.now) (g.B.Blocks.shown c.create.new.blocks) c.in-Ok.field-0 tt looks.counts;
@@ -47,7 +48,8 @@ returns-in-Err-clause-changes g c =
       failed = λ told. readied_told old new f h looks.untouched (alike (rooted old f.inode) (rooted new h.inode) (loads.failed told)) (λ k. refl);
       untouched = looks.untouched;
       stands = λ told asked sound. readied_stands old new f h looks.untouched (alike (rooted old f.inode) (rooted new h.inode) (loads.failed told)) (λ k. refl) loads.owner (loads.stands told) (loads.leads told) loads.keeps_ready sound;
-      stored = λ told asked sound was. readied_stored old new f h looks.untouched (alike (rooted old f.inode) (rooted new h.inode) (loads.failed told)) (λ k. refl) (both_kept (loaded old f.inode.tree) (loaded new h.inode.tree) (loads.stored_well told) (loads.tells told)) (loads.leads told) sound was;
+      stored = λ told asked sound known was. readied_stored old new f h looks.untouched (alike (rooted old f.inode) (rooted new h.inode) (loads.failed told)) (λ k. refl) known
+          (loaded_said known old new f.inode.tree h.inode.tree loads.owner (sound.trees None) (loads.stands told (sound.trees None)) looks.untouched.held (loads.stored_well told) (loads.tells told) (loads.leaves told)) (loads.leads told) sound was;
       strays = λ told sound. looks.untouched.strays;
       room = same_room old new looks.untouched;
       counts = counts_failed old new _ _ looks.counts;

@@ -4,7 +4,7 @@ use Rattle.std.proofs.lemmas.Result.{on_err_weaker, on_ok_weaker, IfOk-weaker}
 use Rattle.fv_tree.proofs.Causes.{at_err}
 use Rattle.fv_laws.specs.WellFormed.{IsWellTable}
 use Rattle.fv_files.specs.Tables.{table_in}
-use Rattle.fv_files.proofs.Prepared.{led_after, cuts_from, cut_counts_from, prepared_then, table_then}
+use Rattle.fv_files.proofs.Prepared.{changes_handed, led_after, cuts_from, cut_counts_from, prepared_then, table_then}
 use Rattle.fv_files.proofs.files.Files.cut.Goals as goal
 
 pub returns-clause-changes : goal.returns-clause-changes
@@ -45,3 +45,9 @@ returns-then-not-branch-clause-counted g c = λ told. absurd (both_ways c.in_ok-
 pub returns-clause-counted : goal.returns-clause-counted
 returns-clause-counted g c = λ told. let first = c.in_ok-prepare.ensures.prepares in
     IfOk-weaker c.cut_ready.result _ _ (λ count is sound. cut_counts_from _ _ (table_in (g.B.Blocks.shown c.cut_ready.new.blocks) c.cut_ready.new.files) (first.same told) c.args.info.now.number c.args.length c.args.stamp count (is (first.stands told sound))) (c.cut_ready.ensures.counted told)
+
+pub returns-in_err-prepare-clause-changes : goal.returns-in_err-prepare-clause-changes
+returns-in_err-prepare-clause-changes g c = changes_handed _ _ _ _ _ _ _ _ _ c.from_residual.ensures.1 c.in_err-prepare.ensures.prepares
+
+pub returns-clause-calls : goal.returns-clause-calls
+returns-clause-calls g c = g.met.B.Blocks.goes_on c.args.blocks.now c.prepare.new.blocks c.cut_ready.new.blocks (g.met.B.Blocks.reads_go c.args.blocks.now c.prepare.new.blocks c.in_ok-prepare.ensures.reads) c.cut_ready.ensures.calls

@@ -12,4 +12,4 @@ returns-in-None-clause-found g c = λ told.
 pub returns-in-Some-clause-found : goal.returns-in-Some-clause-found
 returns-in-Some-clause-found g c = λ told.
     let x = table_in (g.B.Blocks.shown c.args.blocks.now) c.args.self.now in
-    IfOk-weaker c.look.result _ (Finds x.inode c.args.name.now) (λ o is. finds_some x c.args.numbers.now (c.requires.numbers told) c.args.name.now c.in-Some.number o (sym c.get.ensures ∙ c.in-Some.is) is) (c.look.ensures.found told)
+    IfOk-weaker c.look_held.result _ (Finds x.inode c.args.name.now) (λ o is. finds_some x c.args.numbers.now (c.requires.numbers told) c.args.name.now c.in-Some.number o (sym c.get.ensures ∙ c.in-Some.is) is) (c.look_held.ensures.found told)

@@ -38,8 +38,8 @@ returns g c =
           (λ v. g.met.B.Blocks.keeps_on v c.args.blocks.now c.flush_trees.new.blocks c.flush.new.blocks) old mid new c.args.self.now c.flush_trees.new.files (with_inode c.flush_trees.new.files c.flush.new.self) tt c.flush.result first.lays
           (last_lays g.B.Blocks.told mid new c.flush_trees.new.files c.flush.new.self c.flush.result last first.none) first.places ends first.keeps
           (inode_keeps g.B.Blocks.told (λ v. g.B.Blocks.keeps v c.flush_trees.new.blocks c.flush.new.blocks) mid new c.flush_trees.new.files c.flush.new.self is.flushing.keeps));
-      stored_well = λ told known. flush_stores g.B.Blocks.told old mid new c.args.self.now c.flush_trees.new.files c.flush.new.self c.flush.result first.lays first.none last told (first.stored_well told known) (is.flushing.places known);
-      stored_under = λ told known. flush_under g.B.Blocks.told old mid new c.args.self.now c.flush_trees.new.files c.flush.new.self c.flush.result first.lays first.none last told (first.stored_well told known) (is.flushing.places known);
+      stored_well = λ told known all. flush_stores g.B.Blocks.told old mid new c.args.self.now c.flush_trees.new.files c.flush.new.self c.flush.result first.lays first.none last told (first.places.laid told) known (first.stored_well told known all) (λ one. is.flushing.places (all one));
+      stored_under = λ told known all. flush_under g.B.Blocks.told old mid new c.args.self.now c.flush_trees.new.files c.flush.new.self c.flush.result first.lays first.none last told (first.places.laid told) known (first.stored_well told known all) (λ one. is.flushing.places (all one));
       calls = g.met.B.Blocks.goes_on c.args.blocks.now c.flush_trees.new.blocks c.flush.new.blocks first.calls is.flushing.calls;
     }
 

@@ -11,7 +11,7 @@ pub returns-clause-stored : goal.returns-clause-stored
 returns-clause-stored c = stored_in (record { inode = c.new.result; trees = c.new-2.result; alloc = c.args.alloc }) 0 hole c.new.ensures.stored c.new-2.ensures.len
 
 pub returns-clause-well : goal.returns-clause-well
-returns-clause-well c = λ blocks. stored_wells (record { inode = c.new.result; trees = c.new-2.result; alloc = c.args.alloc }) 0 hole c.new.ensures.stored c.new-2.ensures.len blocks (hole_stored blocks 0 hole refl)
+returns-clause-well c = λ known blocks. stored_wells (record { inode = c.new.result; trees = c.new-2.result; alloc = c.args.alloc }) 0 hole c.new.ensures.stored c.new-2.ensures.len known blocks (hole_stored known blocks 0 hole refl)
 
 pub returns-clause-pending : goal.returns-clause-pending
 returns-clause-pending c = let inode = c.new.ensures.pending in let trees = no_cost c.new-2.result c.new-2.ensures.len in omega (arith, inode, trees)

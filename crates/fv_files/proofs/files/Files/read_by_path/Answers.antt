@@ -1,13 +1,14 @@
 use Rattle.std.proofs.Common.{◌≡◌, ◌+◌, ℕ, Ok, Err, arith, rules, sym, subst}
 use Rattle.fv_codec.specs.declared.pointer.Pointer.{Pointer}
 use Rattle.fv_tables.specs.Told.{Standing}
-use Rattle.fv_tree.specs.Costs.{way_cost}
-use Rattle.fv_files.specs.Tables.{table_in, tree_known, IsInfoOf}
-use Rattle.fv_files.specs.Calls.{GivesCell}
+use Rattle.fv_tree.specs.Standing.{under}
+use Rattle.fv_files.specs.Tables.{loaded_trees, table_in, IsInfoOf}
+use Rattle.fv_files.specs.Calls.{way_in, GivesCell}
 use Rattle.fv_files.specs.Failing.{Looks}
 use Rattle.fv_files.proofs.Looked.{earlier, looks_failed, looks_inode, looks_then, over, Held}
-use Rattle.std.specs.Prelude.{None}
-use Rattle.fv_files.proofs.Right.{trees_on}
+use Rattle.std.specs.Prelude.{Some, None}
+use Rattle.std.specs.FinMap as fin
+use Rattle.fv_files.proofs.Right.{readable_on}
 use Rattle.fv_files.proofs.files.Files.read_by_path.Goals as goal
 
 pub read-requires-clause-there : goal.read-requires-clause-there
@@ -25,8 +26,8 @@ returns-clause-spent g c = λ told.
     let new = g.B.Blocks.shown c.read.new.blocks in
     let info = c.args.info.now in
     let first = c.in_ok-look.ensures.spent told in
-    let second = earlier (λ (x : Standing). new.spent ≡ mid.spent + way_cost old.cost (tree_known x info) c.args.index) c.args.self.now old mid c.look.ensures.looks.untouched.held
-    (subst (λ (cost : Pointer → ℕ). new.spent ≡ mid.spent + way_cost cost (tree_known (table_in mid c.args.self.now) info) c.args.index) c.look.ensures.looks.untouched.cost (c.in_ok-read.ensures.spent told)) in
+    let second = subst (λ (h : Held). new.spent ≡ mid.spent + way_in old.cost (loaded_trees (λ v. fin.get h v) c.args.self.now (Some info.number)) c.args.index) c.look.ensures.looks.untouched.held
+    (subst (λ (cost : Pointer → ℕ). new.spent ≡ mid.spent + way_in cost (loaded_trees (under mid) c.args.self.now (Some info.number)) c.args.index) c.look.ensures.looks.untouched.cost (c.in_ok-read.ensures.spent told)) in
     omega (arith, first, second)
 
 pub returns-clause-looks : goal.returns-clause-looks
@@ -59,4 +60,4 @@ pub look-requires : goal.look-requires
 look-requires g c = record { right = λ told. c.requires.right told None }
 
 pub read-requires-clause-right : goal.read-requires-clause-right
-read-requires-clause-right g c = λ told. trees_on (g.B.Blocks.shown c.args.blocks.now) (g.B.Blocks.shown c.look.new.blocks) c.args.self.now c.look.ensures.looks.untouched (c.requires.right told)
+read-requires-clause-right g c = λ told. readable_on (g.B.Blocks.shown c.args.blocks.now) (g.B.Blocks.shown c.look.new.blocks) c.args.self.now c.look.ensures.looks.untouched (c.requires.right told)

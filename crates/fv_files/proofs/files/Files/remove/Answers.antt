@@ -6,7 +6,7 @@ use Rattle.fv_files.specs.Tables.{table_in}
 use Rattle.fv_tree.specs.Erasing.{HoldsCells}
 use Rattle.fv_inode.specs.Files.{rooted}
 use Rattle.fv_inode.proofs.Alike.{holds_after}
-use Rattle.fv_files.proofs.Prepared.{removes_from, removal_counts_from, prepared_then, table_then}
+use Rattle.fv_files.proofs.Prepared.{changes_handed, removes_from, removal_counts_from, prepared_then, table_then}
 use Rattle.fv_files.proofs.files.Files.remove.Goals as goal
 
 pub returns-then-not-branch-clause-removed : goal.returns-then-not-branch-clause-removed
@@ -44,3 +44,9 @@ returns-then-not-branch-clause-counted g c = λ told. absurd (both_ways c.in_ok-
 pub returns-clause-counted : goal.returns-clause-counted
 returns-clause-counted g c = λ told. let first = c.in_ok-prepare.ensures.prepares in
     IfOk-weaker c.remove_ready.result _ _ (λ count is sound. removal_counts_from _ _ (table_in (g.B.Blocks.shown c.remove_ready.new.blocks) c.remove_ready.new.files) (first.same told) c.args.info.now.number c.args.stamp count (is (first.stands told sound))) (c.remove_ready.ensures.counted told)
+
+pub returns-in_err-prepare-clause-changes : goal.returns-in_err-prepare-clause-changes
+returns-in_err-prepare-clause-changes g c = changes_handed _ _ _ _ _ _ _ _ _ c.from_residual.ensures.1 c.in_err-prepare.ensures.prepares
+
+pub returns-clause-calls : goal.returns-clause-calls
+returns-clause-calls g c = g.met.B.Blocks.goes_on c.args.blocks.now c.prepare.new.blocks c.remove_ready.new.blocks (g.met.B.Blocks.reads_go c.args.blocks.now c.prepare.new.blocks c.in_ok-prepare.ensures.reads) c.remove_ready.ensures.calls

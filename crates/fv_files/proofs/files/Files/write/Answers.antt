@@ -1,7 +1,7 @@
 use Rattle.std.proofs.Common.{arith}
 use Rattle.std.proofs.lemmas.Bool.{both_ways}
 use Rattle.std.proofs.lemmas.Result.{on_ok_weaker}
-use Rattle.fv_files.proofs.Prepared.{led_after, writes_from, prepared_then, table_then}
+use Rattle.fv_files.proofs.Prepared.{changes_handed, led_after, writes_from, prepared_then, table_then}
 use Rattle.fv_files.proofs.files.Files.write.Goals as goal
 
 pub returns-clause-pending : goal.returns-clause-pending
@@ -10,6 +10,9 @@ returns-clause-pending g c = omega (arith, c.in_ok-prepare.ensures.pending, c.wr
 pub returns-clause-changes : goal.returns-clause-changes
 returns-clause-changes g c =
     prepared_then _ _ _ _ _ _ _ _ _ _ c.in_ok-prepare.ensures.prepares c.if-not-branch.false c.requires.there _ (λ told asked. asked) _ c.write_ready.ensures.changes
+
+pub returns-in_err-prepare-clause-changes : goal.returns-in_err-prepare-clause-changes
+returns-in_err-prepare-clause-changes g c = changes_handed _ _ _ _ _ _ _ _ _ c.from_residual.ensures.1 c.in_err-prepare.ensures.prepares
 
 pub returns-clause-led : goal.returns-clause-led
 returns-clause-led g c = led_after _ _ _ (g.B.Blocks.shown c.write_ready.new.blocks) _ _ c.write_ready.new.files _ _ c.in_ok-prepare.ensures.prepares c.write_ready.ensures.led

@@ -12,6 +12,3 @@ pub returns-clause-looks : goal.returns-clause-looks
 returns-clause-looks g c =
     let old = g.B.Blocks.shown c.args.blocks.now in
     looks_done g.B.Blocks.told (standing (under old) c.args.self.now.tree) old (g.B.Blocks.shown c.read_file.new.blocks) c.in_ok-file.file c.info_in.result c.in_ok-file.ensures.looks
-
-pub returns-in_err-file-clause-held : goal.returns-in_err-file-clause-held
-returns-in_err-file-clause-held g c = λ told holds. absurd (c.in_err-file.ensures.held told holds)

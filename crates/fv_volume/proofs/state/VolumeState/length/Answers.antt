@@ -1,6 +1,6 @@
 use Rattle.std.proofs.Common.{◌≡◌, ◌∙◌, Some, None, option_copied, rules, sym, subst}
 use Rattle.fv_inode.specs.Files.{Finds, IsFirst}
-use Rattle.fv_volume.specs.Asking.{standing_of}
+use Rattle.fv_volume.specs.Asking.{standing_of, TellsAsked}
 use Rattle.fv_volume.proofs.RightTables.{asked_tells}
 use Rattle.fv_volume.proofs.Asked.{len_asked_found, len_asked_lost, len_asked_missing}
 use Rattle.fv_volume.proofs.KeptReads.{asked_cause, asked_is, asked_none}
@@ -13,7 +13,7 @@ returns-in_default-clause-asked g c = λ is.
     len_asked_lost d c.args.pool.now c.args.self.now s is (asked_none d c.args.pool.now c.args.self.now s (sym c.table_asked.ensures ∙ c.in_default.is)) c.args.file.now
 
 pub returns-in_err-find_in-clause-cause : goal.returns-in_err-find_in-clause-cause
-returns-in_err-find_in-clause-cause g c = asked_cause (g.D.Disk.shown c.args.disk.now) c.args.pool.now c.args.self.now (option_copied c.args.snapshot) c.in-Some.table (sym c.table_asked.ensures ∙ c.in-Some.is) 0 (g.D.Disk.shown c.find_in.new.disk).faults c.in_err-find_in.field-0.0 c.from_residual.result (search rules) c.in_err-find_in.ensures.cause
+returns-in_err-find_in-clause-cause g c = asked_cause (g.D.Disk.shown c.args.disk.now) c.args.pool.now c.args.self.now (option_copied c.args.snapshot) c.in-Some.table (sym c.table_asked.ensures ∙ c.in-Some.is) (TellsAsked (g.D.Disk.shown c.args.disk.now) c.args.pool.now c.args.self.now) 0 (g.D.Disk.shown c.find_in.new.disk).faults c.in_err-find_in.field-0.0 c.from_residual.result (search rules) c.in_err-find_in.ensures.cause
 
 pub returns-in-None-clause-asked : goal.returns-in-None-clause-asked
 returns-in-None-clause-asked g c = λ is.
