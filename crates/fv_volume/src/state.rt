@@ -62,7 +62,7 @@ pub struct Snap {
 /// The snapshots of a volume. Contracts see the list of them.
 #[derive(Debug, Drop)]
 pub struct Snapshots {
-    snaps: Vec<Snap>,
+    pub(crate) snaps: Vec<Snap>,
 }
 
 impl Model for Snapshots {

@@ -1,0 +1,5 @@
+mod Lying
+mod Filled
+mod Searched
+pub mod Ruled
+mod Stepped

@@ -1,0 +1,4 @@
+pub mod Searching
+pub mod Filling
+pub mod Stepping
+pub mod Cleaning
