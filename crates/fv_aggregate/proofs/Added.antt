@@ -1,5 +1,5 @@
 -- A session with a new volume, whatever command made it.
-use Rattle.std.proofs.Common.{◌≡◌, ◌≤◌, ◌<◌, ◌+◌, ◌*◌, inl, inr, ⊎_elim, ℕ, Bool, true, false, List, length, Option, Some, None, refl, sym, ap, subst, ◌∙◌, true≢false, arith, Result, Ok, Err}
+use Rattle.std.proofs.Common.{◌≡◌, ◌≤◌, ◌<◌, ◌+◌, inl, inr, ⊎_elim, ℕ, Bool, false, Option, Some, None, refl, sym, ap, subst, ◌∙◌, true≢false, arith, Result, Ok, Err}
 use Rattle.std.specs.Prelude.{IfOk, IsNone, IsTrue, max}
 use Rattle.std.specs.FinMap as fin
 use Rattle.fv_disk.specs.Shown.{IsDisk, Shown}
@@ -12,12 +12,10 @@ use Rattle.fv_model.specs.declared.commands.Command.{Command}
 use Rattle.fv_model.specs.Machines.{Machine}
 use Rattle.fv_model.specs.Refusals.{next, refusal}
 use Rattle.fv_model.specs.Replies.{Allows, AllowsBy, IsAnswer, answer, is_open}
-use Rattle.fv_model.specs.Space.{overhead}
 use Rattle.fv_image.specs.Held.{view_at}
 use Rattle.fv_image.specs.Views.{overheads}
 use Rattle.fv_root.specs.Finding.{root_found}
 use Rattle.fv_pool.specs.declared.pool.Pool.{Pool}
-use Rattle.fv_store.specs.Held.{StandsOn}
 use Rattle.fv_volume.specs.declared.state.VolumeState.{VolumeState}
 use Rattle.fv_volume.specs.OneVolume.{volume_for}
 use Rattle.fv_volume.specs.States.{States, parent_in, with_state}
@@ -101,6 +99,7 @@ module _ (session : Session) (x : VolumeState) (room : ℕ) (new : Session) (add
           pending = omega (arith, none, over, own, pending, stands.pending);
           files = omega (arith, none, pending, stands.files);
           few = omega (arith, files, stands.few);
+          free = omega (arith, files, stands.free);
           room = subst (λ (n : ℕ). overheads (view_at (root_found session.pool.found) disk.reads) + max 256 n ≤ clear_blocks session.pool.map) (sym pending) enough;
         })
 
@@ -162,7 +161,7 @@ module _ (before : Shown) (old : Session) (mid : Shown) (session : Session) (roo
       reason = goes.done.was;
       counts = goes.done.counts;
       session = goes.done.goes_on;
-      disk = ⊎_elim (λ (past : 256 < old.pending + room). inr past) (λ (low : old.pending + room ≤ 256). inl (calm low)) (cases_lt 256 (old.pending + room));
+      disk = ⊎_elim (λ (past : 256 < old.pending + room). inr (inl past)) (λ (low : old.pending + room ≤ 256). inl (calm low)) (cases_lt 256 (old.pending + room));
     };
     pending = goes.pending;
   }

@@ -63,7 +63,7 @@ some_none v e = cc
 
 -- a command that is none of those on volumes isn't built
 unbuilt : (c : Command) → IsServed c → IsAimless c → is_built c ≡ false
-unbuilt c served is = ⊎_elim (λ some. absurd (whole c served some)) (λ none. none) (managed_or_unbuilt c served.not_create served.not_clone served.not_list served.not_point served.not_names is.asks is.changes is.snaps)
+unbuilt c served is = ⊎_elim (λ some. absurd (whole c served some)) (λ none. none) (managed_or_unbuilt c served.not_create served.not_clone served.not_mirror served.not_list served.not_point served.not_names is.asks is.changes is.snaps)
   where
     whole : (c : Command) → IsServed c → is_some (managed_by c) ≡ true → ⊥
     whole (VolDestroy v) served some = served.not_destroy v refl

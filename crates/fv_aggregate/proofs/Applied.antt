@@ -9,7 +9,7 @@ use Rattle.fv_model.specs.declared.answers.Reply.{Reply}
 use Rattle.fv_model.specs.declared.answers.Reply.TheVariants.{Done, Names, Refused}
 use Rattle.fv_model.specs.declared.commands.Kind.{Kind}
 use Rattle.fv_model.specs.declared.commands.Command.{Command}
-use Rattle.fv_model.specs.declared.commands.Command.TheVariants.{VolCreate, VolDestroy, VolResize, VolGuarantee, VolList, VolStat, New, Put, Get, Len, Cut, Remove, Ls, SnapCreate, SnapDelete, SnapRestore, SnapList, CloneCreate, Probe, Cp}
+use Rattle.fv_model.specs.declared.commands.Command.TheVariants.{VolCreate, VolDestroy, VolResize, VolGuarantee, VolList, VolStat, New, Put, Get, Len, Cut, Remove, Ls, SnapCreate, SnapDelete, SnapRestore, SnapList, CloneCreate, Mirror, Probe, Cp}
 use Rattle.fv_model.specs.Machines.{Machine}
 use Rattle.fv_model.specs.Effects.{change_of}
 use Rattle.fv_model.specs.Refusals.{conditions, next}
@@ -60,11 +60,11 @@ pub fault_plain : {D : Type 0} (command : Command) (shown : Shown) (disk : D) (s
     → (IsNone session.failed → (name : List ℕ) → command ≡ SnapList name → ⊥) → IsPlain command shown disk session shown disk session (Err f)
 fault_plain command shown disk session f damage built whole snap names = record {
   refused = tt;
-  calm = λ other idle few. refl;
-  idle = λ other stays none few. refl;
-  map = λ other stays places few. refl;
-  wanting = λ other idle few same. refl;
-  damage = damage;
+  calm = λ other once idle few. refl;
+  idle = λ other once stays none few. refl;
+  map = λ other once stays places few. refl;
+  wanting = λ other once idle few same. refl;
+  damage = λ once. damage;
   unbuilt = λ fresh none. absurd (built fresh none);
   listed = λ list. tt;
   untouched = λ list. (refl, refl);
@@ -126,11 +126,11 @@ list_fails command is shown disk session = fault_plain command shown disk sessio
 pub list_done : {D : Type 0} (command : Command) → command ≡ VolList → (shown : Shown) (disk : D) (session : Session) (names : List (List ℕ)) → names ≡ names_from session.volumes 0 64 → IsPlain command shown disk session shown disk session (Ok (Names names))
 list_done command is shown disk session names told = record {
   refused = λ refused. (refl, refl);
-  calm = λ other idle few. refl;
-  idle = λ other stays none few. refl;
-  map = λ other stays places few. refl;
-  wanting = λ other idle few. tt;
-  damage = tt;
+  calm = λ other once idle few. refl;
+  idle = λ other once stays none few. refl;
+  map = λ other once stays places few. refl;
+  wanting = λ other once idle few. tt;
+  damage = λ once. tt;
   unbuilt = λ fresh none. list_built _ command is none;
   listed = λ list. ap Names told;
   untouched = λ list. (refl, refl);
@@ -193,29 +193,30 @@ none_if false v none = refl
 
 -- a command that is about a whole volume, or isn't built
 pub managed_or_unbuilt : (command : Command) → ((name : List ℕ) (size : ℕ) (kind : Kind) → command ≢ VolCreate name size kind) → ((clone parent snapshot : List ℕ) (size : ℕ) (kind : Kind) → command ≢ CloneCreate clone parent snapshot size kind)
-    → command ≢ VolList → command ≢ Cp → ((name : List ℕ) → command ≢ SnapList name) → volume_asked command ≡ None → changed_by command ≡ None → snapped_by command ≡ None → (is_some (managed_by command) ≡ true) ⊎ (is_built command ≡ false)
+    → ((source snapshot mirror : List ℕ) (size : ℕ) (kind : Kind) → command ≢ Mirror source snapshot mirror size kind) → command ≢ VolList → command ≢ Cp → ((name : List ℕ) → command ≢ SnapList name) → volume_asked command ≡ None → changed_by command ≡ None → snapped_by command ≡ None → (is_some (managed_by command) ≡ true) ⊎ (is_built command ≡ false)
 unfolding is_built
-managed_or_unbuilt (VolCreate v size kind) a l b c d asked changed snaps = absurd (a v size kind refl)
-managed_or_unbuilt (VolDestroy v) a l b c d asked changed snaps = inl refl
-managed_or_unbuilt (VolResize v size) a l b c d asked changed snaps = inl refl
-managed_or_unbuilt (VolGuarantee v kind) a l b c d asked changed snaps = inl refl
-managed_or_unbuilt VolList a l b c d asked changed snaps = absurd (b refl)
-managed_or_unbuilt (VolStat v) a l b c d asked changed snaps = inl refl
-managed_or_unbuilt (New v f reserve) a l b c d asked changed snaps = inr (none_if (reserve == 0) v changed)
-managed_or_unbuilt (Put v f i block) a l b c d asked changed snaps = absurd (some_none v changed)
-managed_or_unbuilt (Get v s f i) a l b c d asked changed snaps = absurd (some_none v asked)
-managed_or_unbuilt (Len v s f) a l b c d asked changed snaps = absurd (some_none v asked)
-managed_or_unbuilt (Cut v f length) a l b c d asked changed snaps = absurd (some_none v changed)
-managed_or_unbuilt (Remove v f) a l b c d asked changed snaps = absurd (some_none v changed)
-managed_or_unbuilt (Ls v s) a l b c d asked changed snaps = absurd (some_none v asked)
-managed_or_unbuilt (Probe v f i) a l b c d asked changed snaps = absurd (some_none v asked)
-managed_or_unbuilt (SnapCreate v s) a l b c d asked changed snaps = absurd (some_none v snaps)
-managed_or_unbuilt (SnapDelete v s) a l b c d asked changed snaps = absurd (some_none v snaps)
-managed_or_unbuilt (SnapRestore v s) a l b c d asked changed snaps = absurd (some_none v snaps)
-managed_or_unbuilt (SnapList v) a l b c d asked changed snaps = absurd (d v refl)
-managed_or_unbuilt (CloneCreate v p s size kind) a l b c d asked changed snaps = absurd (l v p s size kind refl)
-managed_or_unbuilt Cp a l b c d asked changed snaps = absurd (c refl)
-managed_or_unbuilt command a l b c d asked changed snaps = inr refl
+managed_or_unbuilt (VolCreate v size kind) a l w b c d asked changed snaps = absurd (a v size kind refl)
+managed_or_unbuilt (VolDestroy v) a l w b c d asked changed snaps = inl refl
+managed_or_unbuilt (VolResize v size) a l w b c d asked changed snaps = inl refl
+managed_or_unbuilt (VolGuarantee v kind) a l w b c d asked changed snaps = inl refl
+managed_or_unbuilt VolList a l w b c d asked changed snaps = absurd (b refl)
+managed_or_unbuilt (VolStat v) a l w b c d asked changed snaps = inl refl
+managed_or_unbuilt (New v f reserve) a l w b c d asked changed snaps = inr (none_if (reserve == 0) v changed)
+managed_or_unbuilt (Put v f i block) a l w b c d asked changed snaps = absurd (some_none v changed)
+managed_or_unbuilt (Get v s f i) a l w b c d asked changed snaps = absurd (some_none v asked)
+managed_or_unbuilt (Len v s f) a l w b c d asked changed snaps = absurd (some_none v asked)
+managed_or_unbuilt (Cut v f length) a l w b c d asked changed snaps = absurd (some_none v changed)
+managed_or_unbuilt (Remove v f) a l w b c d asked changed snaps = absurd (some_none v changed)
+managed_or_unbuilt (Ls v s) a l w b c d asked changed snaps = absurd (some_none v asked)
+managed_or_unbuilt (Probe v f i) a l w b c d asked changed snaps = absurd (some_none v asked)
+managed_or_unbuilt (SnapCreate v s) a l w b c d asked changed snaps = absurd (some_none v snaps)
+managed_or_unbuilt (SnapDelete v s) a l w b c d asked changed snaps = absurd (some_none v snaps)
+managed_or_unbuilt (SnapRestore v s) a l w b c d asked changed snaps = absurd (some_none v snaps)
+managed_or_unbuilt (SnapList v) a l w b c d asked changed snaps = absurd (d v refl)
+managed_or_unbuilt (CloneCreate v p s size kind) a l w b c d asked changed snaps = absurd (l v p s size kind refl)
+managed_or_unbuilt (Mirror v s m size kind) a l w b c d asked changed snaps = absurd (w v s m size kind refl)
+managed_or_unbuilt Cp a l w b c d asked changed snaps = absurd (c refl)
+managed_or_unbuilt command a l w b c d asked changed snaps = inr refl
 
 -- a command that neither asks for files nor changes one reads none
 pub no_files : (command : Command) → volume_asked command ≡ None → changed_by command ≡ None → reads_files command ≡ false

@@ -27,7 +27,7 @@ use Rattle.fv_volume.specs.OneVolume.{home_in, standing_for, trees_for, volume_f
 use Rattle.fv_volume.specs.Placing.{IsStoredWell}
 use Rattle.fv_volume.specs.Probing.{IsPath}
 use Rattle.fv_volume.specs.Slots.{is_named, NoneHasName}
-use Rattle.fv_volume.specs.States.{States, head_in, state_at, with_state}
+use Rattle.fv_volume.specs.States.{States, state_at, with_state}
 use Rattle.fv_volume.proofs.RightTables.{read_undamaged}
 use Rattle.fv_volumes.proofs.KnownSteps.{known_path}
 use Rattle.fv_tables.specs.Told.{Standing}

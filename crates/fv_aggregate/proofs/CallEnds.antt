@@ -11,9 +11,9 @@ use Rattle.fv_image.specs.WholeMachine.{machine_of}
 use Rattle.fv_aggregate.specs.declared.fault.Fault.{Fault}
 use Rattle.fv_aggregate.specs.declared.fault.Fault.TheVariants.{DiskFault, Damaged, Memory, Failed}
 use Rattle.fv_aggregate.specs.declared.session.Session.{Session}
-use Rattle.fv_aggregate.specs.Calls.{Goes, GoesFor, HasDamage, HasFault, IsNoDamage, KeepsRoot, SameCounts}
+use Rattle.fv_aggregate.specs.Calls.{Goes, GoesFor, HasDamage, HasFault, HasWritten, IsNoDamage, KeepsRoot, SameCounts}
 use Rattle.fv_aggregate.specs.Causes.{KeepsEnds}
-use Rattle.fv_aggregate.specs.Commands.{dirty_limit, Asked, AsksTable}
+use Rattle.fv_aggregate.specs.Commands.{dirty_limit, Asked, AsksCopy, AsksTable}
 use Rattle.fv_aggregate.specs.Standing.{OneOf, StandsAfter, StandsFor, StandsReady}
 use Rattle.fv_aggregate.proofs.Damages.{damage_cell, damage_more}
 use Rattle.fv_aggregate.proofs.Roots.{keeps_later}
@@ -114,19 +114,24 @@ module _ (d e : Shown) (laws : IsDisk d) (s left : Session) (room : ℕ) (reads 
 -- ---- one call after another
 
 -- a call may add more
+wider_written : (asked : Asked) (room : ℕ) (d : Shown) (s : Session) (e : Shown) → HasWritten 0 asked d s e → HasWritten room asked d s e
+wider_written asked room d s e (inl read) = inl read
+wider_written asked room d s e (inr (inl past)) = inr (inl (omega (arith, past)))
+wider_written asked room d s e (inr (inr copies)) = inr (inr copies)
+
 wider : (asked : Asked) (room : ℕ) (d : Shown) (s : Session) (e : Shown) (n : Session) (f : Fault) → HasFault 0 asked d s e n f → HasFault room asked d s e n f
 wider asked room d s e n DiskFault row = row
 wider asked room d s e n (Damaged at want found) row = record {
   reason = damage_more asked 0 room (omega arith) d s e n at want found row.reason;
   counts = row.counts;
   session = row.session;
-  disk = ⊎_elim (λ read. inl read) (λ past. inr (omega (arith, past))) row.disk;
+  disk = wider_written asked room d s e row.disk;
 }
 wider asked room d s e n Memory row = record {
   reason = row.reason;
   counts = row.counts;
   session = row.session;
-  disk = ⊎_elim (λ read. inl read) (λ past. inr (omega (arith, past))) row.disk;
+  disk = wider_written asked room d s e row.disk;
 }
 wider asked room d s e n (Failed faults) row = row
 
@@ -134,15 +139,25 @@ pub goes_wider : {T U : Type 0} (asked : Asked) (room : ℕ) (d : Shown) (s : Se
 goes_wider asked room d s e n f goes = record { ends = goes.ends; stands = goes.stands; done = tt; fault = wider asked room d s e n f goes.fault; pending = omega (arith, goes.pending) }
 
 -- a call that asks for a table may read a cell in it too
+cell_written : (slot : ℕ) (snapshot : Option (List ℕ)) (room : ℕ) (cell : Bool) (d : Shown) (s : Session) (e : Shown) → HasWritten room (AsksTable slot snapshot false) d s e → HasWritten room (AsksTable slot snapshot cell) d s e
+cell_written slot snapshot room cell d s e (inl read) = inl read
+cell_written slot snapshot room cell d s e (inr (inl past)) = inr (inl past)
+cell_written slot snapshot room cell d s e (inr (inr copies)) = absurd copies.0
+
 cell_fault : (slot : ℕ) (snapshot : Option (List ℕ)) (room : ℕ) (cell : Bool) (d : Shown) (s : Session) (e : Shown) (n : Session) (f : Fault) → HasFault room (AsksTable slot snapshot false) d s e n f → HasFault room (AsksTable slot snapshot cell) d s e n f
 cell_fault slot snapshot room cell d s e n DiskFault row = row
 cell_fault slot snapshot room cell d s e n (Damaged at want found) row = record {
   reason = damage_cell slot snapshot room cell d s e n at want found row.reason;
   counts = row.counts;
   session = row.session;
-  disk = row.disk;
+  disk = cell_written slot snapshot room cell d s e row.disk;
 }
-cell_fault slot snapshot room cell d s e n Memory row = row
+cell_fault slot snapshot room cell d s e n Memory row = record {
+  reason = row.reason;
+  counts = row.counts;
+  session = row.session;
+  disk = cell_written slot snapshot room cell d s e row.disk;
+}
 cell_fault slot snapshot room cell d s e n (Failed faults) row = row
 
 pub goes_cell : {T U : Type 0} (slot : ℕ) (snapshot : Option (List ℕ)) (room : ℕ) (cell : Bool) (d : Shown) (s : Session) (e : Shown) (n : Session) (f : Fault) → Goes {T = T} room (AsksTable slot snapshot false) d s e n (Err f) → Goes {T = U} room (AsksTable slot snapshot cell) d s e n (Err f)
@@ -156,14 +171,14 @@ module _ {T : Type 0} {earlier : Asked} (x : T) (first second : ℕ) (d : Shown)
   counts_on g counts = record { faults = counts.faults ∙ goes.done.counts.faults; write_faults = counts.write_faults ∙ goes.done.counts.write_faults }
 
   -- nothing was written in either, or room was made
-  abbrev CanWrite : Shown → Session → Shown → Type 0
-  CanWrite before old after = OnlyReads before after ⊎ (dirty_limit < old.pending + second)
+  abbrev CanWrite : Asked → Shown → Session → Shown → Type 0
+  CanWrite asked before old after = HasWritten second asked before old after
 
   -- what is damaged in a call that comes after, where it ends so, is damaged for both
   abbrev pub DamagesBoth : {U : Type 0} → Asked → Asked → Shown → Session → Result U Fault → Type 0
   DamagesBoth part asked g new r = (at want found : ℕ) → r ≡ Err (Damaged at want found) → HasDamage second part e n g new at want found → HasDamage second asked d s g new at want found
 
-  faults_on : (U : Type 0) (part asked : Asked) (g : Shown) (new : Session) (f : Fault) → (CanWrite e n g → CanWrite d s g) → DamagesBoth {U = U} part asked g new (Err f) → HasFault second part e n g new f → HasFault second asked d s g new f
+  faults_on : (U : Type 0) (part asked : Asked) (g : Shown) (new : Session) (f : Fault) → (CanWrite part e n g → CanWrite asked d s g) → DamagesBoth {U = U} part asked g new (Err f) → HasFault second part e n g new f → HasFault second asked d s g new f
   faults_on U part asked g new DiskFault written damage row =
       let same = goes.done.counts in
       record {
@@ -198,7 +213,7 @@ module _ {T : Type 0} {earlier : Asked} (x : T) (first second : ℕ) (d : Shown)
   root_later part g new (Err f) same next = tt
 
   -- A call that comes after one that added nothing.
-  goes_both : {U : Type 0} (part asked : Asked) (g : Shown) (new : Session) (r : Result U Fault) → (CanWrite e n g → CanWrite d s g) → DamagesBoth part asked g new r → KeepsRootBoth new r → Goes second part e n g new r → Goes second asked d s g new r
+  goes_both : {U : Type 0} (part asked : Asked) (g : Shown) (new : Session) (r : Result U Fault) → (CanWrite part e n g → CanWrite asked d s g) → DamagesBoth part asked g new r → KeepsRootBoth new r → Goes second part e n g new r → Goes second asked d s g new r
   goes_both part asked g new (Ok y) written damage root next = record {
     ends = ends_on g next.ends;
     stands = next.stands;
@@ -216,11 +231,16 @@ module _ {T : Type 0} {earlier : Asked} (x : T) (first second : ℕ) (d : Shown)
 
   -- so it is with room that passes the dirty limit
   pub goes_after : {U : Type 0} (part asked : Asked) (g : Shown) (new : Session) (r : Result U Fault) → dirty_limit < s.pending + second → DamagesBoth part asked g new r → KeepsRootBoth new r → Goes second part e n g new r → Goes second asked d s g new r
-  goes_after part asked g new r past damage root next = goes_both part asked g new r (λ _. inr past) damage root next
+  goes_after part asked g new r past damage root next = goes_both part asked g new r (λ _. inr (inl past)) damage root next
 
   -- and after one that only read
-  pub goes_on_read : {U : Type 0} (part asked : Asked) (g : Shown) (new : Session) (r : Result U Fault) → OnlyReads d e → n.pending ≡ s.pending → n.pool.found ≡ s.pool.found → DamagesBoth part asked g new r → Goes second part e n g new r → Goes second asked d s g new r
-  goes_on_read part asked g new r reads same found damage next = goes_both part asked g new r (λ w. ⊎_elim (λ (read : OnlyReads e g). inl (reads_then d e g reads read)) (λ past. inr (omega (arith, past, same))) w) damage (root_later part g new r found next) next
+  pub goes_on_read : {U : Type 0} (part asked : Asked) (g : Shown) (new : Session) (r : Result U Fault) → (AsksCopy part → ⊥) → OnlyReads d e → n.pending ≡ s.pending → n.pool.found ≡ s.pool.found → DamagesBoth part asked g new r → Goes second part e n g new r → Goes second asked d s g new r
+  goes_on_read part asked g new r never reads same found damage next = goes_both part asked g new r written damage (root_later part g new r found next) next
+    where
+      written : CanWrite part e n g → CanWrite asked d s g
+      written (inl read) = inl (reads_then d e g reads read)
+      written (inr (inl past)) = inr (inl (omega (arith, past, same)))
+      written (inr (inr copies)) = absurd (never copies.0)
 
 -- ---- for the machines that the session stands for
 

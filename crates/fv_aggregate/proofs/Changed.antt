@@ -16,7 +16,7 @@ use Rattle.fv_image.specs.Held.{view_at}
 use Rattle.fv_image.specs.Views.{overheads}
 use Rattle.fv_root.specs.declared.find.Found.{Found}
 use Rattle.fv_root.specs.Finding.{root_found, IsInRange}
-use Rattle.fv_aggmap.specs.Space.{Space, blocks_of}
+use Rattle.fv_aggmap.specs.Space.{Space, blocks_of, free_blocks}
 use Rattle.fv_charge.specs.Ledgers.{committed}
 use Rattle.fv_container.specs.Chains.{Slots}
 use Rattle.fv_pool.specs.declared.fault.VolumeFault.{VolumeFault}
@@ -40,6 +40,7 @@ use Rattle.fv_aggregate.specs.Looking.{ChangesState}
 use Rattle.fv_aggregate.specs.Standing.{clear_blocks, overhead_by, overheads_in, taken_since, StandsFor, StandsReady}
 use Rattle.fv_aggregate.proofs.Becoming.{machine_becomes, machine_stays}
 use Rattle.fv_aggregate.proofs.Called.{but_for_numbers, called_held, IsCalled}
+use Rattle.fv_aggregate.proofs.Clear.{free_and_placed}
 use Rattle.fv_aggregate.proofs.HeldMachine.{blocks_are, commits_are, is_admitted, is_there, one}
 use Rattle.fv_aggregate.proofs.Replaced.{each_slot, housed_as, same_sum, within}
 use Rattle.fv_aggregate.proofs.Looked.{clear_read, known_read, last_overheads, placed_read, ready_read, settled_read, stands_read}
@@ -260,6 +261,7 @@ module _ (d e : Shown) (s : Session) (q : Pool) (slot : ℕ) (x y : VolumeState)
         delays = known_read d e s q did.reads is.delays;
         pending = omega (arith, pending, now, maps, count, same, over, placed);
         files = omega (arith, files, now, maps, count, placed);
-        few = omega (arith, files, now, maps, room, few, placed);
+        few = omega (arith, files, now, room, few);
+        free = omega (arith, files, fits, now, room, few, free_and_placed s.pool.map, ap free_blocks did.reads.leaves.map);
         room = omega (arith, fits, over, clear, count, room, few);
       }

@@ -1,5 +1,5 @@
 -- What is damaged in a call of a session, by the steps that it is made of.
-use Rattle.std.proofs.Common.{◌≡◌, ◌≤◌, ◌⊎◌, ℕ, List, Option, Some, None, Err, inl, inr, refl, sym, ap, subst, ◌∙◌, length, arith, get_or-set_same, Bool, true, false}
+use Rattle.std.proofs.Common.{◌≡◌, ◌≤◌, ◌⊎◌, ℕ, List, Option, Some, None, Err, inl, inr, ⊎_elim, refl, sym, ap, subst, ◌∙◌, length, arith, get_or-set_same, Bool, true, false}
 use Rattle.std.specs.Prelude.{unwrap_or, IsNone, IsSome, IsTrue}
 use Rattle.std.specs.Option.{option_map}
 use Rattle.fv_disk.specs.Shown.{Image, Shown}
@@ -23,7 +23,7 @@ use Rattle.fv_volume.specs.States.{state_at, with_state}
 use Rattle.fv_volumes.proofs.Told.{is_inside}
 use Rattle.fv_aggregate.specs.declared.session.Session.{Session}
 use Rattle.fv_aggregate.specs.Adding.{IsPointed}
-use Rattle.fv_aggregate.specs.Commands.{Asked, AsksLeaves, AsksNothing, AsksPlacing, AsksPoint, AsksTable}
+use Rattle.fv_aggregate.specs.Commands.{Asked, AsksCopies, AsksLeaves, AsksNothing, AsksPlacing, AsksPoint, AsksTable}
 use Rattle.fv_aggregate.specs.Asking.{AsksWithin}
 use Rattle.fv_aggregate.specs.Damages.{ComesToLeaves, ComesToPlace, ComesToPoint, HasBadTable, HasDamage, HasDamageIn, HasLoaded, HasReadFor, HasUnplaced, LacksBlocks, PassesLimit}
 use Rattle.fv_aggregate.specs.Reading.{IsAsRead, WasRead}
@@ -220,6 +220,12 @@ point_leaves slot e = cc
 nothing_leaves : (slot : ℕ) → AsksNothing ≡ AsksLeaves slot → ⊥
 nothing_leaves slot e = cc
 
+point_copies : (slot : ℕ) (snapshot : List ℕ) → AsksPoint ≡ AsksCopies slot snapshot → ⊥
+point_copies slot snapshot e = cc
+
+nothing_copies : (slot : ℕ) (snapshot : List ℕ) → AsksNothing ≡ AsksCopies slot snapshot → ⊥
+nothing_copies slot snapshot e = cc
+
 -- one that may add more
 module _ (asked : Asked) (least room : ℕ) (le : least ≤ room) where
   passes_more : (pending : ℕ) → PassesLimit pending least → PassesLimit pending room
@@ -246,11 +252,13 @@ module _ (asked : Asked) (least room : ℕ) (le : least ≤ room) where
   pub damage_more : (before : Shown) (old : Session) (after : Shown) (new : Session) (at want found : ℕ) → HasDamage least asked before old after new at want found → HasDamage room asked before old after new at want found
   damage_more before old after new at want found (inl (reads, inl now)) = inl (reads, inl (in_more after old new at want found now))
   damage_more before old after new at want found (inl (reads, inr later)) = inl (reads, inr (record { session = later.session; read = later.read; damage = in_more after later.session new at want found later.damage }))
-  damage_more before old after new at want found (inr (past, behind)) = inr (passes_more old.pending past, behind)
+  damage_more before old after new at want found (inr (inl (past, behind))) = inr (inl (passes_more old.pending past, behind))
+  damage_more before old after new at want found (inr (inr bad)) =
+      inr (inr (record { fresh = bad.fresh; admitted = bad.admitted; asks = bad.asks; not = ⊎_elim (λ no. inl no) (λ past. inr (passes_more old.pending past)) bad.not }))
 
--- A call that asks for no table, nor to place the files of a volume or to read leaves by itself, is part of one that comes to a point where this
+-- A call that asks for no table, nor for copies, nor to place the files of a volume or to read leaves by itself, is part of one that comes to a point where this
 -- does.
-module _ (part asked : Asked) (least room : ℕ) (old : Session) (none : (slot : ℕ) (snapshot : Option (List ℕ)) (cell : Bool) → part ≡ AsksTable slot snapshot cell → ⊥) (never : (slot : ℕ) → part ≡ AsksPlacing slot → ⊥) (leafless : (slot : ℕ) → part ≡ AsksLeaves slot → ⊥)
+module _ (part asked : Asked) (least room : ℕ) (old : Session) (none : (slot : ℕ) (snapshot : Option (List ℕ)) (cell : Bool) → part ≡ AsksTable slot snapshot cell → ⊥) (never : (slot : ℕ) → part ≡ AsksPlacing slot → ⊥) (leafless : (slot : ℕ) → part ≡ AsksLeaves slot → ⊥) (copyless : (slot : ℕ) (snapshot : List ℕ) → part ≡ AsksCopies slot snapshot → ⊥)
     (point : ComesToPoint least part old → ComesToPoint room asked old) (place : (slot : ℕ) → ComesToPlace least part old slot → ComesToPlace room asked old slot) where
   leaves_part : (slot : ℕ) → (part ≡ AsksLeaves slot) ⊎ ComesToPlace least part old slot → ComesToLeaves room asked old
   leaves_part slot (inl is) = absurd (leafless slot is)
@@ -262,15 +270,16 @@ module _ (part asked : Asked) (least room : ℕ) (old : Session) (none : (slot :
   damage_part before after new at want found (inl (reads, inl (inr (inr (inl lost))))) = inl (reads, inl (inr (inr (inl (leaves_part lost.0.0 lost.0.1, lost.1)))))
   damage_part before after new at want found (inl (reads, inl (inr (inr (inr bad))))) = absurd (none bad.slot bad.snapshot bad.cell bad.asks)
   damage_part before after new at want found (inl (reads, inr later)) = absurd (none later.read.slot later.read.snapshot later.read.cell later.read.asks)
-  damage_part before after new at want found (inr (past, behind)) = absurd (none behind.read.slot behind.read.snapshot behind.read.cell behind.read.asks)
+  damage_part before after new at want found (inr (inl (past, behind))) = absurd (none behind.read.slot behind.read.snapshot behind.read.cell behind.read.asks)
+  damage_part before after new at want found (inr (inr bad)) = absurd (copyless bad.admitted.source.parent bad.admitted.source.snapshot bad.asks)
 
 -- a point that makes room for a call
 pub damage_point : (asked : Asked) (room : ℕ) (old : Session) → PassesLimit old.pending room → (before after : Shown) (new : Session) (at want found : ℕ) → HasDamage 0 AsksPoint before old after new at want found → HasDamage room asked before old after new at want found
-damage_point asked room old past before after new at want found is = damage_part AsksPoint asked 0 room old point_table point_placing point_leaves (λ comes. inr past) (λ slot comes. inr (inr past)) before after new at want found is
+damage_point asked room old past before after new at want found is = damage_part AsksPoint asked 0 room old point_table point_placing point_leaves point_copies (λ comes. inr past) (λ slot comes. inr (inr past)) before after new at want found is
 
 -- room that is made for a call, whatever this asks for
 pub damage_room : (asked : Asked) (room : ℕ) (old : Session) (before after : Shown) (new : Session) (at want found : ℕ) → HasDamage room AsksNothing before old after new at want found → HasDamage room asked before old after new at want found
-damage_room asked room old before after new at want found is = damage_part AsksNothing asked room room old nothing_table nothing_placing nothing_leaves comes_still places_still before after new at want found is
+damage_room asked room old before after new at want found is = damage_part AsksNothing asked room room old nothing_table nothing_placing nothing_leaves nothing_copies comes_still places_still before after new at want found is
   where
     comes_still : ComesToPoint room AsksNothing old → ComesToPoint room asked old
     comes_still (inl is) = absurd (nothing_point is)
@@ -290,6 +299,9 @@ table_placing slot snapshot cell other e = cc
 
 table_leaves : (slot : ℕ) (snapshot : Option (List ℕ)) (cell : Bool) (other : ℕ) → AsksTable slot snapshot cell ≡ AsksLeaves other → ⊥
 table_leaves slot snapshot cell other e = cc
+
+table_copies : (slot : ℕ) (snapshot : Option (List ℕ)) (cell : Bool) (other : ℕ) (kept : List ℕ) → AsksTable slot snapshot cell ≡ AsksCopies other kept → ⊥
+table_copies slot snapshot cell other kept e = cc
 
 module _ (slot : ℕ) (snapshot : Option (List ℕ)) where
   same_slot : (k : ℕ) (o : Option (List ℕ)) (b : Bool) → AsksTable slot snapshot false ≡ AsksTable k o b → slot ≡ k
@@ -353,8 +365,9 @@ module _ (slot : ℕ) (snapshot : Option (List ℕ)) where
     damage_cell false before old after new at want found is = is
     damage_cell true before old after new at want found (inl (reads, inl now)) = inl (reads, inl (cell_in after old new at want found now))
     damage_cell true before old after new at want found (inl (reads, inr later)) = inl (reads, inr (record { session = later.session; read = cell_read old later.session later.read; damage = cell_in after later.session new at want found later.damage }))
-    damage_cell true before old after new at want found (inr (past, behind)) =
-        inr (past, record { session = behind.session; read = cell_read old behind.session behind.read; pointed = behind.pointed; left = behind.left; bad = cell_bad after behind.pointed new at want found behind.bad })
+    damage_cell true before old after new at want found (inr (inl (past, behind))) =
+        inr (inl (past, record { session = behind.session; read = cell_read old behind.session behind.read; pointed = behind.pointed; left = behind.left; bad = cell_bad after behind.pointed new at want found behind.bad }))
+    damage_cell true before old after new at want found (inr (inr bad)) = absurd (table_copies slot snapshot false bad.admitted.source.parent bad.admitted.source.snapshot bad.asks)
 
 -- blocks were read, and then again
 pub as_read_then : (s n p : Session) → IsAsRead s n → IsAsRead n p → IsAsRead s p
@@ -389,11 +402,12 @@ module _ (d : Shown) (s : Session) (fresh : IsNone s.failed) (slot : ℕ) (snaps
   pub damage_read : HasDamage room asked e n g new at want found → HasDamage room asked d s g new at want found
   damage_read (inl (reads, inl now)) = inl (reads_then d e g read.only_reads reads, inr (record { session = n; read = read_for; damage = now }))
   damage_read (inl (reads, inr later)) = inl (reads_then d e g read.only_reads reads, inr (record { session = later.session; read = both_for later.session later.read; damage = later.damage }))
-  damage_read (inr (past, behind)) = inr ((past.0, (let same = same_pending in omega (arith, past.1, same))), record { session = behind.session; read = both_for behind.session behind.read; pointed = behind.pointed; left = behind.left; bad = behind.bad })
+  damage_read (inr (inl (past, behind))) = inr (inl ((past.0, (let same = same_pending in omega (arith, past.1, same))), record { session = behind.session; read = both_for behind.session behind.read; pointed = behind.pointed; left = behind.left; bad = behind.bad }))
+  damage_read (inr (inr bad)) = absurd (table_copies slot snapshot cell bad.admitted.source.parent bad.admitted.source.snapshot bad.asks)
 
   -- and for which a point made room
   pub damage_behind : PassesLimit s.pending room → g.tells ≡ e.tells → (p : Session) → IsPointed e n p → HasBadTable asked g p new at want found → HasDamage room asked d s g new at want found
-  damage_behind past tells p left bad = inr (
+  damage_behind past tells p left bad = inr (inl (
     past,
     record {
       session = n;
@@ -402,4 +416,4 @@ module _ (d : Shown) (s : Session) (fresh : IsNone s.failed) (slot : ℕ) (snaps
       left = record { next = left.next; pending = left.pending; files = λ told. left.files (subst IsTrue tells told); same = λ told. left.same (subst IsTrue tells told); cores = left.cores; admits = left.admits; none = left.none; blocks = left.blocks };
       bad = bad;
     },
-  )
+  ))

@@ -5,7 +5,7 @@ use Rattle.fv_model.specs.declared.answers.Refusal.{Refusal}
 use Rattle.fv_model.specs.declared.answers.Reply.{Reply}
 use Rattle.fv_model.specs.declared.answers.Reply.TheVariants.{Done}
 use Rattle.fv_model.specs.declared.commands.Command.{Command}
-use Rattle.fv_model.specs.declared.commands.Command.TheVariants.{VolCreate, CloneCreate}
+use Rattle.fv_model.specs.declared.commands.Command.TheVariants.{VolCreate, CloneCreate, Mirror}
 use Rattle.fv_volume.specs.States.{States}
 use Rattle.fv_aggregate.specs.declared.fault.Fault.{Fault}
 use Rattle.fv_aggregate.specs.Commands.{is_built, managed_by}
@@ -19,6 +19,7 @@ done_decided cause admitted it (Err fault) done = tt
 one_undecided : (states : States) (blocks : ℕ) (c : Command) → makes_volume c ≡ false → (reply : Reply) → DecidesMaking states blocks c reply
 one_undecided states blocks (VolCreate name size kind) none reply = absurd (true≢false none)
 one_undecided states blocks (CloneCreate clone parent snapshot size kind) none reply = absurd (true≢false none)
+one_undecided states blocks (Mirror source snapshot mirror size kind) none reply = absurd (true≢false none)
 one_undecided states blocks c none reply = tt
 
 -- a command that makes no volume
@@ -31,4 +32,5 @@ pub managed_undecided : (c : Command) → (is_some (managed_by c) ≡ true) ⊎ 
 unfolding is_built
 managed_undecided (VolCreate name size kind) either = absurd (⊎_elim (λ some. true≢false (sym some)) (λ none. true≢false none) either)
 managed_undecided (CloneCreate clone parent snapshot size kind) either = absurd (⊎_elim (λ some. true≢false (sym some)) (λ none. true≢false none) either)
+managed_undecided (Mirror source snapshot mirror size kind) either = absurd (⊎_elim (λ some. true≢false (sym some)) (λ none. true≢false none) either)
 managed_undecided c either = refl

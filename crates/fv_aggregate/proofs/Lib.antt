@@ -17,6 +17,18 @@ mod Holes
 mod Admitting
 mod Beside
 mod Added
+mod MirroredDisk
+mod MirroredVolume
+mod MirroredCopy
+mod MirroredCounts
+mod MirroredStands
+mod MirroredSteps
+mod MirroredSettled
+mod Mirrored
+mod MirroredHeld
+mod MirroredUnmade
+mod MirroredWhole
+mod MirroredMade
 mod Telling
 pub mod Charges
 mod LeftBlocks
@@ -75,3 +87,4 @@ mod MakingSteps
 mod Putting
 mod StillAdmitted
 mod Cloned
+mod MirrorApplied

@@ -12,7 +12,7 @@ use Rattle.fv_image.specs.Views.{slots, overheads}
 use Rattle.fv_root.specs.declared.find.Found.{Found}
 use Rattle.fv_root.specs.Finding.{IsFound, IsInRange, root_found}
 use Rattle.fv_root.specs.Commits.{IsFoundOn}
-use Rattle.fv_aggmap.specs.Space.{Space, blocks_of}
+use Rattle.fv_aggmap.specs.Space.{Space, blocks_of, free_blocks}
 use Rattle.fv_container.specs.Chains.{Slots}
 use Rattle.fv_pool.specs.declared.pool.Pool.{Pool}
 use Rattle.fv_volume.specs.declared.state.VolumeState.{VolumeState}
@@ -112,6 +112,9 @@ module _ (d e : Shown) (s : Session) (q : Pool) (reads : Reads d s.pool e q) whe
   pub clear_read : clear_blocks q.map ≡ clear_blocks s.pool.map
   clear_read = ap clear_blocks reads.leaves.map
 
+  free_read : free_blocks q.map ≡ free_blocks s.pool.map
+  free_read = ap free_blocks reads.leaves.map
+
   pub placed_read : taken_since q.map ≡ taken_since s.pool.map
   placed_read = ap taken_since reads.leaves.map
 
@@ -130,7 +133,8 @@ module _ (d e : Shown) (s : Session) (q : Pool) (reads : Reads d s.pool e q) whe
         delays = known_read is.delays;
         pending = omega (arith, is.pending, was, placed);
         files = omega (arith, is.files, placed);
-        few = omega (arith, is.few, placed);
+        few = is.few;
+        free = omega (arith, is.free, free_read);
         room = omega (arith, is.room, was, clear);
       }
 

@@ -9,7 +9,7 @@ use Rattle.fv_model.specs.declared.answers.Refusal.{Refusal}
 use Rattle.fv_model.specs.declared.answers.Reply.{Reply}
 use Rattle.fv_model.specs.declared.answers.Reply.TheVariants.{Refused}
 use Rattle.fv_model.specs.declared.commands.Command.{Command}
-use Rattle.fv_model.specs.declared.commands.Command.TheVariants.{Cp, VolCreate, VolList, New, Put, Cut, Remove, SnapCreate, SnapList, CloneCreate}
+use Rattle.fv_model.specs.declared.commands.Command.TheVariants.{Cp, VolCreate, VolList, New, Put, Cut, Remove, SnapCreate, SnapList, CloneCreate, Mirror}
 use Rattle.fv_model.specs.Machines.{Machine}
 use Rattle.fv_pool.specs.Calls.{Reads}
 use Rattle.fv_volume.specs.States.{States}
@@ -58,16 +58,17 @@ unfolding room_with
 cp_room states c is = ap (λ (k : Command). room_by states k) is
 
 -- a command on a whole volume, and one that isn't built, has none
-pub managed_room : (maps : List ℕ → ℕ) (spans : List ℕ → List ℕ → ℕ → ℕ) (c : Command) → (is_some (managed_by c) ≡ true) ⊎ (is_built c ≡ false) → room_with maps spans c ≡ 0
+pub managed_room : (maps : List ℕ → ℕ) (spans : List ℕ → List ℕ → ℕ → ℕ) (wides : List ℕ → ℕ → ℕ) (copies : List ℕ → List ℕ → ℕ → ℕ) (c : Command) → (is_some (managed_by c) ≡ true) ⊎ (is_built c ≡ false) → room_with maps spans wides copies c ≡ 0
 unfolding room_with is_built
-managed_room maps spans (VolCreate v size kind) either = ⊎_elim (λ some. absurd (true≢false (sym some))) (λ none. absurd (true≢false none)) either
-managed_room maps spans (New v f reserve) either = ⊎_elim (λ some. absurd (true≢false (sym some))) (λ none. ap (λ (b : Bool). if b then file_room else 0) none) either
-managed_room maps spans (Put v f index block) either = ⊎_elim (λ some. absurd (true≢false (sym some))) (λ none. absurd (true≢false none)) either
-managed_room maps spans (Cut v f long) either = ⊎_elim (λ some. absurd (true≢false (sym some))) (λ none. absurd (true≢false none)) either
-managed_room maps spans (Remove v f) either = ⊎_elim (λ some. absurd (true≢false (sym some))) (λ none. absurd (true≢false none)) either
-managed_room maps spans (SnapCreate v snapshot) either = ⊎_elim (λ some. absurd (true≢false (sym some))) (λ none. absurd (true≢false none)) either
-managed_room maps spans (CloneCreate clone parent snapshot size kind) either = ⊎_elim (λ some. absurd (true≢false (sym some))) (λ none. absurd (true≢false none)) either
-managed_room maps spans c either = refl
+managed_room maps spans wides copies (VolCreate v size kind) either = ⊎_elim (λ some. absurd (true≢false (sym some))) (λ none. absurd (true≢false none)) either
+managed_room maps spans wides copies (New v f reserve) either = ⊎_elim (λ some. absurd (true≢false (sym some))) (λ none. ap (λ (b : Bool). if b then file_room else 0) none) either
+managed_room maps spans wides copies (Put v f index block) either = ⊎_elim (λ some. absurd (true≢false (sym some))) (λ none. absurd (true≢false none)) either
+managed_room maps spans wides copies (Cut v f long) either = ⊎_elim (λ some. absurd (true≢false (sym some))) (λ none. absurd (true≢false none)) either
+managed_room maps spans wides copies (Remove v f) either = ⊎_elim (λ some. absurd (true≢false (sym some))) (λ none. absurd (true≢false none)) either
+managed_room maps spans wides copies (SnapCreate v snapshot) either = ⊎_elim (λ some. absurd (true≢false (sym some))) (λ none. absurd (true≢false none)) either
+managed_room maps spans wides copies (CloneCreate clone parent snapshot size kind) either = ⊎_elim (λ some. absurd (true≢false (sym some))) (λ none. absurd (true≢false none)) either
+managed_room maps spans wides copies (Mirror source snapshot mirror size kind) either = ⊎_elim (λ some. absurd (true≢false (sym some))) (λ none. absurd (true≢false none)) either
+managed_room maps spans wides copies c either = refl
 
 -- ---- what a point left is there still while the disk is only read
 

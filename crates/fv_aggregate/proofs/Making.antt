@@ -126,16 +126,16 @@ module _ {D : Type 0} (shown : D → Shown) (c : Command) (is : IsMaking c) (bef
   pub made_applied : HasApplied c (shown before) before s steps (shown after) after n steps result
   made_applied = record {
     goes = subst (λ (k : Asked). Goes (room_by s.volumes c) k (shown before) s (shown after) n result) (sym (is.asks s)) made.makes.runs.goes;
-    asks = λ none. made.makes.runs.asks;
+    asks = λ none once. made.makes.runs.asks;
     goes_for = λ tells last m stands. subst (λ (k : Machine). GoesFor (shown before) last m k (shown after) n result) (next_is m) (made.makes.runs.goes_for tells last m stands);
     reply = λ tells last m stands. replies m (made.reply tells last m stands);
     plain = λ plain. record {
       refused = made.refused;
-      calm = λ other idle few. made.makes.calm (low few);
-      idle = λ other stays none few. made.makes.calm (low few);
-      map = λ other stays places few. made.makes.map (low few);
-      wanting = λ other idle few. made.makes.wanting (low few);
-      damage = made.makes.runs.damage;
+      calm = λ other once idle few. made.makes.calm (low few);
+      idle = λ other once stays none few. made.makes.calm (low few);
+      map = λ other once stays places few. made.makes.map (low few);
+      wanting = λ other once idle few. made.makes.wanting (low few);
+      damage = λ once. made.makes.runs.damage;
       unbuilt = λ fresh none. absurd (true≢false (sym is.built ∙ none));
       listed = λ list. absurd (is.no_list list);
       untouched = λ list. absurd (is.no_list list);
@@ -150,11 +150,11 @@ module _ {D : Type 0} (shown : D → Shown) (c : Command) (is : IsMaking c) (bef
     on_files = λ files. absurd (true≢false (sym files ∙ is.no_files));
     point = λ tells last m stands cp. absurd (is.no_point cp);
     sides = λ tells last m stands cp. absurd (is.no_point cp);
-    roomy = made.makes.roomy;
-    calm = λ other few. rests_as shown before after (made.makes.calm (low few));
+    roomy = λ once. made.makes.roomy;
+    calm = λ other once few. rests_as shown before after (made.makes.calm (low few));
     entries = λ other few stays. made.makes.entries (low few);
-    files = λ tells none without. made.makes.holding.files tells without;
-    same = λ tells none stays places same. made.makes.holding.same tells same;
+    files = λ tells none once without. made.makes.holding.files tells without;
+    same = λ tells none once stays places same. made.makes.holding.same tells same;
     steps = record { other = λ none. refl; known = λ tells last m stands knows. no_step result steps; path = λ tells last m stands name of. asks_none _ c name is.no_files of; dead = λ failed. refl };
     numbers = λ alive. keeps_but _ s.volumes n.volumes (made.makes.runs.numbers alive);
     dead = λ failed. not_dead _ s made.fresh failed;

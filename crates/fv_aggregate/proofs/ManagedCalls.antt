@@ -51,11 +51,11 @@ module _ (disk : Shown) (old : Session) (c : Command) (new : Session) (reply : R
   pub managed_plain : {D : Type 0} (at : D) → removes_volume c ≡ false → c ≢ VolList → c ≢ Cp → ((name : List ℕ) → c ≢ SnapList name) → snapped_by c ≡ None → makes_volume c ≡ false → IsPlain c disk at old disk at new (Ok reply)
   managed_plain at stays no_list no_point no_names no_snap no_making = record {
     refused = λ refused. (refl, over.refused refused);
-    calm = λ other idle few. refl;
-    idle = λ other gone none few. refl;
-    map = λ other kept places few. over.map kept;
-    wanting = λ other idle few. tt;
-    damage = tt;
+    calm = λ other once idle few. refl;
+    idle = λ other once gone none few. refl;
+    map = λ other once kept places few. over.map kept;
+    wanting = λ other once idle few. tt;
+    damage = λ once. tt;
     unbuilt = λ fresh none. ap Ok (over.unbuilt none);
     listed = λ list. absurd (no_list list);
     untouched = λ list. absurd (no_list list);

@@ -168,7 +168,7 @@ module _ (d : Shown) (s : Session) (c : Command) (fresh : IsNone s.failed) (slot
 
   pub look_numbered : Looks slot e n c g new r → Looks slot d s c g new r
   look_numbered looks = record {
-    goes = goes_on_read u 0 0 d s e n read.goes none_added (AsksTable slot (snapshot_asked c) (reads_cell c)) (AsksTable slot (snapshot_asked c) (reads_cell c)) g new r read.only_reads same_pending read.read.pool.found (λ at want found is. damage_read d s fresh slot (snapshot_asked c) (reads_cell c) there e n read.read 0 g new at want found) looks.goes;
+    goes = goes_on_read u 0 0 d s e n read.goes none_added (AsksTable slot (snapshot_asked c) (reads_cell c)) (AsksTable slot (snapshot_asked c) (reads_cell c)) g new r (λ none. none) read.only_reads same_pending read.read.pool.found (λ at want found is. damage_read d s fresh slot (snapshot_asked c) (reads_cell c) there e n read.read 0 g new at want found) looks.goes;
     asks = asks_then looks.asks;
     goes_for = for_then (λ m. m) looks.goes_for;
     reply = holds_then (λ m. IfOk r (Allows m c)) looks.reply;
@@ -181,7 +181,7 @@ module _ (d : Shown) (s : Session) (c : Command) (fresh : IsNone s.failed) (slot
 
   pub make_numbered : Makes file_room (AsksTable slot None false) e n c g new r → Makes file_room (AsksTable slot None false) d s c g new r
   make_numbered makes = record {
-    goes = goes_on_read u 0 16 d s e n read.goes none_added (AsksTable slot None false) (AsksTable slot None false) g new r read.only_reads same_pending read.read.pool.found (λ at want found is. damage_read d s fresh slot None false there e n read.read 16 g new at want found) makes.goes;
+    goes = goes_on_read u 0 16 d s e n read.goes none_added (AsksTable slot None false) (AsksTable slot None false) g new r (λ none. none) read.only_reads same_pending read.read.pool.found (λ at want found is. damage_read d s fresh slot None false there e n read.read 16 g new at want found) makes.goes;
     goes_for = for_then (λ m. next m c) makes.goes_for;
     reply = holds_then (λ m. IfOk r (Allows m c)) makes.reply;
     refused = λ tells last m is. let first = read.goes_for tells last m is in refused_both r (makes.refused (told tells) first.done.point m first.done.stands);

@@ -11,6 +11,7 @@ use Rattle.fv_disk.specs.declared.fault.BlockFault.TheVariants as block
 use Rattle.fv_model.specs.Machines.{Machine, capacity}
 use Rattle.fv_image.specs.Held.{view_at}
 use Rattle.fv_image.specs.Views.{overheads}
+use Rattle.fv_aggmap.specs.Space.{free_blocks}
 use Rattle.fv_root.specs.Finding.{root_found}
 use Rattle.fv_charge.specs.Ledgers.{committed}
 use Rattle.fv_pool.specs.declared.pool.Pool.{Pool}
@@ -148,7 +149,8 @@ module _ (d e : Shown) (s : Session) (q : Pool) (slot : ℕ) (x y : VolumeState)
         let clear : clear_blocks q.map ≡ clear_blocks s.pool.map = clear_read d e s q reads in
         let pending : pending_files s.volumes + maps_waiting s.volumes + taken_since s.pool.map + overheads_in s.volumes ≤ overheads (view_at (root_found s.pool.found) d.reads) + s.pending = is.pending in
         let files : pending_files s.volumes + maps_waiting s.volumes + taken_since s.pool.map ≤ s.pending = is.files in
-        let few : pending_files s.volumes + taken_since s.pool.map < 256 = is.few in
+        let few : pending_files s.volumes < 256 = is.few in
+        let free : pending_files s.volumes < free_blocks s.pool.map = is.free in
         let fits : overheads (view_at (root_found s.pool.found) d.reads) + max 256 s.pending ≤ clear_blocks s.pool.map = is.room in
         record {
           held = held;
@@ -157,7 +159,8 @@ module _ (d e : Shown) (s : Session) (q : Pool) (slot : ℕ) (x y : VolumeState)
           delays = known_read d e s q reads is.delays;
           pending = omega (arith, pending, now, maps, no_more, all, over, placed);
           files = omega (arith, files, now, maps, no_more, placed);
-          few = omega (arith, few, now, maps, no_more, placed);
+          few = omega (arith, few, now, no_more);
+          free = omega (arith, free, now, no_more, ap free_blocks reads.leaves.map);
           room = omega (arith, fits, over, clear);
         }
 

@@ -214,7 +214,8 @@ opened_for disk session m settled told whole opened each fresh machine =
       delays = known_opened disk.reads found session.delays (delays_opened disk.reads session m whole opened each.fit fresh machine);
       pending = omega (arith, placed, pending, waiting, over, same);
       files = omega (arith, placed, pending, waiting);
-      few = omega (arith, placed, pending, waiting);
+      few = omega (arith, pending);
+      free = omega (arith, pending, clear_is_free session.pool.map opened.map.same, room_when_sound disk.reads found session.pool.map opened.map tells.sound);
       room = omega (arith, none, clear_is_free session.pool.map opened.map.same, room_when_sound disk.reads found session.pool.map opened.map tells.sound);
     }
   where

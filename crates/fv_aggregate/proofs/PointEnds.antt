@@ -1,13 +1,11 @@
 -- What a session stands for after a consistency point.
-use Rattle.std.proofs.Common.{◌≡◌, ◌<◌, ◌≤◌, ◌+◌, ◌*◌, ℕ, Bool, true, false, List, Option, Some, None, Ok, Err, refl, sym, ap, subst, ◌∙◌, ⊎_elim, inl, inr, arith, length}
-use Rattle.std.specs.Prelude.{IfSome, IsNone, IsSome, IsTrue, max, replicate}
-use Rattle.std.specs.Option.{option_map}
+use Rattle.std.proofs.Common.{◌≡◌, ◌<◌, ◌≤◌, ◌+◌, ℕ, Bool, true, false, List, Option, Some, None, Ok, Err, refl, sym, ap, subst, ◌∙◌, ⊎_elim, inl, inr, arith, length}
+use Rattle.std.specs.Prelude.{IfSome, IsNone, IsTrue, max, replicate}
 use Rattle.fv_disk.specs.Shown.{Image, Shown}
 use Rattle.fv_disk.specs.Crash.{Leaves}
 use Rattle.fv_disk.specs.DiskCalls.{OnlyReads}
 use Rattle.fv_disk.proofs.Moments.{weaken}
 use Rattle.fv_bits.specs.Members.{is_member}
-use Rattle.fv_model.specs.declared.commands.Kind.{Kind}
 use Rattle.fv_model.specs.Machines.{Machine, capacity}
 use Rattle.fv_model.specs.Space.{commits}
 use Rattle.fv_image.specs.Layout.{root_place}
@@ -31,7 +29,7 @@ use Rattle.fv_cp.specs.Held.{machine_held, IsHeld}
 use Rattle.fv_cp.specs.Known.{AreKnown}
 use Rattle.fv_cp.specs.Lent.{blocks_asked, maps_waiting, HaveNoneWaiting, IsLentAt}
 use Rattle.fv_pool.specs.BlocksOver.{LacksLeaf}
-use Rattle.fv_cp.specs.Placing.{pending_files, core_of, FailsToPlace, HaveNoFiles, KeepCores}
+use Rattle.fv_cp.specs.Placing.{pending_files, FailsToPlace, HaveNoFiles, KeepCores}
 use Rattle.fv_cp.specs.Points.{IsNextRoot, LacksRoom}
 use Rattle.fv_cp.proofs.CameIn.{leaf_unmoved}
 use Rattle.fv_cp.proofs.Flushing.{files_there, may_on}
@@ -88,7 +86,7 @@ has_full_room disk session last m stands =
     let all = free_and_placed session.pool.map in
     record {
       numbers = λ s. has_numbers disk session.pool s (state_at session.volumes s) (stands.held.each s) (omega (arith, one_pending session.volumes s, stands.few));
-      free = omega (arith, all, stands.few, stands.room);
+      free = stands.free;
       blocks = omega (arith, all, all_within session.volumes, stands.pending, stands.room);
     }
 
@@ -335,7 +333,8 @@ module _ (before : Shown) (old : Session) (after : Shown) (new : Session) (has :
         delays = known_still before.reads after.reads old.pool.found new.pool.found old.delays new.delays reads.stays.reads still.placed.found delays_same stands.delays;
         pending = omega (arith, same, fewer, over, pending_same, stands.pending);
         files = omega (arith, fewer, pending_same, stands.files);
-        few = omega (arith, spent.blocks, clear, free_and_placed old.pool.map, free_and_placed new.pool.map, stands.few);
+        few = omega (arith, spent.fewer, stands.few);
+        free = omega (arith, spent.blocks, stands.free);
         room = omega (arith, same, clear, pending_same, stands.room);
       }
 
@@ -401,12 +400,13 @@ module _ (old : Shown) (pool : Pool) (states : States) (new : Shown) (left : Poo
           delays = known_still new.reads new.reads left.found after.pool.found delays after.delays refl (ap (λ (p : Pool). p.found) new_pool) new_delays is.delays;
           pending = omega (arith, placed, pending, waiting, over, same);
           files = omega (arith, placed, pending, waiting);
-          few = omega (arith, placed, pending, waiting);
+          few = omega (arith, pending);
+          free = omega (arith, placed, pending, clear, free_and_placed after.pool.map, room_when_sound new.reads left.found left.map loaded now_held.tells.sound);
           room = omega (arith, none, same, clear, room_when_sound new.reads left.found left.map loaded now_held.tells.sound);
         }
 
-    -- where the commits leave room twice for what was wanted, there is room for it after the point
-    pub point_room : (after : Session) → after.pool ≡ left → after.pending ≡ 0 → commits m + 2 * want ≤ capacity m.blocks → HasRoom new after want
+    -- where the commits leave room for what was wanted, there is room for it after the point
+    pub point_room : (after : Session) → after.pool ≡ left → after.pending ≡ 0 → commits m + want ≤ capacity m.blocks → HasRoom new after want
     unfolding layout_at told_with view_at
     point_room after new_pool none fits =
         let t = root_found left.found in
@@ -434,5 +434,5 @@ module _ (old new : Shown) (was session : Session) (same : was ≡ session) (wan
   pub stands_pointed : length stay ≡ 64 → HaveNoFiles stay → StandsFor new pointed_session m m
   stands_pointed long bare = pointed old was.pool was.volumes new left stay want delays point_is loaded was last m stood refl refl long bare pointed_session refl refl refl refl
 
-  pub room_pointed : commits m + 2 * want ≤ capacity m.blocks → HasRoom new pointed_session want
+  pub room_pointed : commits m + want ≤ capacity m.blocks → HasRoom new pointed_session want
   room_pointed fits = point_room old was.pool was.volumes new left stay want delays point_is loaded was last m stood refl refl pointed_session refl refl fits

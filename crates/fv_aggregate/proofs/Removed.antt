@@ -328,11 +328,11 @@ module _ {D : Type 0} (name : List ℕ) (d e : Shown) (at left : D) (s n : Sessi
   unfolding is_built
   dropped_plain did only refused = record {
     refused = refused;
-    calm = λ other idle few. absurd (true≢false idle);
-    idle = λ other stays. absurd (true≢false stays);
-    map = λ other stays places few. absurd (true≢false stays);
-    wanting = λ other idle few. absurd (true≢false idle);
-    damage = did.damage;
+    calm = λ other once idle few. absurd (true≢false idle);
+    idle = λ other once stays. absurd (true≢false stays);
+    map = λ other once stays places few. absurd (true≢false stays);
+    wanting = λ other once idle few. absurd (true≢false idle);
+    damage = λ once. did.damage;
     unbuilt = λ fresh none. absurd (true≢false none);
     listed = λ list. absurd (no_list name list);
     untouched = λ list. absurd (no_list name list);
@@ -348,19 +348,19 @@ module _ {D : Type 0} (name : List ℕ) (d e : Shown) (at left : D) (s n : Sessi
   dropped_applied : IsNone s.failed → (steps : ℕ) → IsDropped d at s name e left n r → OnlyReads d e → IfOk r (λ reply. IsTrue (is_refusal reply) → IsUntouched at s left n) → HasApplied (VolDestroy name) d at s steps e left n steps r
   unfolding asked_by
   dropped_applied fresh steps did only refused = record {
-    goes = subst (λ (k : ℕ). Goes k (AsksLeaves (slot_named s.volumes name)) d s e n r) (sym (managed_room _ _ (VolDestroy name) (inl refl))) did.goes;
-    asks = λ calm. subst (λ (k : ℕ). KeepsAsking k d s e n) (sym (managed_room _ _ (VolDestroy name) (inl refl))) did.asks;
+    goes = subst (λ (k : ℕ). Goes k (AsksLeaves (slot_named s.volumes name)) d s e n r) (sym (managed_room _ _ _ _ (VolDestroy name) (inl refl))) did.goes;
+    asks = λ calm once. subst (λ (k : ℕ). KeepsAsking k d s e n) (sym (managed_room _ _ _ _ (VolDestroy name) (inl refl))) did.asks;
     goes_for = did.goes_for;
     reply = λ tells last m held. did.reply last m held;
     plain = λ plain. dropped_plain did only refused;
     on_files = λ files. absurd (true≢false (sym files ∙ no_files (VolDestroy name) refl refl));
     point = λ tells last m held cp. absurd (no_point name cp);
     sides = λ tells last m held cp. absurd (no_point name cp);
-    roomy = none_roomy (room_by s.volumes (VolDestroy name)) d s e r (managed_room _ _ (VolDestroy name) (inl refl));
-    calm = λ other few. only;
+    roomy = λ once. none_roomy (room_by s.volumes (VolDestroy name)) d s e r (managed_room _ _ _ _ (VolDestroy name) (inl refl));
+    calm = λ other once few. only;
     entries = λ other few stays. absurd (true≢false stays);
-    files = λ tells none without. did.files without;
-    same = λ tells none stays. absurd (true≢false stays);
+    files = λ tells none once without. did.files without;
+    same = λ tells none once stays. absurd (true≢false stays);
     steps = record { other = λ none. refl; known = λ tells last m held knows. no_step r steps; path = λ tells last m held other of. absurd (none_snapped other of); dead = λ failed. refl };
     numbers = λ alive. did.numbers;
     dead = λ failed. not_dead _ s fresh failed;

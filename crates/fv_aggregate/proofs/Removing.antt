@@ -250,6 +250,7 @@ module _ (disk : Shown) (session : Session) (fit : FitTogether session.pool sess
         delays = known_still disk.reads over.reads session.pool.found left.found session.delays session.delays reads.stays.reads is.gone.found refl stands.delays;
         pending = omega (arith, files, maps, wide, held, taken, stands.pending);
         files = omega (arith, files, maps, taken, stands.files);
-        few = omega (arith, files, maps, taken, stands.few);
+        few = omega (arith, files, stands.few);
+        free = omega (arith, files, free, stands.free);
         room = omega (arith, held, clear, stands.room);
       }

@@ -112,7 +112,8 @@ module _ (session : Session) (c : Command) (name : List ℕ) (size : VolumeState
         delays = stands.delays;
         pending = omega (arith, files, maps, over, stands.pending);
         files = omega (arith, files, maps, stands.files);
-        few = omega (arith, files, maps, stands.few);
+        few = omega (arith, files, stands.few);
+        free = omega (arith, files, stands.free);
         room = stands.room;
       }
 

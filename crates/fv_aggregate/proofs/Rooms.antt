@@ -11,7 +11,7 @@ use Rattle.std.proofs.lemmas.Bool.{cases_lt}
 use Rattle.std.proofs.lemmas.Bool.Decides.{nat_tests}
 use Rattle.fv_disk.specs.Shown.{Shown}
 use Rattle.fv_model.specs.declared.commands.Command.{Command}
-use Rattle.fv_model.specs.declared.commands.Command.TheVariants.{SnapCreate, CloneCreate}
+use Rattle.fv_model.specs.declared.commands.Command.TheVariants.{SnapCreate, CloneCreate, Mirror}
 use Rattle.fv_model.specs.Machines.{Machine}
 use Rattle.fv_model.specs.Numbers.{ceil_div, greatest_span}
 use Rattle.fv_model.specs.Places.{ids_of}
@@ -38,18 +38,20 @@ use Rattle.fv_volume.proofs.IdsCounted.{slot_ids_most}
 use Rattle.fv_volume.proofs.SnapFinds.{named_there, told_named}
 use Rattle.fv_cp.specs.Held.{machine_held, named_held}
 use Rattle.fv_aggregate.specs.declared.session.Session.{Session}
-use Rattle.fv_aggregate.specs.Commands.{slot_among, slot_named, changes_volume, map_among, map_at, map_in, most_room, room_by, room_of, room_with, snap_room, span_among, span_at, span_in, span_on, span_within}
+use Rattle.fv_aggregate.specs.Commands.{slot_among, slot_named, changes_volume, copies_among, copies_at, copies_in, copies_on, copies_within, map_among, map_at, map_in, most_room, room_by, room_of, room_with, snap_room, span_among, span_at, span_in, span_on, span_within, wide_among, wide_at, wide_in}
 use Rattle.fv_aggregate.specs.Standing.{StandsFor, StandsReady}
 
 -- ---- by the maps and the spans
 
--- what holds of the blocks of maps, of the overheads of spans, and of each number with itself, holds of the rooms
-rooms_with : (R : ℕ → ℕ → Type 0) → ((n : ℕ) → R n n) → (f g : List ℕ → ℕ) (h k : List ℕ → List ℕ → ℕ → ℕ) → ((volume : List ℕ) → R (f volume) (g volume))
-    → ((parent snapshot : List ℕ) (size : ℕ) → R (overhead (h parent snapshot size)) (overhead (k parent snapshot size))) → (c : Command) → R (room_with f h c) (room_with g k c)
+-- What holds of the blocks of maps, of the overheads of spans, of those of mirrors with their copies, and of each number with itself, holds of the rooms.
+rooms_with : (R : ℕ → ℕ → Type 0) → ((n : ℕ) → R n n) → (f g : List ℕ → ℕ) (h k : List ℕ → List ℕ → ℕ → ℕ) (w x : List ℕ → ℕ → ℕ) (p q : List ℕ → List ℕ → ℕ → ℕ) → ((volume : List ℕ) → R (f volume) (g volume))
+    → ((parent snapshot : List ℕ) (size : ℕ) → R (overhead (h parent snapshot size)) (overhead (k parent snapshot size)))
+    → ((source snapshot : List ℕ) (size : ℕ) → R (overhead (w source size) + p source snapshot size) (overhead (x source size) + q source snapshot size)) → (c : Command) → R (room_with f h w p c) (room_with g k x q c)
 unfolding room_with
-rooms_with R same f g h k maps spans (SnapCreate volume snapshot) = maps volume
-rooms_with R same f g h k maps spans (CloneCreate clone parent snapshot size kind) = spans parent snapshot size
-rooms_with R same f g h k maps spans c = same (room_with f h c)
+rooms_with R same f g h k w x p q maps spans copies (SnapCreate volume snapshot) = maps volume
+rooms_with R same f g h k w x p q maps spans copies (CloneCreate clone parent snapshot size kind) = spans parent snapshot size
+rooms_with R same f g h k w x p q maps spans copies (Mirror source snapshot mirror size kind) = copies source snapshot size
+rooms_with R same f g h k w x p q maps spans copies c = same (room_with f h w p c)
 
 -- so many nodes lie above the leaves that a container can have
 nodes_are : (n : ℕ) → n ≤ 4100 → nodes_above 8 n ≡ cond (nat_le n 256) 1 (ceil_div n 256 + 1)
@@ -118,11 +120,65 @@ spans_few states (slot ∷ rest) parent snapshot size = by (is_named (state_at s
 overhead_few : (states : States) (parent snapshot : List ℕ) (size : ℕ) → overhead (span_among states slots parent snapshot size) ≤ overhead greatest_span
 overhead_few states parent snapshot size = overhead_grows (span_among states slots parent snapshot size) greatest_span (spans_few states slots parent snapshot size) (omega arith)
 
+-- so it is of a mirror, which copies no more than its size
+wide_few : (o : Option VolumeState) (size : ℕ) → wide_at o size ≤ greatest_span
+wide_few None size = omega arith
+wide_few (Some x) size = clipped (span_of size 0 x.span)
+
+wides_few : (states : States) (some : List ℕ) (source : List ℕ) (size : ℕ) → wide_among states some source size ≤ greatest_span
+unfolding wide_among
+wides_few states [] source size = omega arith
+wides_few states (slot ∷ rest) source size = by (is_named (state_at states slot) source) (wides_few states rest source size)
+  where
+    by : (t : Bool) → wide_among states rest source size ≤ greatest_span → (if t then wide_at (state_at states slot) size else wide_among states rest source size) ≤ greatest_span
+    by true left = wide_few (state_at states slot) size
+    by false left = left
+
+held_within : (size count : ℕ) → copies_within size count ≤ size
+held_within size count = by (nat_le count size) refl
+  where
+    by : (b : Bool) → nat_le count size ≡ b → (if b then count else size) ≤ size
+    by true e = grind (arith, nat_tests, e)
+    by false e = omega arith
+
+within_grows : (size a b : ℕ) → a ≤ b → copies_within size a ≤ copies_within size b
+within_grows size a b less = by (nat_le a size) (nat_le b size) refl refl
+  where
+    by : (s t : Bool) → nat_le a size ≡ s → nat_le b size ≡ t → (if s then a else size) ≤ (if t then b else size)
+    by true true e f = less
+    by true false e f = grind (arith, nat_tests, e)
+    by false true e f = absurd (let large : size < a = grind (arith, nat_tests, e) in let small : b ≤ size = grind (arith, nat_tests, f) in omega (arith, large, small, less))
+    by false false e f = omega arith
+
+copy_few : (o : Option VolumeState) (snapshot : List ℕ) (size : ℕ) → copies_at o snapshot size ≤ size
+copy_few None snapshot size = omega arith
+copy_few (Some x) snapshot size = by (snap_named x.snapshots snapshot)
+  where
+    by : (o : Option Snap) → option_map_or (λ q. copies_within size (count_in x q.slot)) o 0 ≤ size
+    by None = omega arith
+    by (Some q) = held_within size (count_in x q.slot)
+
+copies_few : (states : States) (some : List ℕ) (source snapshot : List ℕ) (size : ℕ) → copies_among states some source snapshot size ≤ size
+unfolding copies_among
+copies_few states [] source snapshot size = omega arith
+copies_few states (slot ∷ rest) source snapshot size = by (is_named (state_at states slot) source) (copies_few states rest source snapshot size)
+  where
+    by : (t : Bool) → copies_among states rest source snapshot size ≤ size → (if t then copies_at (state_at states slot) snapshot size else copies_among states rest source snapshot size) ≤ size
+    by true left = copy_few (state_at states slot) snapshot size
+    by false left = left
+
+mirror_few : (states : States) (source snapshot : List ℕ) (size : ℕ) → overhead (wide_among states slots source size) + copies_among states slots source snapshot size ≤ overhead greatest_span + size
+mirror_few states source snapshot size =
+    let wide = overhead_grows (wide_among states slots source size) greatest_span (wides_few states slots source size) (omega arith) in
+    let few = copies_few states slots source snapshot size in
+    omega (arith, wide, few)
+
 -- a command that changes no volume that stays makes no snapshot
 pub fixed_room : (s : Session) (c : Command) → changes_volume c ≡ false → room_by s.volumes c ≤ most_room c
 unfolding room_with
 fixed_room s (SnapCreate volume snapshot) none = absurd cc
 fixed_room s (CloneCreate clone parent snapshot size kind) none = overhead_few s.volumes parent snapshot size
+fixed_room s (Mirror source snapshot mirror size kind) none = mirror_few s.volumes source snapshot size
 fixed_room s c none = omega arith
 
 -- ---- by the volume of a slot
@@ -161,6 +217,41 @@ module _ (states : States) (slot : ℕ) (name : List ℕ) (has : HasName states 
   pub span_there : (snapshot : List ℕ) (size : ℕ) → slot < 64 → span_among states slots name snapshot size ≡ span_at (state_at states slot) snapshot size
   unfolding slots
   span_there snapshot size within = span_first 0 64 snapshot size (omega arith) (omega (arith, within))
+
+  wide_first : (from count : ℕ) (size : ℕ) → from ≤ slot → slot < from + count → wide_among states (range_with_len from count) name size ≡ wide_at (state_at states slot) size
+  unfolding wide_among
+  wide_first from zero size least most = absurd (omega (arith, least, most))
+  wide_first from (suc count) size least most = ⊎_elim
+      (λ (before : from < slot).
+      ap (λ (t : Bool). if t then wide_at (state_at states from) size else wide_among states (range_with_len (from + 1) count) name size) (has.first from before)
+      ∙ wide_first (from + 1) count size (omega (arith, before)) (omega (arith, most)))
+      (λ (reached : slot ≤ from).
+      let here : from ≡ slot = omega (arith, least, reached) in
+      ap (λ (t : Bool). if t then wide_at (state_at states from) size else wide_among states (range_with_len (from + 1) count) name size) (ap (λ (s : ℕ). is_named (state_at states s) name) here ∙ has.named)
+      ∙ ap (λ (s : ℕ). wide_at (state_at states s) size) here)
+      (cases_lt from slot)
+
+  copies_first : (from count : ℕ) (snapshot : List ℕ) (size : ℕ) → from ≤ slot → slot < from + count → copies_among states (range_with_len from count) name snapshot size ≡ copies_at (state_at states slot) snapshot size
+  unfolding copies_among
+  copies_first from zero snapshot size least most = absurd (omega (arith, least, most))
+  copies_first from (suc count) snapshot size least most = ⊎_elim
+      (λ (before : from < slot).
+      ap (λ (t : Bool). if t then copies_at (state_at states from) snapshot size else copies_among states (range_with_len (from + 1) count) name snapshot size) (has.first from before)
+      ∙ copies_first (from + 1) count snapshot size (omega (arith, before)) (omega (arith, most)))
+      (λ (reached : slot ≤ from).
+      let here : from ≡ slot = omega (arith, least, reached) in
+      ap (λ (t : Bool). if t then copies_at (state_at states from) snapshot size else copies_among states (range_with_len (from + 1) count) name snapshot size) (ap (λ (s : ℕ). is_named (state_at states s) name) here ∙ has.named)
+      ∙ ap (λ (s : ℕ). copies_at (state_at states s) snapshot size) here)
+      (cases_lt from slot)
+
+  -- and a mirror of it has its span, and copies so many blocks of a snapshot of it
+  pub wide_there : (size : ℕ) → slot < 64 → wide_among states slots name size ≡ wide_at (state_at states slot) size
+  unfolding slots
+  wide_there size within = wide_first 0 64 size (omega arith) (omega (arith, within))
+
+  pub copies_there : (snapshot : List ℕ) (size : ℕ) → slot < 64 → copies_among states slots name snapshot size ≡ copies_at (state_at states slot) snapshot size
+  unfolding slots
+  copies_there snapshot size within = copies_first 0 64 snapshot size (omega arith) (omega (arith, within))
 
   -- it is the slot that the name names
   slot_in : (from count : ℕ) → from ≤ slot → slot < from + count → slot_among states (range_with_len from count) name ≡ slot
@@ -271,12 +362,108 @@ module _ (disk : Shown) (pool : Pool) (states : States) (each : (s : ℕ) → If
       ap (λ (o : Option Volume). option_map_or (λ v. span_on v snapshot size) o 0) (fin.get-from_entries name_total (flat_map (λ s. named_held disk pool (state_at states s)) slots) name) in
       omega (arith, same, spans_among slots)
 
+-- ---- the spans of mirrors in the machine, and their copies
+
+module _ (disk : Shown) (pool : Pool) (states : States) (name : List ℕ) (size : ℕ) where
+  abbrev wide_found : List ℕ → ℕ
+  wide_found some = option_map_or (λ v. span_within (span_of size 0 v.span)) (find name_cmp name (flat_map (λ s. named_held disk pool (state_at states s)) some)) 0
+
+  wide_one : (y : VolumeState) (others : List (List ℕ × Volume)) (left : ℕ) → option_map_or (λ v. span_within (span_of size 0 v.span)) (find name_cmp name others) 0 ≡ left
+      → option_map_or (λ v. span_within (span_of size 0 v.span)) (find name_cmp name ((y.name, volume_for disk pool y) ∷ others)) 0 ≡ (if is_same_name y.name name then span_within (span_of size 0 y.span) else left)
+  wide_one y others left rest = by (is_eq (name_cmp name y.name)) (is_same_name y.name name) refl refl
+    where
+      by : (t u : Bool) → is_eq (name_cmp name y.name) ≡ t → is_same_name y.name name ≡ u
+          → option_map_or (λ v. span_within (span_of size 0 v.span)) (cond t (Some (volume_for disk pool y)) (find name_cmp name others)) 0 ≡ (if u then span_within (span_of size 0 y.span) else left)
+      by true true found named = refl
+      by false false found named = rest
+      by true false found named = absurd (true≢false (sym (itself y.name) ∙ ap (λ (n : List ℕ). is_same_name y.name n) (sym (same_name name y.name found)) ∙ named))
+      by false true found named = absurd (true≢false (sym (itself name) ∙ ap (λ (n : List ℕ). is_same_name name n) (sym (same_name y.name name named)) ∙ found))
+
+  wide_every : (some : List ℕ) → wide_found some ≡ wide_among states some name size
+  unfolding wide_among
+  wide_every [] = refl
+  wide_every (slot ∷ rest) = by (state_at states slot) (wide_every rest)
+    where
+      others : List (List ℕ × Volume)
+      others = flat_map (λ s. named_held disk pool (state_at states s)) rest
+
+      by : (o : Option VolumeState) → wide_found rest ≡ wide_among states rest name size
+          → option_map_or (λ v. span_within (span_of size 0 v.span)) (find name_cmp name (named_held disk pool o ++ others)) 0 ≡ (if is_named o name then wide_at o size else wide_among states rest name size)
+      by None left = left
+      by (Some y) left = wide_one y others (wide_among states rest name size) left
+
+  pub wide_held : wide_in (machine_held disk pool states) name size ≡ wide_among states slots name size
+  unfolding machine_held
+  wide_held = ap (λ (o : Option Volume). option_map_or (λ v. span_within (span_of size 0 v.span)) o 0) (fin.get-from_entries name_total (flat_map (λ s. named_held disk pool (state_at states s)) slots) name) ∙ wide_every slots
+
+module _ (disk : Shown) (pool : Pool) (states : States) (each : (s : ℕ) → IfSome (state_at states s) (IsHeldIn disk pool s)) (name snapshot : List ℕ) (size : ℕ) where
+  abbrev copies_found : List ℕ → ℕ
+  copies_found some = option_map_or (λ v. copies_on v snapshot size) (find name_cmp name (flat_map (λ s. named_held disk pool (state_at states s)) some)) 0
+
+  few_copies : (s : ℕ) (y : VolumeState) → IsHeldIn disk pool s y → copies_at (Some y) snapshot size ≤ copies_on (volume_for disk pool y) snapshot size
+  few_copies s y held = by (snap_named y.snapshots snapshot) refl
+    where
+      table : Snap → Table
+      table q = table_told (standing_kept (blocks_in disk pool y) q)
+
+      on : (o : Option Snap) → snap_named y.snapshots snapshot ≡ o → copies_on (volume_for disk pool y) snapshot size ≡ option_map_or (λ t. copies_within size (set.len (ids_of t))) (option_map table o) 0
+      on o e = ap (λ (t : Option Table). option_map_or (λ t. copies_within size (set.len (ids_of t))) t 0)
+          (told_named (blocks_in disk pool y) snapshot y.snapshots ∙ ap (option_map table) e)
+
+      at : (o : Option Snap) → snap_named y.snapshots snapshot ≡ o → copies_at (Some y) snapshot size ≡ option_map_or (λ q. copies_within size (count_in y q.slot)) o 0
+      at o e = ap (λ (o : Option Snap). option_map_or (λ q. copies_within size (count_in y q.slot)) o 0) e
+
+      by : (o : Option Snap) → snap_named y.snapshots snapshot ≡ o → copies_at (Some y) snapshot size ≤ copies_on (volume_for disk pool y) snapshot size
+      by None e = let none = at None e in omega (arith, none)
+      by (Some q) e =
+          let there : In q (tables_of y) = in_right q (base_table y.base) y.snapshots (named_there snapshot y.snapshots q e).0 in
+          let lies : IsKeptTable disk pool y q = all_in (IsKeptTable disk pool y) (tables_of y) held.stands.kept q there in
+          let few : count_in y q.slot ≤ set.len (ids_of (table q)) = slot_ids_most disk pool y held.stands.shared q there lies.1 in
+          let less = within_grows size (count_in y q.slot) (set.len (ids_of (table q))) few in
+          omega (arith, less, at (Some q) e, on (Some q) e)
+
+  copies_one : (s : ℕ) (y : VolumeState) → IsHeldIn disk pool s y → (others : List (List ℕ × Volume)) (left : ℕ) → left ≤ option_map_or (λ v. copies_on v snapshot size) (find name_cmp name others) 0
+      → (if is_same_name y.name name then copies_at (Some y) snapshot size else left) ≤ option_map_or (λ v. copies_on v snapshot size) (find name_cmp name ((y.name, volume_for disk pool y) ∷ others)) 0
+  copies_one s y held others left rest = by (is_eq (name_cmp name y.name)) (is_same_name y.name name) refl refl
+    where
+      by : (t u : Bool) → is_eq (name_cmp name y.name) ≡ t → is_same_name y.name name ≡ u
+          → (if u then copies_at (Some y) snapshot size else left) ≤ option_map_or (λ v. copies_on v snapshot size) (cond t (Some (volume_for disk pool y)) (find name_cmp name others)) 0
+      by true true found named = few_copies s y held
+      by false false found named = rest
+      by true false found named = absurd (true≢false (sym (itself y.name) ∙ ap (λ (n : List ℕ). is_same_name y.name n) (sym (same_name name y.name found)) ∙ named))
+      by false true found named = absurd (true≢false (sym (itself name) ∙ ap (λ (n : List ℕ). is_same_name name n) (sym (same_name y.name name named)) ∙ found))
+
+  copies_every : (some : List ℕ) → copies_among states some name snapshot size ≤ copies_found some
+  unfolding copies_among
+  copies_every [] = omega arith
+  copies_every (slot ∷ rest) = by (state_at states slot) (each slot) (copies_every rest)
+    where
+      others : List (List ℕ × Volume)
+      others = flat_map (λ s. named_held disk pool (state_at states s)) rest
+
+      by : (o : Option VolumeState) → IfSome o (IsHeldIn disk pool slot) → copies_among states rest name snapshot size ≤ copies_found rest
+          → (if is_named o name then copies_at o snapshot size else copies_among states rest name snapshot size) ≤ option_map_or (λ v. copies_on v snapshot size) (find name_cmp name (named_held disk pool o ++ others)) 0
+      by None held left = left
+      by (Some y) held left = copies_one slot y held others (copies_among states rest name snapshot size) left
+
+  pub copies_held : copies_among states slots name snapshot size ≤ copies_in (machine_held disk pool states) name snapshot size
+  unfolding machine_held
+  copies_held =
+      let same : copies_in (machine_held disk pool states) name snapshot size ≡ copies_found slots =
+      ap (λ (o : Option Volume). option_map_or (λ v. copies_on v snapshot size) o 0) (fin.get-from_entries name_total (flat_map (λ s. named_held disk pool (state_at states s)) slots) name) in
+      omega (arith, same, copies_every slots)
+
 -- where a session stands for a machine the room of a command by its volumes is no more than that in the machine
 pub room_stands : (d : Shown) (s : Session) (last m : Machine) → StandsFor d s last m → (c : Command) → room_by s.volumes c ≤ room_of m c
-room_stands d s last m is c = rooms_with (λ a b. a ≤ b) (λ n. omega arith) (map_among s.volumes slots) (map_in m) (span_among s.volumes slots) (span_in m)
+room_stands d s last m is c = rooms_with (λ a b. a ≤ b) (λ n. omega arith) (map_among s.volumes slots) (map_in m) (span_among s.volumes slots) (span_in m) (wide_among s.volumes slots) (wide_in m) (copies_among s.volumes slots) (copies_in m)
     (λ volume. let same : map_among s.volumes slots volume ≡ map_in m volume = sym (map_held d s.pool s.volumes volume) ∙ ap (λ (k : Machine). map_in k volume) is.machine in omega (arith, same))
     (λ parent snapshot size. overhead_grows (span_among s.volumes slots parent snapshot size) (span_in m parent snapshot size)
-    (subst (λ (k : Machine). span_among s.volumes slots parent snapshot size ≤ span_in k parent snapshot size) is.machine (span_held d s.pool s.volumes is.held.each parent snapshot size)) (in_few m parent snapshot size)) c
+    (subst (λ (k : Machine). span_among s.volumes slots parent snapshot size ≤ span_in k parent snapshot size) is.machine (span_held d s.pool s.volumes is.held.each parent snapshot size)) (in_few m parent snapshot size))
+    (λ source snapshot size.
+    let wide : wide_among s.volumes slots source size ≡ wide_in m source size = sym (wide_held d s.pool s.volumes source size) ∙ ap (λ (k : Machine). wide_in k source size) is.machine in
+    let over : overhead (wide_among s.volumes slots source size) ≡ overhead (wide_in m source size) = ap overhead wide in
+    let few = subst (λ (k : Machine). copies_among s.volumes slots source snapshot size ≤ copies_in k source snapshot size) is.machine (copies_held d s.pool s.volumes is.held.each source snapshot size) in
+    omega (arith, over, few)) c
   where
     on_few : (v : Volume) (snapshot : List ℕ) (size : ℕ) (o : Option Table) → option_map_or (λ t. span_within (span_of size (set.len (ids_of t)) v.span)) o 0 ≤ greatest_span
     on_few v snapshot size None = omega arith
@@ -310,4 +497,4 @@ module _ (d : Shown) (s : Session) (stands : StandsReady d s) where
 
   -- a session that stands on a disk has no more room of a command than the most
   pub room_most : (c : Command) → room_by s.volumes c ≤ most_room c
-  room_most c = rooms_with (λ a b. a ≤ b) (λ n. omega arith) (map_among s.volumes slots) (λ volume. snap_room) (span_among s.volumes slots) (λ parent snapshot size. greatest_span) (few_among slots) (overhead_few s.volumes) c
+  room_most c = rooms_with (λ a b. a ≤ b) (λ n. omega arith) (map_among s.volumes slots) (λ volume. snap_room) (span_among s.volumes slots) (λ parent snapshot size. greatest_span) (wide_among s.volumes slots) (λ source size. greatest_span) (copies_among s.volumes slots) (λ source snapshot size. size) (few_among slots) (overhead_few s.volumes) (mirror_few s.volumes) c

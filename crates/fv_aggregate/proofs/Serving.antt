@@ -58,19 +58,19 @@ module _ {D : Type 0} (c : Command) (d : Shown) (at : D) (s : Session) (steps : 
       → (IsTrue d.tells → (last m : Machine) → StandsFor d s last m → GoesFor d last m (machine_after m c) d s r) → (IsTrue d.tells → (last m : Machine) → StandsFor d s last m → IfOk r (Replies m c)) → IsPlain c d at s d at s r
       → HasApplied c d at s steps d at s steps r
   rests_applied r fresh reads other none goes goes_for reply plain = record {
-    roomy = none_roomy (room_by s.volumes c) d s d r none;
+    roomy = λ once. none_roomy (room_by s.volumes c) d s d r none;
     goes = goes;
-    asks = λ none. rests_asks (room_by s.volumes c) d s;
+    asks = λ none once. rests_asks (room_by s.volumes c) d s;
     goes_for = goes_for;
     reply = reply;
     plain = λ none. plain;
     on_files = λ files. absurd (true≢false (sym files ∙ reads));
     point = λ tells last m stands cp. absurd (other cp);
     sides = λ tells last m stands cp. absurd (other cp);
-    calm = λ no few. reads_itself d;
+    calm = λ no once few. reads_itself d;
     entries = λ no few stays. no_holes s s (kept_entries s s refl);
-    files = λ tells none without. on_ok without r;
-    same = λ tells none stays places same. on_ok same r;
+    files = λ tells none once without. on_ok without r;
+    same = λ tells none once stays places same. on_ok same r;
     steps = record { other = λ none. refl; known = λ tells last m stands knows. no_step r steps; path = λ tells last m stands name of. asks_none _ c name reads of; dead = λ failed. refl };
     numbers = λ alive k known stays. known;
     dead = λ failed. refl;
@@ -92,7 +92,7 @@ module _ {D : Type 0} (c : Command) (d : Shown) (at : D) (s : Session) (steps : 
   pub failed_applied : IsDisk d → (n : ℕ) → s.failed ≡ Some n → HasApplied c d at s steps d at s steps (Err (Failed n))
   failed_applied laws n is = record {
     goes = stays_failed n (room_by s.volumes c) d s is;
-    asks = λ none. rests_asks (room_by s.volumes c) d s;
+    asks = λ none once. rests_asks (room_by s.volumes c) d s;
     goes_for = λ tells last m stands. rests_for_fault (Failed n) d s last m (machine_after m c) laws tt stands;
     reply = λ tells last m stands. tt;
     plain = λ none. fault_plain c d at s (Failed n) tt (λ fresh none. not_dead _ s fresh some)
@@ -112,11 +112,11 @@ module _ {D : Type 0} (c : Command) (d : Shown) (at : D) (s : Session) (steps : 
     };
     point = λ tells last m stands cp. tt;
     sides = λ tells last m stands cp. resting d s.pool s.volumes last laws stands.held;
-    roomy = λ tells last m stands some past. tt;
-    calm = λ other few. reads_itself d;
+    roomy = λ once tells last m stands some past. tt;
+    calm = λ other once few. reads_itself d;
     entries = λ other few stays. no_holes s s (kept_entries s s refl);
-    files = λ tells none without. tt;
-    same = λ tells none stays places same. tt;
+    files = λ tells none once without. tt;
+    same = λ tells none once stays places same. tt;
     steps = record { other = λ none. refl; known = λ tells last m stands knows. tt; path = λ tells last m stands name of. tt; dead = λ failed. refl };
     numbers = λ alive k known stays. known;
     dead = λ failed. refl;
@@ -133,18 +133,18 @@ managed_applied c d laws at old fit fresh stands steps new reply stays either ma
     let over = manages_over d old fit c stays either new reply manages in
     record {
       goes = managed_goes d old c new reply over (room_by old.volumes c) fresh stands;
-      asks = managed_asks d old c new reply over (room_by old.volumes c);
+      asks = λ none once. managed_asks d old c new reply over (room_by old.volumes c) none;
       goes_for = λ tells last m held. managed_for d old c new reply over laws stands last m held;
       reply = λ tells last m held. over.replies last m held;
       plain = λ plain. managed_plain d old c new reply over at stays no_list no_point no_names snaps (managed_undecided c either);
       on_files = λ files. absurd (true≢false (sym files ∙ reads));
       point = λ tells last m held cp. absurd (no_point cp);
       sides = λ tells last m held cp. absurd (no_point cp);
-      roomy = none_roomy (room_by old.volumes c) d old d (Ok reply) (managed_room _ _ c either);
-      calm = λ other few. reads_itself d;
+      roomy = λ once. none_roomy (room_by old.volumes c) d old d (Ok reply) (managed_room _ _ _ _ c either);
+      calm = λ other once few. reads_itself d;
       entries = λ other few stays. no_holes old new (kept_entries old new (over.containers stays));
-      files = λ tells none without. over.files without;
-      same = λ tells none stays places same. same_map old new (over.map stays) same;
+      files = λ tells none once without. over.files without;
+      same = λ tells none once stays places same. same_map old new (over.map stays) same;
       steps = record { other = λ none. refl; known = λ tells last m held knows. refl; path = λ tells last m held name of. asks_none _ c name reads of; dead = λ failed. refl };
       numbers = λ alive. keeps_managed old c new reply fit.housed.long manages;
       dead = λ failed. refl;
@@ -182,7 +182,7 @@ pub look_applied : {D : Type 0} (c : Command) (name : List ℕ) → volume_asked
     → IsNone s.failed → Looks (slot_named s.volumes name) d s c e n r → LooksBeside c name d at s start left n steps r → HasApplied c d at s start e left n steps r
 look_applied c name asks d at s start e left n steps r fresh looks beside = record {
   goes = look_goes c name asks d s e n r looks;
-  asks = λ none. look_asks c name asks d s e n r looks;
+  asks = λ none once. look_asks c name asks d s e n r looks;
   goes_for = look_goes_for c name asks d s e n r looks;
   reply = look_reply c name asks d s e n r looks;
   plain = λ plain. absurd (true≢false (sym (look_reads c name asks) ∙ plain));
@@ -202,11 +202,11 @@ look_applied c name asks d at s start e left n steps r fresh looks beside = reco
   };
   point = λ tells last m stands cp. look_no_point c name asks d s e n r looks _ cp;
   sides = λ tells last m stands cp. look_no_point c name asks d s e n r looks _ cp;
-  roomy = none_roomy (room_by s.volumes c) d s e r (look_room c name asks s.volumes);
-  calm = λ other few. looks.only_reads;
+  roomy = λ once. none_roomy (room_by s.volumes c) d s e r (look_room c name asks s.volumes);
+  calm = λ other once few. looks.only_reads;
   entries = λ other few stays. no_holes s n looks.entries;
-  files = λ tells none without. look_files c name asks d s e n r looks without;
-  same = λ tells none stays places same. look_same c name asks d s e n r looks same;
+  files = λ tells none once without. look_files c name asks d s e n r looks without;
+  same = λ tells none once stays places same. look_same c name asks d s e n r looks same;
   steps = record {
     other = beside.other;
     known = beside.known;
@@ -229,9 +229,9 @@ pub record MakesBeside {D : Type 0} (c : Command) (name : List ℕ) (at : D) (s 
 pub make_applied : {D : Type 0} (c : Command) (name : List ℕ) → changed_by c ≡ Some name → (d : Shown) (at : D) (s : Session) (e : Shown) (left : D) (n : Session) (steps : ℕ) (r : Result Reply Fault)
     → IsNone s.failed → Makes file_room (AsksTable (slot_named s.volumes name) None false) d s c e n r → MakesRoom file_room d s e r → (s.pending + file_room ≤ dirty_limit → OnErr r (IsUnmadeIn d s name e n)) → MakesBeside c name at s left n r → HasApplied c d at s steps e left n steps r
 make_applied c name of d at s e left n steps r fresh makes roomy unmade beside = record {
-  roomy = subst (λ (k : ℕ). MakesRoom k d s e r) (sym (change_room name c (change_of_volume name c of) s.volumes)) roomy;
+  roomy = λ once. subst (λ (k : ℕ). MakesRoom k d s e r) (sym (change_room name c (change_of_volume name c of) s.volumes)) roomy;
   goes = make_goes c name of d s e n r makes;
-  asks = make_asks c name of d s e n r makes;
+  asks = λ none once. make_asks c name of d s e n r makes none;
   goes_for = make_goes_for c name of d s e n r makes;
   reply = make_reply c name of d s e n r makes;
   plain = λ plain. absurd (true≢false (sym (change_reads name c (change_of_volume name c of)) ∙ plain));
@@ -250,10 +250,10 @@ make_applied c name of d at s e left n steps r fresh makes roomy unmade beside =
   };
   point = λ tells last m stands cp. make_no_point c name of d s e n r makes _ cp;
   sides = λ tells last m stands cp. make_no_point c name of d s e n r makes _ cp;
-  calm = λ other few. make_calm c name of d s e n r makes few;
+  calm = λ other once few. make_calm c name of d s e n r makes few;
   entries = λ other few stays. no_holes s n (make_entries c name of d s e n r makes few);
-  files = λ tells isnt without. make_unchanged c name of d s e n r makes _ isnt;
-  same = λ tells isnt stays places same. make_unchanged c name of d s e n r makes _ isnt;
+  files = λ tells isnt once without. make_unchanged c name of d s e n r makes _ isnt;
+  same = λ tells isnt once stays places same. make_unchanged c name of d s e n r makes _ isnt;
   steps = record { other = λ none. refl; known = λ tells last m stands knows. no_step r steps; path = λ tells last m stands other asked. make_unasked c name of d s e n r makes _ (subst IsSome (sym asked) refl); dead = λ failed. refl };
   numbers = beside.kept;
   dead = λ failed. not_dead _ s fresh failed;
@@ -264,19 +264,19 @@ make_applied c name of d at s e left n steps r fresh makes roomy unmade beside =
 pub snap_applied : {D : Type 0} (c : Command) (name : List ℕ) → snapped_by c ≡ Some name → (shown : D → Shown) (at : D) (s : Session) (left : D) (n : Session) (steps : ℕ) (r : Result Reply Fault)
     → IsNone s.failed → HasSnapped (shown at) at s c (shown left) left n r → (NoneHasName s.volumes name → r ≡ Ok (Refused NoVolume)) → NeedsSnapshot s.volumes c r → MakesRoom (room_by s.volumes c) (shown at) s (shown left) r → HasApplied c (shown at) at s steps (shown left) left n steps r
 snap_applied c name of shown at s left n steps r fresh did missing needs roomy = record {
-  roomy = roomy;
+  roomy = λ once. roomy;
   goes = did.makes.goes;
-  asks = λ none. absurd (true≢false (sym (snap_changes name c of) ∙ none));
+  asks = λ none once. absurd (true≢false (sym (snap_changes name c of) ∙ none));
   goes_for = applied_for c name of (shown at) at s (shown left) left n r did;
   reply = applied_reply c name of (shown at) at s (shown left) left n r did;
   plain = λ plain. applied_plain c name of (shown at) at s (shown left) left n r did missing needs;
   on_files = λ files. absurd (true≢false (sym files ∙ snap_reads name c of));
   point = λ tells last m stands cp. absurd (snap_other name c of Cp refl cp);
   sides = λ tells last m stands cp. absurd (snap_other name c of Cp refl cp);
-  calm = λ other few. did.only_reads few;
+  calm = λ other once few. did.only_reads few;
   entries = λ other few stays. no_holes s n (did.makes.entries few);
-  files = λ tells none without. did.files tells without;
-  same = λ tells none stays which same. did.same tells which same;
+  files = λ tells none once without. did.files tells without;
+  same = λ tells none once stays which same. did.same tells which same;
   steps = record { other = λ none. refl; known = λ tells last m stands knows. no_step r steps; path = λ tells last m stands other asked. asks_none _ c other (snap_reads name c of) asked; dead = λ failed. refl };
   numbers = did.numbers;
   dead = λ failed. not_dead _ s fresh failed;

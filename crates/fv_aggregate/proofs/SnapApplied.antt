@@ -63,11 +63,11 @@ module _ {D : Type 0} (c : Command) (v : List ℕ) (of : snapped_by c ≡ Some v
   pub applied_plain : (NoneHasName s.volumes v → r ≡ Ok (Refused NoVolume)) → NeedsSnapshot s.volumes c r → IsPlain c d disk s e left n r
   applied_plain missing needs = record {
     refused = did.refused;
-    calm = λ other idle few. did.calm (no_places (removes_volume c) (places_files c) idle) few;
-    idle = λ other stays none few. did.idle none few;
-    map = λ other stays none few. did.map none;
-    wanting = λ other idle few. sure_memory r (did.sure (no_places (removes_volume c) (places_files c) idle));
-    damage = did.damage;
+    calm = λ other once idle few. did.calm (no_places (removes_volume c) (places_files c) idle) few;
+    idle = λ other once stays none few. did.idle none few;
+    map = λ other once stays none few. did.map none;
+    wanting = λ other once idle few. sure_memory r (did.sure (no_places (removes_volume c) (places_files c) idle));
+    damage = λ once. did.damage;
     unbuilt = λ fresh none. absurd (true≢false (sym (snap_built v c of) ∙ none));
     listed = λ list. absurd (snap_other v c of VolList refl list);
     untouched = λ list. absurd (snap_other v c of VolList refl list);

@@ -120,11 +120,11 @@ module _ (command : Command) (v : List ℕ) (is : command ≡ SnapList v) where
   pub snaps_fail : {D : Type 0} (shown : Shown) (disk : D) (s : Session) → IsPlain command shown disk s shown disk s (Err Memory)
   snaps_fail shown disk s = record {
     refused = tt;
-    calm = λ other idle few. refl;
-    idle = λ other stays none few. refl;
-    map = λ other stays none few. refl;
-    wanting = λ other none few same. refl;
-    damage = tt;
+    calm = λ other once idle few. refl;
+    idle = λ other once stays none few. refl;
+    map = λ other once stays none few. refl;
+    wanting = λ other once none few same. refl;
+    damage = λ once. tt;
     unbuilt = λ fresh none. built _ none;
     listed = λ list. tt;
     untouched = λ list. (refl, refl);
@@ -140,11 +140,11 @@ module _ (command : Command) (v : List ℕ) (is : command ≡ SnapList v) where
   pub snaps_done : {D : Type 0} (shown : Shown) (disk : D) (s : Session) (reply : Reply) → TellsSnapshots s v reply → IsPlain command shown disk s shown disk s (Ok reply)
   snaps_done shown disk s reply told = record {
     refused = λ refused. (refl, refl);
-    calm = λ other idle few. refl;
-    idle = λ other stays none few. refl;
-    map = λ other stays none few. refl;
-    wanting = λ other none few. tt;
-    damage = tt;
+    calm = λ other once idle few. refl;
+    idle = λ other once stays none few. refl;
+    map = λ other once stays none few. refl;
+    wanting = λ other once none few. tt;
+    damage = λ once. tt;
     unbuilt = λ fresh none. built _ none;
     listed = λ list. snaps_no_list _ list;
     untouched = λ list. (refl, refl);

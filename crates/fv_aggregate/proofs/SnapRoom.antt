@@ -201,7 +201,7 @@ module _ {D : Type 0} (d : Shown) (disk : D) (s : Session) (c : Command) (room :
       → (IsNone n.failed → KeepsNumbers s.volumes n.volumes) → HasSnapped d disk s c e mid n (Err f)
   snap_roomless f goes goes_for wants numbers = record {
     makes = record {
-      goes = goes_as room (room_by s.volumes c) AsksNothing (asked_by s.volumes c) (omega (arith, exact)) d s e n (Err f) (Err f) refl
+      goes = goes_as room (room_by s.volumes c) AsksNothing (asked_by s.volumes c) (omega (arith, exact)) (λ none. absurd none) d s e n (Err f) (Err f) refl
           (λ at want found is. damage_room (asked_by s.volumes c) (room_by s.volumes c) s d e n at want found (subst (λ (k : ℕ). HasDamage k AsksNothing d s e n at want found) exact is)) goes;
       goes_for = λ tells last m is. fails_early d last m (next m c) e n f (goes_for tells last m is);
       reply = λ tells last m is. tt;

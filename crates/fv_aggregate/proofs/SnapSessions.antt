@@ -104,7 +104,8 @@ module _ (d e : Shown) (s : Session) (q : Pool) (slot : ℕ) (x mid : VolumeStat
         delays = known_still d.reads e.reads s.pool.found q.found s.delays s.delays reads.stays.reads found_same refl is.delays;
         pending = omega (arith, same, fewer, sum, own, is.pending);
         files = omega (arith, fewer, is.files);
-        few = omega (arith, spent.fewer, spent.blocks, clear, free_and_placed s.pool.map, free_and_placed q.map, is.few);
+        few = omega (arith, spent.fewer, is.few);
+        free = omega (arith, spent.blocks, is.free);
         room = omega (arith, same, clear, is.room);
       }
 
@@ -148,6 +149,7 @@ module _ (d : Shown) (s : Session) (slot : ℕ) (x y : VolumeState) (there : sta
         pending = ⊎_elim (λ (none : (more ≡ 0) × (room ≡ 0)). omega (arith, grown, over, is.pending, none.0, none.1)) (λ (some : (more ≤ room) × (s.pending + room ≤ 256)). omega (arith, grown, over, is.pending, some.0)) enough;
         files = ⊎_elim (λ (none : (more ≡ 0) × (room ≡ 0)). omega (arith, grown, is.files, none.0, none.1)) (λ (some : (more ≤ room) × (s.pending + room ≤ 256)). omega (arith, grown, is.files, some.0)) enough;
         few = omega (arith, files, is.few);
+        free = omega (arith, files, is.free);
         room = ⊎_elim (λ (none : (more ≡ 0) × (room ≡ 0)). omega (arith, is.room, none.1)) (λ (some : (more ≤ room) × (s.pending + room ≤ 256)). omega (arith, is.room, some.1)) enough;
       }
 

@@ -1,5 +1,5 @@
 -- A new volume that was admitted before a consistency point is admitted after it: the point keeps the cores of the volumes.
-use Rattle.std.proofs.Common.{◌≡◌, ◌<◌, ◌≤◌, ◌+◌, ℕ, true, List, length, Option, Some, None, refl, sym, ap, subst, ◌∙◌, arith}
+use Rattle.std.proofs.Common.{◌≡◌, ℕ, List, length, Option, Some, None, refl, sym, ap, subst, ◌∙◌, arith}
 use Rattle.std.specs.Prelude.{IsSome}
 use Rattle.std.specs.Option.{option_map}
 use Rattle.std.proofs.lemmas.Option.{same_Some}
@@ -8,11 +8,13 @@ use Rattle.fv_model.specs.Space.{span_of}
 use Rattle.fv_volume.specs.declared.state.VolumeState.{VolumeState}
 use Rattle.fv_volume.specs.Asking.{snap_named}
 use Rattle.fv_volume.specs.Cloning.{base_on}
-use Rattle.fv_volume.specs.Slots.{is_named, sum_of, HasName, IsFirstFree, NoneHasName}
+use Rattle.fv_volume.specs.Slots.{is_named, sum_of, IsFirstFree, NoneHasName}
 use Rattle.fv_volume.specs.States.{States, state_at}
 use Rattle.fv_volumes.specs.Creating.{Admits}
 use Rattle.fv_clone.specs.declared.admitting.Admitted.{Admitted}
 use Rattle.fv_clone.specs.Admitting.{is_split, CanMake}
+use Rattle.fv_mirror.specs.declared.admitting.Admitted.{Admitted as Mirror}
+use Rattle.fv_mirror.specs.Admitting.{CanMake as CanMirror}
 use Rattle.fv_cp.specs.Placing.{core_of, KeepCores}
 use Rattle.fv_aggregate.specs.declared.session.Session.{Session}
 use Rattle.fv_aggregate.specs.Adding.{StillAdmits}
@@ -105,6 +107,38 @@ module _ (states stay : States) (cores : KeepCores states stay) where
         room = omega (arith, sum, is.room);
       }
 
+  -- and so can a mirror
+  mirrors_by_cores : (blocks : ℕ) (name : List ℕ) (size : ℕ) (kind : Kind) (a : Mirror) → CanMirror states blocks name size kind a → CanMirror stay blocks name size kind a
+  mirrors_by_cores blocks name size kind a is =
+      let home = is.asked.source.home in
+      let now = core_there home.slot home.volume home.there in
+      let y : VolumeState = now.0 in
+      let same : core_of y ≡ core_of home.volume = now.1.1 in
+      let sum : sum_of stay ≡ sum_of states = commits_kept states stay cores in
+      record {
+        asked = record {
+          size_is = is.asked.size_is;
+          source = record {
+            home = record {
+              slot = home.slot;
+              within = home.within;
+              has = record { named = named_still home.slot a.source.name ∙ home.has.named; first = λ s low. named_still s a.source.name ∙ home.has.first s low };
+              volume = y;
+              there = now.1.0;
+            };
+            snap = is.asked.source.snap;
+            found = ap (λ (z : VolumeState). snap_named z.snapshots a.source.snapshot) same ∙ is.asked.source.found;
+          };
+          name_is = none_still name is.asked.name_is;
+        };
+        source_is = is.source_is ∙ sym (ap (λ (z : VolumeState). base_on z is.asked.source.snap) same);
+        span_is = is.span_is ∙ ap (λ (z : VolumeState). span_of size 0 z.span) (sym same);
+        most = is.most;
+        free = free_still a.slot is.free;
+        fits = is.fits;
+        room = omega (arith, sum, is.room);
+      }
+
 pub admits_still : (old new : Session) → length old.volumes ≡ 64 → length new.volumes ≡ 64 → KeepCores old.volumes new.volumes → new.pool.found.blocks ≡ old.pool.found.blocks → StillAdmits old new
 admits_still old new long long_too cores blocks name size kind slot span is =
     subst (λ (n : ℕ). Admits new.volumes n name size kind slot span) (sym blocks) (admits_by_cores old.volumes new.volumes cores old.pool.found.blocks name size kind slot span long long_too is)
@@ -113,3 +147,8 @@ pub makes_still : (old new : Session) → KeepCores old.volumes new.volumes → 
     → CanMake old.volumes old.pool.found.blocks name size kind a → CanMake new.volumes new.pool.found.blocks name size kind a
 makes_still old new cores blocks name size kind a is =
     subst (λ (n : ℕ). CanMake new.volumes n name size kind a) (sym blocks) (makes_by_cores old.volumes new.volumes cores old.pool.found.blocks name size kind a is)
+
+pub mirrors_still : (old new : Session) → KeepCores old.volumes new.volumes → new.pool.found.blocks ≡ old.pool.found.blocks → (name : List ℕ) (size : ℕ) (kind : Kind) (a : Mirror)
+    → CanMirror old.volumes old.pool.found.blocks name size kind a → CanMirror new.volumes new.pool.found.blocks name size kind a
+mirrors_still old new cores blocks name size kind a is =
+    subst (λ (n : ℕ). CanMirror new.volumes n name size kind a) (sym blocks) (mirrors_by_cores old.volumes new.volumes cores old.pool.found.blocks name size kind a is)

@@ -4,6 +4,7 @@ use Rattle.std.specs.FinMap as fin
 use Rattle.fv_disk.specs.Shown.{Shown, Rose}
 use Rattle.fv_disk.specs.Crash.{Leaves}
 use Rattle.fv_disk.specs.DiskCalls.{OnlyReads}
+use Rattle.fv_disk.specs.Sparing.{Spares}
 use Rattle.fv_model.specs.declared.answers.Refusal.{Refusal}
 use Rattle.fv_model.specs.declared.answers.Refusal.TheVariants.{NoSnapshot, NoVolume, Range, SnapshotInUse, Syntax}
 use Rattle.fv_model.specs.declared.answers.Reply.{Reply}
@@ -11,6 +12,7 @@ use Rattle.fv_model.specs.declared.answers.Reply.TheVariants.{Names, Refused}
 use Rattle.fv_model.specs.declared.commands.Command.{Command}
 use Rattle.fv_model.specs.declared.commands.Command.TheVariants.{Cp, SnapDelete, SnapList, VolDestroy, VolList}
 use Rattle.fv_model.specs.Machines.{Machine}
+use Rattle.fv_aggmap.specs.Space.{IsFree}
 use Rattle.fv_container.specs.Chains.{TellsEntries, container_at, own_entry, slot_count}
 use Rattle.fv_snapshot.specs.Deleting.{is_used}
 use Rattle.fv_volume.specs.Asking.{snap_named, table_named}
@@ -26,7 +28,7 @@ use Rattle.fv_aggregate.specs.declared.session.Session.{Session}
 use Rattle.fv_aggregate.specs.Adding.{IsPointed}
 use Rattle.fv_aggregate.specs.Asking.{AsksWithin}
 use Rattle.fv_aggregate.specs.Causes.{KeepsEnds}
-use Rattle.fv_aggregate.specs.Commands.{Asked, changed_by, dirty_limit, finds_file, has_range, is_built, is_get, is_refusal, managed_by, places_files, reads_leaves, removes_volume, room_by, slot_named, snapped_by, snapshot_asked, snapshot_needed, volume_asked}
+use Rattle.fv_aggregate.specs.Commands.{Asked, AsksCopy, changed_by, copies_blocks, dirty_limit, finds_file, has_range, is_built, is_get, is_refusal, managed_by, places_files, reads_leaves, removes_volume, room_by, slot_named, snapped_by, snapshot_asked, snapshot_needed, volume_asked}
 pub use Rattle.fv_aggregate.specs.Damages.{HasDamage, HasFilesToPlace, HasLoaded, HasLostLeaf, LacksBlocks}
 use Rattle.fv_aggregate.specs.Deciding.{DecidesMaking}
 use Rattle.fv_aggregate.specs.Failing.{IsUnmadeIn}
@@ -66,15 +68,23 @@ pub record Row (Reason Counts Kept Written : Type 0) : Type 0 where
   -- what was written
   pub disk : Written
 
--- Why a call that may add `room` blocks, and asks for this, wasn't done. Want of memory and damage write nothing, but where room had to be
--- made first.
+-- Nothing but copies of blocks was written: each block that the root on the disk holds, or that the next one would hold, is as it was, in what reads
+-- give and in what a crash leaves, now or at any moment of the call. So it is only where copies are asked for.
+abbrev pub WritesCopies : Asked → Shown → Session → Shown → Type 0
+WritesCopies asked before old after = AsksCopy asked × Spares (λ b. IsFree old.pool.map b → ⊥) before after (Ok tt)
+
+-- What was written where a call wasn't done for want of memory or for damage: nothing, but where room had to be made first, and where it copies blocks.
+abbrev pub HasWritten : ℕ → Asked → Shown → Session → Shown → Type 0
+HasWritten room asked before old after = OnlyReads before after ⊎ ((dirty_limit < old.pending + room) ⊎ WritesCopies asked before old after)
+
+-- why a call that may add `room` blocks, and asks for this, wasn't done
 abbrev pub HasFault : ℕ → Asked → Shown → Session → Shown → Session → Fault → Type 0
 HasFault room asked before old after new DiskFault =
     Row (IsNone old.failed) (RoseOnDisk before after) (FailsByWrite before after new) (Unit {0})
 HasFault room asked before old after new (Damaged at want found) =
-    Row (HasDamage room asked before old after new at want found) (SameCounts before after) (IsNone new.failed) (OnlyReads before after ⊎ (dirty_limit < old.pending + room))
+    Row (HasDamage room asked before old after new at want found) (SameCounts before after) (IsNone new.failed) (HasWritten room asked before old after)
 HasFault room asked before old after new Memory =
-    Row (IsNone old.failed) (SameCounts before after) (IsNone new.failed) (OnlyReads before after ⊎ (dirty_limit < old.pending + room))
+    Row (IsNone old.failed) (SameCounts before after) (IsNone new.failed) (HasWritten room asked before old after)
 HasFault room asked before old after new (Failed faults) =
     Row (old.failed ≡ Some faults) (SameCounts before after) (new ≡ old) (OnlyReads before after)
 
@@ -228,17 +238,17 @@ pub record FindsVolume (states : States) (command : Command) (name : List ℕ) (
 -- of containers, which without files in memory a removal alone does; and but for these it leaves the session then where memory ran out. But for a
 -- removal and for one that places files it takes no block then and gives none back. `vol list` answers the names of the session's volumes, and `snap list` those of a volume's snapshots, and both leave all as it was. A `cp`
 -- that is done leaves nothing pending and no file in memory; one that isn't, in a session that goes on, only read, and left all but leaves where no file
--- was in memory. Damage comes for want of blocks or of a leaf alone. A command on a whole volume that stays is answered, without a fault, and a volume is
--- removed, or nothing changed. One on snapshots is refused without its volume, one that removes or restores a snapshot exactly where that isn't
+-- was in memory. Damage comes for want of blocks or of a leaf alone. Of a command that copies blocks these say nothing. A command on a whole
+-- volume that stays is answered, without a fault, and a volume is removed, or nothing changed. One on snapshots is refused without its volume, one that removes or restores a snapshot exactly where that isn't
 -- there, and one that removes a snapshot exactly where a clone stands on that, too. What is answered where a volume is to be
 -- made is decided by the volumes and the blocks of the aggregate before it; a fault may come in its place.
 pub record IsPlain {D : Type 0} (command : Command) (shown : Shown) (before : D) (old : Session) (shown_after : Shown) (after : D) (new : Session) (result : Result Reply Fault) : Type 0 where
   pub refused : IfOk result (λ reply. IsTrue (is_refusal reply) → IsUntouched before old after new)
-  pub calm : command ≢ Cp → reads_leaves command ≡ false → IsWithinLimit old command → after ≡ before
-  pub idle : command ≢ Cp → removes_volume command ≡ false → HaveNoFiles old.volumes → IsWithinLimit old command → after ≡ before
-  pub map : command ≢ Cp → removes_volume command ≡ false → places_files command ≡ false → IsWithinLimit old command → new.pool.map ≡ old.pool.map
-  pub wanting : command ≢ Cp → reads_leaves command ≡ false → IsWithinLimit old command → IfErr result (λ e. e ≡ Memory → new ≡ old)
-  pub damage : IfErr result (IsForWant shown old shown_after new)
+  pub calm : command ≢ Cp → copies_blocks command ≡ false → reads_leaves command ≡ false → IsWithinLimit old command → after ≡ before
+  pub idle : command ≢ Cp → copies_blocks command ≡ false → removes_volume command ≡ false → HaveNoFiles old.volumes → IsWithinLimit old command → after ≡ before
+  pub map : command ≢ Cp → copies_blocks command ≡ false → removes_volume command ≡ false → places_files command ≡ false → IsWithinLimit old command → new.pool.map ≡ old.pool.map
+  pub wanting : command ≢ Cp → copies_blocks command ≡ false → reads_leaves command ≡ false → IsWithinLimit old command → IfErr result (λ e. e ≡ Memory → new ≡ old)
+  pub damage : copies_blocks command ≡ false → IfErr result (IsForWant shown old shown_after new)
   pub unbuilt : IsNone old.failed → is_built command ≡ false → result ≡ Ok (Refused Syntax)
   pub listed : command ≡ VolList → IfOk result (λ reply. reply ≡ Names (names_from old.volumes 0 slot_count))
   pub untouched : command ≡ VolList → IsUntouched before old after new

@@ -1,5 +1,5 @@
 -- Which commands are carried out so far, what a session answers to each, and how many blocks it may add.
-use Rattle.std.specs.Prelude.{◌≡◌, ℕ, ◌==◌, List, [], ◌∷◌, Option, Some, None, Bool, true, false, ◌||◌, if◌then◌else◌, nat_le}
+use Rattle.std.specs.Prelude.{◌≡◌, ◌+◌, ℕ, ◌==◌, List, [], ◌∷◌, Option, Some, None, Bool, true, false, ◌||◌, if◌then◌else◌, nat_le}
 use Rattle.std.specs.Option.{is_none, is_some, option_map_or}
 use Rattle.std.specs.FinMap as fin
 use Rattle.std.specs.FinSet as set
@@ -28,7 +28,6 @@ unfoldable pub is_built : Command → Bool
 is_built (New volume file reserve) = reserve == 0
 is_built (SplitStart volume) = false
 is_built (SplitFinish volume) = false
-is_built (Mirror volume snapshot from size kind) = false
 is_built (Clean volume) = false
 is_built (Work steps) = false
 is_built command = true
@@ -123,6 +122,11 @@ volume_asked command = None
 unfoldable pub reads_files : Command → Bool
 reads_files command = is_some (changed_by command) || is_some (volume_asked command)
 
+-- whether a command copies blocks of a volume at once, to blocks that neither the root on the disk nor the next one holds
+abbrev pub copies_blocks : Command → Bool
+copies_blocks (Mirror source snapshot mirror size kind) = true
+copies_blocks command = false
+
 -- the snapshot of it that is asked
 abbrev pub snapshot_asked : Command → Option (List ℕ)
 snapshot_asked (Get volume snapshot file index) = snapshot
@@ -171,18 +175,20 @@ most_overhead = 4151
 abbrev pub snap_room : ℕ
 snap_room = 32
 
--- The room of a command: so many blocks it may add, which the next consistency point writes. A snapshot that is made adds the blocks of its map, and
--- `maps` tells of each volume how many those are. A volume that is made adds its overhead; a clone's comes of its span, and `spans` tells that of each
--- volume, snapshot of it and size.
-unfoldable pub room_with : (List ℕ → ℕ) → (List ℕ → List ℕ → ℕ → ℕ) → Command → ℕ
-room_with maps spans (VolCreate volume size kind) = overhead (span_of size 0 0)
-room_with maps spans (New volume file reserve) = if reserve == 0 then file_room else 0
-room_with maps spans (Put volume file index block) = file_room
-room_with maps spans (Cut volume file length) = file_room
-room_with maps spans (Remove volume file) = file_room
-room_with maps spans (SnapCreate volume snapshot) = maps volume
-room_with maps spans (CloneCreate clone parent snapshot size kind) = overhead (spans parent snapshot size)
-room_with maps spans command = 0
+-- The room of a command: so many blocks it may add. A snapshot that is made adds the blocks of its map, and `maps` tells of each volume how many those
+-- are. A volume that is made adds its overhead. A clone's comes of its span, and `spans` tells that of each volume, snapshot of it and size. A mirror's
+-- comes of its span, which `wides` tells of each volume and size; and it adds the blocks that it copies, too, and `copies` tells of each volume,
+-- snapshot of it and size how many those are.
+unfoldable pub room_with : (List ℕ → ℕ) → (List ℕ → List ℕ → ℕ → ℕ) → (List ℕ → ℕ → ℕ) → (List ℕ → List ℕ → ℕ → ℕ) → Command → ℕ
+room_with maps spans wides copies (VolCreate volume size kind) = overhead (span_of size 0 0)
+room_with maps spans wides copies (New volume file reserve) = if reserve == 0 then file_room else 0
+room_with maps spans wides copies (Put volume file index block) = file_room
+room_with maps spans wides copies (Cut volume file length) = file_room
+room_with maps spans wides copies (Remove volume file) = file_room
+room_with maps spans wides copies (SnapCreate volume snapshot) = maps volume
+room_with maps spans wides copies (CloneCreate clone parent snapshot size kind) = overhead (spans parent snapshot size)
+room_with maps spans wides copies (Mirror source snapshot mirror size kind) = overhead (wides source size) + copies source snapshot size
+room_with maps spans wides copies command = 0
 
 -- the blocks of the map of a snapshot of a machine's volume; none where no volume has the name
 abbrev pub map_in : Machine → List ℕ → ℕ
@@ -200,9 +206,25 @@ span_on v snapshot size = option_map_or (λ t. span_within (span_of size (set.le
 abbrev pub span_in : Machine → List ℕ → List ℕ → ℕ → ℕ
 span_in m parent snapshot size = option_map_or (λ v. span_on v snapshot size) (fin.get m.volumes parent) 0
 
+-- the span of a mirror of this size of a machine's volume, as far as a volume can have it; none where no volume has the name
+abbrev pub wide_in : Machine → List ℕ → ℕ → ℕ
+wide_in m source size = option_map_or (λ v. span_within (span_of size 0 v.span)) (fin.get m.volumes source) 0
+
+-- so many blocks a mirror copies, no more than its size
+abbrev pub copies_within : ℕ → ℕ → ℕ
+copies_within size count = if nat_le count size then count else size
+
+-- those of a snapshot of a volume; none where the volume hasn't that snapshot
+abbrev pub copies_on : Volume → List ℕ → ℕ → ℕ
+copies_on v snapshot size = option_map_or (λ t. copies_within size (set.len (ids_of t))) (fin.get v.snapshots snapshot) 0
+
+-- that in a machine; none where no volume has the name
+abbrev pub copies_in : Machine → List ℕ → List ℕ → ℕ → ℕ
+copies_in m source snapshot size = option_map_or (λ v. copies_on v snapshot size) (fin.get m.volumes source) 0
+
 -- the room of a command in a machine
 abbrev pub room_of : Machine → Command → ℕ
-room_of m command = room_with (map_in m) (span_in m) command
+room_of m command = room_with (map_in m) (span_in m) (wide_in m) (copies_in m) command
 
 -- the blocks of the map of a snapshot of a slot's volume; none of a free slot
 abbrev pub map_at : Option VolumeState → ℕ
@@ -224,13 +246,33 @@ unfoldable pub span_among : States → List ℕ → List ℕ → List ℕ → �
 span_among states [] parent snapshot size = 0
 span_among states (slot ∷ rest) parent snapshot size = if is_named (state_at states slot) parent then span_at (state_at states slot) snapshot size else span_among states rest parent snapshot size
 
+-- the span of a mirror of a slot's volume; none of a free slot
+abbrev pub wide_at : Option VolumeState → ℕ → ℕ
+wide_at None size = 0
+wide_at (Some x) size = span_within (span_of size 0 x.span)
+
+-- that of the first volume of a name in these slots; none where no volume has it
+unfoldable pub wide_among : States → List ℕ → List ℕ → ℕ → ℕ
+wide_among states [] source size = 0
+wide_among states (slot ∷ rest) source size = if is_named (state_at states slot) source then wide_at (state_at states slot) size else wide_among states rest source size
+
+-- so many blocks a mirror of a snapshot of a slot's volume copies, by the numbers in the snapshot's map slot; none of a free slot
+abbrev pub copies_at : Option VolumeState → List ℕ → ℕ → ℕ
+copies_at None snapshot size = 0
+copies_at (Some x) snapshot size = option_map_or (λ q. copies_within size (count_in x q.slot)) (snap_named x.snapshots snapshot) 0
+
+-- that of the first volume of a name in these slots; none where no volume has it
+unfoldable pub copies_among : States → List ℕ → List ℕ → List ℕ → ℕ → ℕ
+copies_among states [] source snapshot size = 0
+copies_among states (slot ∷ rest) source snapshot size = if is_named (state_at states slot) source then copies_at (state_at states slot) snapshot size else copies_among states rest source snapshot size
+
 -- the room of a command by a session's volumes
 abbrev pub room_by : States → Command → ℕ
-room_by states command = room_with (map_among states slots) (span_among states slots) command
+room_by states command = room_with (map_among states slots) (span_among states slots) (wide_among states slots) (copies_among states slots) command
 
 -- the most room of a command, whatever the volume and the snapshot
 abbrev pub most_room : Command → ℕ
-most_room command = room_with (λ volume. snap_room) (λ parent snapshot size. greatest_span) command
+most_room command = room_with (λ volume. snap_room) (λ parent snapshot size. greatest_span) (λ source size. greatest_span) (λ source snapshot size. size) command
 
 -- so many blocks may be pending, with the room of the next command, before a consistency point makes room for it
 abbrev pub dirty_limit : ℕ
@@ -250,6 +292,13 @@ pub data Asked : Type 0 where
   AsksLeaves : (slot : ℕ) → Asked
   -- the active table of a slot's volume, or that of a snapshot of it, and whether a cell of a file is read in it
   AsksTable : (slot : ℕ) (snapshot : Option (List ℕ)) (cell : Bool) → Asked
+  -- copies of the blocks of a snapshot of a slot's volume
+  AsksCopies : (slot : ℕ) (snapshot : List ℕ) → Asked
+
+-- it is copies that are asked for
+abbrev pub AsksCopy : Asked → Type 0
+AsksCopy (AsksCopies slot snapshot) = Unit {0}
+AsksCopy asked = ⊥
 
 -- the slot of the first volume of a name in these slots, and the one behind the last where none of them has it
 unfoldable pub slot_among : States → List ℕ → List ℕ → ℕ
@@ -260,8 +309,8 @@ abbrev pub slot_named : States → List ℕ → ℕ
 slot_named states name = slot_among states slots name
 
 -- What a command asks for by a session's volumes: a `cp` asks for a point; a snapshot that is made or removed for the placing of its
--- volume's files; the removal of a volume for the leaves of its container; a change of a file for the active table of its volume, and a look at
--- files for the table that it names.
+-- volume's files; the removal of a volume for the leaves of its container; a mirror for copies of its snapshot; a change of a file for the active
+-- table of its volume, and a look at files for the table that it names.
 unfoldable pub asked_by : States → Command → Asked
 asked_by states (New volume file reserve) = if reserve == 0 then AsksTable (slot_named states volume) None false else AsksNothing
 asked_by states (Put volume file index block) = AsksTable (slot_named states volume) None false
@@ -274,5 +323,6 @@ asked_by states (Probe volume file index) = AsksTable (slot_named states volume)
 asked_by states (SnapCreate volume snapshot) = AsksPlacing (slot_named states volume)
 asked_by states (SnapDelete volume snapshot) = AsksPlacing (slot_named states volume)
 asked_by states (VolDestroy volume) = AsksLeaves (slot_named states volume)
+asked_by states (Mirror source snapshot mirror size kind) = AsksCopies (slot_named states source) snapshot
 asked_by states Cp = AsksPoint
 asked_by states command = AsksNothing

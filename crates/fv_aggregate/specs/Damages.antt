@@ -17,14 +17,20 @@ use Rattle.fv_volume.specs.declared.tables.TableAsked.{TableAsked}
 use Rattle.fv_volume.specs.Asking.{standing_of, table_named, TellsBy}
 use Rattle.fv_volume.specs.OneVolume.{home_in}
 use Rattle.fv_volume.specs.States.{States, state_at}
+use Rattle.fv_mirror.specs.declared.admitting.Admitted.{Admitted}
+use Rattle.fv_mirror.specs.Making.{CanCopy}
 use Rattle.fv_cp.specs.Lent.{blocks_asked}
 use Rattle.fv_cp.specs.Placing.{AreButPlaced, HaveNoFiles, HaveNoneBefore, KeepShapes, MayFail, PlacesEntries, RestsPlaced}
 use Rattle.fv_aggregate.specs.declared.session.Session.{Session}
 use Rattle.fv_aggregate.specs.Adding.{IsPointed}
 use Rattle.fv_aggregate.specs.Asking.{AsksWithin, IsShort}
-use Rattle.fv_aggregate.specs.Commands.{dirty_limit, Asked, AsksLeaves, AsksPlacing, AsksPoint, AsksTable}
+use Rattle.fv_aggregate.specs.Commands.{dirty_limit, Asked, AsksCopies, AsksLeaves, AsksPlacing, AsksPoint, AsksTable}
 use Rattle.fv_aggregate.specs.Reading.{IsAsRead}
 use Rattle.fv_aggregate.specs.Standing.{taken_since}
+
+-- what is pending and some room pass the dirty limit together, so that a call that may add this room is preceded by a consistency point
+abbrev pub PassesLimit : ℕ → ℕ → Type 0
+PassesLimit pending room = (0 < room) × (dirty_limit < pending + room)
 
 -- ---- at a point
 
@@ -109,11 +115,17 @@ pub record HasBadTable (asked : Asked) (disk : Shown) (session new : Session) (a
   pub same : now ≡ record state { map = now.map; files = now.files; changed = now.changed }
   pub maps : GivesUp state.map now.map
 
--- ---- in a call
+-- ---- in copies
 
--- what is pending and some room pass the dirty limit together, so that a call that may add this room is preceded by a consistency point
-abbrev pub PassesLimit : ℕ → ℕ → Type 0
-PassesLimit pending room = (0 < room) × (dirty_limit < pending + room)
+-- A snapshot of which copies are asked for can't be copied: it isn't whole, or too few blocks are free. What is copied behind a point that made room
+-- isn't told.
+pub record HasBadCopies (room : ℕ) (asked : Asked) (disk : Shown) (session : Session) : Type 0 where
+  pub fresh : IsNone session.failed
+  pub admitted : Admitted
+  pub asks : asked ≡ AsksCopies admitted.source.parent admitted.source.snapshot
+  pub not : (CanCopy disk session.volumes session.pool admitted → ⊥) ⊎ PassesLimit session.pending room
+
+-- ---- in a call
 
 -- a call comes to a consistency point, since it asks for one, or to make room
 abbrev pub ComesToPoint : ℕ → Asked → Session → Type 0
@@ -166,9 +178,9 @@ pub record HasDamageBehind (asked : Asked) (disk : Shown) (old new : Session) (a
   pub left : IsPointed disk session pointed
   pub bad : HasBadTable asked disk pointed new at want found
 
--- What is damaged where a call that may add `room` blocks, and asks for this, answers so, by what the disk shows then. Nothing was written,
--- but where a point made room for a command that passes the dirty limit.
+-- What is damaged where a call that may add `room` blocks, and asks for this, answers so, by what the disk shows then, and of copies by what it showed
+-- before. Nothing was written, but where a point made room for a command that passes the dirty limit, and where blocks are copied.
 abbrev pub HasDamage : ℕ → Asked → Shown → Session → Shown → Session → ℕ → ℕ → ℕ → Type 0
 HasDamage room asked before old after new at want found =
     (OnlyReads before after × (HasDamageIn room asked after old new at want found ⊎ HasDamageLater room asked after old new at want found))
-    ⊎ (PassesLimit old.pending room × HasDamageBehind asked after old new at want found)
+    ⊎ ((PassesLimit old.pending room × HasDamageBehind asked after old new at want found) ⊎ HasBadCopies room asked before old)

@@ -18,6 +18,7 @@ pub mod Deciding
 pub mod Delayed
 pub mod Opening
 pub mod Adding
+pub mod Mirroring
 pub mod Answers
 pub mod Telling
 pub mod Snapping

@@ -75,8 +75,9 @@ pub record StandsFor (disk : Shown) (session : Session) (last now : Machine) : T
   -- among the pending blocks are the unwritten ones, and those by which the overheads have passed those of the last point
   pub pending : unwritten session + overheads_in session.volumes ≤ overheads (view_at (root_found session.pool.found) disk.reads) + session.pending
   pub files : unwritten session ≤ session.pending
-  -- and the dirty limit bounds those of files, placed or not, and what else was taken
-  pub few : pending_files session.volumes + taken_since session.pool.map < dirty_limit
+  -- a flush places fewer blocks than the dirty limit, and fewer than are free
+  pub few : pending_files session.volumes < dirty_limit
+  pub free : pending_files session.volumes < free_blocks session.pool.map
   -- beside the overheads of the last point there is room for what is pending, and for 256 blocks at least
   pub room : overheads (view_at (root_found session.pool.found) disk.reads) + max 256 session.pending ≤ clear_blocks session.pool.map
 

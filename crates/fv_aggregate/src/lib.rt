@@ -8,6 +8,7 @@ mod delays;
 mod fault;
 mod files;
 mod managing;
+mod mirroring;
 mod numbers;
 mod opening;
 mod points;

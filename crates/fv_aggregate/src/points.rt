@@ -1,6 +1,6 @@
 //! The consistency points of a session.
 
-ghost use Rattle.std.specs.Prelude.{◌≡◌, ◌≤◌, ◌<◌, ◌+◌, ◌*◌, nat_le, max, IsTrue, IsNone, IfErr, IfOk, OnErr, OnOk, Some};
+ghost use Rattle.std.specs.Prelude.{◌≡◌, ◌≤◌, ◌<◌, ◌+◌, nat_le, max, IsTrue, IsNone, IfErr, IfOk, OnErr, OnOk, Some};
 ghost use Rattle.fv_disk.specs.Shown.{Rose};
 ghost use Rattle.fv_model.specs.Machines.{Machine, capacity};
 ghost use Rattle.fv_model.specs.Space.{commits};
@@ -36,7 +36,7 @@ impl Session {
         requires some { 0 < room }
         ensures runs { Runs room AsksNothing (λ m. m) (D.shown disk.old) self.old (D.shown disk.new) self.new result }
         ensures room { IsTrue (D.shown disk.old).tells → (last m : Machine) → StandsFor (D.shown disk.old) self.old last m
-            → commits m + 2 * room ≤ capacity m.blocks → OnOk result (HasRoom (D.shown disk.new) self.new room) }
+            → commits m + room ≤ capacity m.blocks → OnOk result (HasRoom (D.shown disk.new) self.new room) }
         ensures pending { self.new.pending ≤ self.old.pending }
         ensures few { OnOk result (self.new.pending + room ≤ max dirty_limit room) }
         ensures admits { OnOk result (StillAdmits self.old self.new) }
@@ -89,7 +89,7 @@ impl Session {
         ensures kept { IsTrue (D.shown disk.old).tells → (last m : Machine) → StandsFor (D.shown disk.old) self.old last m
             → IsNone self.new.failed → OnErr result (StandsFor (D.shown disk.new) self.new last m) }
         ensures room { IsTrue (D.shown disk.old).tells → (last m : Machine) → StandsFor (D.shown disk.old) self.old last m
-            → commits m + 2 * want ≤ capacity m.blocks → OnOk result (HasRoom (D.shown disk.new) self.new want) }
+            → commits m + want ≤ capacity m.blocks → OnOk result (HasRoom (D.shown disk.new) self.new want) }
     {
         let before = disk.write_faults();
         match full_point(

@@ -108,7 +108,7 @@ impl Session {
     /// limit of 256 together with the blocks pending is preceded by a consistency point, and contracts say that no other one is. One that is
     /// refused changes nothing but the cache and the numbers of files in memory: so no point comes before it. Of a command on files whose room
     /// passes the limit contracts say this where the session stands for a machine. So far the commands that begin with `vol` or `snap`, `clone create`,
-    /// `cp`, `new` without a reserve, `put`, `get`, `len`, `cut`, `rm`, `ls` and `probe` are built, and every other command is refused as none.
+    /// `mirror`, `cp`, `new` without a reserve, `put`, `get`, `len`, `cut`, `rm`, `ls` and `probe` are built, and every other one is refused as none.
     ///
     /// `steps` counts the unknown pointers that a `get` passes; there are none where the volume has no unknown place. A `probe` answers how many
     /// lie on the path to its cell, and counts none.
@@ -117,10 +117,10 @@ impl Session {
     /// `DiskFault` comes only where a read, a write or a barrier failed in this call. Where it was a write or a barrier the session
     /// has failed: it answers `Failed`, with the disk's count of faults of that moment, to every call from then on, and reaches the
     /// disk no more. `Memory` comes where memory ran out. `Damaged` comes where fewer blocks or numbers are free than a consistency point
-    /// asks for, or a block of a volume's files, or a leaf of its container, isn't as it has to be. Over an image that stands for a machine it
-    /// never comes; over another one contracts tell which of these it was, that the command came to it, of which volume and table, and at
-    /// which place (`HasDamage`). After these, and after a read that failed, the session goes on; where it stood for a machine it still stands
-    /// for it.
+    /// asks for, or a block of a volume's files, or a leaf of its container, isn't as it has to be; and of a mirror where what it copies isn't.
+    /// Over an image that stands for a machine it never comes; over another one contracts tell which of these it was, that the command came to
+    /// it, of which volume and table, and at which place (`HasDamage`). After these, and after a read that failed, the session goes on; where it
+    /// stood for a machine it still stands for it.
     /// A command on files that ends with a fault before which no point came made no change: what it left is in memory alone (`IsUnmade`).
     ///
     /// Costs a step for each slot, and memory for the names in `vol list`. A command on files costs what the call of `VolumeState` does.
@@ -130,11 +130,15 @@ impl Session {
     /// Where room has to be made the command is judged first, which costs its reads twice, from the cache where they fit there. `vol create`
     /// costs a step for each VVBN of the new volume, and holds a bit for each. `clone create` costs a step for each word of 64 VVBNs of the clone,
     /// and for each region of its container, and reads no file, however many the snapshot has; it takes memory for three bits for each VVBN of the
-    /// clone's span: for two maps, which it holds, and for their union. `vol stat`, `vol resize` and `vol guarantee` take no memory
+    /// clone's span: for two maps, which it holds, and for their union. `mirror` costs a step for each word of 64 numbers of its source's span, a
+    /// read, a look-up and a write for each block that the snapshot reaches, and a barrier; it takes memory for the entries of its container, for
+    /// three bits for each VVBN of its span and for a bit for each place, and keeps none of the blocks. Its room is its overhead and all these
+    /// blocks: so where both pass the limit a point comes before it, and the first blocks of the mirror are written behind that. Where it ends with a
+    /// fault free blocks may have been written. `vol stat`, `vol resize` and `vol guarantee` take no memory
     /// and walk nothing but the slots; `vol destroy` costs a read for each leaf of the volume's container that isn't in memory, a step for each
     /// entry and each node of it, and memory for a bit for each block that an aggregate can have. `snap create`, `snap delete` and
     /// `snap restore` cost what the calls of `fv_snapshot` do, where the first two read the leaves of what they place, and `snap list` memory for
-    /// the names; none of them writes but by a point. Where a consistency point runs it costs what `consistency_point` does.
+    /// the names; but for `mirror` none of these writes but by a point. Where a consistency point runs it costs what `consistency_point` does.
     /// `docs/SPACE.md` has the dirty limit, and `docs/MACHINE.md` the commands.
     pub fn apply<D: Disk, L: Ledger>(
         &mut self,
@@ -181,6 +185,15 @@ impl Session {
                 kind,
             } => {
                 return self.clone_volume(disk, clone, parent, snapshot, *size, *kind, into);
+            }
+            Command::Mirror {
+                source,
+                snapshot,
+                volume,
+                size,
+                kind,
+            } => {
+                return self.mirror_volume(disk, source, snapshot, volume, *size, *kind, into);
             }
             Command::VolList => {
                 list(into, names_of(self.alloc, &self.volumes)?);

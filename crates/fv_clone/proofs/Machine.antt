@@ -113,20 +113,20 @@ module _ (disk : Disk) (pool : Pool) (states : States) (long : length states ≡
   how_many : fin.len m.volumes ≡ length all
   how_many = ap fin.len (fin.same_map name_total name_ties m.volumes (fin.from_entries {R = name_cmp} all) (λ q. by_name q ∙ sym (fin.get-from_entries name_total all q))) ∙ counted all distinct
 
-  no_more : IsFull states → has_all_volumes m ≡ true
+  pub no_more : IsFull states → has_all_volumes m ≡ true
   no_more full =
       let every : length all ≡ length states = all_named meant states 0 (λ s lt. full.full s (omega (arith, lt, long))) in
       grind (arith, nat_tests, how_many, every, long)
 
-  some_more : (slot : ℕ) → IsFirstFree states slot → has_all_volumes m ≡ false
+  pub some_more : (slot : ℕ) → IsFirstFree states slot → has_all_volumes m ≡ false
   some_more slot free =
       let few : length all < length states = fewer_named meant states 0 slot (omega (arith, free.within, long)) free.free in
       grind (arith, nat_tests, how_many, few, long)
 
-  taken : (name : List ℕ) (slot : ℕ) → HasName states slot name → is_taken m name ≡ true
+  pub taken : (name : List ℕ) (slot : ℕ) → HasName states slot name → is_taken m name ≡ true
   taken name slot its = ap is_some (by_name name) ∙ some_named meant states 0 slot name its.named
 
-  is_free : (name : List ℕ) → NoneHasName states name → is_taken m name ≡ false
+  pub is_free : (name : List ℕ) → NoneHasName states name → is_taken m name ≡ false
   is_free name none = ap is_some (has.none name none)
 
   -- ---- the parent
@@ -143,7 +143,7 @@ module _ (disk : Disk) (pool : Pool) (states : States) (long : length states ≡
         ∙ is_there home.slot home.volume home.there ∙ ap (λ (c : Content). Some (volume_as home.volume c)) (tells home.slot home.volume home.there)
 
     -- a test of it
-    of_home : (test : Volume → Bool) → of_volume m parent test ≡ test its
+    pub of_home : (test : Volume → Bool) → of_volume m parent test ≡ test its
     of_home test = ap (λ (o : Option Volume). option_map_or test o false) parent_is
 
     split_is : of_volume m parent is_splitting ≡ is_split home.volume.base
@@ -156,7 +156,7 @@ module _ (disk : Disk) (pool : Pool) (states : States) (long : length states ≡
     snap_is : (snapshot : List ℕ) → fin.get its.snapshots snapshot ≡ option_map (λ (q : Snap). table_told (standing_kept (blocks_in disk pool home.volume) q)) (snap_named home.volume.snapshots snapshot)
     snap_is snapshot = told_named (blocks_in disk pool home.volume) snapshot home.volume.snapshots
 
-    lacks_is : (snapshot : List ℕ) → snap_named home.volume.snapshots snapshot ≡ None → lacks_snapshot m parent (Some snapshot) ≡ true
+    pub lacks_is : (snapshot : List ℕ) → snap_named home.volume.snapshots snapshot ≡ None → lacks_snapshot m parent (Some snapshot) ≡ true
     lacks_is snapshot none = of_home (λ x. is_none (fin.get x.snapshots snapshot))
         ∙ ap is_none (snap_is snapshot ∙ ap (option_map (λ (q : Snap). table_told (standing_kept (blocks_in disk pool home.volume) q))) none)
 
@@ -176,20 +176,20 @@ module _ (disk : Disk) (pool : Pool) (states : States) (long : length states ≡
       abbrev table : Table
       table = table_told (standing_kept (blocks_in disk pool origin) source.snap)
 
-      table_is : fin.get old.snapshots snapshot ≡ Some table
+      pub table_is : fin.get old.snapshots snapshot ≡ Some table
       table_is = snap_is parent source.home snapshot ∙ ap (option_map (λ (q : Snap). table_told (standing_kept (blocks_in disk pool origin) q))) source.found
 
-      there : In source.snap (tables_of origin)
+      pub there : In source.snap (tables_of origin)
       there = in_right source.snap (base_table origin.base) origin.snapshots (named_there snapshot origin.snapshots source.snap source.found).0
 
-      lies : IsKeptTable disk pool origin source.snap
+      pub lies : IsKeptTable disk pool origin source.snap
       lies = all_in (IsKeptTable disk pool origin) (tables_of origin) (home_held parent source.home).stands.kept source.snap there
 
-      has_snap : lacks_snapshot m parent (Some snapshot) ≡ false
+      pub has_snap : lacks_snapshot m parent (Some snapshot) ≡ false
       has_snap = of_home parent source.home (λ x. is_none (fin.get x.snapshots snapshot)) ∙ ap is_none table_is
 
       -- its map slot has as many numbers as its table has ids
-      ids_are : IsVolume origin.map → set.len (ids_of table) ≡ count_in origin source.snap.slot
+      pub ids_are : IsVolume origin.map → set.len (ids_of table) ≡ count_in origin source.snap.slot
       ids_are whole = sym (slot_ids disk pool origin whole (home_held parent source.home).stands.shared source.snap there lies.1)
 
       wide_is : IsVolume origin.map → is_clone_too_wide m parent snapshot size ≡ nat_lt greatest_span (span_for origin source.snap.slot size)

@@ -24,7 +24,7 @@ use Rattle.fv_aggregate.specs.declared.fault.Fault.TheVariants as session_fault
 use Rattle.fv_aggregate.specs.declared.session.Session.{Session}
 use Rattle.fv_aggregate.specs.Calls.{Goes, GoesFor, KeepsAsking}
 use Rattle.fv_aggregate.specs.Calls as calls
-use Rattle.fv_aggregate.specs.Commands.{asked_by, Asked, AsksNothing, changed_by, changes_volume, dirty_limit, is_built, machine_after, reads_files, most_room, Replies, RepliesBy, room_by, room_with, snapped_by, volume_asked, is_refusal}
+use Rattle.fv_aggregate.specs.Commands.{asked_by, Asked, AsksNothing, changed_by, changes_volume, copies_blocks, dirty_limit, is_built, machine_after, reads_files, most_room, Replies, RepliesBy, room_by, room_with, snapped_by, volume_asked, is_refusal}
 use Rattle.fv_aggregate.specs.Asking.{AsksWithin}
 use Rattle.fv_aggregate.specs.Damages.{HasDamage}
 use Rattle.fv_aggregate.specs.Reading.{IsAsRead}
@@ -94,16 +94,17 @@ unfolding machine_after is_built conditions change_of
 after_cp m = refl
 
 -- what isn't built adds no block and changes no volume
-unbuilt_room : (maps : List ℕ → ℕ) (spans : List ℕ → List ℕ → ℕ → ℕ) (c : Command) → is_built c ≡ false → room_with maps spans c ≡ 0
+unbuilt_room : (maps : List ℕ → ℕ) (spans : List ℕ → List ℕ → ℕ → ℕ) (wides : List ℕ → ℕ → ℕ) (copies : List ℕ → List ℕ → ℕ → ℕ) (c : Command) → is_built c ≡ false → room_with maps spans wides copies c ≡ 0
 unfolding is_built room_with
-unbuilt_room maps spans (VolCreate v size kind) e = absurd cc
-unbuilt_room maps spans (New v f reserve) e = rw e refl
-unbuilt_room maps spans (Put v f i block) e = absurd cc
-unbuilt_room maps spans (Cut v f length) e = absurd cc
-unbuilt_room maps spans (Remove v f) e = absurd cc
-unbuilt_room maps spans (SnapCreate v s) e = absurd cc
-unbuilt_room maps spans (CloneCreate v p s size kind) e = absurd cc
-unbuilt_room maps spans c e = refl
+unbuilt_room maps spans wides copies (VolCreate v size kind) e = absurd cc
+unbuilt_room maps spans wides copies (New v f reserve) e = rw e refl
+unbuilt_room maps spans wides copies (Put v f i block) e = absurd cc
+unbuilt_room maps spans wides copies (Cut v f length) e = absurd cc
+unbuilt_room maps spans wides copies (Remove v f) e = absurd cc
+unbuilt_room maps spans wides copies (SnapCreate v s) e = absurd cc
+unbuilt_room maps spans wides copies (CloneCreate v p s size kind) e = absurd cc
+unbuilt_room maps spans wides copies (Mirror v s w size kind) e = absurd cc
+unbuilt_room maps spans wides copies c e = refl
 
 unbuilt_change : (c : Command) → is_built c ≡ false → changes_volume c ≡ false
 unfolding is_built
@@ -145,7 +146,7 @@ room_said c = so (is_built c) refl
   where
     so : (is : Bool) → is_built c ≡ is → IsRoomIn (cond is (Says c) NoCommand ∷ []) (most_room c)
     so true e = inr (c, (0, omega arith, refl), refl)
-    so false e = inl (unbuilt_room _ _ c e)
+    so false e = inl (unbuilt_room _ _ _ _ c e)
 
 -- a point of a session that may ask within one room asks within a wider one
 asks_wider : (disk : Shown) (session : Session) (room : ℕ) {a b : ℕ} → a ≤ b → AsksWithin disk session (max room a) → AsksWithin disk session (max room b)
@@ -157,7 +158,7 @@ room_built session c = so (is_built c) refl
   where
     so : (is : Bool) → is_built c ≡ is → room_in (room_by session.volumes) (cond is (Says c) NoCommand) ≡ room_by session.volumes c
     so true e = refl
-    so false e = sym (unbuilt_room _ _ c e)
+    so false e = sym (unbuilt_room _ _ _ _ c e)
 
 -- so it asks for what its command asks for
 unbuilt_asks : (session : Session) (c : Command) → is_built c ≡ false → asked_by session.volumes c ≡ AsksNothing
@@ -173,6 +174,7 @@ unbuilt_asks session (Probe v f i) e = absurd cc
 unbuilt_asks session (SnapCreate v s) e = absurd cc
 unbuilt_asks session (SnapDelete v s) e = absurd cc
 unbuilt_asks session (VolDestroy v) e = absurd cc
+unbuilt_asks session (Mirror v s w size kind) e = absurd cc
 unbuilt_asks session Cp e = absurd cc
 unbuilt_asks session c e = refl
 
@@ -187,15 +189,21 @@ pub cp_reads_none : (c : Command) → c ≡ Cp → reads_files c ≡ false
 unfolding reads_files
 cp_reads_none c is = ap reads_files is
 
--- a line that asks for no point says no `cp`, and no command whose room passes the dirty limit
+neither : (a b : Bool) → (a || b) ≡ false → (a ≡ false) × (b ≡ false)
+neither true b e = absurd cc
+neither false b e = (refl, e)
+
+-- what isn't built copies no blocks
+unbuilt_copies : (c : Command) → is_built c ≡ false → copies_blocks c ≡ false
+unfolding is_built
+unbuilt_copies (Mirror v s w size kind) e = absurd cc
+unbuilt_copies c e = refl
+
+-- a line that asks for no point says no `cp`, none that copies blocks, and no command whose room passes the dirty limit
 quiet : (session : Session) (c : Command) (pending : ℕ) → asks_point (room_by session.volumes) pending (built (Says c)) ≡ false
-    → (c ≢ Cp) × ((room_by session.volumes c ≡ 0) ⊎ (pending + room_by session.volumes c ≤ dirty_limit))
+    → (c ≢ Cp) × ((copies_blocks c ≡ false) × ((room_by session.volumes c ≡ 0) ⊎ (pending + room_by session.volumes c ≤ dirty_limit)))
 quiet session c pending none = so (is_built c) refl none
   where
-    neither : (a b : Bool) → (a || b) ≡ false → (a ≡ false) × (b ≡ false)
-    neither true b e = absurd cc
-    neither false b e = (refl, e)
-
     nothing : (n : ℕ) → (nat_lt 0 n && nat_lt dirty_limit (pending + n)) ≡ false → (n ≡ 0) ⊎ (pending + n ≤ dirty_limit)
     nothing n e = by (nat_lt 0 n) (nat_lt dirty_limit (pending + n)) refl refl e
       where
@@ -210,22 +218,40 @@ quiet session c pending none = so (is_built c) refl none
     built_point : c ≡ Cp → is_built c ≡ true
     built_point e = ap is_built e ∙ cp_built
 
-    so : (is : Bool) → is_built c ≡ is → asks_point (room_by session.volumes) pending (cond is (Says c) NoCommand) ≡ false → (c ≢ Cp) × ((room_by session.volumes c ≡ 0) ⊎ (pending + room_by session.volumes c ≤ dirty_limit))
+    so : (is : Bool) → is_built c ≡ is → asks_point (room_by session.volumes) pending (cond is (Says c) NoCommand) ≡ false → (c ≢ Cp) × ((copies_blocks c ≡ false) × ((room_by session.volumes c ≡ 0) ⊎ (pending + room_by session.volumes c ≤ dirty_limit)))
     so true e none =
-        let parts = neither (is_cp (Says c)) (nat_lt 0 (room_by session.volumes c) && nat_lt dirty_limit (pending + room_by session.volumes c)) none in
-        (λ is. both_ways _ parts.0 (is_point is), nothing (room_by session.volumes c) parts.1)
-    so false e none = (λ is. both_ways _ e (built_point is), inl (unbuilt_room _ _ c e))
+        let parts = neither (is_cp (Says c)) (copies_blocks c || (nat_lt 0 (room_by session.volumes c) && nat_lt dirty_limit (pending + room_by session.volumes c))) none in
+        let more = neither (copies_blocks c) (nat_lt 0 (room_by session.volumes c) && nat_lt dirty_limit (pending + room_by session.volumes c)) parts.1 in
+        (λ is. both_ways _ parts.0 (is_point is), (more.0, nothing (room_by session.volumes c) more.1))
+    so false e none = (λ is. both_ways _ e (built_point is), (unbuilt_copies c e, inl (unbuilt_room _ _ _ _ c e)))
 
 -- a line reads files where its command does, and changes a volume that stays where its command does
 reads_said : (c : Command) → reads_files c ≡ true → reads_blocks (built (Says c)) ≡ true
-reads_said c e = ap (λ (is : Bool). reads_blocks (cond is (Says c) NoCommand)) (built_reads c e) ∙ e
+reads_said c e = ap (λ (is : Bool). reads_blocks (cond is (Says c) NoCommand)) (built_reads c e) ∙ ap (λ (reads : Bool). reads || copies_blocks c) e
+
+copies_read : (c : Command) → copies_blocks c ≡ true → reads_blocks (built (Says c)) ≡ true
+unfolding is_built
+copies_read (Mirror v s w size kind) e = second (reads_files (Mirror v s w size kind)) true e
+  where
+    second : (a b : Bool) → b ≡ true → (a || b) ≡ true
+    second true b e = refl
+    second false b e = e
+copies_read c e = absurd cc
 
 changes_said : (c : Command) → changes_volumes (built (Says c)) ≡ false → changes_volume c ≡ false
 changes_said c none = so (is_built c) refl none
   where
     so : (is : Bool) → is_built c ≡ is → changes_volumes (cond is (Says c) NoCommand) ≡ false → changes_volume c ≡ false
-    so true e none = none
+    so true e none = (neither (changes_volume c) (copies_blocks c) none).0
     so false e none = unbuilt_change c e
+
+-- nor does it copy blocks
+changes_once : (c : Command) → changes_volumes (built (Says c)) ≡ false → copies_blocks c ≡ false
+changes_once c none = so (is_built c) refl none
+  where
+    so : (is : Bool) → is_built c ≡ is → changes_volumes (cond is (Says c) NoCommand) ≡ false → copies_blocks c ≡ false
+    so true e none = (neither (changes_volume c) (copies_blocks c) none).1
+    so false e none = unbuilt_copies c e
 
 -- what changes no volume that stays changes no files
 changes_none : (c : Command) → changes_volume c ≡ false → changed_by c ≡ None
@@ -344,10 +370,10 @@ module _ (session new_session : Session) (line : Line) (command : Command) (old 
   after_is : (m : Machine) → machine_after m command ≡ after_line m (built line)
   after_is m = after_built m command ∙ ap (λ (l : Line). after_line m (built l)) (sym says)
 
-  calm_by : (command ≢ Cp → (room_by session.volumes command ≡ 0) ⊎ (session.pending + room_by session.volumes command ≤ dirty_limit) → new.reads ≡ old.reads) → (pending : ℕ) → session.pending ≤ pending → asks_point (room_by session.volumes) pending (built line) ≡ false → new.reads ≡ old.reads
+  calm_by : (command ≢ Cp → copies_blocks command ≡ false → (room_by session.volumes command ≡ 0) ⊎ (session.pending + room_by session.volumes command ≤ dirty_limit) → new.reads ≡ old.reads) → (pending : ℕ) → session.pending ≤ pending → asks_point (room_by session.volumes) pending (built line) ≡ false → new.reads ≡ old.reads
   calm_by calm pending few none =
       let is = quiet session command pending (subst (λ (l : Line). asks_point (room_by session.volumes) pending (built l) ≡ false) says none) in
-      calm is.0 (⊎_elim (λ (nothing : room_by session.volumes command ≡ 0). inl nothing) (λ (low : pending + room_by session.volumes command ≤ dirty_limit). inr (omega (arith, low, few))) is.1)
+      calm is.0 is.1.0 (⊎_elim (λ (nothing : room_by session.volumes command ≡ 0). inl nothing) (λ (low : pending + room_by session.volumes command ≤ dirty_limit). inr (omega (arith, low, few))) is.1.1)
 
   -- a point leaves nothing pending, and each other command adds its room at most
   pending_by : (command ≡ Cp → new_session.pending ≡ 0) → new_session.pending ≤ session.pending + room_by session.volumes command → new_session.pending ≤ left_by (room_by session.volumes) session.pending (built line)
@@ -365,10 +391,13 @@ module _ (session new_session : Session) (line : Line) (command : Command) (old 
   same_by : changes_volumes (built line) ≡ false → changes_volume command ≡ false
   same_by none = changes_said command (subst (λ (l : Line). changes_volumes (built l) ≡ false) says none)
 
+  once_by : changes_volumes (built line) ≡ false → copies_blocks command ≡ false
+  once_by none = changes_once command (subst (λ (l : Line). changes_volumes (built l) ≡ false) says none)
+
   -- the command was carried out, or refused
-  pub applied : (reply : Reply) → (command ≢ Cp → (room_by session.volumes command ≡ 0) ⊎ (session.pending + room_by session.volumes command ≤ dirty_limit) → new.reads ≡ old.reads) → Goes (room_by session.volumes command) (asked_by session.volumes command) old session new new_session (Ok reply)
-      → (changes_volume command ≡ false → KeepsAsking (room_by session.volumes command) old session new new_session)
-      → (IsTrue old.tells → changed_by command ≡ None → IsWithoutFiles session → IsWithoutFiles new_session)
+  pub applied : (reply : Reply) → (command ≢ Cp → copies_blocks command ≡ false → (room_by session.volumes command ≡ 0) ⊎ (session.pending + room_by session.volumes command ≤ dirty_limit) → new.reads ≡ old.reads) → Goes (room_by session.volumes command) (asked_by session.volumes command) old session new new_session (Ok reply)
+      → (changes_volume command ≡ false → copies_blocks command ≡ false → KeepsAsking (room_by session.volumes command) old session new new_session)
+      → (IsTrue old.tells → changed_by command ≡ None → copies_blocks command ≡ false → IsWithoutFiles session → IsWithoutFiles new_session)
       → (IsTrue old.tells → (last m : Machine) → StandsFor old session last m → GoesFor {T = Reply} old last m (machine_after m command) new new_session (Ok reply))
       → (IsTrue old.tells → (last m : Machine) → StandsFor old session last m → Replies m command reply)
       → (IsTrue old.tells → (last m : Machine) → StandsFor old session last m → command ≡ Cp → StandsFor new new_session m m)
@@ -396,14 +425,14 @@ module _ (session new_session : Session) (line : Line) (command : Command) (old 
       said = said_by tells;
       root = goes.done.root tells;
       read = read_by;
-      files = λ same none. files tells (changes_none command (same_by same)) none;
+      files = λ same none. files tells (changes_none command (same_by same)) (once_by same) none;
       calm = λ none. calm_by calm session.pending (omega arith) none;
       pending = pending_by pointed goes.pending;
     };
     asks = λ tells same room asks. (
       most_room command,
       subst (λ (l : Line). IsRoomIn (built l ∷ []) (most_room command)) (sym says) (room_said command),
-      asks_wider new new_session room (fixed_room session command (same_by same)) (keeps (same_by same) tells room asks goes.done.goes_on),
+      asks_wider new new_session room (fixed_room session command (same_by same)) (keeps (same_by same) (once_by same) tells room asks goes.done.goes_on),
     );
     given = goes.ends.given;
     left = ap (λ (e : Ends). e.left) goes.ends.ends;
@@ -432,7 +461,7 @@ module _ (session new_session : Session) (line : Line) (command : Command) (old 
       at_point m is stands = subst (λ (x : Machine). StandsFor new new_session x x) (sym (ap (machine_after m) is ∙ after_cp m) ∙ after_is m) (stands is)
 
   -- it wasn't
-  module _ (calm : command ≢ Cp → (room_by session.volumes command ≡ 0) ⊎ (session.pending + room_by session.volumes command ≤ dirty_limit) → new.reads ≡ old.reads) (fault : SessionFault) (goes : Goes {T = Reply} (room_by session.volumes command) (asked_by session.volumes command) old session new new_session (Err fault))
+  module _ (calm : command ≢ Cp → copies_blocks command ≡ false → (room_by session.volumes command ≡ 0) ⊎ (session.pending + room_by session.volumes command ≤ dirty_limit) → new.reads ≡ old.reads) (fault : SessionFault) (goes : Goes {T = Reply} (room_by session.volumes command) (asked_by session.volumes command) old session new new_session (Err fault))
       (goes_for : IsTrue old.tells → (last m : Machine) → StandsFor old session last m → GoesFor {T = Reply} old last m (machine_after m command) new new_session (Err fault)) where
     stopped_by : (end : Fault) → Counts old new (count_of end) → (¬ Rose old.write_faults new.write_faults → IsNone new_session.failed)
         → (IsTrue old.tells → (last m : Machine) → StandsFor old session last m → IsWholeFault end) → IsSessionFault (built line) old session new end → Applies session (built line) old new_session new (Err end)
@@ -457,14 +486,14 @@ module _ (session new_session : Session) (line : Line) (command : Command) (old 
     no_count same = record { tells = goes.ends.tells; source = ap (λ (e : Ends). e.source_faults) goes.ends.ends; sink = ap (λ (e : Ends). e.sink_faults) goes.ends.ends; disk = same }
 
   -- damage in a line
-  damaged : (at want found : ℕ) → StandsReady new new_session → HasDamage (room_by session.volumes command) (asked_by session.volumes command) old session new new_session at want found → (reads_files command ≡ false → calls.IsForWant old session new new_session (session_fault.Damaged at want found)) → IsSessionFault (built line) old session new Damaged
-  damaged at want found stands damage plain = (
+  damaged : (at want found : ℕ) → new.tells ≡ old.tells → StandsReady new new_session → HasDamage (room_by session.volumes command) (asked_by session.volumes command) old session new new_session at want found → (reads_files command ≡ false → copies_blocks command ≡ false → calls.IsForWant old session new new_session (session_fault.Damaged at want found)) → IsSessionFault (built line) old session new Damaged
+  damaged at want found same stands damage plain = (
     (
       new_session,
       (
         stands,
-        subst (λ (asked : Asked). IsHurt (room_in (room_by session.volumes) (built line)) asked session new new_session) asks
-            (subst (λ (n : ℕ). IsHurt n (asked_by session.volumes command) session new new_session) room (hurt_by (room_by session.volumes command) (asked_by session.volumes command) old session new new_session at want found damage)),
+        subst (λ (asked : Asked). IsHurt (room_in (room_by session.volumes) (built line)) asked old.reads session new new_session) asks
+            (subst (λ (n : ℕ). IsHurt n (asked_by session.volumes command) old.reads session new new_session) room (hurt_by (room_by session.volumes command) (asked_by session.volumes command) old session new new_session at want found same damage)),
       ),
     ),
     so (reads_files command) refl,
@@ -478,10 +507,14 @@ module _ (session new_session : Session) (line : Line) (command : Command) (old 
 
       so : (reads : Bool) → reads_files command ≡ reads → (reads_blocks (built line) ≡ true) ⊎ LacksSpace old session new
       so true e = inl (ap (λ (l : Line). reads_blocks (built l)) says ∙ reads_said command e)
-      so false e = inr (lacks old new session new_session at want found (plain e))
+      so false e = other (copies_blocks command) refl
+        where
+          other : (copies : Bool) → copies_blocks command ≡ copies → (reads_blocks (built line) ≡ true) ⊎ LacksSpace old session new
+          other true copied = inl (ap (λ (l : Line). reads_blocks (built l)) says ∙ copies_read command copied)
+          other false copied = inr (lacks old new session new_session at want found (plain e copied))
 
-  pub unapplied : (command ≢ Cp → (room_by session.volumes command ≡ 0) ⊎ (session.pending + room_by session.volumes command ≤ dirty_limit) → new.reads ≡ old.reads) → (fault : SessionFault) → Goes {T = Reply} (room_by session.volumes command) (asked_by session.volumes command) old session new new_session (Err fault)
-      → (reads_files command ≡ false → calls.IsForWant old session new new_session fault)
+  pub unapplied : (command ≢ Cp → copies_blocks command ≡ false → (room_by session.volumes command ≡ 0) ⊎ (session.pending + room_by session.volumes command ≤ dirty_limit) → new.reads ≡ old.reads) → (fault : SessionFault) → Goes {T = Reply} (room_by session.volumes command) (asked_by session.volumes command) old session new new_session (Err fault)
+      → (reads_files command ≡ false → copies_blocks command ≡ false → calls.IsForWant old session new new_session fault)
       → (IsTrue old.tells → (last m : Machine) → StandsFor old session last m → GoesFor {T = Reply} old last m (machine_after m command) new new_session (Err fault))
       → Applies session (built line) old new_session new (Err (of_session fault))
   unapplied calm session_fault.DiskFault goes plain goes_for = stopped_by calm session_fault.DiskFault goes goes_for Disk
@@ -491,5 +524,5 @@ module _ (session new_session : Session) (line : Line) (command : Command) (old 
   unapplied calm (session_fault.Damaged at want found) goes plain goes_for = stopped_by calm (session_fault.Damaged at want found) goes goes_for Damaged (no_count calm (session_fault.Damaged at want found) goes goes_for goes.fault.counts.faults)
       (λ calm. goes.fault.session)
       (λ tells last m so_far. absurd (goes_for tells last m so_far).whole)
-      (damaged at want found (goes.stands goes.fault.session) goes.fault.reason plain)
+      (damaged at want found goes.ends.tells (goes.stands goes.fault.session) goes.fault.reason plain)
   unapplied calm (session_fault.Failed faults) goes plain goes_for = absurd (never_failed session.failed faults ready.unfailed goes.fault.reason)

@@ -102,11 +102,11 @@ plain_over : {D : Type 0} (show : D → Shown) (command : Command) (before : D) 
     → IsPlain command (still_disk (show before).reads) (show before).reads session (still_disk (show after).reads) (show after).reads next (Ok reply)
 plain_over show command before session after next reply tells is = record {
   refused = λ refusal. untouched_over show before session after next (is.refused refusal);
-  calm = λ other leaves within. ap (read_of show) (is.calm other leaves within);
-  idle = λ other stays none within. ap (read_of show) (is.idle other stays none within);
+  calm = λ other once leaves within. ap (read_of show) (is.calm other once leaves within);
+  idle = λ other once stays none within. ap (read_of show) (is.idle other once stays none within);
   map = is.map;
-  wanting = λ other leaves within. tt;
-  damage = tt;
+  wanting = λ other once leaves within. tt;
+  damage = λ once. tt;
   unbuilt = is.unbuilt;
   listed = is.listed;
   untouched = λ list. untouched_over show before session after next (is.untouched list);

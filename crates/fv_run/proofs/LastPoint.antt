@@ -269,7 +269,7 @@ module _ (limit : ℕ) (session : Session) (mid : Shown) (last : Session) (end :
   ran_whole next point goes goes_for done new result told = told_whole next point (λ tells before m stands. (goes_for tells before m stands).any_moment) goes.ends done goes.done.counts.faults new result told
 
   -- what was damaged at the end
-  meets : (point : Shown) → KeepsEnds end point → IsHurtBy 0 AsksPoint last point → IsTrue mid.tells → MeetsDamage (lines_built mid.ends.left) session mid point
+  meets : (point : Shown) → KeepsEnds end point → IsHurtBy 0 AsksPoint end.reads last point → IsTrue mid.tells → MeetsDamage (lines_built mid.ends.left) session mid point
   meets point keeps hurt tells =
       let read = at_end.stands.reads tells in
       record {
@@ -280,7 +280,7 @@ module _ (limit : ℕ) (session : Session) (mid : Shown) (last : Session) (end :
       }
 
   -- a point that lacks blocks lacks them in the image, or for files that a line changed
-  damaged : (point : Shown) → KeepsEnds end point → IsHurtBy 0 AsksPoint last point → LacksSpace end last point → IsEndOf limit session mid point Damaged
+  damaged : (point : Shown) → KeepsEnds end point → IsHurtBy 0 AsksPoint end.reads last point → LacksSpace end last point → IsEndOf limit session mid point Damaged
   damaged point keeps hurt wants = λ tells. (
     meets point keeps hurt tells,
     λ within none. ⊎_elim
@@ -312,5 +312,5 @@ module _ (limit : ℕ) (session : Session) (mid : Shown) (last : Session) (end :
       (record { tells = goes.ends.tells; source = ap (λ (e : Ends). e.source_faults) goes.ends.ends; sink = ap (λ (e : Ends). e.sink_faults) goes.ends.ends; disk = goes.fault.counts.faults })
       (λ tells before m stands calm. absurd (goes_for tells before m stands).whole)
       (λ tells m stands. let a = answers tells m stands in absurd (goes_for (end_told tells) (after m (lines_built mid.ends.left) a.applied.point) (after m (lines_built mid.ends.left) count) a.applied.stands).whole)
-      (damaged point goes.ends (next, (goes.stands goes.fault.session, hurt_by 0 AsksPoint end last point next at want found goes.fault.reason)) (lacks end point last next at want found wants))
+      (damaged point goes.ends (next, (goes.stands goes.fault.session, hurt_by 0 AsksPoint end last point next at want found goes.ends.tells goes.fault.reason)) (lacks end point last next at want found wants))
   point_failed next point (session_fault.Failed faults) goes goes_for kept wants = absurd (never_failed last.failed faults at_end.stands.ready.unfailed goes.fault.reason)

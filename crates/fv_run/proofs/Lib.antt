@@ -24,6 +24,7 @@ mod Ran
 mod Resting
 mod Rooms
 mod Counted
+mod Copies
 mod Courses
 mod Sessions
 mod Stepped

@@ -6,7 +6,7 @@ use Rattle.std.proofs.lemmas.Bool.Decides.{nat_tests}
 use Rattle.fv_model.specs.declared.commands.Command.{Command}
 use Rattle.fv_model.specs.Runs.{Line, Says, NoCommand, OutOfRange, is_cp}
 use Rattle.fv_aggregate.specs.Commands.{dirty_limit, most_room}
-use Rattle.fv_run.specs.Running.{asks_point, left_by, pending_behind, room_in, IsRoomIn}
+use Rattle.fv_run.specs.Running.{asks_point, copies, left_by, pending_behind, room_in, IsRoomIn}
 use Rattle.fv_run.specs.Promises.{line_at}
 
 -- ---- lines
@@ -44,7 +44,7 @@ less_in less more rooms OutOfRange = omega arith
 
 -- so it asks for no point where it asks for none with more
 pub asks_less : (less more : Command → ℕ) → ((c : Command) → less c ≤ more c) → (pending : ℕ) (line : Line) → asks_point more pending line ≡ false → asks_point less pending line ≡ false
-asks_less less more rooms pending line none = by (is_cp line) none
+asks_less less more rooms pending line none = by (is_cp line) (copies line) none
   where
     a : ℕ
     a = room_in less line
@@ -61,9 +61,10 @@ asks_less less more rooms pending line none = by (is_cp line) none
         let past : nat_lt dirty_limit (pending + b) ≡ true = grind (arith, nat_tests, y, le) in
         absurd (true≢false (sym (λ j. some j && past j) ∙ none))
 
-    by : (cp : Bool) → (cp || (nat_lt 0 (room_in more line) && nat_lt dirty_limit (pending + room_in more line))) ≡ false → (cp || (nat_lt 0 (room_in less line) && nat_lt dirty_limit (pending + room_in less line))) ≡ false
-    by true none = none
-    by false none = low none (nat_lt 0 a) (nat_lt dirty_limit (pending + a)) refl refl
+    by : (cp copied : Bool) → (cp || (copied || (nat_lt 0 (room_in more line) && nat_lt dirty_limit (pending + room_in more line)))) ≡ false → (cp || (copied || (nat_lt 0 (room_in less line) && nat_lt dirty_limit (pending + room_in less line)))) ≡ false
+    by true copied none = none
+    by false true none = none
+    by false false none = low none (nat_lt 0 a) (nat_lt dirty_limit (pending + a)) refl refl
 
 -- ---- what may be pending
 

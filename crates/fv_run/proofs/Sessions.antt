@@ -34,6 +34,7 @@ use Rattle.fv_aggregate.proofs.Clear.{none_taken}
 use Rattle.fv_run.specs.Promises.{line_at}
 use Rattle.fv_run.specs.Running.{asked_in, IsHurt, IsHurtBehind, IsLeafLost, only_asks, room_in, UndergoesLines}
 use Rattle.fv_run.specs.Answering.{IsHurtBy, LacksSpace, LosesLeaf}
+use Rattle.fv_run.proofs.Copies.{bad_copies}
 
 abbrev nothing_behind : Option (Result Root Shape)
 nothing_behind = None
@@ -81,6 +82,7 @@ stays_standing_for old new session last m stays stands = record {
   pending = rw stays.reads stands.pending;
   files = stands.files;
   few = stands.few;
+  free = stands.free;
   room = rw stays.reads stands.room;
 }
 
@@ -159,15 +161,16 @@ not_damaged i at want number none fault = ⊎_elim
 
 -- ---- calls that met damage
 
--- what was damaged, by what the disk shows after it
-pub hurt_by : (room : ℕ) (asked : Asked) (old : Shown) (session : Session) (new : Shown) (left : Session) (at want found : ℕ) → HasDamage room asked old session new left at want found → IsHurt room asked session new left
-hurt_by room asked old session new left at want found (inl unwritten) = record { at = at; want = want; found = found; damage = inl unwritten.1 }
-hurt_by room asked old session new left at want found (inr behind) = record { at = at; want = want; found = found; damage = inr behind }
+-- what was damaged, by what the disk shows after it, and where copies are asked for by what it showed before
+pub hurt_by : (room : ℕ) (asked : Asked) (old : Shown) (session : Session) (new : Shown) (left : Session) (at want found : ℕ) → new.tells ≡ old.tells → HasDamage room asked old session new left at want found → IsHurt room asked old.reads session new left
+hurt_by room asked old session new left at want found same (inl unwritten) = record { at = at; want = want; found = found; damage = inl unwritten.1 }
+hurt_by room asked old session new left at want found same (inr (inl behind)) = record { at = at; want = want; found = found; damage = inr (inl behind) }
+hurt_by room asked old session new left at want found same (inr (inr bad)) = record { at = at; want = want; found = found; damage = inr (inr (λ told. bad_copies old (subst IsTrue same told) room asked session bad)) }
 
 -- the call at work for the line behind `count` others
 pub hurt_behind : (lines : List Line) (count : ℕ) (line : Line) (i : Image) (first : Session) (over : Image) (session : Session) (end : Shown) → line_at lines count ≡ line
     → (IsTrue end.tells → UndergoesLines lines count i first over session) → (((j : ℕ) → j < count → only_asks (line_at lines j) ≡ true) → IsAsRead first session)
-    → IsHurtBy (room_in (room_by session.volumes) line) (asked_in (asked_by session.volumes) line) session end → IsHurtBehind lines count i first end
+    → IsHurtBy (room_in (room_by session.volumes) line) (asked_in (asked_by session.volumes) line) over session end → IsHurtBehind lines count i first end
 hurt_behind lines count line i first over session end same course opened hurt = record {
   session = session;
   over = over;
@@ -175,13 +178,13 @@ hurt_behind lines count line i first over session end same course opened hurt = 
   opened = opened;
   left = hurt.0;
   stands = hurt.1.0;
-  hurt = inl (subst (λ (l : Line). IsHurt (room_in (room_by session.volumes) l) (asked_in (asked_by session.volumes) l) session end hurt.0) (sym same) hurt.1.1);
+  hurt = inl (subst (λ (l : Line). IsHurt (room_in (room_by session.volumes) l) (asked_in (asked_by session.volumes) l) over session end hurt.0) (sym same) hurt.1.1);
 }
 
 -- the point behind all of them
 pub hurt_last : (lines : List Line) (count : ℕ) (i : Image) (first : Session) (over : Image) (session : Session) (end : Shown) → length lines ≤ count
     → (IsTrue end.tells → UndergoesLines lines count i first over session) → (((j : ℕ) → j < count → only_asks (line_at lines j) ≡ true) → IsAsRead first session)
-    → IsHurtBy 0 AsksPoint session end → IsHurtBehind lines count i first end
+    → IsHurtBy 0 AsksPoint over session end → IsHurtBehind lines count i first end
 hurt_last lines count i first over session end all course opened hurt = record {
   session = session;
   over = over;

@@ -3,7 +3,7 @@ use Rattle.std.proofs.Common.{◌≡◌, ◌⊎◌, inl, inr, ⊎_elim, ℕ, ◌
 use Rattle.std.specs.Prelude.{flat_map, Contains, Ok, Err, None, IsTrue, Result}
 use Rattle.std.proofs.lemmas.List.{length-append}
 use Rattle.fv_disk.specs.declared.Failed.{Failed}
-use Rattle.fv_disk.specs.Shown.{Shown, IsDisk, Rose}
+use Rattle.fv_disk.specs.Shown.{Image, Shown, IsDisk, Rose}
 use Rattle.fv_disk.specs.HostCalls.{Rests}
 use Rattle.fv_disk.specs.Crash.{Leaves}
 use Rattle.fv_model.specs.declared.answers.Reply.{Reply}
@@ -300,14 +300,15 @@ module _ (limit : ℕ) (first : Session) (old : Shown) (held : Held) (session : 
             line = subst (λ (n : ℕ). (reads_blocks (line_at script n) ≡ true) ⊎ HasChanged script n) (sym read.answered) line;
           }))
 
-      meets : end.given ≡ mid.given → IsTrue old.tells → IsHurtBy (room_in (room_by session.volumes) (built (line_of bytes))) (asked_in (asked_by session.volumes) (built (line_of bytes))) session end → MeetsDamage script first old end
+      meets : end.given ≡ mid.given → IsTrue old.tells → IsHurtBy (room_in (room_by session.volumes) (built (line_of bytes))) (asked_in (asked_by session.volumes) (built (line_of bytes))) mid.reads session end → MeetsDamage script first old end
       meets same tells hurt =
           let read = so_far.reads tells in
           record {
             output = read.output;
             given = same ∙ finds.asks.given ∙ read.given;
             call = subst (λ (n : ℕ). IsHurtBehind script n old.reads first end) (sym read.answered) (hurt_behind script count (built (line_of bytes)) old.reads first now.reads session end (line_is tells)
-                (λ told. so_far.course tells) (undergoes_read script count old.reads first now.reads session (so_far.course tells)) hurt);
+                (λ told. so_far.course tells) (undergoes_read script count old.reads first now.reads session (so_far.course tells))
+                (subst (λ (over : Image). IsHurtBy (room_in (room_by session.volumes) (built (line_of bytes))) (asked_in (asked_by session.volumes) (built (line_of bytes))) over session end) finds.asks.rests.stays.reads hurt));
           }
 
       ends_so : end.given ≡ mid.given → (fault : Fault) → IsSessionFault (built (line_of bytes)) mid session end fault → IsEndOf limit first old end fault

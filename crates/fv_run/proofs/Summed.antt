@@ -265,6 +265,6 @@ module _ (lines : List Line) (first : Session) (mid : Shown) (session : Session)
         count = tally.lines;
         all = s.within;
         call = hurt_last lines tally.lines mid.reads first end.reads session point (omega (arith, all)) (λ told. s.course (subst IsTrue (goes.ends.tells ∙ s.counts.tells) told)) s.opened
-            (next, (goes.stands goes.fault.session, hurt_by 0 AsksPoint end session point next at want found goes.fault.reason));
+            (next, (goes.stands goes.fault.session, hurt_by 0 AsksPoint end session point next at want found goes.ends.tells goes.fault.reason));
       })
   point_failed next point (session_fault.Failed faults) goes goes_for kept = absurd (never_failed session.failed faults s.ready.unfailed goes.fault.reason)

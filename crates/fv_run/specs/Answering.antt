@@ -57,15 +57,15 @@ pub record LosesLeaf (old : Shown) (session : Session) (end : Shown) : Type 0 wh
 abbrev pub LacksSpace : Shown → Session → Shown → Type 0
 LacksSpace old session new = IsTrue old.tells → IsWithoutFiles session → (room : ℕ) → AsksWithin old session room → Lacks room new.reads ⊎ LosesLeaf old session new
 
--- a call of a session that asks for this met damage, and left it standing
-abbrev pub IsHurtBy : ℕ → Asked → Session → Shown → Type 0
-IsHurtBy room asked session new = (left : Session) × (StandsReady new left × IsHurt room asked session new left)
+-- a call of a session over an image, which asks for this, met damage, and left the session standing
+abbrev pub IsHurtBy : ℕ → Asked → Image → Session → Shown → Type 0
+IsHurtBy room asked over session new = (left : Session) × (StandsReady new left × IsHurt room asked over session new left)
 
 -- a fault of a session's calls in a line, each with its reason beside the counts
 abbrev pub IsSessionFault : Line → Shown → Session → Shown → Fault → Type 0
 IsSessionFault line old session new Disk = Unit {0}
 IsSessionFault line old session new Memory = Unit {0}
-IsSessionFault line old session new Damaged = IsHurtBy (room_in (room_by session.volumes) line) (asked_in (asked_by session.volumes) line) session new × ((reads_blocks line ≡ true) ⊎ LacksSpace old session new)
+IsSessionFault line old session new Damaged = IsHurtBy (room_in (room_by session.volumes) line) (asked_in (asked_by session.volumes) line) old.reads session new × ((reads_blocks line ≡ true) ⊎ LacksSpace old session new)
 IsSessionFault line old session new fault = ⊥
 
 -- a session that hasn't failed, on its disk

@@ -19,8 +19,8 @@ use Rattle.fv_aggregate.specs.Adding.{IsPointed}
 use Rattle.fv_aggregate.specs.Asking.{IsShort}
 use Rattle.fv_aggregate.specs.Calls.{IsPlain, IsUntouched, IsWithinLimit, KeepsRoot, MakesNoHoles}
 use Rattle.fv_aggregate.specs.Causes.{IsOpenFault, IsUnwritten}
-use Rattle.fv_aggregate.specs.Commands.{asked_by, Asked, AsksNothing, AsksPoint, changes_volume, dirty_limit, most_room, reads_files, room_by, room_of, volume_asked, is_refusal, removes_volume}
-use Rattle.fv_aggregate.specs.Damages.{HasDamageBehind, HasDamageIn, HasDamageLater, PassesLimit}
+use Rattle.fv_aggregate.specs.Commands.{asked_by, Asked, AsksNothing, AsksPoint, changes_volume, copies_blocks, dirty_limit, most_room, reads_files, room_by, room_of, volume_asked, is_refusal, removes_volume}
+use Rattle.fv_aggregate.specs.Damages.{HasBadCopies, HasDamageBehind, HasDamageIn, HasDamageLater, PassesLimit}
 use Rattle.fv_aggregate.specs.Opening.{IsOpened}
 use Rattle.fv_aggregate.specs.Reading.{IsAsRead}
 use Rattle.fv_aggregate.specs.Reclaiming.{HasPointed}
@@ -74,10 +74,16 @@ room_in rooms (Says command) = rooms command
 room_in rooms NoCommand = 0
 room_in rooms OutOfRange = 0
 
+-- whether a line copies blocks of a volume at once
+abbrev pub copies : Line → Bool
+copies (Says command) = copies_blocks command
+copies NoCommand = false
+copies OutOfRange = false
+
 -- whether a line asks for a consistency point where so many blocks may be pending: a `cp` does, and so does a command with room that would pass the
--- dirty limit with them, before which a point makes room for it
+-- dirty limit with them, before which a point makes room for it; one that copies blocks counts as one of these, whatever its room is
 abbrev pub asks_point : (Command → ℕ) → ℕ → Line → Bool
-asks_point rooms pending line = is_cp line || (nat_lt 0 (room_in rooms line) && nat_lt dirty_limit (pending + room_in rooms line))
+asks_point rooms pending line = is_cp line || (copies line || (nat_lt 0 (room_in rooms line) && nat_lt dirty_limit (pending + room_in rooms line)))
 
 -- how many blocks may be pending once a line is answered: none after a `cp`
 abbrev pub left_by : (Command → ℕ) → ℕ → Line → ℕ
@@ -235,15 +241,16 @@ asked_in asked (Says command) = asked command
 asked_in asked NoCommand = AsksNothing
 asked_in asked OutOfRange = AsksNothing
 
--- whether a line changes a volume that was there before it and is there after it: its files, its snapshots, its size or its kind of guarantee
+-- whether a line changes a volume that was there before it and is there after it: its files, its snapshots, its size or its kind of guarantee; one that
+-- copies blocks counts as one that does
 abbrev pub changes_volumes : Line → Bool
-changes_volumes (Says command) = changes_volume command
+changes_volumes (Says command) = changes_volume command || copies_blocks command
 changes_volumes NoCommand = false
 changes_volumes OutOfRange = false
 
--- whether a line reads blocks of the files of a volume; one that changes them does
+-- whether a line reads blocks of the files of a volume; one that changes them does, and so does one that copies them
 abbrev pub reads_blocks : Line → Bool
-reads_blocks (Says command) = reads_files command
+reads_blocks (Says command) = reads_files command || copies_blocks command
 reads_blocks NoCommand = false
 reads_blocks OutOfRange = false
 
@@ -335,19 +342,21 @@ IsSessionDamage lines first old end = IsLacking lines end.reads ⊎ (IsFileDamag
 -- A call of a session that may add `room` blocks, and asks for this, met damage, by what the disk shows at the end, and left the session
 -- so: blocks are lacking, or the files of a volume couldn't be placed, where the call comes to a point or to placing; or a leaf of a container
 -- isn't there, where it comes to that; or the table that it asks for isn't as it has to be, with room that passes the dirty limit also behind a point.
-pub record IsHurt (room : ℕ) (asked : Asked) (session : Session) (end : Shown) (left : Session) : Type 0 where
+-- Or it asks for copies that couldn't be made of what stood in the image `over` before the call.
+pub record IsHurt (room : ℕ) (asked : Asked) (over : Image) (session : Session) (end : Shown) (left : Session) : Type 0 where
   pub at : ℕ
   pub want : ℕ
   pub found : ℕ
   pub damage : (HasDamageIn room asked end session left at want found ⊎ HasDamageLater room asked end session left at want found)
-      ⊎ (PassesLimit session.pending room × HasDamageBehind asked end session left at want found)
+      ⊎ ((PassesLimit session.pending room × HasDamageBehind asked end session left at want found)
+      ⊎ (IsTrue end.tells → HasBadCopies room asked (still_disk over) session))
 
 -- The call of a session that was at work behind the first `count` lines met damage: the one that the next line asked for, or, where there
 -- is no further line, the point at the end.
-abbrev pub IsHurtNext : List Line → ℕ → Session → Shown → Session → Type 0
-IsHurtNext lines count session end left =
-    IsHurt (room_in (room_by session.volumes) (line_at lines count)) (asked_in (asked_by session.volumes) (line_at lines count)) session end left
-    ⊎ ((length lines ≤ count) × IsHurt 0 AsksPoint session end left)
+abbrev pub IsHurtNext : List Line → ℕ → Image → Session → Shown → Session → Type 0
+IsHurtNext lines count over session end left =
+    IsHurt (room_in (room_by session.volumes) (line_at lines count)) (asked_in (asked_by session.volumes) (line_at lines count)) over session end left
+    ⊎ ((length lines ≤ count) × IsHurt 0 AsksPoint over session end left)
 
 -- So it was. Those lines led to that session from the one that was opened on the image `i`, each over the image of its moment. The session
 -- that the call left stands on the disk. Where each of those lines only asks for files, the session is the one that was opened, but for its
@@ -359,7 +368,7 @@ pub record IsHurtBehind (lines : List Line) (count : ℕ) (i : Image) (first : S
   pub opened : ((j : ℕ) → j < count → only_asks (line_at lines j) ≡ true) → IsAsRead first session
   pub left : Session
   pub stands : StandsReady end left
-  pub hurt : IsHurtNext lines count session end left
+  pub hurt : IsHurtNext lines count over session end left
 
 -- the call at work behind the lines that are answered met damage
 pub record MeetsDamage (lines : List Line) (first : Session) (old end : Shown) : Type 0 where

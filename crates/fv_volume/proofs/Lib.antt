@@ -70,3 +70,4 @@ pub mod SlotCounts
 pub mod OwnIds
 pub mod SnapFinds
 pub mod Cloned
+mod Mirrored

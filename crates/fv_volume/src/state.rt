@@ -1,6 +1,6 @@
 //! One volume, as it is kept in memory.
 
-ghost use Rattle.std.specs.Prelude.{◌≡◌, ◌==◌, ◌<◌, ◌≤◌, ◌+◌, ◌*◌, ◌-◌, ◌∷◌, ◌++◌, [], false, true, nat_lt, length, position, take, drop, All, None, IfSome, IfNone, IfOk, OnOk, OnErr, option_copied, replicate};
+ghost use Rattle.std.specs.Prelude.{◌≡◌, ◌==◌, ◌<◌, ◌≤◌, ◌+◌, ◌*◌, ◌-◌, ◌∷◌, ◌++◌, [], false, true, nat_lt, length, map, position, take, drop, All, None, IfSome, IfNone, IfOk, OnOk, OnErr, option_copied, replicate};
 ghost use Rattle.std.specs.List.{position_or_len};
 ghost use Rattle.fv_model.specs.Numbers.{greatest_span, most_snapshots, most_asked};
 ghost use Rattle.fv_codec.specs.Blocks.{IsLabel, IsSnapRecord};
@@ -13,6 +13,7 @@ ghost use Rattle.fv_volume.specs.Snapshots.{FindsSnap, IsLeastFree, AreSlotsFull
 ghost use Rattle.fv_container.specs.Chains.{slot_count};
 ghost use Rattle.fv_volume.specs.Loading.{IsRead, form_in};
 ghost use Rattle.fv_volume.specs.OneVolume.{tables_of};
+ghost use Rattle.fv_volume.specs.Placements.{snap_at};
 ghost use Rattle.fv_volume.specs.SnapRecords.{snaps_recorded};
 ghost use Rattle.fv_volume.specs.States.{empty_head, head_in, ledger_of_empty, snaps_in, IsAtFirst, IsLaid};
 ghost use Rattle.fv_volume.specs.Stored.{is_rewritten};
@@ -22,6 +23,7 @@ use crate::known::known_name;
 use crate::label::{
     HOLE, base_fields, base_of, kind_number, kind_of, name_field, name_of, records_of, snap_of,
 };
+use crate::rooting::place_snaps;
 use fv_charge::{Ledger, overhead};
 use fv_codec::{Label, SnapRecord};
 use fv_files::{FileNumbers, Files};
@@ -211,6 +213,13 @@ impl Snapshots {
         ensures { self.new ≡ take at self.old ++ drop (at + 1) self.old }
     {
         self.snaps.remove(at);
+    }
+
+    /// Gives the root pointer of each snapshot the place that there is for its map slot. Costs a step for each snapshot.
+    pub(crate) fn put_roots(&mut self, places: &[u32; STORED_SLOTS])
+        ensures { self.new ≡ map (snap_at places.entry.now) self.old }
+    {
+        place_snaps(&mut self.snaps, places);
     }
 }
 

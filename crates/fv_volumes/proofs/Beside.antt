@@ -174,10 +174,11 @@ is_off : (states : States) (slot s : ℕ) → s ≢ slot → (o : Option VolumeS
 is_off states slot s other None there some = absurd (true≢false (sym some))
 is_off states slot s other (Some x) there some = record { volume = x; there = there; other = other }
 
+-- On the disk only blocks change that no entry of another volume names.
 module _ (d e : Disk) (p q : Pool) (states : States) (slot : ℕ) (off : StandOff p.containers slot states)
     (others : (s : ℕ) → s ≢ slot → container_at q.containers s ≡ container_at p.containers s) (parents : (s : ℕ) → s ≢ slot → parent_at q.containers s ≡ parent_at p.containers s)
-    (tells : e.tells ≡ d.tells) (reads : e.reads ≡ d.reads) (y : VolumeState) (there : state_at states y.slot ≡ Some y) (other : y.slot ≢ slot)
-    (kept : (s v : ℕ) (x : VolumeState) (z : Entry) → s ≢ slot → state_at states s ≡ Some x → own_entry (container_at p.containers s) v ≡ Some z → fin.get q.kept z.pvbn ≡ fin.get p.kept z.pvbn)
+    (tells : e.tells ≡ d.tells) (y : VolumeState) (there : state_at states y.slot ≡ Some y) (other : y.slot ≢ slot)
+    (same : (s v : ℕ) (x : VolumeState) (z : Entry) → s ≢ slot → state_at states s ≡ Some x → own_entry (container_at p.containers s) v ≡ Some z → seen q.kept e.reads z.pvbn ≡ seen p.kept d.reads z.pvbn)
     (next : (s v : ℕ) (x : VolumeState) (z : Entry) → s ≢ slot → state_at states s ≡ Some x → own_entry (container_at p.containers s) v ≡ Some z → is_member q.map.next z.pvbn ≡ true) where
   abbrev Off : ℕ → ℕ → Type 0
   Off s v = IsOff states slot s
@@ -203,17 +204,24 @@ module _ (d e : Disk) (p q : Pool) (states : States) (slot : ℕ) (off : StandOf
     where
       so : (o : Option Entry) → held_entry y.map p.containers y.slot v ≡ o → block_of q.kept e.reads o ≡ block_of p.kept d.reads o
       so None is = refl
-      so (Some z) is =
-          let at = found_off v z is in
-          let here = kept at.1.slot v at.1.rests.volume z at.1.rests.other at.1.rests.there at.1.own in
-          λ i. Some (kept_or (here i) (reads i z.pvbn))
+      so (Some z) is = let at = found_off v z is in ap (λ (b : List ℕ). Some b) (same at.1.slot v at.1.rests.volume z at.1.rests.other at.1.rests.there at.1.own)
 
   -- That other volume stands for what it stood for, whatever it stands on.
-  pub beside_off : AreCleanOn e.reads q.containers → IsStanding d p y → StaysBeside d p e q y
-  beside_off clean is = stays_beside d e p q y held_off block_off (λ v. own_off y.slot v (record { volume = y; there = there; other = other })) tells
+  pub beside_taken : AreCleanOn e.reads q.containers → IsStanding d p y → StaysBeside d p e q y
+  beside_taken clean is = stays_beside d e p q y held_off block_off (λ v. own_off y.slot v (record { volume = y; there = there; other = other })) tells
       (λ v z own. next y.slot v y z other there own)
       (λ v z held. let at = found_off v z held in next at.1.slot v at.1.rests.volume z at.1.rests.other at.1.rests.there at.1.own)
       clean is
+
+-- So it does where all is read as before, and the blocks that wait for it wait still.
+module _ (d e : Disk) (p q : Pool) (states : States) (slot : ℕ) (off : StandOff p.containers slot states)
+    (others : (s : ℕ) → s ≢ slot → container_at q.containers s ≡ container_at p.containers s) (parents : (s : ℕ) → s ≢ slot → parent_at q.containers s ≡ parent_at p.containers s)
+    (tells : e.tells ≡ d.tells) (reads : e.reads ≡ d.reads) (y : VolumeState) (there : state_at states y.slot ≡ Some y) (other : y.slot ≢ slot)
+    (kept : (s v : ℕ) (x : VolumeState) (z : Entry) → s ≢ slot → state_at states s ≡ Some x → own_entry (container_at p.containers s) v ≡ Some z → fin.get q.kept z.pvbn ≡ fin.get p.kept z.pvbn)
+    (next : (s v : ℕ) (x : VolumeState) (z : Entry) → s ≢ slot → state_at states s ≡ Some x → own_entry (container_at p.containers s) v ≡ Some z → is_member q.map.next z.pvbn ≡ true) where
+  pub beside_off : AreCleanOn e.reads q.containers → IsStanding d p y → StaysBeside d p e q y
+  beside_off = beside_taken d e p q states slot off others parents tells y there other
+      (λ s v x z apart here own. let waits = kept s v x z apart here own in λ i. kept_or (waits i) (reads i z.pvbn)) next
 
 -- ---- volumes of which each clone stands on a snapshot of another
 

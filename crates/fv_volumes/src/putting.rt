@@ -6,7 +6,7 @@ ghost use Rattle.fv_container.specs.Paged.{empty_paged};
 ghost use Rattle.fv_image.specs.Views.{entry_count};
 ghost use Rattle.fv_volume.specs.Slots.{sum_of};
 ghost use Rattle.fv_volume.specs.States.{with_state};
-ghost use Rattle.fv_volumes.specs.Creating.{CanPut, with_holes_on};
+ghost use Rattle.fv_volumes.specs.Creating.{CanPut, with_container_on, with_holes_on};
 
 use crate::volumes::Volumes;
 use fv_container::Container;
@@ -41,6 +41,27 @@ impl Volumes {
         ensures sum { commits.new ≡ sum_of self.new }
     {
         let container = Container::new(self.alloc, entry_count(state.span))?;
+        self.put_with(pool, commits, state, container, parent);
+        Ok(())
+    }
+
+    /// As `put`, with a container that has an entry for each of its VVBNs, in place of one of holes. It takes no memory. Costs some steps.
+    pub fn put_with(
+        &mut self,
+        pool: &mut Pool,
+        commits: &mut u64,
+        state: VolumeState,
+        container: Container,
+        parent: Option<u8>,
+    )
+        requires can { CanPut self.old pool.old.found.blocks state parent }
+        requires sum { commits.old ≡ sum_of self.old }
+        ensures row { self.new ≡ with_state self.old state.slot (Some state) }
+        ensures holds { pool.new ≡ with_container_on pool.old state.slot container parent }
+        ensures container { paged_at pool.new.containers state.slot ≡ Some container }
+        ensures parent { parent_at pool.new.containers state.slot ≡ parent }
+        ensures sum { commits.new ≡ sum_of self.new }
+    {
         // There is room for it, so all commit no more than the aggregate has blocks.
         *commits = commits
             .saturating_add(state.ledger.commit())
@@ -48,6 +69,5 @@ impl Volumes {
         let slot = state.slot;
         self.fill(slot, state);
         pool.containers.put(slot, container, parent);
-        Ok(())
     }
 }

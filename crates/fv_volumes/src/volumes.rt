@@ -146,7 +146,8 @@ impl Volumes {
     /// Gives a slot below 64 this volume, in place of what it had.
     pub(crate) fn fill(&mut self, slot: u8, state: VolumeState)
         requires { slot < slot_count }
-        ensures { self.new ≡ with_state self.old slot (Some state) }
+        ensures row { self.new ≡ with_state self.old slot (Some state) }
+        ensures long { length self.old ≡ slot_count }
     {
         self.states[slot as usize] = Some(state);
     }

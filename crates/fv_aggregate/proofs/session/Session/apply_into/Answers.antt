@@ -9,7 +9,7 @@ use Rattle.fv_aggregate.specs.declared.fault.Fault.TheVariants.{Memory}
 use Rattle.fv_aggregate.specs.Telling.{names_from}
 use Rattle.fv_aggregate.specs.declared.session.Session.{Session}
 use Rattle.fv_model.specs.declared.answers.Reply.TheVariants.{Names}
-use Rattle.fv_model.specs.declared.commands.Command.TheVariants.{VolCreate, VolGuarantee, VolResize, VolStat, CloneCreate}
+use Rattle.fv_model.specs.declared.commands.Command.TheVariants.{VolCreate, VolGuarantee, VolResize, VolStat, CloneCreate, Mirror}
 use Rattle.fv_aggregate.specs.Commands.{changed_by, dirty_limit, managed_by, room_by, volume_asked}
 use Rattle.fv_aggregate.proofs.Answered.{fails}
 use Rattle.fv_aggregate.proofs.Added.{not_refused}
@@ -19,6 +19,7 @@ use Rattle.fv_aggregate.specs.Deciding.{makes_volume}
 use Rattle.fv_aggregate.proofs.Decided.{undecided}
 use Rattle.fv_aggregate.proofs.Keeping.{keeps_but}
 use Rattle.fv_aggregate.proofs.Making.{create_makes, made_applied, making_clone, making_create}
+use Rattle.fv_aggregate.proofs.MirrorApplied.{mirror_applied}
 use Rattle.fv_aggregate.specs.Reclaiming.{MakesRoom}
 use Rattle.fv_aggregate.proofs.MadeRoom.{cp_room, list_room, none_roomy, snaps_room}
 use Rattle.fv_aggregate.proofs.Ready.{stands_ready}
@@ -53,6 +54,20 @@ clone_volume-requires-clause-stands g c =
     let fresh : IsNone c.args.self.now.failed = subst (λ (s : Session). IsNone s.failed) c.self.view_is (subst IsNone (sym c.in_default.is) refl) in
     stands_ready (g.D.Disk.shown c.args.disk.now) _ _ c.self.view_is c.self.invariant.2 c.requires.stands fresh
 
+pub mirror_volume-requires-clause-stands : goal.mirror_volume-requires-clause-stands
+mirror_volume-requires-clause-stands g c =
+    let fresh : IsNone c.args.self.now.failed = subst (λ (s : Session). IsNone s.failed) c.self.view_is (subst IsNone (sym c.in_default.is) refl) in
+    stands_ready (g.D.Disk.shown c.args.disk.now) _ _ c.self.view_is c.self.invariant.2 c.requires.stands fresh
+
+pub returns-in-Mirror : goal.returns-in-Mirror
+returns-in-Mirror g c =
+    let s = c.args.self.now in let n = c.mirror_volume.new.self in let r = answer c.mirror_volume.new.into c.mirror_volume.result in
+    let fresh : IsNone s.failed = subst (λ (k : Session). IsNone k.failed) c.self.view_is (subst IsNone (sym c.in_default.is) refl) in
+    let long = subst (λ (k : Session). length k.volumes ≡ 64) c.self.view_is (c.self.invariant.0 (subst IsNone (sym c.in_default.is) refl)).housed.long in
+    subst (λ (k : Command). HasApplied k (g.D.Disk.shown c.args.disk.now) c.args.disk.now s c.args.steps.now (g.D.Disk.shown c.mirror_volume.new.disk) c.mirror_volume.new.disk n c.args.steps.now r) (sym c.in-Mirror.is)
+    (mirror_applied g.D.Disk.shown g.met.D.Disk.laws c.args.disk.now s fresh (stands_ready (g.D.Disk.shown c.args.disk.now) _ _ c.self.view_is c.self.invariant.2 c.requires.stands fresh) long c.in-Mirror.volume c.in-Mirror.size c.in-Mirror.kind c.args.steps.now
+    c.in-Mirror.source c.in-Mirror.snapshot c.mirror_volume.new.disk n r c.mirror_volume.ensures)
+
 pub returns-in-Cp : goal.returns-in-Cp
 returns-in-Cp g c =
     let d = g.D.Disk.shown c.args.disk.now in let e = g.D.Disk.shown c.reclaim.new.disk in let s = c.args.self.now in
@@ -60,7 +75,7 @@ returns-in-Cp g c =
     let fresh : IsNone s.failed = subst (λ (k : Session). IsNone k.failed) c.self.view_is (subst IsNone (sym c.in_default.is) refl) in
     record {
       goes = cp_goes command c.in-Cp.is d s e n (answer c.reclaim.new.into c.reclaim.result) c.reclaim.ensures.runs.goes;
-      asks = λ none. cp_asks command c.in-Cp.is d s e n c.reclaim.ensures.runs.asks;
+      asks = λ none once. cp_asks command c.in-Cp.is d s e n c.reclaim.ensures.runs.asks;
       goes_for = λ tells last m stands. cp_goes_for command c.in-Cp.is d last m e n (answer c.reclaim.new.into c.reclaim.result) (c.reclaim.ensures.runs.goes_for tells last m stands);
       reply = λ tells last m stands. cp_replies command c.in-Cp.is m (answer c.reclaim.new.into c.reclaim.result) c.reclaim.ensures.reply;
       plain = λ plain. record {
@@ -69,7 +84,7 @@ returns-in-Cp g c =
         idle = λ other. absurd (other c.in-Cp.is);
         map = λ other. absurd (other c.in-Cp.is);
         wanting = λ other. absurd (other c.in-Cp.is);
-        damage = c.reclaim.ensures.runs.damage;
+        damage = λ once. c.reclaim.ensures.runs.damage;
         unbuilt = λ fresh none. cp_built _ command c.in-Cp.is none;
         listed = λ list. cp_no_list _ command c.in-Cp.is list;
         untouched = λ list. cp_no_list _ command c.in-Cp.is list;
@@ -84,11 +99,11 @@ returns-in-Cp g c =
       on_files = λ files. cp_no_files _ command c.in-Cp.is files;
       point = λ tells last m stands cp. c.reclaim.ensures.points.point tells last m stands;
       sides = λ tells last m stands cp. c.reclaim.ensures.points.sides tells last m stands;
-      roomy = none_roomy (room_by s.volumes command) d s e (answer c.reclaim.new.into c.reclaim.result) (cp_room s.volumes command c.in-Cp.is);
+      roomy = λ once. none_roomy (room_by s.volumes command) d s e (answer c.reclaim.new.into c.reclaim.result) (cp_room s.volumes command c.in-Cp.is);
       calm = λ other. absurd (other c.in-Cp.is);
       entries = λ other. absurd (other c.in-Cp.is);
-      files = λ tells none without. c.reclaim.ensures.files tells;
-      same = λ tells none stays places same. pointed_same d s n (answer c.reclaim.new.into c.reclaim.result) c.reclaim.ensures.points.left tells;
+      files = λ tells none once without. c.reclaim.ensures.files tells;
+      same = λ tells none once stays places same. pointed_same d s n (answer c.reclaim.new.into c.reclaim.result) c.reclaim.ensures.points.left tells;
       steps = record { other = λ none. refl; known = λ tells last m stands knows. no_step (answer c.reclaim.new.into c.reclaim.result) c.args.steps.now; path = λ tells last m stands name of. asks_none _ command name (no_files command (ap volume_asked c.in-Cp.is) (ap changed_by c.in-Cp.is)) of; dead = λ failed. refl };
       numbers = λ alive. keeps_but _ s.volumes n.volumes (c.reclaim.ensures.runs.numbers alive);
       dead = λ failed. not_dead _ s fresh failed;
@@ -183,6 +198,7 @@ serve-requires-clause-served g c =
     record {
       not_create = at.not-VolCreate;
       not_clone = at.not-CloneCreate;
+      not_mirror = at.not-Mirror;
       not_destroy = at.not-VolDestroy;
       not_resize = at.not-VolResize;
       not_guarantee = at.not-VolGuarantee;

@@ -1,4 +1,4 @@
-use Rattle.std.proofs.Common.{◌≡◌, ◌≤◌, ◌<◌, ◌+◌, ◌*◌, ℕ, rules, sym, subst, arith}
+use Rattle.std.proofs.Common.{◌≡◌, ◌≤◌, ◌<◌, ◌+◌, ℕ, rules, sym, subst, arith}
 use Rattle.std.specs.Prelude.{IsTrue}
 use Rattle.fv_model.specs.declared.commands.Command.TheVariants.{VolCreate}
 use Rattle.fv_model.specs.Machines.{capacity}
@@ -42,7 +42,7 @@ returns-clause-made g c =
     with_room g.D.Disk.shown c.args.disk.now c.args.self.now c.make_room.new.disk c.make_room.new.self c.from-room.result (λ m. next m (VolCreate c.args.name.now c.args.size c.args.kind)) c.make_room.ensures.calm made.runs
     made.pending made.few made.holding made.reclaimed created.volume c.add.new.self created.added c.in_ok-add.ensures.pending
     (λ tells last m stands.
-    let fits : commits m + 2 * c.from-room.result ≤ capacity m.blocks = omega (arith, room, room_for old s last m c.requires.long stands c.args.name.now c.args.size c.args.kind c.args.admitted.slot c.args.admitted.span c.requires.admitted) in (
+    let fits : commits m + c.from-room.result ≤ capacity m.blocks = omega (arith, room, room_for old s last m c.requires.long stands c.args.name.now c.args.size c.args.kind c.args.admitted.slot c.args.admitted.span c.requires.admitted) in (
       made.room tells last m stands fits,
       λ point is. created_becomes n c.args.name.now c.args.size c.args.kind c.from-room.result c.add.new.self created mid point m is (subst IsTrue (sym made.runs.goes.ends.tells) tells) (made.runs.goes.stands made.runs.goes.done.goes_on).stands.cache,
     ))

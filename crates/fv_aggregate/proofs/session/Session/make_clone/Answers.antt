@@ -1,4 +1,4 @@
-use Rattle.std.proofs.Common.{◌≡◌, ◌≤◌, ◌<◌, ◌+◌, ◌*◌, ℕ, ⊎_elim, rules, sym, ap, subst, arith}
+use Rattle.std.proofs.Common.{◌≡◌, ◌≤◌, ◌<◌, ◌+◌, ℕ, ⊎_elim, rules, sym, ap, subst, arith}
 use Rattle.std.proofs.lemmas.Bool.{cases_lt}
 use Rattle.fv_model.specs.declared.commands.Command.TheVariants.{CloneCreate}
 use Rattle.fv_model.specs.Machines.{capacity}
@@ -53,7 +53,7 @@ returns-clause-made g c =
     with_room g.D.Disk.shown c.args.disk.now c.args.self.now c.make_room.new.disk c.make_room.new.self c.from-room.result (λ m. next m (CloneCreate c.args.name.now c.args.admitted.base.name c.args.admitted.base.snapshot c.args.size c.args.kind)) c.make_room.ensures.calm made.runs
     made.pending made.few made.holding made.reclaimed created.cloned.state c.add_clone.new.self created.added c.in_ok-add_clone.ensures.pending
     (λ tells last m stands.
-    let fits : commits m + 2 * c.from-room.result ≤ capacity m.blocks = omega (arith, room, clone_room old s last m c.requires.long stands c.args.name.now c.args.size c.args.kind c.args.admitted c.requires.admitted) in (
+    let fits : commits m + c.from-room.result ≤ capacity m.blocks = omega (arith, room, clone_room old s last m c.requires.long stands c.args.name.now c.args.size c.args.kind c.args.admitted c.requires.admitted) in (
       made.room tells last m stands fits,
       λ point is. cloned_becomes n c.args.name.now c.args.size c.args.kind c.args.admitted c.from-room.result c.add_clone.new.self created mid point m is
           (span_for old s last m c.requires.long stands c.args.name.now c.args.size c.args.kind c.args.admitted c.requires.admitted) (clone_accepted old s last m c.requires.long stands c.args.name.now c.args.size c.args.kind c.args.admitted c.requires.admitted),

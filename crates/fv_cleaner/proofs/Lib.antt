@@ -1,0 +1,25 @@
+mod Lying
+mod Filled
+mod Searched
+mod Undamaged
+mod Rooted
+pub mod Unled
+pub mod Ruled
+mod Stepped
+pub mod Lowers
+pub mod Known
+pub mod Beside
+pub mod Moving
+pub mod Stays
+pub mod Held
+pub mod Finished
+pub mod NoneLeft
+pub mod Cleaned
+pub mod Rerooted
+pub mod RootsHeld
+pub mod Step
+pub mod Spaced
+pub mod Exact
+pub mod Sessions
+pub mod SpacedRoots
+pub mod Ended

@@ -1,0 +1,4 @@
+pub mod Leaving
+pub mod Numbers
+pub mod Marking
+pub mod Landed

@@ -1,0 +1,3 @@
+pub mod Copying
+pub mod Landings
+pub mod LandingLaws

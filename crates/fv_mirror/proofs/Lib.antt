@@ -1,0 +1,16 @@
+pub mod Refused
+pub mod Counted
+pub mod Made
+pub mod Machine
+pub mod Labelled
+pub mod Placed
+pub mod CopiedTrees
+pub mod CopiedTables
+pub mod Source
+pub mod Whole
+pub mod Copyable
+pub mod NewMirror
+pub mod Held
+pub mod Told
+pub mod Spaced
+pub mod Lent
