@@ -88,3 +88,10 @@ mod Putting
 mod StillAdmitted
 mod Cloned
 mod MirrorApplied
+mod WorkedCounts
+mod WorkedParts
+mod WorkedOthers
+mod WorkedStands
+mod Worked
+mod WorkedCalls
+mod WorkedLoops

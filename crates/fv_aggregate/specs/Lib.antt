@@ -25,3 +25,4 @@ pub mod Snapping
 pub mod Reclaiming
 pub mod Removing
 pub mod Applying
+pub mod Working

@@ -17,6 +17,7 @@ mod replies;
 mod session;
 mod snapshots;
 mod volumes;
+mod working;
 
 pub use fault::{Fault, OpenFault};
 pub use replies::refuse;
