@@ -9,7 +9,7 @@ Behind a point, in a run of its own, a `mirror` is made. Three things are measur
 - its processor time by block, and its most memory, which hold the entries of the new container and none of the blocks;
 - what a `get` reads in the mirror, in a run of its own, beside one in its source: a leaf of the container for each pointer without a place, at most.
 
-Blocks are counted by strace. The time is the least of three. Where a bar is passed a line says so, and the status is 1.
+Blocks are counted by strace. The time is the least of three, and the memory the greatest. Where a bar is passed a line says so, and the status is 1.
 
 The program is the one that ./prove or `rt ci` built here, no older than its sources; `--program` names another one, and `--quick` leaves 100,000 blocks
 out.
@@ -17,6 +17,7 @@ out.
 import os
 import subprocess
 import tempfile
+import time
 
 from check import program_of, read_words, tell_end
 from names import CONTENT, replies
@@ -59,16 +60,46 @@ def overhead(size):
     return 1 + maps + leaves + nodes
 
 
-def run_cost(program, path, line, folder):
-    """Seconds of the processor and KiB of memory of a run with one line, over a copy."""
+def start(program, path, lines, folder):
+    """Starts a run with these lines, over a copy, whose input stays open."""
     copy = os.path.join(folder, "copy")
     subprocess.run(["cp", path, copy], check=True)
     child = subprocess.Popen([program, copy, "run"], stdin=subprocess.PIPE, stdout=subprocess.DEVNULL)
-    child.stdin.write((line + "\n").encode())
+    child.stdin.write("".join(f"{it}\n" for it in lines).encode())
+    child.stdin.flush()
+    return child
+
+
+def run_seconds(program, path, line, folder):
+    """Seconds of the processor of a run with one line."""
+    child = start(program, path, [line], folder)
     child.stdin.close()
     _, status, used = os.wait4(child.pid, 0)
     assert status == 0, status
-    return used.ru_utime + used.ru_stime, used.ru_maxrss
+    return used.ru_utime + used.ru_stime
+
+
+def is_waiting(child, ticks):
+    """Whether a process sleeps and has used no more of the processor than these ticks, and how many it has used."""
+    with open(f"/proc/{child.pid}/stat", encoding="ascii") as told:
+        words = told.read().rpartition(")")[2].split()
+    used = int(words[11]) + int(words[12])
+    return words[0] == "S" and used == ticks, used
+
+
+def run_memory(program, path, line, folder):
+    """KiB of memory that a run with one line and a point takes at most, once it waits for more lines. What is told of a child that ended counts
+    the memory of the script that started it, too."""
+    child, waits, ticks = start(program, path, [line, "cp"], folder), 0, -1
+    while waits < 5:
+        time.sleep(0.05)
+        waiting, ticks = is_waiting(child, ticks)
+        waits = waits + 1 if waiting else 0
+    with open(f"/proc/{child.pid}/status", encoding="ascii") as told:
+        most = next(int(it.split()[1]) for it in told if it.startswith("VmHWM"))
+    child.stdin.close()
+    assert child.wait() == 0, child.returncode
+    return most
 
 
 def measure_making(program, folder, counts):
@@ -77,13 +108,13 @@ def measure_making(program, folder, counts):
     for count in counts:
         path = os.path.join(folder, "aggregate")
         make(program, path, source_lines(count))
-        costs = [run_cost(program, path, mirror_line(count), folder) for _ in range(RUNS)]
+        seconds = min(run_seconds(program, path, mirror_line(count), folder) for _ in range(RUNS))
+        memory.append(max(run_memory(program, path, mirror_line(count), folder) for _ in range(RUNS)))
         idle = calls_beyond(program, path, [], 0, folder)
         made = calls_beyond(program, path, [mirror_line(count)], 0, folder)
         copies = int(replies(program, path, ["vol stat w"])[0].split()[3])
         read, node, written = (made[kind] - idle[kind] for kind in ("read", "node", "write"))
-        each.append(1000000 * min(seconds for seconds, _ in costs) / copies)
-        memory.append(max(kib for _, kib in costs))
+        each.append(1000000 * seconds / copies)
         print(f"| {count:,} | {copies:,} | {read:,} | {node:,} | {written:,} | {each[-1]:.1f} | {memory[-1]:,} |", flush=True)
         if read > copies + FEW:
             passed.append(f"a mirror of {copies:,} blocks reads {read:,}")

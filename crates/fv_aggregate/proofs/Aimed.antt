@@ -7,7 +7,7 @@ use Rattle.fv_model.specs.declared.answers.Refusal.TheVariants.{NoSnapshot, NoVo
 use Rattle.fv_model.specs.declared.answers.Reply.{Reply}
 use Rattle.fv_model.specs.declared.answers.Reply.TheVariants.{Refused}
 use Rattle.fv_model.specs.declared.commands.Command.{Command}
-use Rattle.fv_model.specs.declared.commands.Command.TheVariants.{VolDestroy, VolResize, VolGuarantee, VolStat}
+use Rattle.fv_model.specs.declared.commands.Command.TheVariants.{Clean, VolDestroy, VolResize, VolGuarantee, VolStat, Work}
 use Rattle.fv_volume.specs.Slots.{NoneHasName}
 use Rattle.fv_volume.specs.States.{States, state_at}
 use Rattle.fv_cp.specs.Lent.{FitTogether}
@@ -18,7 +18,7 @@ use Rattle.fv_aggregate.specs.declared.fault.Fault.{Fault}
 use Rattle.fv_aggregate.specs.declared.session.Session.{Session}
 use Rattle.fv_aggregate.specs.Aiming.{Aims, AimsAt, IsAimed, IsAimless, IsServed, Suits}
 use Rattle.fv_aggregate.specs.Applying.{HasApplied}
-use Rattle.fv_aggregate.specs.Commands.{slot_named, file_room, has_range, is_built, managed_by, removes_volume, room_by, snapped_by}
+use Rattle.fv_aggregate.specs.Commands.{slot_named, file_room, has_range, is_built, managed_by, removes_volume, room_by, snapped_by, takes_steps}
 use Rattle.fv_aggregate.specs.Managing.{Manages}
 use Rattle.fv_aggregate.specs.Standing.{StandsReady}
 use Rattle.fv_aggregate.proofs.Applied.{managed_or_unbuilt, no_files}
@@ -61,9 +61,15 @@ fits_over v s same fresh fits = subst (λ (k : Session). FitTogether k.pool k.vo
 some_none : (v : List ℕ) → ◌≡◌ {A = Option (List ℕ)} (Some v) None → ⊥
 some_none v e = cc
 
+-- it takes no steps
+served_at_once : (c : Command) → IsServed c → takes_steps c ≡ false
+served_at_once (Clean v) served = absurd (served.not_clean v refl)
+served_at_once (Work steps) served = absurd (served.not_work steps refl)
+served_at_once c served = refl
+
 -- a command that is none of those on volumes isn't built
 unbuilt : (c : Command) → IsServed c → IsAimless c → is_built c ≡ false
-unbuilt c served is = ⊎_elim (λ some. absurd (whole c served some)) (λ none. none) (managed_or_unbuilt c served.not_create served.not_clone served.not_mirror served.not_list served.not_point served.not_names is.asks is.changes is.snaps)
+unbuilt c served is = ⊎_elim (λ some. absurd (whole c served some)) (λ none. none) (managed_or_unbuilt c served.not_create served.not_clone served.not_mirror served.not_list served.not_point served.not_names is.asks is.changes is.snaps (served_at_once c served))
   where
     whole : (c : Command) → IsServed c → is_some (managed_by c) ≡ true → ⊥
     whole (VolDestroy v) served some = served.not_destroy v refl

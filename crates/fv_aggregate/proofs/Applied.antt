@@ -9,7 +9,7 @@ use Rattle.fv_model.specs.declared.answers.Reply.{Reply}
 use Rattle.fv_model.specs.declared.answers.Reply.TheVariants.{Done, Names, Refused}
 use Rattle.fv_model.specs.declared.commands.Kind.{Kind}
 use Rattle.fv_model.specs.declared.commands.Command.{Command}
-use Rattle.fv_model.specs.declared.commands.Command.TheVariants.{VolCreate, VolDestroy, VolResize, VolGuarantee, VolList, VolStat, New, Put, Get, Len, Cut, Remove, Ls, SnapCreate, SnapDelete, SnapRestore, SnapList, CloneCreate, Mirror, Probe, Cp}
+use Rattle.fv_model.specs.declared.commands.Command.TheVariants.{VolCreate, VolDestroy, VolResize, VolGuarantee, VolList, VolStat, New, Put, Get, Len, Cut, Remove, Ls, SnapCreate, SnapDelete, SnapRestore, SnapList, CloneCreate, Mirror, Clean, Probe, Work, Cp}
 use Rattle.fv_model.specs.Machines.{Machine}
 use Rattle.fv_model.specs.Effects.{change_of}
 use Rattle.fv_model.specs.Refusals.{conditions, next}
@@ -20,7 +20,8 @@ use Rattle.fv_aggregate.specs.declared.fault.Fault.{Fault}
 use Rattle.fv_aggregate.specs.declared.fault.Fault.TheVariants.{Memory}
 use Rattle.fv_aggregate.specs.declared.session.Session.{Session}
 use Rattle.fv_aggregate.specs.Calls.{Goes, GoesFor, IsForWant, IsNoDamage, IsPlain, IsUnpointed, KeepsAsking}
-use Rattle.fv_aggregate.specs.Commands.{asked_by, AsksNothing, AsksPoint, Replies, RepliesBy, volume_asked, changed_by, is_built, machine_after, managed_by, reads_files, room_by, room_with, snapped_by}
+use Rattle.fv_aggregate.specs.Commands.{asked_by, AsksNothing, AsksPoint, Replies, RepliesBy, volume_asked, changed_by, is_built, machine_after, managed_by, reads_files, room_by, room_with, snapped_by, takes_steps}
+use Rattle.fv_aggregate.specs.Cleaning.{GoesAs}
 use Rattle.fv_aggregate.specs.Deciding.{makes_volume}
 use Rattle.fv_aggregate.specs.Standing.{StandsAfter, StandsFor}
 use Rattle.fv_aggregate.specs.Telling.{names_from}
@@ -164,13 +165,17 @@ cp_no_names X command is name names = absurd (apart (sym is ∙ names))
     apart : Cp ≡ SnapList name → ⊥
     apart e = cc
 
+pub cp_no_steps : (X : Type 0) (command : Command) → command ≡ Cp → takes_steps command ≡ true → X
+cp_no_steps X command is takes = absurd (true≢false (sym takes ∙ ap takes_steps is))
+
 pub cp_no_files : (X : Type 0) (command : Command) → command ≡ Cp → reads_files command ≡ true → X
 unfolding reads_files
 cp_no_files X command is files = absurd (true≢false (sym files ∙ ap reads_files is))
 
-pub cp_goes : (command : Command) → command ≡ Cp → (before : Shown) (old : Session) (after : Shown) (new : Session) (result : Result Reply Fault) → Goes 0 AsksPoint before old after new result → Goes (room_by old.volumes command) (asked_by old.volumes command) before old after new result
+pub cp_goes : (command : Command) → command ≡ Cp → (before : Shown) (old : Session) (after : Shown) (new : Session) (result : Result Reply Fault) → Goes 0 AsksPoint before old after new result
+    → GoesAs (takes_steps command) (room_by old.volumes command) (asked_by old.volumes command) before old after new result
 unfolding room_with asked_by
-cp_goes command is before old after new result goes = subst (λ (c : Command). Goes (room_by old.volumes c) (asked_by old.volumes c) before old after new result) (sym is) goes
+cp_goes command is before old after new result goes = subst (λ (c : Command). GoesAs (takes_steps c) (room_by old.volumes c) (asked_by old.volumes c) before old after new result) (sym is) goes
 
 pub cp_goes_for : (command : Command) → command ≡ Cp → (before : Shown) (last m : Machine) (after : Shown) (new : Session) (result : Result Reply Fault) → GoesFor before last m m after new result → GoesFor before last m (machine_after m command) after new result
 unfolding is_built machine_after conditions change_of
@@ -193,30 +198,32 @@ none_if false v none = refl
 
 -- a command that is about a whole volume, or isn't built
 pub managed_or_unbuilt : (command : Command) → ((name : List ℕ) (size : ℕ) (kind : Kind) → command ≢ VolCreate name size kind) → ((clone parent snapshot : List ℕ) (size : ℕ) (kind : Kind) → command ≢ CloneCreate clone parent snapshot size kind)
-    → ((source snapshot mirror : List ℕ) (size : ℕ) (kind : Kind) → command ≢ Mirror source snapshot mirror size kind) → command ≢ VolList → command ≢ Cp → ((name : List ℕ) → command ≢ SnapList name) → volume_asked command ≡ None → changed_by command ≡ None → snapped_by command ≡ None → (is_some (managed_by command) ≡ true) ⊎ (is_built command ≡ false)
+    → ((source snapshot mirror : List ℕ) (size : ℕ) (kind : Kind) → command ≢ Mirror source snapshot mirror size kind) → command ≢ VolList → command ≢ Cp → ((name : List ℕ) → command ≢ SnapList name) → volume_asked command ≡ None → changed_by command ≡ None → snapped_by command ≡ None → takes_steps command ≡ false → (is_some (managed_by command) ≡ true) ⊎ (is_built command ≡ false)
 unfolding is_built
-managed_or_unbuilt (VolCreate v size kind) a l w b c d asked changed snaps = absurd (a v size kind refl)
-managed_or_unbuilt (VolDestroy v) a l w b c d asked changed snaps = inl refl
-managed_or_unbuilt (VolResize v size) a l w b c d asked changed snaps = inl refl
-managed_or_unbuilt (VolGuarantee v kind) a l w b c d asked changed snaps = inl refl
-managed_or_unbuilt VolList a l w b c d asked changed snaps = absurd (b refl)
-managed_or_unbuilt (VolStat v) a l w b c d asked changed snaps = inl refl
-managed_or_unbuilt (New v f reserve) a l w b c d asked changed snaps = inr (none_if (reserve == 0) v changed)
-managed_or_unbuilt (Put v f i block) a l w b c d asked changed snaps = absurd (some_none v changed)
-managed_or_unbuilt (Get v s f i) a l w b c d asked changed snaps = absurd (some_none v asked)
-managed_or_unbuilt (Len v s f) a l w b c d asked changed snaps = absurd (some_none v asked)
-managed_or_unbuilt (Cut v f length) a l w b c d asked changed snaps = absurd (some_none v changed)
-managed_or_unbuilt (Remove v f) a l w b c d asked changed snaps = absurd (some_none v changed)
-managed_or_unbuilt (Ls v s) a l w b c d asked changed snaps = absurd (some_none v asked)
-managed_or_unbuilt (Probe v f i) a l w b c d asked changed snaps = absurd (some_none v asked)
-managed_or_unbuilt (SnapCreate v s) a l w b c d asked changed snaps = absurd (some_none v snaps)
-managed_or_unbuilt (SnapDelete v s) a l w b c d asked changed snaps = absurd (some_none v snaps)
-managed_or_unbuilt (SnapRestore v s) a l w b c d asked changed snaps = absurd (some_none v snaps)
-managed_or_unbuilt (SnapList v) a l w b c d asked changed snaps = absurd (d v refl)
-managed_or_unbuilt (CloneCreate v p s size kind) a l w b c d asked changed snaps = absurd (l v p s size kind refl)
-managed_or_unbuilt (Mirror v s m size kind) a l w b c d asked changed snaps = absurd (w v s m size kind refl)
-managed_or_unbuilt Cp a l w b c d asked changed snaps = absurd (c refl)
-managed_or_unbuilt command a l w b c d asked changed snaps = inr refl
+managed_or_unbuilt (VolCreate v size kind) a l w b c d asked changed snaps at_once = absurd (a v size kind refl)
+managed_or_unbuilt (VolDestroy v) a l w b c d asked changed snaps at_once = inl refl
+managed_or_unbuilt (VolResize v size) a l w b c d asked changed snaps at_once = inl refl
+managed_or_unbuilt (VolGuarantee v kind) a l w b c d asked changed snaps at_once = inl refl
+managed_or_unbuilt VolList a l w b c d asked changed snaps at_once = absurd (b refl)
+managed_or_unbuilt (VolStat v) a l w b c d asked changed snaps at_once = inl refl
+managed_or_unbuilt (New v f reserve) a l w b c d asked changed snaps at_once = inr (none_if (reserve == 0) v changed)
+managed_or_unbuilt (Put v f i block) a l w b c d asked changed snaps at_once = absurd (some_none v changed)
+managed_or_unbuilt (Get v s f i) a l w b c d asked changed snaps at_once = absurd (some_none v asked)
+managed_or_unbuilt (Len v s f) a l w b c d asked changed snaps at_once = absurd (some_none v asked)
+managed_or_unbuilt (Cut v f length) a l w b c d asked changed snaps at_once = absurd (some_none v changed)
+managed_or_unbuilt (Remove v f) a l w b c d asked changed snaps at_once = absurd (some_none v changed)
+managed_or_unbuilt (Ls v s) a l w b c d asked changed snaps at_once = absurd (some_none v asked)
+managed_or_unbuilt (Probe v f i) a l w b c d asked changed snaps at_once = absurd (some_none v asked)
+managed_or_unbuilt (SnapCreate v s) a l w b c d asked changed snaps at_once = absurd (some_none v snaps)
+managed_or_unbuilt (SnapDelete v s) a l w b c d asked changed snaps at_once = absurd (some_none v snaps)
+managed_or_unbuilt (SnapRestore v s) a l w b c d asked changed snaps at_once = absurd (some_none v snaps)
+managed_or_unbuilt (SnapList v) a l w b c d asked changed snaps at_once = absurd (d v refl)
+managed_or_unbuilt (CloneCreate v p s size kind) a l w b c d asked changed snaps at_once = absurd (l v p s size kind refl)
+managed_or_unbuilt (Mirror v s m size kind) a l w b c d asked changed snaps at_once = absurd (w v s m size kind refl)
+managed_or_unbuilt (Clean v) a l w b c d asked changed snaps at_once = absurd (true≢false at_once)
+managed_or_unbuilt (Work steps) a l w b c d asked changed snaps at_once = absurd (true≢false at_once)
+managed_or_unbuilt Cp a l w b c d asked changed snaps at_once = absurd (c refl)
+managed_or_unbuilt command a l w b c d asked changed snaps at_once = inr refl
 
 -- a command that neither asks for files nor changes one reads none
 pub no_files : (command : Command) → volume_asked command ≡ None → changed_by command ≡ None → reads_files command ≡ false

@@ -1,5 +1,5 @@
 -- The commands on files as `apply` has them.
-use Rattle.std.proofs.Common.{◌≡◌, ◌≤◌, ◌+◌, ◌⊎◌, ℕ, List, Option, Some, None, Result, Ok, Err, false, true, true≢false, refl, sym, ap, subst, ◌∙◌, inl, inr, arith}
+use Rattle.std.proofs.Common.{◌≡◌, ◌≤◌, ◌+◌, ◌⊎◌, ℕ, Bool, List, Option, Some, None, Result, Ok, Err, false, true, true≢false, refl, sym, ap, subst, ◌∙◌, inl, inr, arith}
 use Rattle.std.specs.Prelude.{IfOk, IfSome, IsNone, IsSome, IsTrue, OnOk}
 use Rattle.fv_disk.specs.Shown.{Shown}
 use Rattle.fv_disk.specs.DiskCalls.{OnlyReads}
@@ -18,7 +18,8 @@ use Rattle.fv_aggregate.specs.declared.fault.Fault.{Fault}
 use Rattle.fv_aggregate.specs.declared.session.Session.{Session}
 use Rattle.fv_aggregate.specs.Adding.{IsPointed}
 use Rattle.fv_aggregate.specs.Calls.{Goes, GoesFor, KeepsAsking, KeepsEntries, WasRead}
-use Rattle.fv_aggregate.specs.Commands.{asked_by, Asked, AsksTable, changed_by, changes_volume, dirty_limit, file_room, reads_cell, is_refusal, machine_after, reads_files, room_by, slot_named, snapshot_asked, volume_asked, Replies}
+use Rattle.fv_aggregate.specs.Cleaning.{GoesAs}
+use Rattle.fv_aggregate.specs.Commands.{asked_by, Asked, AsksTable, changed_by, changes_volume, dirty_limit, file_room, reads_cell, is_refusal, machine_after, reads_files, room_by, slot_named, snapshot_asked, takes_steps, volume_asked, Replies}
 use Rattle.fv_aggregate.specs.Looking.{Looks, Makes}
 use Rattle.fv_aggregate.specs.Standing.{HoldsAsCommitted, IsWithoutFiles, StandsFor, StandsReady}
 use Rattle.fv_aggregate.proofs.Calls.{reads_itself}
@@ -83,6 +84,16 @@ same_volume a b e = cc
 -- a command that reads no file asks none
 pub asks_none : (X : Type 0) (c : Command) (name : List ℕ) → reads_files c ≡ false → volume_asked c ≡ Some name → X
 asks_none X c name none asks = absurd (true≢false (sym (look_reads c name asks) ∙ none))
+
+-- ---- a command that takes no steps
+
+module _ (c : Command) (at_once : takes_steps c ≡ false) where
+  pub goes_at_once : {room : ℕ} {asked : Asked} {d : Shown} {s : Session} {e : Shown} {n : Session} {r : Result Reply Fault}
+      → Goes room asked d s e n r → GoesAs (takes_steps c) room asked d s e n r
+  goes_at_once {room} {asked} {d} {s} {e} {n} {r} goes = subst (λ (b : Bool). GoesAs b room asked d s e n r) (sym at_once) goes
+
+  pub no_steps : (X : Type 0) → takes_steps c ≡ true → X
+  no_steps X takes = absurd (true≢false (sym takes ∙ at_once))
 
 -- ---- a command that asks
 

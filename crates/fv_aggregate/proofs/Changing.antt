@@ -14,7 +14,7 @@ use Rattle.fv_model.specs.Refusals.{next, refusal}
 use Rattle.fv_model.specs.Replies.{answer, is_open, Allows, AllowsBy, IsAnswer}
 use Rattle.fv_volume.specs.Changing.{IsChangeOf}
 use Rattle.fv_volume.specs.States.{States}
-use Rattle.fv_aggregate.specs.Commands.{asked_by, AsksTable, slot_named, snapshot_asked, volume_asked, changed_by, is_built, reads_cell, machine_after, reads_files, room_by, room_with, Replies, RepliesBy}
+use Rattle.fv_aggregate.specs.Commands.{asked_by, AsksTable, slot_named, snapshot_asked, volume_asked, changed_by, is_built, reads_cell, machine_after, reads_files, room_by, room_with, takes_steps, Replies, RepliesBy}
 use Rattle.fv_aggregate.specs.Looking.{refusal_in, Judges}
 use Rattle.fv_aggregate.proofs.Asked.{answer_allows}
 use Rattle.fv_aggregate.proofs.Missing.{asked_cases}
@@ -56,6 +56,9 @@ module _ (name : List ℕ) (c : Command) (change : IsChangeOf name c) where
   unfolding is_built
   change_built = change_cases (λ (k : Command). is_built k ≡ true) (λ v f. refl) (λ v f i block. refl) (λ v f length. refl) (λ v f. refl) name c change
 
+  pub change_at_once : takes_steps c ≡ false
+  change_at_once = change_cases (λ (k : Command). takes_steps k ≡ false) (λ v f. refl) (λ v f i block. refl) (λ v f length. refl) (λ v f. refl) name c change
+
   pub change_reads : reads_files c ≡ true
   unfolding reads_files
   change_reads = change_cases (λ (k : Command). reads_files k ≡ true) (λ v f. refl) (λ v f i block. refl) (λ v f length. refl) (λ v f. refl) name c change
@@ -86,6 +89,9 @@ module _ (c : Command) (name : List ℕ) (asks : volume_asked c ≡ Some name) w
   pub look_asked : (states : States) → asked_by states c ≡ AsksTable (slot_named states name) (snapshot_asked c) (reads_cell c)
   unfolding asked_by
   look_asked states = asked_cases (λ (k : Command). asked_by states k ≡ AsksTable (slot_named states name) (snapshot_asked k) (reads_cell k)) name (λ s f i. refl) (λ s f. refl) (λ s. refl) (λ f i. refl) c asks
+
+  pub look_at_once : takes_steps c ≡ false
+  look_at_once = asked_cases (λ (k : Command). takes_steps k ≡ false) name (λ s f i. refl) (λ s f. refl) (λ s. refl) (λ f i. refl) c asks
 
   pub look_reads : reads_files c ≡ true
   unfolding reads_files

@@ -5,10 +5,10 @@ use Rattle.fv_model.specs.declared.answers.Refusal.{Refusal}
 use Rattle.fv_model.specs.declared.answers.Reply.{Reply}
 use Rattle.fv_model.specs.declared.answers.Reply.TheVariants.{Done}
 use Rattle.fv_model.specs.declared.commands.Command.{Command}
-use Rattle.fv_model.specs.declared.commands.Command.TheVariants.{VolCreate, CloneCreate, Mirror}
+use Rattle.fv_model.specs.declared.commands.Command.TheVariants.{VolCreate, CloneCreate, Mirror, Clean, Work}
 use Rattle.fv_volume.specs.States.{States}
 use Rattle.fv_aggregate.specs.declared.fault.Fault.{Fault}
-use Rattle.fv_aggregate.specs.Commands.{is_built, managed_by}
+use Rattle.fv_aggregate.specs.Commands.{is_built, managed_by, takes_steps}
 use Rattle.fv_aggregate.specs.Deciding.{makes_volume, DecidesMaking, IsDecided}
 
 -- what was done was admitted
@@ -34,3 +34,10 @@ managed_undecided (VolCreate name size kind) either = absurd (⊎_elim (λ some.
 managed_undecided (CloneCreate clone parent snapshot size kind) either = absurd (⊎_elim (λ some. true≢false (sym some)) (λ none. true≢false none) either)
 managed_undecided (Mirror source snapshot mirror size kind) either = absurd (⊎_elim (λ some. true≢false (sym some)) (λ none. true≢false none) either)
 managed_undecided c either = refl
+
+-- nor takes one of these steps
+pub managed_at_once : (c : Command) → (is_some (managed_by c) ≡ true) ⊎ (is_built c ≡ false) → takes_steps c ≡ false
+unfolding is_built
+managed_at_once (Clean name) either = absurd (⊎_elim (λ some. true≢false (sym some)) (λ none. true≢false none) either)
+managed_at_once (Work steps) either = absurd (⊎_elim (λ some. true≢false (sym some)) (λ none. true≢false none) either)
+managed_at_once c either = refl

@@ -16,12 +16,12 @@ use Rattle.fv_aggregate.specs.declared.fault.Fault.{Fault}
 use Rattle.fv_aggregate.specs.declared.session.Session.{Session}
 use Rattle.fv_aggregate.specs.Applying.{HasApplied}
 use Rattle.fv_aggregate.specs.Calls.{Goes, GoesFor, IsWithinLimit}
-use Rattle.fv_aggregate.specs.Commands.{asked_by, Asked, AsksNothing, dirty_limit, is_built, is_refusal, machine_after, managed_by, reads_files, room_by, room_with, snapped_by, Replies, RepliesBy}
+use Rattle.fv_aggregate.specs.Commands.{asked_by, Asked, AsksNothing, dirty_limit, is_built, is_refusal, machine_after, managed_by, reads_files, room_by, room_with, snapped_by, takes_steps, Replies, RepliesBy}
 use Rattle.fv_aggregate.specs.Deciding.{DecidesMaking}
 use Rattle.fv_aggregate.specs.Making.{MakesVolume}
 use Rattle.fv_aggregate.specs.Standing.{StandsFor, StandsReady}
 use Rattle.fv_aggregate.proofs.Applied.{own_room}
-use Rattle.fv_aggregate.proofs.Applying.{asks_none, no_step, not_dead, rests_as}
+use Rattle.fv_aggregate.proofs.Applying.{asks_none, goes_at_once, no_step, no_steps, not_dead, rests_as}
 use Rattle.fv_aggregate.proofs.Calls.{rests_asks, rests_done}
 use Rattle.fv_aggregate.proofs.Holes.{kept_entries, no_holes}
 use Rattle.fv_aggregate.proofs.Keeping.{keeps_but}
@@ -31,6 +31,7 @@ use Rattle.fv_aggregate.proofs.MadeRoom.{refused_roomy}
 pub record IsMaking (c : Command) : Type 0 where
   pub built : is_built c ≡ true
   pub no_files : reads_files c ≡ false
+  pub at_once : takes_steps c ≡ false
   pub no_whole : managed_by c ≡ None
   pub no_snap : snapped_by c ≡ None
   pub no_point : c ≢ Cp
@@ -48,6 +49,7 @@ unfolding is_built reads_files asked_by room_with
 making_create name size kind = record {
   built = refl;
   no_files = refl;
+  at_once = refl;
   no_whole = refl;
   no_snap = refl;
   no_point = λ e. cc;
@@ -63,6 +65,7 @@ unfolding is_built reads_files asked_by room_with
 making_clone clone parent snapshot size kind = record {
   built = refl;
   no_files = refl;
+  at_once = refl;
   no_whole = refl;
   no_snap = refl;
   no_point = λ e. cc;
@@ -125,7 +128,7 @@ module _ {D : Type 0} (shown : D → Shown) (c : Command) (is : IsMaking c) (bef
   -- So it is as commands are applied.
   pub made_applied : HasApplied c (shown before) before s steps (shown after) after n steps result
   made_applied = record {
-    goes = subst (λ (k : Asked). Goes (room_by s.volumes c) k (shown before) s (shown after) n result) (sym (is.asks s)) made.makes.runs.goes;
+    goes = goes_at_once c is.at_once (subst (λ (k : Asked). Goes (room_by s.volumes c) k (shown before) s (shown after) n result) (sym (is.asks s)) made.makes.runs.goes);
     asks = λ none once. made.makes.runs.asks;
     goes_for = λ tells last m stands. subst (λ (k : Machine). GoesFor (shown before) last m k (shown after) n result) (next_is m) (made.makes.runs.goes_for tells last m stands);
     reply = λ tells last m stands. replies m (made.reply tells last m stands);
@@ -152,9 +155,10 @@ module _ {D : Type 0} (shown : D → Shown) (c : Command) (is : IsMaking c) (bef
     sides = λ tells last m stands cp. absurd (is.no_point cp);
     roomy = λ once. made.makes.roomy;
     calm = λ other once few. rests_as shown before after (made.makes.calm (low few));
-    entries = λ other few stays. made.makes.entries (low few);
+    entries = λ other once few stays. made.makes.entries (low few);
     files = λ tells none once without. made.makes.holding.files tells without;
     same = λ tells none once stays places same. made.makes.holding.same tells same;
+    stepped = λ takes fresh. no_steps c is.at_once _ takes;
     steps = record { other = λ none. refl; known = λ tells last m stands knows. no_step result steps; path = λ tells last m stands name of. asks_none _ c name is.no_files of; dead = λ failed. refl };
     numbers = λ alive. keeps_but _ s.volumes n.volumes (made.makes.runs.numbers alive);
     dead = λ failed. not_dead _ s made.fresh failed;

@@ -156,9 +156,10 @@ module _ {D : Type 0} (shown : D → Shown) (laws : (x : D) → IsDisk (shown x)
       sides = λ tells last m is cp. no_point source snapshot name size kind _ cp;
       roomy = λ once. absurd (true≢false once);
       calm = λ other once. absurd (true≢false once);
-      entries = λ other few stays. no_holes s s (kept_entries s s refl);
+      entries = λ other once few stays. no_holes s s (kept_entries s s refl);
       files = λ tells none once. absurd (true≢false once);
       same = λ tells none once. absurd (true≢false once);
+      stepped = λ takes. absurd (true≢false (sym takes));
       steps = record { other = λ none. refl; known = λ tells last m is knows. no_step (Ok (Refused r)) steps; path = λ tells last m is other of. none_some _ other of; dead = λ failed. refl };
       numbers = λ alive. keeps_but _ s.volumes s.volumes (λ k known. known);
       dead = λ failed. refl;
@@ -261,9 +262,10 @@ module _ {D : Type 0} (shown : D → Shown) (laws : (x : D) → IsDisk (shown x)
       sides = λ tells last m is cp. no_point a.source.name a.source.snapshot name size kind _ cp;
       roomy = λ once. absurd (true≢false once);
       calm = λ other once. absurd (true≢false once);
-      entries = λ other few stays. made.entries (low few);
+      entries = λ other once few stays. made.entries (low few);
       files = λ tells none once. absurd (true≢false once);
       same = λ tells none once. absurd (true≢false once);
+      stepped = λ takes. absurd (true≢false (sym takes));
       steps = record { other = λ none. refl; known = λ tells last m is knows. no_step result steps; path = λ tells last m is other of. none_some _ other of; dead = λ failed. refl };
       numbers = λ alive. keeps_but _ s.volumes n.volumes (made.numbers alive);
       dead = λ failed. not_dead _ s fresh failed;

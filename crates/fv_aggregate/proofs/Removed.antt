@@ -358,9 +358,10 @@ module _ {D : Type 0} (name : List ℕ) (d e : Shown) (at left : D) (s n : Sessi
     sides = λ tells last m held cp. absurd (no_point name cp);
     roomy = λ once. none_roomy (room_by s.volumes (VolDestroy name)) d s e r (managed_room _ _ _ _ (VolDestroy name) (inl refl));
     calm = λ other once few. only;
-    entries = λ other few stays. absurd (true≢false stays);
+    entries = λ other once few stays. absurd (true≢false stays);
     files = λ tells none once without. did.files without;
     same = λ tells none once stays. absurd (true≢false stays);
+    stepped = λ takes. absurd (true≢false (sym takes));
     steps = record { other = λ none. refl; known = λ tells last m held knows. no_step r steps; path = λ tells last m held other of. absurd (none_snapped other of); dead = λ failed. refl };
     numbers = λ alive. did.numbers;
     dead = λ failed. not_dead _ s fresh failed;

@@ -1,5 +1,5 @@
 -- What `apply` does with a command, by what the call does that carries it out.
-use Rattle.std.proofs.Common.{◌≡◌, inl, ◌≢◌, ◌<◌, ◌≤◌, ◌+◌, ◌⊎◌, ℕ, true, false, List, Option, Some, None, Result, Ok, Err, inr, true≢false, refl, sym, ap, subst, ◌∙◌}
+use Rattle.std.proofs.Common.{◌≡◌, inl, ◌≢◌, ◌<◌, ◌≤◌, ◌+◌, ◌⊎◌, ℕ, Bool, true, false, List, Option, Some, None, Result, Ok, Err, inr, true≢false, refl, sym, ap, subst, ◌∙◌, arith}
 use Rattle.std.specs.Prelude.{IfOk, IfSome, IsNone, IsSome, IsTrue, OnErr, OnOk}
 use Rattle.std.specs.Option.{is_some}
 use Rattle.fv_disk.specs.Shown.{IsDisk, Shown}
@@ -20,7 +20,8 @@ use Rattle.fv_aggregate.specs.declared.fault.Fault.TheVariants.{Failed, Memory}
 use Rattle.fv_aggregate.specs.declared.session.Session.{Session}
 use Rattle.fv_aggregate.specs.Applying.{HasApplied}
 use Rattle.fv_aggregate.specs.Calls.{Goes, GoesFor, IsPlain, IsUntouched, LacksSnapshot, MakesNoStep, NeedsSnapshot}
-use Rattle.fv_aggregate.specs.Commands.{asked_by, AsksTable, slot_named, changed_by, dirty_limit, file_room, finds_file, has_range, is_built, is_get, machine_after, managed_by, reads_files, removes_volume, room_by, snapped_by, volume_asked, Replies}
+use Rattle.fv_aggregate.specs.Cleaning.{GoesAs}
+use Rattle.fv_aggregate.specs.Commands.{asked_by, AsksTable, slot_named, changed_by, dirty_limit, file_room, finds_file, has_range, is_built, is_get, machine_after, managed_by, reads_files, removes_volume, room_by, snapped_by, takes_steps, volume_asked, Replies}
 use Rattle.fv_aggregate.specs.Failing.{IsUnmadeIn}
 use Rattle.fv_aggregate.specs.Known.{KeepsNumbers, KeepsNumbersBut, KnowsNamed, KnowsNumbers, MayLose}
 use Rattle.fv_aggregate.specs.Looking.{HasSnapped, Looks, Makes}
@@ -29,18 +30,18 @@ use Rattle.fv_aggregate.specs.Probing.{CountsPath, TellsPath}
 use Rattle.fv_aggregate.specs.Reclaiming.{MakesRoom}
 use Rattle.fv_aggregate.specs.Standing.{StandsFor, StandsReady}
 use Rattle.fv_aggregate.proofs.Applied.{fault_plain, no_files, rests_for, rests_for_fault}
-use Rattle.fv_aggregate.proofs.Applying.{asks_none, look_asks, look_files, look_goes, look_goes_for, look_name, look_no_point, look_refused, look_reply, look_same, look_unchanged, make_asks, make_calm, make_entries, make_goes, make_goes_for, make_name, make_no_point, make_reply, make_still, make_unasked, make_unchanged, make_within, no_step, not_dead, same_map}
+use Rattle.fv_aggregate.proofs.Applying.{asks_none, goes_at_once, look_asks, look_files, look_goes, look_goes_for, look_name, look_no_point, look_refused, look_reply, look_same, look_unchanged, make_asks, make_calm, make_entries, make_goes, make_goes_for, make_name, make_no_point, make_reply, make_still, make_unasked, make_unchanged, make_within, no_step, no_steps, not_dead, same_map}
 use Rattle.fv_aggregate.proofs.Calls.{reads_itself, rests_asks, rests_done, rests_wanting, stays_failed}
-use Rattle.fv_aggregate.proofs.Changing.{change_of_volume, change_reads, change_room, look_reads, look_room}
+use Rattle.fv_aggregate.proofs.Changing.{change_at_once, change_of_volume, change_reads, change_room, look_at_once, look_reads, look_room}
 use Rattle.fv_aggregate.proofs.Holes.{kept_entries, no_holes}
 use Rattle.fv_aggregate.proofs.Keeping.{keeps_but, keeps_managed, knows_named, may_lose, named_as}
 use Rattle.fv_aggregate.proofs.Looked.{was_unread}
 use Rattle.fv_aggregate.proofs.Managed.{manages_over}
 use Rattle.fv_aggregate.proofs.MadeRoom.{managed_room, none_roomy}
-use Rattle.fv_aggregate.proofs.Decided.{managed_undecided}
+use Rattle.fv_aggregate.proofs.Decided.{managed_at_once, managed_undecided}
 use Rattle.fv_aggregate.proofs.ManagedCalls.{managed_asks, managed_for, managed_goes, managed_plain}
 use Rattle.fv_aggregate.proofs.SnapApplied.{applied_for, applied_plain, applied_reply}
-use Rattle.fv_aggregate.proofs.SnapCommands.{snap_changes, snap_other, snap_reads}
+use Rattle.fv_aggregate.proofs.SnapCommands.{snap_at_once, snap_changes, snap_other, snap_reads}
 
 on_ok : {T P : Type 0} → P → (r : Result T Fault) → OnOk r P
 on_ok p (Ok x) = p
@@ -54,12 +55,12 @@ not_none X states slot name within named none = absurd (true≢false (sym named.
 
 module _ {D : Type 0} (c : Command) (d : Shown) (at : D) (s : Session) (steps : ℕ) where
   -- a command that reads no file, and is no `cp`
-  rests_applied : (r : Result Reply Fault) → IsNone s.failed → reads_files c ≡ false → c ≢ Cp → room_by s.volumes c ≡ 0 → Goes (room_by s.volumes c) (asked_by s.volumes c) d s d s r
+  rests_applied : (r : Result Reply Fault) → IsNone s.failed → reads_files c ≡ false → takes_steps c ≡ false → c ≢ Cp → room_by s.volumes c ≡ 0 → Goes (room_by s.volumes c) (asked_by s.volumes c) d s d s r
       → (IsTrue d.tells → (last m : Machine) → StandsFor d s last m → GoesFor d last m (machine_after m c) d s r) → (IsTrue d.tells → (last m : Machine) → StandsFor d s last m → IfOk r (Replies m c)) → IsPlain c d at s d at s r
       → HasApplied c d at s steps d at s steps r
-  rests_applied r fresh reads other none goes goes_for reply plain = record {
+  rests_applied r fresh reads at_once other none goes goes_for reply plain = record {
     roomy = λ once. none_roomy (room_by s.volumes c) d s d r none;
-    goes = goes;
+    goes = goes_at_once c at_once goes;
     asks = λ none once. rests_asks (room_by s.volumes c) d s;
     goes_for = goes_for;
     reply = reply;
@@ -68,30 +69,31 @@ module _ {D : Type 0} (c : Command) (d : Shown) (at : D) (s : Session) (steps : 
     point = λ tells last m stands cp. absurd (other cp);
     sides = λ tells last m stands cp. absurd (other cp);
     calm = λ no once few. reads_itself d;
-    entries = λ no few stays. no_holes s s (kept_entries s s refl);
+    entries = λ no once few stays. no_holes s s (kept_entries s s refl);
     files = λ tells none once without. on_ok without r;
     same = λ tells none once stays places same. on_ok same r;
+    stepped = λ takes fresh. no_steps c at_once _ takes;
     steps = record { other = λ none. refl; known = λ tells last m stands knows. no_step r steps; path = λ tells last m stands name of. asks_none _ c name reads of; dead = λ failed. refl };
     numbers = λ alive k known stays. known;
     dead = λ failed. refl;
   }
 
   -- one that is answered, which leaves the machine,
-  pub rests_answers : IsDisk d → (y : Reply) → IsNone s.failed → StandsReady d s → reads_files c ≡ false → c ≢ Cp → room_by s.volumes c ≡ 0 → ((m : Machine) → machine_after m c ≡ m)
+  pub rests_answers : IsDisk d → (y : Reply) → IsNone s.failed → StandsReady d s → reads_files c ≡ false → takes_steps c ≡ false → c ≢ Cp → room_by s.volumes c ≡ 0 → ((m : Machine) → machine_after m c ≡ m)
       → (IsTrue d.tells → (last m : Machine) → StandsFor d s last m → Replies m c y) → IsPlain c d at s d at s (Ok y) → HasApplied c d at s steps d at s steps (Ok y)
-  rests_answers laws y fresh stands reads other none after replies plain =
-      rests_applied (Ok y) fresh reads other none (rests_done y (room_by s.volumes c) d s fresh stands) (λ tells last m held. rests_for y d s last m (machine_after m c) laws (after m) held) replies plain
+  rests_answers laws y fresh stands reads at_once other none after replies plain =
+      rests_applied (Ok y) fresh reads at_once other none (rests_done y (room_by s.volumes c) d s fresh stands) (λ tells last m held. rests_for y d s last m (machine_after m c) laws (after m) held) replies plain
 
   -- and one for which memory lacks
-  pub rests_lacks : IsDisk d → IsNone s.failed → StandsReady d s → reads_files c ≡ false → c ≢ Cp → room_by s.volumes c ≡ 0 → IsPlain c d at s d at s (Err Memory) → (r : Result Reply Fault) → r ≡ Err Memory → HasApplied c d at s steps d at s steps r
-  rests_lacks laws fresh stands reads other none plain r is =
-      subst (HasApplied c d at s steps d at s steps) (sym is) (rests_applied (Err Memory) fresh reads other none (rests_wanting (room_by s.volumes c) d s fresh stands)
+  pub rests_lacks : IsDisk d → IsNone s.failed → StandsReady d s → reads_files c ≡ false → takes_steps c ≡ false → c ≢ Cp → room_by s.volumes c ≡ 0 → IsPlain c d at s d at s (Err Memory) → (r : Result Reply Fault) → r ≡ Err Memory → HasApplied c d at s steps d at s steps r
+  rests_lacks laws fresh stands reads at_once other none plain r is =
+      subst (HasApplied c d at s steps d at s steps) (sym is) (rests_applied (Err Memory) fresh reads at_once other none (rests_wanting (room_by s.volumes c) d s fresh stands)
       (λ tells last m held. rests_for_fault Memory d s last m (machine_after m c) laws tt held) (λ tells last m held. tt) plain)
 
   -- a session that has failed
   pub failed_applied : IsDisk d → (n : ℕ) → s.failed ≡ Some n → HasApplied c d at s steps d at s steps (Err (Failed n))
   failed_applied laws n is = record {
-    goes = stays_failed n (room_by s.volumes c) d s is;
+    goes = failed_goes (takes_steps c);
     asks = λ none once. rests_asks (room_by s.volumes c) d s;
     goes_for = λ tells last m stands. rests_for_fault (Failed n) d s last m (machine_after m c) laws tt stands;
     reply = λ tells last m stands. tt;
@@ -114,9 +116,10 @@ module _ {D : Type 0} (c : Command) (d : Shown) (at : D) (s : Session) (steps : 
     sides = λ tells last m stands cp. resting d s.pool s.volumes last laws stands.held;
     roomy = λ once tells last m stands some past. tt;
     calm = λ other once few. reads_itself d;
-    entries = λ other few stays. no_holes s s (kept_entries s s refl);
+    entries = λ other once few stays. no_holes s s (kept_entries s s refl);
     files = λ tells none once without. tt;
     same = λ tells none once stays places same. tt;
+    stepped = λ takes fresh. not_dead _ s fresh some;
     steps = record { other = λ none. refl; known = λ tells last m stands knows. tt; path = λ tells last m stands name of. tt; dead = λ failed. refl };
     numbers = λ alive k known stays. known;
     dead = λ failed. refl;
@@ -125,6 +128,12 @@ module _ {D : Type 0} (c : Command) (d : Shown) (at : D) (s : Session) (steps : 
       some : IsSome s.failed
       some = subst IsSome (sym is) refl
 
+      failed_goes : (b : Bool) → GoesAs {T = Reply} b (room_by s.volumes c) (asked_by s.volumes c) d s d s (Err (Failed n))
+      failed_goes false = stays_failed n (room_by s.volumes c) d s is
+      failed_goes true =
+          let goes = stays_failed {T = Reply} {asked = asked_by s.volumes c} n (room_by s.volumes c) d s is in
+          record { ends = goes.ends; stands = goes.stands; done = tt; fault = goes.fault; within = omega arith }
+
 -- ---- a command on a whole volume, or one that isn't built
 
 pub managed_applied : {D : Type 0} (c : Command) (d : Shown) (laws : IsDisk d) (at : D) (old : Session) → FitTogether old.pool old.volumes → IsNone old.failed → StandsReady d old → (steps : ℕ) (new : Session) (reply : Reply)
@@ -132,7 +141,7 @@ pub managed_applied : {D : Type 0} (c : Command) (d : Shown) (laws : IsDisk d) (
 managed_applied c d laws at old fit fresh stands steps new reply stays either manages reads snaps no_list no_point no_names =
     let over = manages_over d old fit c stays either new reply manages in
     record {
-      goes = managed_goes d old c new reply over (room_by old.volumes c) fresh stands;
+      goes = goes_at_once c (managed_at_once c either) (managed_goes d old c new reply over (room_by old.volumes c) fresh stands);
       asks = λ none once. managed_asks d old c new reply over (room_by old.volumes c) none;
       goes_for = λ tells last m held. managed_for d old c new reply over laws stands last m held;
       reply = λ tells last m held. over.replies last m held;
@@ -142,9 +151,10 @@ managed_applied c d laws at old fit fresh stands steps new reply stays either ma
       sides = λ tells last m held cp. absurd (no_point cp);
       roomy = λ once. none_roomy (room_by old.volumes c) d old d (Ok reply) (managed_room _ _ _ _ c either);
       calm = λ other once few. reads_itself d;
-      entries = λ other few stays. no_holes old new (kept_entries old new (over.containers stays));
+      entries = λ other once few stays. no_holes old new (kept_entries old new (over.containers stays));
       files = λ tells none once without. over.files without;
       same = λ tells none once stays places same. same_map old new (over.map stays) same;
+      stepped = λ takes fresh. no_steps c (managed_at_once c either) _ takes;
       steps = record { other = λ none. refl; known = λ tells last m held knows. refl; path = λ tells last m held name of. asks_none _ c name reads of; dead = λ failed. refl };
       numbers = λ alive. keeps_managed old c new reply fit.housed.long manages;
       dead = λ failed. refl;
@@ -181,7 +191,7 @@ pub record LooksBeside {D : Type 0} (c : Command) (name : List ℕ) (d : Shown) 
 pub look_applied : {D : Type 0} (c : Command) (name : List ℕ) → volume_asked c ≡ Some name → (d : Shown) (at : D) (s : Session) (start : ℕ) (e : Shown) (left : D) (n : Session) (steps : ℕ) (r : Result Reply Fault)
     → IsNone s.failed → Looks (slot_named s.volumes name) d s c e n r → LooksBeside c name d at s start left n steps r → HasApplied c d at s start e left n steps r
 look_applied c name asks d at s start e left n steps r fresh looks beside = record {
-  goes = look_goes c name asks d s e n r looks;
+  goes = goes_at_once c (look_at_once c name asks) (look_goes c name asks d s e n r looks);
   asks = λ none once. look_asks c name asks d s e n r looks;
   goes_for = look_goes_for c name asks d s e n r looks;
   reply = look_reply c name asks d s e n r looks;
@@ -204,9 +214,10 @@ look_applied c name asks d at s start e left n steps r fresh looks beside = reco
   sides = λ tells last m stands cp. look_no_point c name asks d s e n r looks _ cp;
   roomy = λ once. none_roomy (room_by s.volumes c) d s e r (look_room c name asks s.volumes);
   calm = λ other once few. looks.only_reads;
-  entries = λ other few stays. no_holes s n looks.entries;
+  entries = λ other once few stays. no_holes s n looks.entries;
   files = λ tells none once without. look_files c name asks d s e n r looks without;
   same = λ tells none once stays places same. look_same c name asks d s e n r looks same;
+  stepped = λ takes fresh. no_steps c (look_at_once c name asks) _ takes;
   steps = record {
     other = beside.other;
     known = beside.known;
@@ -230,7 +241,7 @@ pub make_applied : {D : Type 0} (c : Command) (name : List ℕ) → changed_by c
     → IsNone s.failed → Makes file_room (AsksTable (slot_named s.volumes name) None false) d s c e n r → MakesRoom file_room d s e r → (s.pending + file_room ≤ dirty_limit → OnErr r (IsUnmadeIn d s name e n)) → MakesBeside c name at s left n r → HasApplied c d at s steps e left n steps r
 make_applied c name of d at s e left n steps r fresh makes roomy unmade beside = record {
   roomy = λ once. subst (λ (k : ℕ). MakesRoom k d s e r) (sym (change_room name c (change_of_volume name c of) s.volumes)) roomy;
-  goes = make_goes c name of d s e n r makes;
+  goes = goes_at_once c (change_at_once name c (change_of_volume name c of)) (make_goes c name of d s e n r makes);
   asks = λ none once. make_asks c name of d s e n r makes none;
   goes_for = make_goes_for c name of d s e n r makes;
   reply = make_reply c name of d s e n r makes;
@@ -251,9 +262,10 @@ make_applied c name of d at s e left n steps r fresh makes roomy unmade beside =
   point = λ tells last m stands cp. make_no_point c name of d s e n r makes _ cp;
   sides = λ tells last m stands cp. make_no_point c name of d s e n r makes _ cp;
   calm = λ other once few. make_calm c name of d s e n r makes few;
-  entries = λ other few stays. no_holes s n (make_entries c name of d s e n r makes few);
+  entries = λ other once few stays. no_holes s n (make_entries c name of d s e n r makes few);
   files = λ tells isnt once without. make_unchanged c name of d s e n r makes _ isnt;
   same = λ tells isnt once stays places same. make_unchanged c name of d s e n r makes _ isnt;
+  stepped = λ takes fresh. no_steps c (change_at_once name c (change_of_volume name c of)) _ takes;
   steps = record { other = λ none. refl; known = λ tells last m stands knows. no_step r steps; path = λ tells last m stands other asked. make_unasked c name of d s e n r makes _ (subst IsSome (sym asked) refl); dead = λ failed. refl };
   numbers = beside.kept;
   dead = λ failed. not_dead _ s fresh failed;
@@ -265,7 +277,7 @@ pub snap_applied : {D : Type 0} (c : Command) (name : List ℕ) → snapped_by c
     → IsNone s.failed → HasSnapped (shown at) at s c (shown left) left n r → (NoneHasName s.volumes name → r ≡ Ok (Refused NoVolume)) → NeedsSnapshot s.volumes c r → MakesRoom (room_by s.volumes c) (shown at) s (shown left) r → HasApplied c (shown at) at s steps (shown left) left n steps r
 snap_applied c name of shown at s left n steps r fresh did missing needs roomy = record {
   roomy = λ once. roomy;
-  goes = did.makes.goes;
+  goes = goes_at_once c (snap_at_once name c of) did.makes.goes;
   asks = λ none once. absurd (true≢false (sym (snap_changes name c of) ∙ none));
   goes_for = applied_for c name of (shown at) at s (shown left) left n r did;
   reply = applied_reply c name of (shown at) at s (shown left) left n r did;
@@ -274,9 +286,10 @@ snap_applied c name of shown at s left n steps r fresh did missing needs roomy =
   point = λ tells last m stands cp. absurd (snap_other name c of Cp refl cp);
   sides = λ tells last m stands cp. absurd (snap_other name c of Cp refl cp);
   calm = λ other once few. did.only_reads few;
-  entries = λ other few stays. no_holes s n (did.makes.entries few);
+  entries = λ other once few stays. no_holes s n (did.makes.entries few);
   files = λ tells none once without. did.files tells without;
   same = λ tells none once stays which same. did.same tells which same;
+  stepped = λ takes fresh. no_steps c (snap_at_once name c of) _ takes;
   steps = record { other = λ none. refl; known = λ tells last m stands knows. no_step r steps; path = λ tells last m stands other asked. asks_none _ c other (snap_reads name c of) asked; dead = λ failed. refl };
   numbers = did.numbers;
   dead = λ failed. not_dead _ s fresh failed;

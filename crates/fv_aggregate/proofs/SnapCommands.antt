@@ -13,7 +13,7 @@ use Rattle.fv_model.specs.Replies.{Allows}
 use Rattle.fv_image.specs.Views.{slots}
 use Rattle.fv_volume.specs.declared.state.VolumeState.{VolumeState}
 use Rattle.fv_volume.specs.States.{state_at, States}
-use Rattle.fv_aggregate.specs.Commands.{changes_volume, is_built, machine_after, managed_by, reads_files, map_among, map_at, most_room, room_by, room_with, snapped_by, Replies, RepliesBy}
+use Rattle.fv_aggregate.specs.Commands.{changes_volume, is_built, machine_after, managed_by, reads_files, map_among, map_at, most_room, room_by, room_with, snapped_by, takes_steps, Replies, RepliesBy}
 use Rattle.fv_aggregate.specs.Deciding.{makes_volume}
 use Rattle.fv_aggregate.specs.Looking.{IsSnapAimed}
 use Rattle.fv_aggregate.specs.Snapping.{snap_blocks}
@@ -37,6 +37,9 @@ module _ (v : List ℕ) (c : Command) (is : snapped_by c ≡ Some v) where
   pub snap_reads : reads_files c ≡ false
   unfolding reads_files
   snap_reads = snap_cases (λ (k : Command). reads_files k ≡ false) (λ w name. refl) (λ w name. refl) (λ w name. refl) v c is
+
+  pub snap_at_once : takes_steps c ≡ false
+  snap_at_once = snap_cases (λ (k : Command). takes_steps k ≡ false) (λ w name. refl) (λ w name. refl) (λ w name. refl) v c is
 
   pub snap_changes : changes_volume c ≡ true
   snap_changes = snap_cases (λ (k : Command). changes_volume k ≡ true) (λ w name. refl) (λ w name. refl) (λ w name. refl) v c is

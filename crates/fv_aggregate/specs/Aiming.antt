@@ -3,7 +3,7 @@ use Rattle.std.specs.Prelude.{◌≡◌, ◌≢◌, ◌<◌, ◌⊎◌, ℕ, Boo
 use Rattle.fv_model.specs.declared.answers.Refusal.{Refusal}
 use Rattle.fv_model.specs.declared.answers.Refusal.TheVariants.{NoVolume, Range, Syntax}
 use Rattle.fv_model.specs.declared.commands.Command.{Command}
-use Rattle.fv_model.specs.declared.commands.Command.TheVariants.{Cp, SnapList, VolCreate, VolDestroy, VolGuarantee, VolList, VolResize, VolStat, CloneCreate, Mirror}
+use Rattle.fv_model.specs.declared.commands.Command.TheVariants.{Clean, Cp, SnapList, VolCreate, VolDestroy, VolGuarantee, VolList, VolResize, VolStat, CloneCreate, Mirror, Work}
 use Rattle.fv_model.specs.declared.commands.Kind.{Kind}
 use Rattle.fv_container.specs.Chains.{slot_count}
 use Rattle.fv_volume.specs.Slots.{HasName, NoneHasName}
@@ -56,6 +56,8 @@ pub record IsServed (command : Command) : Type 0 where
   pub not_create : (name : List ℕ) (size : ℕ) (kind : Kind) → command ≢ VolCreate name size kind
   pub not_clone : (clone parent snapshot : List ℕ) (size : ℕ) (kind : Kind) → command ≢ CloneCreate clone parent snapshot size kind
   pub not_mirror : (source snapshot mirror : List ℕ) (size : ℕ) (kind : Kind) → command ≢ Mirror source snapshot mirror size kind
+  pub not_clean : (name : List ℕ) → command ≢ Clean name
+  pub not_work : (steps : ℕ) → command ≢ Work steps
   pub not_destroy : (name : List ℕ) → command ≢ VolDestroy name
   pub not_resize : (name : List ℕ) (size : ℕ) → command ≢ VolResize name size
   pub not_guarantee : (name : List ℕ) (kind : Kind) → command ≢ VolGuarantee name kind

@@ -10,8 +10,9 @@ use Rattle.fv_model.specs.Machines.{Machine}
 use Rattle.fv_cp.specs.Settling.{OldOrHeld}
 use Rattle.fv_aggregate.specs.declared.fault.Fault.{Fault}
 use Rattle.fv_aggregate.specs.declared.session.Session.{Session}
-use Rattle.fv_aggregate.specs.Calls.{CountsSteps, Goes, GoesFor, IsOnFiles, IsPlain, IsWithinLimit, KeepsAsking, MakesNoHoles}
-use Rattle.fv_aggregate.specs.Commands.{asked_by, changed_by, changes_volume, copies_blocks, machine_after, places_files, reads_files, removes_volume, room_by, Replies}
+use Rattle.fv_aggregate.specs.Calls.{CountsSteps, GoesFor, IsOnFiles, IsPlain, IsWithinLimit, KeepsAsking, MakesNoHoles}
+use Rattle.fv_aggregate.specs.Cleaning.{GoesAs, StepsBy}
+use Rattle.fv_aggregate.specs.Commands.{asked_by, changed_by, changes_volume, machine_after, places_files, reaches_disk, reads_files, removes_volume, room_by, takes_steps, Replies}
 use Rattle.fv_aggregate.specs.Known.{KeepsNumbersBut, MayLose}
 use Rattle.fv_aggregate.specs.Reclaiming.{HasPointed, MakesRoom}
 use Rattle.fv_aggregate.specs.Standing.{HoldsAsCommitted, IsWithoutFiles, StandsFor}
@@ -21,9 +22,10 @@ use Rattle.fv_aggregate.specs.Standing.{HoldsAsCommitted, IsWithoutFiles, Stands
 -- is answered as that answers (`reply`), and stands for the next one (`goes_for`).
 pub record HasApplied {D : Type 0} (command : Command) (shown : Shown) (before : D) (old : Session) (start : ℕ)
     (shown_after : Shown) (after : D) (new : Session) (stop : ℕ) (result : Result Reply Fault) : Type 0 where
-  pub goes : Goes (room_by old.volumes command) (asked_by old.volumes command) shown old shown_after new result
-  -- one that copies blocks writes free ones, where an image that stands for no machine may have labels of volumes
-  pub asks : changes_volume command ≡ false → copies_blocks command ≡ false → KeepsAsking (room_by old.volumes command) shown old shown_after new
+  pub goes : GoesAs (takes_steps command) (room_by old.volumes command) (asked_by old.volumes command) shown old shown_after new result
+  -- one that copies blocks writes free ones, where an image that stands for no machine may have labels of volumes; one that takes steps may run
+  -- points of its own
+  pub asks : changes_volume command ≡ false → reaches_disk command ≡ false → KeepsAsking (room_by old.volumes command) shown old shown_after new
   pub goes_for : IsTrue shown.tells → (last m : Machine) → StandsFor shown old last m
       → GoesFor shown last m (machine_after m command) shown_after new result
   pub reply : IsTrue shown.tells → (last m : Machine) → StandsFor shown old last m → IfOk result (Replies m command)
@@ -34,16 +36,20 @@ pub record HasApplied {D : Type 0} (command : Command) (shown : Shown) (before :
       → OnOk result (HasPointed 0 old shown_after new m)
   pub sides : IsTrue shown.tells → (last m : Machine) → StandsFor shown old last m → command ≡ Cp
       → Leaves shown shown_after (OldOrHeld shown old.pool old.volumes last)
-  -- a point that makes room for a command is one, too, for its room; behind that of one that copies blocks these are written
-  pub roomy : copies_blocks command ≡ false → MakesRoom (room_by old.volumes command) shown old shown_after result
-  -- with room within the dirty limit each other one writes nothing, but one that copies blocks, and makes no entry of a volume that stays a hole
-  pub calm : command ≢ Cp → copies_blocks command ≡ false → IsWithinLimit old command → OnlyReads shown shown_after
-  pub entries : command ≢ Cp → IsWithinLimit old command → removes_volume command ≡ false → MakesNoHoles old new
+  -- a point that makes room for a command is one, too, for its room; behind that of one that copies blocks these are written, and one that takes
+  -- steps makes room for each
+  pub roomy : reaches_disk command ≡ false → MakesRoom (room_by old.volumes command) shown old shown_after result
+  -- with room within the dirty limit each other one writes nothing, but one that copies blocks or takes steps, and but for the latter it makes no
+  -- entry of a volume that stays a hole
+  pub calm : command ≢ Cp → reaches_disk command ≡ false → IsWithinLimit old command → OnlyReads shown shown_after
+  pub entries : command ≢ Cp → takes_steps command ≡ false → IsWithinLimit old command → removes_volume command ≡ false → MakesNoHoles old new
   -- no file comes into memory, and what the next root would hold is what the root on the disk holds, as far as the command leaves that; one that
-  -- copies blocks doesn't
-  pub files : IsTrue shown.tells → changed_by command ≡ None → copies_blocks command ≡ false → IsWithoutFiles old → OnOk result (IsWithoutFiles new)
-  pub same : IsTrue shown.tells → changed_by command ≡ None → copies_blocks command ≡ false → removes_volume command ≡ false
+  -- copies blocks doesn't, nor one that takes steps
+  pub files : IsTrue shown.tells → changed_by command ≡ None → reaches_disk command ≡ false → IsWithoutFiles old → OnOk result (IsWithoutFiles new)
+  pub same : IsTrue shown.tells → changed_by command ≡ None → reaches_disk command ≡ false → removes_volume command ≡ false
       → (places_files command ≡ false) ⊎ IsWithoutFiles old → HoldsAsCommitted old → OnOk result (HoldsAsCommitted new)
+  -- what background steps do, and what they leave to be done
+  pub stepped : takes_steps command ≡ true → IsNone old.failed → StepsBy command shown before old shown_after after new result
   pub steps : CountsSteps command shown old start stop result
   pub numbers : IsNone new.failed → KeepsNumbersBut (MayLose command old.volumes) old.volumes new.volumes
   pub dead : IsSome old.failed → after ≡ before

@@ -28,7 +28,7 @@ use Rattle.fv_aggregate.specs.declared.session.Session.{Session}
 use Rattle.fv_aggregate.specs.Adding.{IsPointed}
 use Rattle.fv_aggregate.specs.Asking.{AsksWithin}
 use Rattle.fv_aggregate.specs.Causes.{KeepsEnds}
-use Rattle.fv_aggregate.specs.Commands.{Asked, AsksCopy, changed_by, copies_blocks, dirty_limit, finds_file, has_range, is_built, is_get, is_refusal, managed_by, places_files, reads_leaves, removes_volume, room_by, slot_named, snapped_by, snapshot_asked, snapshot_needed, volume_asked}
+use Rattle.fv_aggregate.specs.Commands.{Asked, AsksCopy, changed_by, dirty_limit, finds_file, has_range, is_built, is_get, is_refusal, managed_by, places_files, reaches_disk, reads_leaves, removes_volume, room_by, slot_named, snapped_by, snapshot_asked, snapshot_needed, volume_asked}
 pub use Rattle.fv_aggregate.specs.Damages.{HasDamage, HasFilesToPlace, HasLoaded, HasLostLeaf, LacksBlocks}
 use Rattle.fv_aggregate.specs.Deciding.{DecidesMaking}
 use Rattle.fv_aggregate.specs.Failing.{IsUnmadeIn}
@@ -238,17 +238,17 @@ pub record FindsVolume (states : States) (command : Command) (name : List ℕ) (
 -- of containers, which without files in memory a removal alone does; and but for these it leaves the session then where memory ran out. But for a
 -- removal and for one that places files it takes no block then and gives none back. `vol list` answers the names of the session's volumes, and `snap list` those of a volume's snapshots, and both leave all as it was. A `cp`
 -- that is done leaves nothing pending and no file in memory; one that isn't, in a session that goes on, only read, and left all but leaves where no file
--- was in memory. Damage comes for want of blocks or of a leaf alone. Of a command that copies blocks these say nothing. A command on a whole
+-- was in memory. Damage comes for want of blocks or of a leaf alone. Of a command that copies blocks or takes background steps these say nothing. A command on a whole
 -- volume that stays is answered, without a fault, and a volume is removed, or nothing changed. One on snapshots is refused without its volume, one that removes or restores a snapshot exactly where that isn't
 -- there, and one that removes a snapshot exactly where a clone stands on that, too. What is answered where a volume is to be
 -- made is decided by the volumes and the blocks of the aggregate before it; a fault may come in its place.
 pub record IsPlain {D : Type 0} (command : Command) (shown : Shown) (before : D) (old : Session) (shown_after : Shown) (after : D) (new : Session) (result : Result Reply Fault) : Type 0 where
   pub refused : IfOk result (λ reply. IsTrue (is_refusal reply) → IsUntouched before old after new)
-  pub calm : command ≢ Cp → copies_blocks command ≡ false → reads_leaves command ≡ false → IsWithinLimit old command → after ≡ before
-  pub idle : command ≢ Cp → copies_blocks command ≡ false → removes_volume command ≡ false → HaveNoFiles old.volumes → IsWithinLimit old command → after ≡ before
-  pub map : command ≢ Cp → copies_blocks command ≡ false → removes_volume command ≡ false → places_files command ≡ false → IsWithinLimit old command → new.pool.map ≡ old.pool.map
-  pub wanting : command ≢ Cp → copies_blocks command ≡ false → reads_leaves command ≡ false → IsWithinLimit old command → IfErr result (λ e. e ≡ Memory → new ≡ old)
-  pub damage : copies_blocks command ≡ false → IfErr result (IsForWant shown old shown_after new)
+  pub calm : command ≢ Cp → reaches_disk command ≡ false → reads_leaves command ≡ false → IsWithinLimit old command → after ≡ before
+  pub idle : command ≢ Cp → reaches_disk command ≡ false → removes_volume command ≡ false → HaveNoFiles old.volumes → IsWithinLimit old command → after ≡ before
+  pub map : command ≢ Cp → reaches_disk command ≡ false → removes_volume command ≡ false → places_files command ≡ false → IsWithinLimit old command → new.pool.map ≡ old.pool.map
+  pub wanting : command ≢ Cp → reaches_disk command ≡ false → reads_leaves command ≡ false → IsWithinLimit old command → IfErr result (λ e. e ≡ Memory → new ≡ old)
+  pub damage : reaches_disk command ≡ false → IfErr result (IsForWant shown old shown_after new)
   pub unbuilt : IsNone old.failed → is_built command ≡ false → result ≡ Ok (Refused Syntax)
   pub listed : command ≡ VolList → IfOk result (λ reply. reply ≡ Names (names_from old.volumes 0 slot_count))
   pub untouched : command ≡ VolList → IsUntouched before old after new

@@ -28,8 +28,6 @@ unfoldable pub is_built : Command → Bool
 is_built (New volume file reserve) = reserve == 0
 is_built (SplitStart volume) = false
 is_built (SplitFinish volume) = false
-is_built (Clean volume) = false
-is_built (Work steps) = false
 is_built command = true
 
 -- whether a command counts the unknown pointers that it passes
@@ -122,10 +120,20 @@ volume_asked command = None
 unfoldable pub reads_files : Command → Bool
 reads_files command = is_some (changed_by command) || is_some (volume_asked command)
 
--- whether a command copies blocks of a volume at once, to blocks that neither the root on the disk nor the next one holds
-abbrev pub copies_blocks : Command → Bool
-copies_blocks (Mirror source snapshot mirror size kind) = true
-copies_blocks command = false
+-- Whether a command takes background steps, which fill in places of volumes that don't know them, with consistency points between the steps where
+-- room is lacking. Each step has its own room, places the files in memory and changes a volume: what is said in this file of a command's room, of
+-- the files that it places and of the volume that it changes is said of the other commands.
+abbrev pub takes_steps : Command → Bool
+takes_steps (Clean volume) = true
+takes_steps (Work steps) = true
+takes_steps command = false
+
+-- whether a command reaches the disk beside what it reads and the point that makes room for it: it copies blocks, or takes steps
+abbrev pub reaches_disk : Command → Bool
+reaches_disk (Mirror source snapshot mirror size kind) = true
+reaches_disk (Clean volume) = true
+reaches_disk (Work steps) = true
+reaches_disk command = false
 
 -- the snapshot of it that is asked
 abbrev pub snapshot_asked : Command → Option (List ℕ)

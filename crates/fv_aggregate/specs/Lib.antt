@@ -24,4 +24,7 @@ pub mod Telling
 pub mod Snapping
 pub mod Reclaiming
 pub mod Removing
+pub mod Working
+pub mod LeftOver
+pub mod Cleaning
 pub mod Applying

@@ -1,7 +1,7 @@
 -- The steps of `mirror`: a mirror is admitted, room is made for it, then the blocks of its source are copied at once to free blocks, and a barrier
 -- follows, so that the disk is settled again.
 use Rattle.std.specs.Prelude.{◌≡◌, ◌≤◌, ◌<◌, ◌+◌, ◌-◌, ◌^◌, ◌⊎◌, ℕ, List, Some, IsTrue, IsNone, IsSome, IfErr, IfOk, IfSome, OnErr, OnOk, Result, Ok, Err}
-use Rattle.fv_disk.specs.Shown.{Image, Shown, IsSettled}
+use Rattle.fv_disk.specs.Shown.{Image, Shown}
 use Rattle.fv_disk.specs.Crash.{Leaves}
 use Rattle.fv_disk.specs.DiskCalls.{OnlyReads, Settles}
 use Rattle.fv_disk.specs.Sparing.{LeftBefore}
@@ -18,7 +18,7 @@ use Rattle.fv_aggmap.specs.Space.{Space}
 use Rattle.fv_container.specs.Chains.{IsSlots}
 use Rattle.fv_store.specs.Held.{StandsOn}
 use Rattle.fv_volmap.specs.Slots.{IsVolume}
-use Rattle.fv_volume.specs.States.{States, state_at}
+use Rattle.fv_volume.specs.States.{state_at}
 use Rattle.fv_copies.specs.Copying.{IsTaken}
 use Rattle.fv_clone.specs.Admitting.{IsBaseNamed}
 use Rattle.fv_mirror.specs.declared.admitting.Admitted.{Admitted}

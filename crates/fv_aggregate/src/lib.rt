@@ -3,6 +3,7 @@
 
 mod adding;
 mod aiming;
+mod cleaning;
 mod cloning;
 mod delays;
 mod fault;
@@ -17,6 +18,7 @@ mod replies;
 mod session;
 mod snapshots;
 mod volumes;
+mod working;
 
 pub use fault::{Fault, OpenFault};
 pub use replies::refuse;

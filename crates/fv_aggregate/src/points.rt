@@ -5,15 +5,17 @@ ghost use Rattle.fv_disk.specs.Shown.{Rose};
 ghost use Rattle.fv_model.specs.Machines.{Machine, capacity};
 ghost use Rattle.fv_model.specs.Space.{commits};
 ghost use Rattle.fv_model.specs.declared.answers.Reply.TheVariants.{Done};
-ghost use Rattle.fv_cp.specs.Placing.{KeepCores};
+ghost use Rattle.fv_cp.specs.Placing.{HaveNoFiles, KeepCores};
 ghost use Rattle.fv_aggregate.specs.declared.fault.Fault.TheVariants.{Memory};
 ghost use Rattle.fv_aggregate.specs.Answers.{answer};
 ghost use Rattle.fv_aggregate.specs.Adding.{HasRoom, IsPointed, StillAdmits};
 ghost use Rattle.fv_aggregate.specs.Calls.{Goes, GoesFor, IsForWant, KeepsAsking, KeepsHolding, Runs};
 ghost use Rattle.fv_aggregate.specs.Commands.{AsksNothing, AsksPoint, dirty_limit};
 ghost use Rattle.fv_aggregate.specs.Known.{KeepsNumbers};
+ghost use Rattle.fv_aggregate.specs.LeftOver.{todo_under};
 ghost use Rattle.fv_aggregate.specs.Reclaiming.{HasPointed, Points};
 ghost use Rattle.fv_aggregate.specs.Standing.{IsWithoutFiles, StandsFor, StandsReady};
+ghost use Rattle.fv_aggregate.specs.Working.{todo};
 
 use crate::fault::Fault;
 use crate::replies::done;
@@ -46,6 +48,9 @@ impl Session {
         ensures reclaimed { IsTrue (D.shown disk.old).tells → (last m : Machine) → StandsFor (D.shown disk.old) self.old last m
             → dirty_limit < self.old.pending + room → OnOk result (HasPointed room self.old (D.shown disk.new) self.new m) }
         ensures holding { KeepsHolding (D.shown disk.old) self.old self.new result }
+        ensures left { IsTrue (D.shown disk.old).tells → (last m : Machine) → StandsFor (D.shown disk.old) self.old last m
+            → HaveNoFiles self.old.volumes → OnOk result (todo (D.shown disk.new) self.new ≡ todo (D.shown disk.old) self.old) }
+        ensures files { HaveNoFiles self.old.volumes → OnOk result (HaveNoFiles self.new.volumes) }
     {
         if self.has_room(room) {
             Ok(())
@@ -90,6 +95,10 @@ impl Session {
             → IsNone self.new.failed → OnErr result (StandsFor (D.shown disk.new) self.new last m) }
         ensures room { IsTrue (D.shown disk.old).tells → (last m : Machine) → StandsFor (D.shown disk.old) self.old last m
             → commits m + want ≤ capacity m.blocks → OnOk result (HasRoom (D.shown disk.new) self.new want) }
+        ensures left { IsTrue (D.shown disk.old).tells → (last m : Machine) → StandsFor (D.shown disk.old) self.old last m
+            → HaveNoFiles self.old.volumes → OnOk result (todo (D.shown disk.new) self.new ≡ todo (D.shown disk.old) self.old) }
+        ensures shown { IsTrue (D.shown disk.old).tells → (last m : Machine) → StandsFor (D.shown disk.old) self.old last m
+            → OnOk result (todo (D.shown disk.new) self.new ≡ todo_under self.new.pool.found (D.shown disk.new).reads) }
     {
         let before = disk.write_faults();
         match full_point(

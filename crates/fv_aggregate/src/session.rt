@@ -8,6 +8,7 @@ ghost use Rattle.fv_model.specs.declared.commands.Command.TheVariants.{Cp};
 ghost use Rattle.fv_image.specs.WholeMachine.{machine_of};
 ghost use Rattle.fv_volume.specs.Trees.{Trees};
 ghost use Rattle.fv_volume.specs.Files.{Over};
+ghost use Rattle.fv_cp.specs.Placing.{HaveNoFiles};
 ghost use Rattle.fv_aggregate.specs.declared.fault.Fault.TheVariants.{Memory};
 ghost use Rattle.fv_aggregate.specs.Asking.{AsksWithin};
 ghost use Rattle.fv_aggregate.specs.Answers.{answer};
@@ -15,10 +16,12 @@ ghost use Rattle.fv_aggregate.specs.Applying.{HasApplied};
 ghost use Rattle.fv_aggregate.specs.Calls.{Runs, SameCounts};
 ghost use Rattle.fv_aggregate.specs.Commands.{AsksPoint};
 ghost use Rattle.fv_aggregate.specs.Causes.{HasOpenCause, IsUnwritten, OpenFails};
+ghost use Rattle.fv_aggregate.specs.LeftOver.{todo_under};
 ghost use Rattle.fv_aggregate.specs.Opening.{IsFresh, IsOpened, TellsDelayed};
 ghost use Rattle.fv_aggregate.specs.Reclaiming.{Points};
 ghost use Rattle.fv_aggregate.specs.Standing.{IsWithoutFiles, Stands, StandsFor, StandsReady, charged_in};
 ghost use Rattle.fv_aggregate.specs.Telling.{charged_from};
+ghost use Rattle.fv_aggregate.specs.Working.{todo};
 
 use crate::fault::{Fault, OpenFault};
 use crate::opening::load;
@@ -95,6 +98,8 @@ impl Session {
             → IfOk result (λ session. StandsFor (D.shown disk.new) session m m) }
         ensures delays { IsTrue (D.shown disk.old).tells → (m : Machine) → machine_of (D.shown disk.old).reads ≡ Some m
             → IfOk result (TellsDelayed (D.shown disk.old).reads) }
+        ensures left { IsTrue (D.shown disk.old).tells → (m : Machine) → machine_of (D.shown disk.old).reads ≡ Some m
+            → IfOk result (λ session. todo (D.shown disk.new) session ≡ todo_under session.pool.found (D.shown disk.old).reads) }
         ensures fault { IsTrue (D.shown disk.old).tells → IfErr result (OpenFails (D.shown disk.old).reads) }
         ensures unwritten { IsUnwritten (D.shown disk.old) (D.shown disk.new) }
         ensures cause { HasOpenCause (D.shown disk.old).faults (D.shown disk.new).faults result }
@@ -108,7 +113,14 @@ impl Session {
     /// limit of 256 together with the blocks pending is preceded by a consistency point, and contracts say that no other one is. One that is
     /// refused changes nothing but the cache and the numbers of files in memory: so no point comes before it. Of a command on files whose room
     /// passes the limit contracts say this where the session stands for a machine. So far the commands that begin with `vol` or `snap`, `clone create`,
-    /// `mirror`, `cp`, `new` without a reserve, `put`, `get`, `len`, `cut`, `rm`, `ls` and `probe` are built, and every other one is refused as none.
+    /// `mirror`, `clean`, `work`, `cp`, `new` without a reserve, `put`, `get`, `len`, `cut`, `rm`, `ls` and `probe` are built, and every other one is
+    /// refused as none.
+    ///
+    /// `clean` and `work` take background steps, with as many consistency points between them as they need: one before each step for which 8 blocks
+    /// lack room, with those pending. Files in memory are placed before the first step. `clean` takes steps of its volume until none is left, and the
+    /// volume knows all its places then; one that knows them already is left as it is. `work` takes so many steps as it asks for, or all that are
+    /// left, each of the first volume, by its slot, that has one; the machine stays. Both are answered `ok`. For example, of a mirror three pointers
+    /// are unknown: that of its label, and two in the node to which it leads. Then `work 1` fills in the two, and a `clean` of the mirror the third.
     ///
     /// `steps` counts the unknown pointers that a `get` passes; there are none where the volume has no unknown place. A `probe` answers how many
     /// lie on the path to its cell, and counts none.
@@ -117,10 +129,12 @@ impl Session {
     /// `DiskFault` comes only where a read, a write or a barrier failed in this call. Where it was a write or a barrier the session
     /// has failed: it answers `Failed`, with the disk's count of faults of that moment, to every call from then on, and reaches the
     /// disk no more. `Memory` comes where memory ran out. `Damaged` comes where fewer blocks or numbers are free than a consistency point
-    /// asks for, or a block of a volume's files, or a leaf of its container, isn't as it has to be; and of a mirror where what it copies isn't.
+    /// asks for, or a block of a volume's files, or a leaf of its container, isn't as it has to be; of a mirror where what it copies isn't; and of
+    /// `clean` and `work` where a block that a step reads hasn't the shape of its kind, or leads nowhere.
     /// Over an image that stands for a machine it never comes; over another one contracts tell which of these it was, that the command came to
-    /// it, of which volume and table, and at which place (`HasDamage`). After these, and after a read that failed, the session goes on; where it
-    /// stood for a machine it still stands for it.
+    /// it, of which volume and table, and at which place (`HasDamage`, and `HasWorkDamage` of steps). After these, and after a read that failed,
+    /// the session goes on; where it stood for a machine it still stands for it. After a fault in a `clean` or a `work` the steps that were taken
+    /// stay taken: the machine is that of before the command, and the next command of these has the less to do.
     /// A command on files that ends with a fault before which no point came made no change: what it left is in memory alone (`IsUnmade`).
     ///
     /// Costs a step for each slot, and memory for the names in `vol list`. A command on files costs what the call of `VolumeState` does.
@@ -134,9 +148,11 @@ impl Session {
     /// read, a look-up and a write for each block that the snapshot reaches, and a barrier; it takes memory for the entries of its container, for
     /// three bits for each VVBN of its span and for a bit for each place, and keeps none of the blocks. Its room is its overhead and all these
     /// blocks: so where both pass the limit a point comes before it, and the first blocks of the mirror are written behind that. Where it ends with a
-    /// fault free blocks may have been written. `vol stat`, `vol resize` and `vol guarantee` take no memory
-    /// and walk nothing but the slots; `vol destroy` costs a read for each leaf of the volume's container that isn't in memory, a step for each
-    /// entry and each node of it, and memory for a bit for each block that an aggregate can have. `snap create`, `snap delete` and
+    /// fault free blocks may have been written. `clean` and `work` cost for each step what `clean_step` of `fv_cleaner` does, `work` so for each volume
+    /// up to the one that has a step, and a consistency point each time that room has to be made; a step adds one block at most, and `clean` takes no
+    /// more than 2^34 steps. `vol stat`, `vol resize` and `vol guarantee` take no memory and walk nothing but the slots; `vol destroy` costs a read
+    /// for each leaf of the volume's container that isn't in memory, a step for each entry and each node of it, and memory for a bit for each block
+    /// that an aggregate can have. `snap create`, `snap delete` and
     /// `snap restore` cost what the calls of `fv_snapshot` do, where the first two read the leaves of what they place, and `snap list` memory for
     /// the names; but for `mirror` none of these writes but by a point. Where a consistency point runs it costs what `consistency_point` does.
     /// `docs/SPACE.md` has the dirty limit, and `docs/MACHINE.md` the commands.
@@ -195,6 +211,8 @@ impl Session {
             } => {
                 return self.mirror_volume(disk, source, snapshot, volume, *size, *kind, into);
             }
+            Command::Clean { volume } => return self.clean_volume(disk, volume, into),
+            Command::Work { steps } => return self.work_steps(disk, *steps, into),
             Command::VolList => {
                 list(into, names_of(self.alloc, &self.volumes)?);
                 return Ok(());
@@ -242,6 +260,10 @@ impl Session {
         ensures points { Points 0 (D.shown disk.old) self.old (D.shown disk.new) self.new result }
         ensures kept { IsTrue (D.shown disk.old).tells → (last m : Machine) → StandsFor (D.shown disk.old) self.old last m
             → IsNone self.new.failed → OnErr result (StandsFor (D.shown disk.new) self.new last m) }
+        ensures left { IsTrue (D.shown disk.old).tells → (last m : Machine) → StandsFor (D.shown disk.old) self.old last m
+            → HaveNoFiles self.old.volumes → OnOk result (todo (D.shown disk.new) self.new ≡ todo (D.shown disk.old) self.old) }
+        ensures shown { IsTrue (D.shown disk.old).tells → (last m : Machine) → StandsFor (D.shown disk.old) self.old last m
+            → OnOk result (todo (D.shown disk.new) self.new ≡ todo_under self.new.pool.found (D.shown disk.new).reads) }
         ensures dead { IsSome self.old.failed → disk.new ≡ disk.old }
     {
         match self.failed {

@@ -62,7 +62,7 @@ not_split : (o : Option Footing) → is_splitting o ≡ false → splitting_said
 not_split None whole = refl
 not_split (Some b) whole = ap (λ (t : Bool). cond {A = ℕ} t 1 0) whole
 
-labelled_known : (s : ℕ) (x : VolumeState) → IsLabelled s x → IsLabelled s (known_now x)
+pub labelled_known : (s : ℕ) (x : VolumeState) → IsLabelled s x → IsLabelled s (known_now x)
 unfolding label_said snap_at
 labelled_known s x is = record {
   slot_is = is.slot_is;

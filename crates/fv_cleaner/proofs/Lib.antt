@@ -1,6 +1,6 @@
 mod Lying
 mod Filled
-mod Searched
+pub mod Searched
 mod Undamaged
 mod Rooted
 pub mod Unled
@@ -23,3 +23,6 @@ pub mod Exact
 pub mod Sessions
 pub mod SpacedRoots
 pub mod Ended
+mod Followed
+pub mod SlotTables
+pub mod Cleanable

@@ -1,15 +1,14 @@
 -- Where no root pointer of a volume is unknown nothing is left to do. So a clean step answers false exactly there.
-use Rattle.std.proofs.Common.{◌≡◌, ◌≢◌, ℕ, zero, suc, ◌+◌, ◌≤◌, Bool, true, false, cond, [], ◌++◌, map, Option, Some, None, inl, inr, refl, sym, ap, ap₂, subst, ◌∙◌, ⊎_elim, arith}
-use Rattle.std.specs.Prelude.{All, IfSome, is_some, nat_le, ◌&&◌, ◌||◌, sum_by}
+use Rattle.std.proofs.Common.{◌≡◌, ◌≢◌, ℕ, zero, suc, ◌+◌, ◌≤◌, Bool, true, false, [], map, Option, Some, None, inl, inr, refl, sym, ap, ap₂, subst, ◌∙◌, arith}
+use Rattle.std.specs.Prelude.{All, IfSome, ◌||◌, sum_by}
 use Rattle.std.specs.List.{list_any, range_with_len}
 use Rattle.std.specs.Option.{option_map}
-use Rattle.std.proofs.lemmas.Bool.{both_ways, cases_eq}
+use Rattle.std.proofs.lemmas.Bool.{both_ways}
 use Rattle.std.proofs.lemmas.List.Sums.{sum_by-cons}
 use Rattle.fv_disk.specs.Shown.{Shown as Disk}
 use Rattle.fv_codec.specs.declared.inode.InodeRecord.{InodeRecord}
 use Rattle.fv_codec.specs.declared.pointer.Pointer.{Pointer}
 use Rattle.fv_codec.specs.Blocks.{greatest_word}
-use Rattle.fv_container.specs.Chains.{chain_entry}
 use Rattle.fv_laws.proofs.Lists.{In}
 use Rattle.fv_tables.specs.Spelled.{Rooted as Tree, Under, pointer_at, stored}
 use Rattle.fv_tables.specs.Told.{Standing, file_at, file_told, standing_at, tree_of}
@@ -20,37 +19,32 @@ use Rattle.fv_tree.specs.Sources.{Use}
 use Rattle.fv_files.specs.Apart.{IsAsSaid, LeadsFrom, LeadsIn, StoredIn, stored_trees}
 use Rattle.fv_image.specs.HintRules.{is_unknown}
 use Rattle.fv_image.specs.Mapped.{root_at}
-use Rattle.fv_image.specs.Views.{Placed, Rooted as Table, Snap as HeadSnap}
-use Rattle.fv_image.specs.Seen.{roots_of as head_roots}
-use Rattle.fv_image.specs.Volumes.{snap_at}
-use Rattle.fv_volmap.specs.Slots.{Slot, has, slot_at, slot_of_base, taken_in}
+use Rattle.fv_image.specs.Views.{Placed}
+use Rattle.fv_volmap.specs.Slots.{Slot, has, slot_at}
 use Rattle.fv_pool.specs.declared.pool.Pool.{Pool}
 use Rattle.fv_pool.specs.declared.rooted.Rooted.{Rooted}
-use Rattle.fv_pool.specs.BlocksOver.{held_block, held_entry}
-use Rattle.fv_pool.specs.Lending.{use_of}
 use Rattle.fv_volume.specs.declared.state.Base.{Base}
 use Rattle.fv_volume.specs.declared.state.Snap.{Snap}
 use Rattle.fv_volume.specs.declared.state.VolumeState.{VolumeState}
 use Rattle.fv_volume.specs.Held.{IsHeldIn}
-use Rattle.fv_volume.specs.OneVolume.{base_table, blocks_in, tables_of, uses_in, IsKeptTable, IsStanding, IsTableIn, RootStands}
-use Rattle.fv_volume.specs.States.{States, footing_in, head_in, snap_in, state_at, table_in}
+use Rattle.fv_volume.specs.OneVolume.{blocks_in, uses_in, IsKeptTable, IsTableIn}
+use Rattle.fv_volume.specs.States.{States, head_in, snap_in, state_at, table_in}
 use Rattle.fv_volume.proofs.ActiveRoot.{unlisted}
-use Rattle.fv_volume.proofs.ActiveStands.{active_stands}
+use Rattle.fv_volume.proofs.AllRoots.{roots}
 use Rattle.fv_volume.proofs.EachRoot.{all_among, all_in, each_root, root_there}
 use Rattle.fv_volume.proofs.Lookups.{told_by}
-use Rattle.fv_volume.proofs.SettledTables.{has_used, taken_some}
 use Rattle.fv_volume.proofs.TablesOf.{snaps_all}
 use Rattle.fv_volumes.specs.Footing.{AreFooted, IsFooted, IsOnBase}
 use Rattle.fv_volumes.proofs.SlotRoots.{snap_rooted}
 use Rattle.fv_places.specs.ByKind.{form_of, pointers_by}
 use Rattle.fv_cleaner.specs.Left.{left_in, unknown_among, unknown_inside, unknown_under}
-use Rattle.fv_cleaner.specs.Searching.{Lies, holds_unknown, lies_in, placed_by, pointers_of}
+use Rattle.fv_cleaner.specs.Searching.{Lies, holds_unknown, lies_in, pointers_of}
 use Rattle.fv_cleaner.specs.Stepping.{root_of_snap, roots_of}
 use Rattle.fv_cleaner.proofs.Finished.{kept_known, not_unknown}
-use Rattle.fv_cleaner.proofs.Held.{lying_block, lying_use}
 use Rattle.fv_cleaner.proofs.Known.{all_known, root_known, IsKnownRoot}
 use Rattle.fv_cleaner.proofs.Lowers.{none_counted}
 use Rattle.fv_cleaner.proofs.Ruled.{led_unknown}
+use Rattle.fv_cleaner.proofs.SlotTables.{block_under, root_over, root_stands, use_under}
 use Rattle.fv_cleaner.proofs.Stays.{few_levels, told_levels}
 
 -- ---- sums
@@ -127,12 +121,6 @@ module _ (disk : Disk) (pool : Pool) (slot : ℕ) (x : VolumeState) (held : IsHe
   abbrev at : Lies
   at = lies_in x.map pool x.slot disk.reads
 
-  stands : IsStanding disk pool x
-  stands = held.stands
-
-  active : RootStands disk pool x 0 x.active
-  active = active_stands disk pool x stands files held.led held.well
-
   first : is_unknown x.active.root ≡ false
   first = left (is_unknown x.active.root) (list_any is_unknown (map root_of_snap x.snapshots)) none
     where
@@ -140,65 +128,21 @@ module _ (disk : Disk) (pool : Pool) (slot : ℕ) (x : VolumeState) (held : IsHe
       left true b e = absurd cc
       left false b e = refl
 
-  -- a slot of the maps with a number has the table of a root that is known
-  record Rooting (k : ℕ) : Type 0 where
-    root : Rooted
-    stands : RootStands disk pool x k root
-    tells : IsKnownRoot root.root
-
-  of_table : (q : Snap) → In q (tables_of x) → Rooting q.slot
-  of_table q one = record { root = q.table; stands = (all_in (IsKeptTable disk pool x) (tables_of x) stands.kept q one).1; tells = kept_known disk pool slot x held files none base q one }
-
-  rooting : (k v : ℕ) → has v (slot_at x.map k) ≡ true → Rooting k
-  rooting k v had = ⊎_elim
-      (λ (zero_is : k ≡ 0). subst Rooting (sym zero_is) (record { root = x.active; stands = active; tells = not_unknown x.active.root first }))
-      (λ (above : k ≢ 0). ⊎_elim
-      (λ (base_is : k ≡ slot_of_base). subst Rooting (sym base_is) (of_base x.base refl (sym held.ready.labelled.slots.base ∙ ap (λ (n : ℕ). is_some (slot_at x.map n)) (sym base_is) ∙ has_used (slot_at x.map k) v had)))
-      (λ (other : k ≢ slot_of_base). of_snap above (snap_at (head_in x) k) refl (sym (held.ready.labelled.slots.each k above other) ∙ has_used (slot_at x.map k) v had))
-      (cases_eq k slot_of_base))
-      (cases_eq k 0)
-    where
-      of_base : (o : Option Base) → x.base ≡ o → is_some (head_in x).base ≡ true → Rooting slot_of_base
-      of_base None e some = absurd (wrong (ap (λ (o : Option Base). is_some (option_map footing_in o)) (sym e) ∙ some))
-        where
-          wrong : false ≡ true → ⊥
-          wrong f = cc
-      of_base (Some b) e some = of_table (record { slot = slot_of_base; name = b.snapshot; table = b.table }) (subst (λ (o : Option Base). In (record { slot = slot_of_base; name = b.snapshot; table = b.table }) (base_table o ++ x.snapshots)) (sym e) (inl refl))
-
-      of_snap : k ≢ 0 → (o : Option HeadSnap) → snap_at (head_in x) k ≡ o → is_some o ≡ true → Rooting k
-      of_snap above None found some = absurd cc
-      of_snap above (Some p) found some =
-          each_root_of k p.table (root_there (head_in x) k p.table (snap_rooted (head_in x) k p above found))
-        where
-          each_root_of : (k : ℕ) (r : Table) → In {X = ℕ × Table} (k, r) (head_roots (head_in x)) → Rooting k
-          each_root_of k r one = (each_root x (λ k r. Rooting k) (record { root = x.active; stands = active; tells = not_unknown x.active.root first })
-              (all_among (λ (q : Snap). Rooting q.slot) x.snapshots (λ q there. of_table q (later x.base q there))) k r one)
-            where
-              later : (o : Option Base) (q : Snap) → In q x.snapshots → In q (base_table o ++ x.snapshots)
-              later None q there = there
-              later (Some b) q there = inr there
+  root_tells : (q : Snap) → In q (roots x) → IsKnownRoot q.table.root
+  root_tells q (inl e) = subst (λ (s : Snap). IsKnownRoot s.table.root) e (not_unknown x.active.root first)
+  root_tells q (inr one) = kept_known disk pool slot x held files none base q one
 
   -- each block holds no unknown pointer
   clear : (v : ℕ) (z : Placed) → at v ≡ Some z → holds_unknown z ≡ false
-  unfolding held_entry
   clear v z lie = by (holds_unknown z) refl
     where
-      taken : taken_in x.map.slots v ≡ true
-      taken = so (nat_le v 1048575) (taken_in x.map.slots v) lie
-        where
-          so : (a b : Bool) → placed_by pool.kept disk.reads (cond (a && b) (chain_entry pool.containers x.slot v) None) ≡ Some z → b ≡ true
-          so true true e = refl
-          so true false e = absurd cc
-          so false b e = absurd cc
-
       by : (b : Bool) → holds_unknown z ≡ b → holds_unknown z ≡ false
       by false e = e
       by true e =
-          let k = taken_some x.map.slots v taken in
-          let r = rooting k.0 v k.1 in
-          absurd (both_ways (has v (slot_at x.map k.0)) (not_had x.known (blocks_in disk pool x k.0) (uses_in pool x k.0) (slot_at x.map k.0) x.now r.root r.stands r.tells v z
-          (ap (λ (b : Bool). cond b (held_block x.map pool x.slot disk.reads v) None) k.1 ∙ lying_block pool.kept disk.reads (held_entry x.map pool.containers x.slot v) z lie)
-          (ap (λ (b : Bool). cond b (Some (use_of (held_entry x.map pool.containers x.slot v))) None) k.1 ∙ ap (λ (u : Use). Some u) (lying_use pool.kept disk.reads (held_entry x.map pool.containers x.slot v) z lie)) e) k.1)
+          let over = root_over disk pool slot x held files v z lie in
+          let k = over.root.slot in
+          absurd (both_ways (has v (slot_at x.map k)) (not_had x.known (blocks_in disk pool x k) (uses_in pool x k) (slot_at x.map k) x.now over.root.table (root_stands disk pool slot x held files over.root over.one) (root_tells over.root over.one) v z
+          (block_under disk pool x k v z over.member lie) (use_under disk pool x k v z over.member lie) e) over.member)
 
   -- So nothing is left to do.
   pub none_left : left_in disk.reads pool x ≡ 0

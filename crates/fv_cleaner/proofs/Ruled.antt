@@ -33,7 +33,7 @@ some_at [] any = absurd cc
 some_at (p ∷ ps) any = some_by p ps (is_unknown p) refl (λ rest. some_at ps rest) any
 
 -- an unknown pointer stands and has no place
-pointer_unknown : (p : Pointer) → is_unknown p ≡ true → (p.stamp ≢ 0) × (p.pvbn ≡ 0)
+pub pointer_unknown : (p : Pointer) → is_unknown p ≡ true → (p.stamp ≢ 0) × (p.pvbn ≡ 0)
 pointer_unknown p unknown = (
   λ none. let a : (p.stamp == 0) ≡ true = grind (arith, nat_tests) in wrong (sym (λ i. not (a i) && (p.pvbn == 0)) ∙ unknown),
   let zero : (p.pvbn == 0) ≡ true = right (not (p.stamp == 0)) (p.pvbn == 0) unknown in grind (arith, nat_tests),
@@ -52,30 +52,30 @@ any_roots (r ∷ rs) = ap (λ (b : Bool). is_unknown r.root || b) (any_roots rs)
 
 -- ---- a tree
 
+-- under a pointer to a node stand the pointers of its block
+pub child_at : (blocks : Under) (owner lv : ℕ) (root : Pointer) (level p i : ℕ) (block : List ℕ) → i < fan → (pointer_at (stored blocks owner lv root) (suc level) p).stamp ≢ 0 → suc level ≤ lv
+    → blocks (pointer_at (stored blocks owner lv root) (suc level) p).vvbn ≡ Some block → pointer_at (stored blocks owner lv root) level (fan * p + i) ≡ get_or (pointers_in (Some block)) i hole
+unfolding pointers_at
+child_at blocks owner lv root level p i block small some low there =
+    let one : (fan * p + i) / fan ≡ p = omega (arith, small) in
+    let two : (fan * p + i) % fan ≡ i = omega (arith, small) in
+    let up : level + 1 ≡ suc level = omega arith in
+    let test : ((pointer_at (stored blocks owner lv root) (suc level) p).stamp == 0) ≡ false = grind (arith, nat_tests) in
+    in_node (stored blocks owner lv root) level (fan * p + i) (omega (arith, low))
+    ∙ (λ k. get_or (pointers_at (stored blocks owner lv root) (up k) (one k) (pointer_at (stored blocks owner lv root) (up k) (one k))) (two k) hole)
+    ∙ ap (λ (b : Bool). get_or (if b then [] else pointers_in (blocks (pointer_at (stored blocks owner lv root) (suc level) p).vvbn)) i hole) test
+    ∙ ap (λ (o : Option (List ℕ)). get_or (pointers_in o) i hole) there
+
 module _ (blocks : Under) (owner lv : ℕ) (root : Pointer) (leads : LeadsUnknown (unread (stored blocks owner lv root))) where
   abbrev t : Rooted
   t = stored blocks owner lv root
-
-  -- under a pointer to a node stand the pointers of its block
-  child_at : (level p i : ℕ) (block : List ℕ) → i < fan → (pointer_at t (suc level) p).stamp ≢ 0 → suc level ≤ lv
-      → blocks (pointer_at t (suc level) p).vvbn ≡ Some block → pointer_at t level (fan * p + i) ≡ get_or (pointers_in (Some block)) i hole
-  unfolding pointers_at
-  child_at level p i block small some low there =
-      let one : (fan * p + i) / fan ≡ p = omega (arith, small) in
-      let two : (fan * p + i) % fan ≡ i = omega (arith, small) in
-      let up : level + 1 ≡ suc level = omega arith in
-      let test : ((pointer_at t (suc level) p).stamp == 0) ≡ false = grind (arith, nat_tests) in
-      in_node t level (fan * p + i) (omega (arith, low))
-      ∙ (λ k. get_or (pointers_at t (up k) (one k) (pointer_at t (up k) (one k))) (two k) hole)
-      ∙ ap (λ (b : Bool). get_or (if b then [] else pointers_in (blocks (pointer_at t (suc level) p).vvbn)) i hole) test
-      ∙ ap (λ (o : Option (List ℕ)). get_or (pointers_in o) i hole) there
 
   node_rule : (level p : ℕ) (block : List ℕ) → (pointer_at t (suc level) p).stamp ≢ 0 → suc level ≤ lv → blocks (pointer_at t (suc level) p).vvbn ≡ Some block
       → length (pointers_in (Some block)) ≤ fan → list_any is_unknown (pointers_in (Some block)) ≡ true → (pointer_at t (suc level) p).pvbn ≡ 0
   node_rule level p block some low there few any =
       let r = some_at (pointers_in (Some block)) any in
       let small : r.0 < fan = omega (arith, few, r.1.0) in
-      let child = child_at level p r.0 block small some low there in
+      let child = child_at blocks owner lv root level p r.0 block small some low there in
       let is = pointer_unknown (pointer_at t level (fan * p + r.0)) (ap is_unknown child ∙ r.1.1) in
       let one : p ≡ (fan * p + r.0) / fan = omega (arith, small) in
       let up : suc level ≡ level + 1 = omega arith in

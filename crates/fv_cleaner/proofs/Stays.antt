@@ -43,7 +43,7 @@ use Rattle.fv_cleaner.proofs.Moving.{From, Got, alike_nodes, from_block, got_cle
 
 -- ---- lists
 
-get_root : (rs : List InodeRecord) (i : ℕ) → (get_or rs i free_record).root ≡ get_or (map (λ (r : InodeRecord). r.root) rs) i hole
+pub get_root : (rs : List InodeRecord) (i : ℕ) → (get_or rs i free_record).root ≡ get_or (map (λ (r : InodeRecord). r.root) rs) i hole
 get_root [] zero = refl
 get_root [] (suc i) = refl
 get_root (r ∷ rs) zero = refl

@@ -5,8 +5,10 @@ ghost use Rattle.std.specs.List.{list_any};
 ghost use Rattle.fv_container.specs.Chains.{slot_count};
 ghost use Rattle.fv_disk.specs.DiskCalls.{OnlyReads};
 ghost use Rattle.fv_image.specs.HintRules.{is_unknown};
+ghost use Rattle.fv_model.specs.declared.answers.Refusal.{Refusal};
 ghost use Rattle.fv_pool.specs.BlocksOver.{LoadsPool};
 ghost use Rattle.fv_pool.specs.Causes.{HasVolumeCause, IsNoDamage};
+ghost use Rattle.fv_pool.specs.declared.fault.VolumeFault.TheVariants.{Refused};
 ghost use Rattle.fv_store.specs.Held.{StandsOn};
 ghost use Rattle.fv_volume.specs.OneVolume.{IsReady};
 ghost use Rattle.fv_volume.specs.States.{state_at};
@@ -47,6 +49,7 @@ pub fn clean_step<D: Disk>(
     ensures unled { OnOk result (MovesAt (D.shown disk.old) pool.old volumes.old slot pool.new) }
     ensures undamaged { IfSome (state_at volumes.old slot) (CanClean (D.shown disk.old) pool.old) → IfErr result IsNoDamage }
     ensures cause { HasVolumeCause (D.shown disk.old).faults (D.shown disk.new).faults result }
+    ensures unrefused { IfErr result (λ e. (r : Refusal) → e ≡ Refused r → ⊥) }
 {
     match volumes.get_mut(slot) {
         Some(state) => Ok(clean_volume(state, pool, disk)?),

@@ -43,7 +43,7 @@ use Rattle.fv_pool.specs.Keeping.{Blocks, seen as block_seen, seen}
 use Rattle.fv_volume.specs.Loading.{IsLoaded, label_of}
 use Rattle.fv_volume.specs.States.{States, label_in_state, placed_in, state_at, view_over}
 use Rattle.fv_volume.specs.Trees.{active_in, no_trees}
-use Rattle.fv_volume.specs.Stored.{AreApartIn, AreSpacedIn, has_block, is_of, leads}
+use Rattle.fv_volume.specs.Stored.{AreApartIn, AreSpacedIn, has_block, is_of, leads, stays}
 use Rattle.fv_volume.specs.Writing.{on_disk}
 use Rattle.fv_volumes.proofs.HeldAlone.{of_each}
 use Rattle.fv_volumes.specs.Footing.{AreFooted}
@@ -304,10 +304,12 @@ module _ (disk : Shown) (pool : Pool) (states : States) (before : Machine) (lent
     unfolding view_over
     hole_now s v none = ap (λ (c : Slots). placed_in last.kept new.reads (own_entry (container_at c s) v)) containers ∙ ap (placed_in last.kept new.reads) none
 
+    entry_same : (s v : ℕ) (x : VolumeState) → s < 64 → state_at states s ≡ Some x → stays x v ≡ true → (view_over last stay new.reads).entry s v ≡ w.entry s v
+    entry_same s v x inside there on = entry_now s v inside ∙ ap (λ (z : View). z.entry s v) same_now
+        ∙ entry_stays pool states disk.reads fit.housed lent.tables lent.reach footed f labels left.map.next (paged_at left.containers) mid.reads refl refl all_stand s v x inside there on
+
     stays_now : StaysHeld w (view_over last stay new.reads)
-    stays_now = stays_in pool states disk.reads fit.housed lent.tables lent.reach footed (view_over last stay new.reads) view_stays.0 view_stays.1.0 view_stays.1.1 (λ s v x inside there on.
-        entry_now s v inside ∙ ap (λ (z : View). z.entry s v) same_now
-        ∙ entry_stays pool states disk.reads fit.housed lent.tables lent.reach footed f labels left.map.next (paged_at left.containers) mid.reads refl refl all_stand s v x inside there on)
+    stays_now = stays_in pool states disk.reads fit.housed lent.tables lent.reach footed (view_over last stay new.reads) view_stays.0 view_stays.1.0 view_stays.1.1 entry_same
         (λ s v x inside there low none. hole_now s v (hole_kept regions disk pool states before lent fit labels left.map.next left.containers mid.reads is s v x inside there low none))
 
     -- ---- the slots
@@ -447,6 +449,11 @@ module _ (disk : Shown) (pool : Pool) (states : States) (before : Machine) (lent
         by true (Some x) is_so = λ e. absurd (true≢false e)
         by false (Some x) is_so = is_so
 
+    given_kept : (s v : ℕ) (x : VolumeState) → s < 64 → state_at given s ≡ Some x → stays x v ≡ true
+        → placed_in last.kept new.reads (own_entry (container_at last.containers s) v) ≡ placed_in pool.kept disk.reads (own_entry (container_at pool.containers s) v)
+    unfolding view_over
+    given_kept s v x inside there on = entry_same s v (marked_as (has_slot list s) x) inside (marked s ∙ ap (option_map (marked_as (has_slot list s))) there) on
+
     pub point : (delays : List Bool)
         → ((s : ℕ) (x : Holding) → s < 64 → get_or delays s true ≡ false → holdings pool.containers given s ≡ Some x → (v : ℕ) → is_delayed x.map x.container v ≡ true → has_region list s (region_of v) ≡ true)
         → IsPoint disk pool given want new last stay delays
@@ -467,4 +474,5 @@ module _ (disk : Shown) (pool : Pool) (states : States) (before : Machine) (lent
       blocks = ap (λ (x : Found). x.blocks) found;
       same = given_same;
       label_same = λ s. subst (λ (t : Found). IfSome (state_at given s) (λ x. is_due list s x ≡ false → label_place (root_found t) s ≡ label_place (root_found pool.found) s)) (sym found) (given_places s);
+      kept = given_kept;
     }

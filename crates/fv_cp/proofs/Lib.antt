@@ -7,6 +7,7 @@ pub mod CameIn
 pub mod Prepared
 pub mod Lendable
 pub mod Whole
+pub mod Keeping
 pub mod Choosing
 pub mod LeftDelayed
 pub mod Marking

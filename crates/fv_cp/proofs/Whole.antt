@@ -17,7 +17,7 @@ use Rattle.fv_root.specs.Finding.{root_found}
 use Rattle.fv_root.specs.Commits.{IsFoundOn, next_found}
 use Rattle.fv_image.specs.Layout.{root_place}
 use Rattle.fv_aggmap.specs.Space.{free_blocks}
-use Rattle.fv_container.specs.Chains.{IsSlots, container_at, parent_at}
+use Rattle.fv_container.specs.Chains.{IsSlots, container_at, own_entry, parent_at}
 use Rattle.fv_container.proofs.Damage.{none_damaged}
 use Rattle.fv_volmap.specs.Slots.{Volume}
 use Rattle.fv_pool.specs.declared.fault.VolumeFault.{VolumeFault}
@@ -29,7 +29,7 @@ use Rattle.fv_pool.specs.BlocksOver.{LoadsPool}
 use Rattle.fv_volume.specs.Files.{IsLabelled}
 use Rattle.fv_volume.specs.Loading.{Houses}
 use Rattle.fv_volume.specs.Numbering.{AreNumbersSeen}
-use Rattle.fv_volume.specs.States.{States, parent_in, state_at, view_over}
+use Rattle.fv_volume.specs.States.{States, parent_in, placed_in, state_at, view_over}
 use Rattle.fv_volumes.proofs.Settled.{settled_keeps}
 use Rattle.fv_volumes.proofs.Staying.{kept_stands}
 use Rattle.fv_volumes.proofs.HeldSettled.{core_parent, ready_of, settled_core, settled_no_files, settled_numbers, settled_ready, settled_unchanged, settled_whole}
@@ -198,9 +198,11 @@ module _ (disk : Shown) (pool : Pool) (states : States) (mid : Shown) (held : Po
             unchanged = point.unchanged;
             room = point.room;
             delays = point.delays;
-            entries = record { mid = held; between = between; found = placed.found; version = placed.version; others = placed.others; maps = maps_now; housed = placed.fit.housed; placed = placed.entries; unused = placed.unused before was; rest = placed.rest; chosen = chosen_now before was want; containers = subst (λ (c : List Bool). LeavesContainers c (regions_chosen held between want) between held.containers left.containers) placed.committed (record { written = point.entries; stays = point.containers }) };
+            entries = record { mid = held; between = between; found = placed.found; version = placed.version; others = placed.others; maps = maps_now; whole = whole; written = goes.settled; housed = placed.fit.housed; placed = placed.entries; unused = placed.unused before was; rest = placed.rest; chosen = chosen_now before was want; containers = subst (λ (c : List Bool). LeavesContainers c (regions_chosen held between want) between held.containers left.containers) placed.committed (record { written = point.entries; stays = point.containers }) };
             missing = point.missing;
             free = goes.free;
+            kept = λ s v x inside there on. point.kept s v x inside there on ∙ ap (λ (i : Image). placed_in held.kept i (own_entry (container_at held.containers s) v)) placed.only_reads.stays.reads;
+            idle = λ bare. (placed.idle bare).0.kept;
           }
 
   -- ---- it wasn't done

@@ -17,7 +17,7 @@ use Rattle.fv_root.specs.declared.find.Found.{Found}
 use Rattle.fv_root.specs.Finding.{other_slot, root_found}
 use Rattle.fv_root.specs.Commits.{IsFoundOn, next_found}
 use Rattle.fv_store.specs.Held.{StandsOn}
-use Rattle.fv_container.specs.Chains.{Slots, container_at, parent_at, slot_count}
+use Rattle.fv_container.specs.Chains.{Slots, container_at, own_entry, parent_at, slot_count}
 use Rattle.fv_container.specs.Leading.{place_at}
 use Rattle.fv_container.specs.Mapped.{Mapped, entry_under}
 use Rattle.fv_delay.specs.declared.regions.Region.{Region}
@@ -28,8 +28,8 @@ use Rattle.fv_aggmap.specs.Space.{blocks_of, free_blocks}
 use Rattle.fv_pool.specs.BlocksOver.{LacksLeaf}
 use Rattle.fv_pool.specs.declared.pool.Pool.{Pool}
 use Rattle.fv_volume.specs.declared.state.VolumeState.{VolumeState}
-use Rattle.fv_volume.specs.Stored.{is_map_written, map_entry}
-use Rattle.fv_volume.specs.States.{States, state_at, head_in, view_over}
+use Rattle.fv_volume.specs.Stored.{is_map_written, map_entry, stays}
+use Rattle.fv_volume.specs.States.{States, placed_in, state_at, head_in, view_over}
 use Rattle.fv_volume.specs.Trees.{active_in, no_trees}
 use Rattle.fv_disk.specs.declared.fault.BlockFault.{BlockFault}
 use Rattle.fv_disk.specs.declared.fault.BlockFault.TheVariants.{DiskFault, Damaged, Memory}
@@ -103,6 +103,9 @@ pub record IsPoint (old : Shown) (pool : Pool) (states : States) (want : ℕ) (n
   -- a volume without changes and without a chosen region isn't written: it stays as it is, and the root names the label for it that it had
   pub same : (s : ℕ) → IfSome (state_at states s) (λ x. is_due (regions_chosen pool states want) s x ≡ false → state_at stay s ≡ Some x)
   pub label_same : (s : ℕ) → IfSome (state_at states s) (λ x. is_due (regions_chosen pool states want) s x ≡ false → label_place (root_found left.found) s ≡ label_place (root_found pool.found) s)
+  -- an entry that stays is as it was, with the block that it had, which waited or stood on the disk
+  pub kept : (s v : ℕ) (x : VolumeState) → s < slot_count → state_at states s ≡ Some x → stays x v ≡ true
+      → placed_in left.kept new.reads (own_entry (container_at left.containers s) v) ≡ placed_in pool.kept old.reads (own_entry (container_at pool.containers s) v)
 
 -- The volumes stay as they were, but that each that changed or was to be written is now as the root on the disk names it.
 abbrev pub AreWritten : States → States → Type 0

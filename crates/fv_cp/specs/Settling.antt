@@ -1,5 +1,5 @@
 -- What a consistency point does in front of which the files of all volumes are placed.
-use Rattle.std.specs.Prelude.{◌≡◌, ◌≤◌, ◌<◌, ◌+◌, ◌⊎◌, ℕ, Bool, false, List, Some, None, Result, Ok, Err, IfSome, IsTrue}
+use Rattle.std.specs.Prelude.{◌≡◌, ◌≤◌, ◌<◌, ◌+◌, ◌⊎◌, ℕ, Bool, true, false, List, Some, None, Result, Ok, Err, IfSome, IsTrue}
 use Rattle.std.specs.Option.{option_map}
 use Rattle.std.specs.FinMap as fin
 use Rattle.fv_disk.specs.Shown.{Image, IsSettled, Rose, Shown}
@@ -9,24 +9,25 @@ use Rattle.fv_image.specs.WholeMachine.{machine_of}
 use Rattle.fv_root.specs.Finding.{root_found}
 use Rattle.fv_root.specs.Commits.{IsFoundOn}
 use Rattle.fv_store.specs.Held.{StandsOn}
-use Rattle.fv_container.specs.Chains.{parent_at, slot_count}
+use Rattle.fv_container.specs.Chains.{container_at, own_entry, parent_at, slot_count}
 use Rattle.fv_aggmap.specs.Loading.{IsLoaded as IsMapLoaded}
 use Rattle.fv_aggmap.specs.Space.{free_blocks}
 use Rattle.fv_pool.specs.declared.fault.VolumeFault.{VolumeFault}
 use Rattle.fv_pool.specs.declared.fault.VolumeFault.TheVariants.{Refused, DiskFault, Damaged, Memory}
 use Rattle.fv_pool.specs.declared.pool.Pool.{Pool}
-use Rattle.fv_pool.specs.BlocksOver.{LacksLeaf}
+use Rattle.fv_pool.specs.BlocksOver.{held_entry, LacksLeaf}
 pub use Rattle.fv_pool.specs.Causes.{IsNoDamage}
 use Rattle.fv_volume.specs.declared.state.VolumeState.{VolumeState}
 use Rattle.fv_volumes.specs.Housed.{AreHoused}
-use Rattle.fv_volume.specs.States.{States, state_at}
+use Rattle.fv_volume.specs.States.{States, placed_in, state_at}
+use Rattle.fv_volume.specs.Stored.{stays}
 use Rattle.fv_cp.specs.Held.{machine_held, IsHeld}
 use Rattle.fv_cp.specs.Lent.{asked_all, FitTogether}
 use Rattle.fv_cp.specs.Choosing.{CountsMissing, LeavesRoom, regions_chosen}
 use Rattle.fv_cp.specs.Known.{AreKnown}
 use Rattle.fv_disk.specs.declared.fault.BlockFault.TheVariants as block
-use Rattle.fv_cp.specs.Placing.{pending_files, AreButPlaced, ArePlaced, AreReady, FailsToPlace, HasNumbers, HaveNoFiles, KeepCores, LeavesUnused, PlacesEntries, RestsPlaced}
-use Rattle.fv_cp.specs.Points.{IsNew, IsNextRoot, IsOld, LacksRoom, LeavesContainers}
+use Rattle.fv_cp.specs.Placing.{pending_files, AreButPlaced, ArePlaced, AreReady, FailsToPlace, HasNumbers, HasWholeMap, HaveNoFiles, KeepCores, LeavesUnused, PlacesEntries, RestsPlaced}
+use Rattle.fv_cp.specs.Points.{AreWritten, IsNew, IsNextRoot, IsOld, LacksRoom, LeavesContainers}
 
 -- an image is of the old side, or of the new one with the machine of the session
 abbrev pub OldOrHeld : Shown → Pool → States → Machine → Image → List ℕ → Type 0
@@ -43,6 +44,9 @@ pub record LeavesPlaced (pool : Pool) (states : States) (want : ℕ) (left : Poo
   pub version : mid.version ≡ pool.version
   pub others : AreButPlaced states between
   pub maps : (s : ℕ) → option_map (λ (x : VolumeState). x.map) (state_at stay s) ≡ option_map (λ (x : VolumeState). x.map) (state_at between s)
+  -- the maps between the two are whole, and the point changes of a volume only whether it waits, and what names it
+  pub whole : (s : ℕ) → HasWholeMap (state_at between s)
+  pub written : AreWritten between stay
   pub housed : AreHoused mid.containers between
   pub placed : PlacesEntries pool.map pool.containers mid.containers
   pub unused : LeavesUnused pool mid between
@@ -67,6 +71,18 @@ pub record IsHeldPoint (old : Shown) (pool : Pool) (states : States) (want : ℕ
   pub missing : CountsMissing entries.mid entries.between (view_at (root_found left.found) new.reads) want
   -- the new root names no label for a slot without a volume
   pub free : (s : ℕ) → s < slot_count → state_at stay s ≡ None → label_place (root_found left.found) s ≡ 0
+  -- once the files were placed, an entry that stays is as it was, with the block that it had, which waited or stood on the disk
+  pub kept : (s v : ℕ) (x : VolumeState) → s < slot_count → state_at entries.between s ≡ Some x → stays x v ≡ true
+      → placed_in left.kept new.reads (own_entry (container_at left.containers s) v) ≡ placed_in entries.mid.kept old.reads (own_entry (container_at entries.mid.containers s) v)
+  -- and without a file in memory no more blocks waited
+  pub idle : HaveNoFiles states → entries.mid.kept ≡ pool.kept
+
+-- Through a point before which no file is in memory the volumes stay but for that, and under each VVBN that a slot of a volume's maps has lies the
+-- block of before, though it waited then: the entry along the chain of the volume is the same, and so is the block that it leads to.
+pub record KeepsBlocks (old : Shown) (pool : Pool) (states : States) (new : Shown) (left : Pool) (stay : States) : Type 0 where
+  pub written : AreWritten states stay
+  pub blocks : (s v : ℕ) (x : VolumeState) → state_at states s ≡ Some x
+      → placed_in left.kept new.reads (held_entry x.map left.containers s v) ≡ placed_in pool.kept old.reads (held_entry x.map pool.containers s v)
 
 -- What it leaves of any disk, and of any volumes: the cache tells what the disk reads, the root and the map in memory are those of the new
 -- root, all fits together as the next point needs it, no file is in memory and nothing of a volume waits to be written, calls can be made

@@ -24,7 +24,7 @@ use Rattle.fv_aggregate.specs.declared.fault.Fault.TheVariants as session_fault
 use Rattle.fv_aggregate.specs.declared.session.Session.{Session}
 use Rattle.fv_aggregate.specs.Calls.{Goes, GoesFor, KeepsAsking}
 use Rattle.fv_aggregate.specs.Calls as calls
-use Rattle.fv_aggregate.specs.Commands.{asked_by, Asked, AsksNothing, changed_by, changes_volume, copies_blocks, dirty_limit, is_built, machine_after, reads_files, most_room, Replies, RepliesBy, room_by, room_with, snapped_by, volume_asked, is_refusal}
+use Rattle.fv_aggregate.specs.Commands.{asked_by, Asked, AsksNothing, changed_by, changes_volume, dirty_limit, is_built, machine_after, reaches_disk, reads_files, most_room, Replies, RepliesBy, room_by, room_with, snapped_by, takes_steps, volume_asked, is_refusal}
 use Rattle.fv_aggregate.specs.Asking.{AsksWithin}
 use Rattle.fv_aggregate.specs.Damages.{HasDamage}
 use Rattle.fv_aggregate.specs.Reading.{IsAsRead}
@@ -34,7 +34,7 @@ use Rattle.fv_run.specs.declared.ending.Fault.{Fault}
 use Rattle.fv_run.specs.declared.ending.Fault.TheVariants.{Disk, Memory, Damaged}
 use Rattle.fv_run.specs.Endings.{count_of, of_session, IsWholeFault}
 use Rattle.fv_run.specs.Built.{built}
-use Rattle.fv_run.specs.Running.{asked_in, asks_point, changes_volumes, left_by, room_in, IsHurt, IsRoomIn, only_asks, reads_blocks, UndergoesCommand, UndergoesSaid}
+use Rattle.fv_run.specs.Running.{added_by, asked_in, asks_point, changes_volumes, left_by, room_in, IsHurt, IsRoomIn, only_asks, reads_blocks, takes, UndergoesCommand, UndergoesSaid}
 use Rattle.fv_run.specs.Answering.{Applies, IsReady, IsSessionFault, LacksSpace}
 use Rattle.fv_run.proofs.Rooms.{left_other}
 use Rattle.fv_run.proofs.Courses.{stands_on}
@@ -54,7 +54,7 @@ allowed_by : (is : Bool) (m : Machine) (c : Command) (reply : Reply) → Replies
 allowed_by true m c reply replies = replies
 allowed_by false m c reply replies = replies
 
-allowed_built : (m : Machine) (c : Command) (reply : Reply) → Replies m c reply → AllowsAt m (built (Says c)) reply
+pub allowed_built : (m : Machine) (c : Command) (reply : Reply) → Replies m c reply → AllowsAt m (built (Says c)) reply
 allowed_built m c reply replies = allowed_by (is_built c) m c reply replies
 
 pub cp_alone : (c : Command) → is_cp (Says c) ≡ true → c ≡ Cp
@@ -193,15 +193,25 @@ neither : (a b : Bool) → (a || b) ≡ false → (a ≡ false) × (b ≡ false)
 neither true b e = absurd cc
 neither false b e = (refl, e)
 
--- what isn't built copies no blocks
-unbuilt_copies : (c : Command) → is_built c ≡ false → copies_blocks c ≡ false
+-- what isn't built doesn't reach the disk
+unbuilt_reaches : (c : Command) → is_built c ≡ false → reaches_disk c ≡ false
 unfolding is_built
-unbuilt_copies (Mirror v s w size kind) e = absurd cc
-unbuilt_copies c e = refl
+unbuilt_reaches (Mirror v s w size kind) e = absurd cc
+unbuilt_reaches (Clean v) e = absurd cc
+unbuilt_reaches (Work steps) e = absurd cc
+unbuilt_reaches c e = refl
 
--- a line that asks for no point says no `cp`, none that copies blocks, and no command whose room passes the dirty limit
+-- a line takes background steps where its command does
+steps_said : (c : Command) → takes_steps c ≡ false → takes (built (Says c)) ≡ false
+steps_said c none = so (is_built c)
+  where
+    so : (is : Bool) → takes (cond is (Says c) NoCommand) ≡ false
+    so true = none
+    so false = refl
+
+-- a line that asks for no point says no `cp`, none that reaches the disk, and no command whose room passes the dirty limit
 quiet : (session : Session) (c : Command) (pending : ℕ) → asks_point (room_by session.volumes) pending (built (Says c)) ≡ false
-    → (c ≢ Cp) × ((copies_blocks c ≡ false) × ((room_by session.volumes c ≡ 0) ⊎ (pending + room_by session.volumes c ≤ dirty_limit)))
+    → (c ≢ Cp) × ((reaches_disk c ≡ false) × ((room_by session.volumes c ≡ 0) ⊎ (pending + room_by session.volumes c ≤ dirty_limit)))
 quiet session c pending none = so (is_built c) refl none
   where
     nothing : (n : ℕ) → (nat_lt 0 n && nat_lt dirty_limit (pending + n)) ≡ false → (n ≡ 0) ⊎ (pending + n ≤ dirty_limit)
@@ -218,40 +228,42 @@ quiet session c pending none = so (is_built c) refl none
     built_point : c ≡ Cp → is_built c ≡ true
     built_point e = ap is_built e ∙ cp_built
 
-    so : (is : Bool) → is_built c ≡ is → asks_point (room_by session.volumes) pending (cond is (Says c) NoCommand) ≡ false → (c ≢ Cp) × ((copies_blocks c ≡ false) × ((room_by session.volumes c ≡ 0) ⊎ (pending + room_by session.volumes c ≤ dirty_limit)))
+    so : (is : Bool) → is_built c ≡ is → asks_point (room_by session.volumes) pending (cond is (Says c) NoCommand) ≡ false → (c ≢ Cp) × ((reaches_disk c ≡ false) × ((room_by session.volumes c ≡ 0) ⊎ (pending + room_by session.volumes c ≤ dirty_limit)))
     so true e none =
-        let parts = neither (is_cp (Says c)) (copies_blocks c || (nat_lt 0 (room_by session.volumes c) && nat_lt dirty_limit (pending + room_by session.volumes c))) none in
-        let more = neither (copies_blocks c) (nat_lt 0 (room_by session.volumes c) && nat_lt dirty_limit (pending + room_by session.volumes c)) parts.1 in
+        let parts = neither (is_cp (Says c)) (reaches_disk c || (nat_lt 0 (room_by session.volumes c) && nat_lt dirty_limit (pending + room_by session.volumes c))) none in
+        let more = neither (reaches_disk c) (nat_lt 0 (room_by session.volumes c) && nat_lt dirty_limit (pending + room_by session.volumes c)) parts.1 in
         (λ is. both_ways _ parts.0 (is_point is), (more.0, nothing (room_by session.volumes c) more.1))
-    so false e none = (λ is. both_ways _ e (built_point is), (unbuilt_copies c e, inl (unbuilt_room _ _ _ _ c e)))
+    so false e none = (λ is. both_ways _ e (built_point is), (unbuilt_reaches c e, inl (unbuilt_room _ _ _ _ c e)))
 
 -- a line reads files where its command does, and changes a volume that stays where its command does
 reads_said : (c : Command) → reads_files c ≡ true → reads_blocks (built (Says c)) ≡ true
-reads_said c e = ap (λ (is : Bool). reads_blocks (cond is (Says c) NoCommand)) (built_reads c e) ∙ ap (λ (reads : Bool). reads || copies_blocks c) e
+reads_said c e = ap (λ (is : Bool). reads_blocks (cond is (Says c) NoCommand)) (built_reads c e) ∙ ap (λ (reads : Bool). reads || reaches_disk c) e
 
-copies_read : (c : Command) → copies_blocks c ≡ true → reads_blocks (built (Says c)) ≡ true
+second : (a b : Bool) → b ≡ true → (a || b) ≡ true
+second true b e = refl
+second false b e = e
+
+reaches_read : (c : Command) → reaches_disk c ≡ true → reads_blocks (built (Says c)) ≡ true
 unfolding is_built
-copies_read (Mirror v s w size kind) e = second (reads_files (Mirror v s w size kind)) true e
-  where
-    second : (a b : Bool) → b ≡ true → (a || b) ≡ true
-    second true b e = refl
-    second false b e = e
-copies_read c e = absurd cc
+reaches_read (Mirror v s w size kind) e = second (reads_files (Mirror v s w size kind)) true e
+reaches_read (Clean v) e = second (reads_files (Clean v)) true e
+reaches_read (Work steps) e = second (reads_files (Work steps)) true e
+reaches_read c e = absurd cc
 
 changes_said : (c : Command) → changes_volumes (built (Says c)) ≡ false → changes_volume c ≡ false
 changes_said c none = so (is_built c) refl none
   where
     so : (is : Bool) → is_built c ≡ is → changes_volumes (cond is (Says c) NoCommand) ≡ false → changes_volume c ≡ false
-    so true e none = (neither (changes_volume c) (copies_blocks c) none).0
+    so true e none = (neither (changes_volume c) (reaches_disk c) none).0
     so false e none = unbuilt_change c e
 
--- nor does it copy blocks
-changes_once : (c : Command) → changes_volumes (built (Says c)) ≡ false → copies_blocks c ≡ false
+-- nor does it reach the disk
+changes_once : (c : Command) → changes_volumes (built (Says c)) ≡ false → reaches_disk c ≡ false
 changes_once c none = so (is_built c) refl none
   where
-    so : (is : Bool) → is_built c ≡ is → changes_volumes (cond is (Says c) NoCommand) ≡ false → copies_blocks c ≡ false
-    so true e none = (neither (changes_volume c) (copies_blocks c) none).1
-    so false e none = unbuilt_copies c e
+    so : (is : Bool) → is_built c ≡ is → changes_volumes (cond is (Says c) NoCommand) ≡ false → reaches_disk c ≡ false
+    so true e none = (neither (changes_volume c) (reaches_disk c) none).1
+    so false e none = unbuilt_reaches c e
 
 -- what changes no volume that stays changes no files
 changes_none : (c : Command) → changes_volume c ≡ false → changed_by c ≡ None
@@ -338,7 +350,7 @@ no_change session line reply host laws ready no_point said allowed stays = recor
     stands = stands_on host session tells ready.stands;
     reply = reply;
     said = said;
-    root = inl refl;
+    root = λ once. inl refl;
     read = λ asks. as_read_itself session;
     files = λ same none. none;
     calm = λ none. refl;
@@ -370,14 +382,14 @@ module _ (session new_session : Session) (line : Line) (command : Command) (old 
   after_is : (m : Machine) → machine_after m command ≡ after_line m (built line)
   after_is m = after_built m command ∙ ap (λ (l : Line). after_line m (built l)) (sym says)
 
-  calm_by : (command ≢ Cp → copies_blocks command ≡ false → (room_by session.volumes command ≡ 0) ⊎ (session.pending + room_by session.volumes command ≤ dirty_limit) → new.reads ≡ old.reads) → (pending : ℕ) → session.pending ≤ pending → asks_point (room_by session.volumes) pending (built line) ≡ false → new.reads ≡ old.reads
+  calm_by : (command ≢ Cp → reaches_disk command ≡ false → (room_by session.volumes command ≡ 0) ⊎ (session.pending + room_by session.volumes command ≤ dirty_limit) → new.reads ≡ old.reads) → (pending : ℕ) → session.pending ≤ pending → asks_point (room_by session.volumes) pending (built line) ≡ false → new.reads ≡ old.reads
   calm_by calm pending few none =
       let is = quiet session command pending (subst (λ (l : Line). asks_point (room_by session.volumes) pending (built l) ≡ false) says none) in
       calm is.0 is.1.0 (⊎_elim (λ (nothing : room_by session.volumes command ≡ 0). inl nothing) (λ (low : pending + room_by session.volumes command ≤ dirty_limit). inr (omega (arith, low, few))) is.1.1)
 
-  -- a point leaves nothing pending, and each other command adds its room at most
-  pending_by : (command ≡ Cp → new_session.pending ≡ 0) → new_session.pending ≤ session.pending + room_by session.volumes command → new_session.pending ≤ left_by (room_by session.volumes) session.pending (built line)
-  pending_by pointed most = by (is_cp (built line)) refl
+  -- a point leaves nothing pending, and each other command adds its room at most, but one that takes background steps
+  pending_by : takes_steps command ≡ false → (command ≡ Cp → new_session.pending ≡ 0) → new_session.pending ≤ session.pending + room_by session.volumes command → new_session.pending ≤ left_by (room_by session.volumes) session.pending (built line)
+  pending_by at_once pointed most = by (is_cp (built line)) refl
     where
       by : (cp : Bool) → is_cp (built line) ≡ cp → new_session.pending ≤ left_by (room_by session.volumes) session.pending (built line)
       by true e =
@@ -385,19 +397,21 @@ module _ (session new_session : Session) (line : Line) (command : Command) (old 
           omega (arith, none)
       by false e =
           let room : room_in (room_by session.volumes) (built line) ≡ room_by session.volumes command = ap (λ (l : Line). room_in (room_by session.volumes) (built l)) says ∙ room_built session command in
-          let left : left_by (room_by session.volumes) session.pending (built line) ≡ session.pending + room_in (room_by session.volumes) (built line) = ap (λ (cp : Bool). if cp then 0 else session.pending + room_in (room_by session.volumes) (built line)) e in
-          omega (arith, left, room, most)
+          let once : takes (built line) ≡ false = ap (λ (l : Line). takes (built l)) says ∙ steps_said command at_once in
+          let added : added_by (room_by session.volumes) (built line) ≡ room_in (room_by session.volumes) (built line) = ap (λ (steps : Bool). if steps then dirty_limit else room_in (room_by session.volumes) (built line)) once in
+          let left : left_by (room_by session.volumes) session.pending (built line) ≡ session.pending + added_by (room_by session.volumes) (built line) = ap (λ (cp : Bool). if cp then 0 else session.pending + added_by (room_by session.volumes) (built line)) e in
+          omega (arith, left, added, room, most)
 
   same_by : changes_volumes (built line) ≡ false → changes_volume command ≡ false
   same_by none = changes_said command (subst (λ (l : Line). changes_volumes (built l) ≡ false) says none)
 
-  once_by : changes_volumes (built line) ≡ false → copies_blocks command ≡ false
+  once_by : changes_volumes (built line) ≡ false → reaches_disk command ≡ false
   once_by none = changes_once command (subst (λ (l : Line). changes_volumes (built l) ≡ false) says none)
 
   -- the command was carried out, or refused
-  pub applied : (reply : Reply) → (command ≢ Cp → copies_blocks command ≡ false → (room_by session.volumes command ≡ 0) ⊎ (session.pending + room_by session.volumes command ≤ dirty_limit) → new.reads ≡ old.reads) → Goes (room_by session.volumes command) (asked_by session.volumes command) old session new new_session (Ok reply)
-      → (changes_volume command ≡ false → copies_blocks command ≡ false → KeepsAsking (room_by session.volumes command) old session new new_session)
-      → (IsTrue old.tells → changed_by command ≡ None → copies_blocks command ≡ false → IsWithoutFiles session → IsWithoutFiles new_session)
+  pub applied : takes_steps command ≡ false → (reply : Reply) → (command ≢ Cp → reaches_disk command ≡ false → (room_by session.volumes command ≡ 0) ⊎ (session.pending + room_by session.volumes command ≤ dirty_limit) → new.reads ≡ old.reads) → Goes (room_by session.volumes command) (asked_by session.volumes command) old session new new_session (Ok reply)
+      → (changes_volume command ≡ false → reaches_disk command ≡ false → KeepsAsking (room_by session.volumes command) old session new new_session)
+      → (IsTrue old.tells → changed_by command ≡ None → reaches_disk command ≡ false → IsWithoutFiles session → IsWithoutFiles new_session)
       → (IsTrue old.tells → (last m : Machine) → StandsFor old session last m → GoesFor {T = Reply} old last m (machine_after m command) new new_session (Ok reply))
       → (IsTrue old.tells → (last m : Machine) → StandsFor old session last m → Replies m command reply)
       → (IsTrue old.tells → (last m : Machine) → StandsFor old session last m → command ≡ Cp → StandsFor new new_session m m)
@@ -405,7 +419,7 @@ module _ (session new_session : Session) (line : Line) (command : Command) (old 
       → (reads_files command ≡ true → IsSome (volume_asked command) → IsAsRead session new_session)
       → (IsTrue old.tells → UndergoesCommand command old.reads session new.reads new_session reply)
       → Applies session (built line) old new_session new (Ok reply)
-  applied reply calm goes keeps files goes_for replies point pointed read undergoes = record {
+  applied at_once reply calm goes keeps files goes_for replies point pointed read undergoes = record {
     done = λ tells last m so_far. (
       subst (λ (l : Line). AllowsAt m (built l) reply) (sym says) (allowed_built m command reply (replies tells last m so_far)),
       record {
@@ -423,11 +437,11 @@ module _ (session new_session : Session) (line : Line) (command : Command) (old 
       stands = stands_on new new_session (rw goes.ends.tells tells) (goes.stands goes.done.goes_on);
       reply = reply;
       said = said_by tells;
-      root = goes.done.root tells;
+      root = λ once. goes.done.root tells;
       read = read_by;
       files = λ same none. files tells (changes_none command (same_by same)) (once_by same) none;
       calm = λ none. calm_by calm session.pending (omega arith) none;
-      pending = pending_by pointed goes.pending;
+      pending = pending_by at_once pointed goes.pending;
     };
     asks = λ tells same room asks. (
       most_room command,
@@ -461,7 +475,7 @@ module _ (session new_session : Session) (line : Line) (command : Command) (old 
       at_point m is stands = subst (λ (x : Machine). StandsFor new new_session x x) (sym (ap (machine_after m) is ∙ after_cp m) ∙ after_is m) (stands is)
 
   -- it wasn't
-  module _ (calm : command ≢ Cp → copies_blocks command ≡ false → (room_by session.volumes command ≡ 0) ⊎ (session.pending + room_by session.volumes command ≤ dirty_limit) → new.reads ≡ old.reads) (fault : SessionFault) (goes : Goes {T = Reply} (room_by session.volumes command) (asked_by session.volumes command) old session new new_session (Err fault))
+  module _ (calm : command ≢ Cp → reaches_disk command ≡ false → (room_by session.volumes command ≡ 0) ⊎ (session.pending + room_by session.volumes command ≤ dirty_limit) → new.reads ≡ old.reads) (fault : SessionFault) (goes : Goes {T = Reply} (room_by session.volumes command) (asked_by session.volumes command) old session new new_session (Err fault))
       (goes_for : IsTrue old.tells → (last m : Machine) → StandsFor old session last m → GoesFor {T = Reply} old last m (machine_after m command) new new_session (Err fault)) where
     stopped_by : (end : Fault) → Counts old new (count_of end) → (¬ Rose old.write_faults new.write_faults → IsNone new_session.failed)
         → (IsTrue old.tells → (last m : Machine) → StandsFor old session last m → IsWholeFault end) → IsSessionFault (built line) old session new end → Applies session (built line) old new_session new (Err end)
@@ -486,14 +500,14 @@ module _ (session new_session : Session) (line : Line) (command : Command) (old 
     no_count same = record { tells = goes.ends.tells; source = ap (λ (e : Ends). e.source_faults) goes.ends.ends; sink = ap (λ (e : Ends). e.sink_faults) goes.ends.ends; disk = same }
 
   -- damage in a line
-  damaged : (at want found : ℕ) → new.tells ≡ old.tells → StandsReady new new_session → HasDamage (room_by session.volumes command) (asked_by session.volumes command) old session new new_session at want found → (reads_files command ≡ false → copies_blocks command ≡ false → calls.IsForWant old session new new_session (session_fault.Damaged at want found)) → IsSessionFault (built line) old session new Damaged
+  damaged : (at want found : ℕ) → new.tells ≡ old.tells → StandsReady new new_session → HasDamage (room_by session.volumes command) (asked_by session.volumes command) old session new new_session at want found → (reads_files command ≡ false → reaches_disk command ≡ false → calls.IsForWant old session new new_session (session_fault.Damaged at want found)) → IsSessionFault (built line) old session new Damaged
   damaged at want found same stands damage plain = (
     (
       new_session,
       (
         stands,
-        subst (λ (asked : Asked). IsHurt (room_in (room_by session.volumes) (built line)) asked old.reads session new new_session) asks
-            (subst (λ (n : ℕ). IsHurt n (asked_by session.volumes command) old.reads session new new_session) room (hurt_by (room_by session.volumes command) (asked_by session.volumes command) old session new new_session at want found same damage)),
+        inl (subst (λ (asked : Asked). IsHurt (room_in (room_by session.volumes) (built line)) asked old.reads session new new_session) asks
+            (subst (λ (n : ℕ). IsHurt n (asked_by session.volumes command) old.reads session new new_session) room (hurt_by (room_by session.volumes command) (asked_by session.volumes command) old session new new_session at want found same damage))),
       ),
     ),
     so (reads_files command) refl,
@@ -507,14 +521,14 @@ module _ (session new_session : Session) (line : Line) (command : Command) (old 
 
       so : (reads : Bool) → reads_files command ≡ reads → (reads_blocks (built line) ≡ true) ⊎ LacksSpace old session new
       so true e = inl (ap (λ (l : Line). reads_blocks (built l)) says ∙ reads_said command e)
-      so false e = other (copies_blocks command) refl
+      so false e = other (reaches_disk command) refl
         where
-          other : (copies : Bool) → copies_blocks command ≡ copies → (reads_blocks (built line) ≡ true) ⊎ LacksSpace old session new
-          other true copied = inl (ap (λ (l : Line). reads_blocks (built l)) says ∙ copies_read command copied)
-          other false copied = inr (lacks old new session new_session at want found (plain e copied))
+          other : (reaches : Bool) → reaches_disk command ≡ reaches → (reads_blocks (built line) ≡ true) ⊎ LacksSpace old session new
+          other true reached = inl (ap (λ (l : Line). reads_blocks (built l)) says ∙ reaches_read command reached)
+          other false once = inr (lacks old new session new_session at want found (plain e once))
 
-  pub unapplied : (command ≢ Cp → copies_blocks command ≡ false → (room_by session.volumes command ≡ 0) ⊎ (session.pending + room_by session.volumes command ≤ dirty_limit) → new.reads ≡ old.reads) → (fault : SessionFault) → Goes {T = Reply} (room_by session.volumes command) (asked_by session.volumes command) old session new new_session (Err fault)
-      → (reads_files command ≡ false → copies_blocks command ≡ false → calls.IsForWant old session new new_session fault)
+  pub unapplied : (command ≢ Cp → reaches_disk command ≡ false → (room_by session.volumes command ≡ 0) ⊎ (session.pending + room_by session.volumes command ≤ dirty_limit) → new.reads ≡ old.reads) → (fault : SessionFault) → Goes {T = Reply} (room_by session.volumes command) (asked_by session.volumes command) old session new new_session (Err fault)
+      → (reads_files command ≡ false → reaches_disk command ≡ false → calls.IsForWant old session new new_session fault)
       → (IsTrue old.tells → (last m : Machine) → StandsFor old session last m → GoesFor {T = Reply} old last m (machine_after m command) new new_session (Err fault))
       → Applies session (built line) old new_session new (Err (of_session fault))
   unapplied calm session_fault.DiskFault goes plain goes_for = stopped_by calm session_fault.DiskFault goes goes_for Disk

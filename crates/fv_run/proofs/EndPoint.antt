@@ -1,5 +1,5 @@
 -- The last consistency point of a run that ended well, as the run has it.
-use Rattle.std.proofs.Common.{◌≡◌, ◌+◌, ◌∙◌, ℕ, List, length, refl, sym, subst, arith}
+use Rattle.std.proofs.Common.{◌≡◌, ◌+◌, ◌∙◌, ℕ, false, List, length, refl, sym, subst, arith}
 use Rattle.std.specs.Prelude.{Ok, IsTrue}
 use Rattle.fv_disk.specs.Shown.{Image, IsDisk, IsSettled, Shown}
 use Rattle.fv_disk.specs.DiskCalls.{Stays}
@@ -18,8 +18,9 @@ use Rattle.fv_aggregate.specs.Reclaiming.{HasPointed, Points}
 use Rattle.fv_aggregate.specs.Standing.{StandsFor, StandsReady}
 use Rattle.fv_aggregate.proofs.MadeRoom.{entries_still}
 use Rattle.fv_run.specs.Answering.{BeginsFor, HasAnswered, IsAtEnd}
+use Rattle.fv_run.specs.Promises.{line_at}
 use Rattle.fv_run.specs.Built.{lines_built}
-use Rattle.fv_run.specs.Running.{still_disk, IsLastFor}
+use Rattle.fv_run.specs.Running.{still_disk, takes, IsLastFor}
 use Rattle.fv_run.proofs.Courses.{pointed_on, stands_on}
 use Rattle.fv_run.proofs.LastPoint.{all_lines}
 use Rattle.fv_run.proofs.PointsMade.{cps_more, gone_next, HasMade, points_made}
@@ -72,8 +73,8 @@ module _ (limit : ℕ) (session : Session) (mid : Shown) (last : Session) (end :
       all : count ≡ length L
       all = let within = a.applied.within in let most = all_lines limit session mid last end count at_end tells in omega (arith, within, most)
 
-  made : HasMade L count session.pool.found last.pool.found
-  made = points_made L count mid.reads session end.reads last (at_end.stands.course tells)
+  made : ((line : ℕ) → takes (line_at L line) ≡ false) → HasMade L count session.pool.found last.pool.found
+  made once = points_made L once count mid.reads session end.reads last (at_end.stands.course tells)
 
   stands_now : StandsReady new next
   stands_now = rests_standing point new next rests (goes.stands goes.done.goes_on)
@@ -87,11 +88,13 @@ module _ (limit : ℕ) (session : Session) (mid : Shown) (last : Session) (end :
     last = last;
     next = next;
     over = stands_on end last end_tells at_end.stands.ready.stands;
-    points = made.points + 1;
-    least = (let all = all_lines limit session mid last end count at_end tells in let cps = cps_more L (length L) count all in let least = made.least in omega (arith, cps, least));
-    most = (let most = made.most in omega (arith, most));
+    counted = λ once. record {
+      points = (made once).points + 1;
+      least = (let all = all_lines limit session mid last end count at_end tells in let cps = cps_more L (length L) count all in let least = (made once).least in omega (arith, cps, least));
+      most = (let most = (made once).most in omega (arith, most));
+      generation = gone_next (made once).points session.pool.found last.pool.found next.pool.found (made once).gone points.left.next;
+    };
     counts = (stands_now.stands.found new_tells).reads;
-    generation = gone_next made.points session.pool.found last.pool.found next.pool.found made.gone points.left.next;
     quiet = λ none. (at_end.stands.counted tells begins).quiet (λ line low. none line);
     left = pointed_on end new last next end_tells points.left;
     stands = stands_now;

@@ -3,6 +3,7 @@ mod Acked
 mod Admitted
 mod Answered
 mod Applied
+mod StepsApplied
 mod Applying
 mod Asked
 mod Checked

@@ -13,7 +13,7 @@ use Rattle.fv_aggregate.specs.declared.session.Session.{Session}
 use Rattle.fv_aggregate.specs.Calls.{IsUntouched}
 use Rattle.fv_aggregate.specs.Commands.{reads_files}
 use Rattle.fv_run.specs.Promises.{line_at}
-use Rattle.fv_run.specs.Running.{cps_behind, UndergoesCommand, UndergoesLine, UndergoesLines, UndergoesSaid}
+use Rattle.fv_run.specs.Running.{cps_behind, takes, UndergoesCommand, UndergoesLine, UndergoesLines, UndergoesSaid}
 use Rattle.fv_run.proofs.Applied.{cp_alone}
 
 -- ---- generations
@@ -61,7 +61,7 @@ cps_more lines low (suc high) le = ⊎_elim
 
 -- ---- line by line
 
--- So many points were made in the first lines: each `cp` is one, and no line makes two.
+-- So many points were made in the first lines: each `cp` is one, and no line makes two, but for those that take background steps.
 pub record HasMade (lines : List Line) (count : ℕ) (first now : Found) : Type 0 where
   pub points : ℕ
   pub least : cps_behind lines count ≤ points
@@ -103,9 +103,9 @@ cp_made line is i session j next reply said =
     let did : UndergoesCommand Cp i session j next reply = subst (λ (l : Line). UndergoesSaid l i session j next reply) (cp_line line is) said in
     ((did.plain cp_reads).pointed refl).next
 
-line_made : (lines : List Line) (count : ℕ) (first : Found) (i : Image) (session : Session) (j : Image) (next : Session) → HasMade lines count first session.pool.found → UndergoesLine (line_at lines count) i session j next
+line_made : (lines : List Line) (count : ℕ) (first : Found) (i : Image) (session : Session) (j : Image) (next : Session) → takes (line_at lines count) ≡ false → HasMade lines count first session.pool.found → UndergoesLine (line_at lines count) i session j next
     → HasMade lines (suc count) first next.pool.found
-line_made lines count first i session j next made led = ⊎_elim
+line_made lines count first i session j next once made led = ⊎_elim
     (λ (low : count < length lines). within low (is_cp (line_at lines count)) refl)
     (λ (past : length lines ≤ count).
     let none : line_at lines count ≡ NoCommand = get_or_past lines count NoCommand past in
@@ -118,14 +118,15 @@ line_made lines count first i session j next made led = ⊎_elim
     within low false is = ⊎_elim
         (λ (same : next.pool.found ≡ session.pool.found). none_more lines count first session.pool.found next.pool.found made is same)
         (λ (on : IsNextRoot session.pool.found next.pool.found). one_more lines count first session.pool.found next.pool.found made low on)
-        led.root
+        (led.root once)
 
-pub points_made : (lines : List Line) (count : ℕ) (i : Image) (first : Session) (j : Image) (session : Session) → UndergoesLines lines count i first j session → HasMade lines count first.pool.found session.pool.found
-points_made lines zero i first j session course = record {
+pub points_made : (lines : List Line) → ((line : ℕ) → takes (line_at lines line) ≡ false) → (count : ℕ) (i : Image) (first : Session) (j : Image) (session : Session) → UndergoesLines lines count i first j session → HasMade lines count first.pool.found session.pool.found
+points_made lines once zero i first j session course = record {
   points = 0;
   least = (let none = cps_none lines in omega (arith, none));
   most = omega arith;
   few = omega arith;
   gone = inl (refl, ap (λ (s : Session). s.pool.found) course.0);
 }
-points_made lines (suc count) i first j session course = line_made lines count first.pool.found course.1 course.0 j session (points_made lines count i first course.1 course.0 course.2) course.3
+points_made lines once (suc count) i first j session course =
+    line_made lines count first.pool.found course.1 course.0 j session (once count) (points_made lines once count i first course.1 course.0 course.2) course.3

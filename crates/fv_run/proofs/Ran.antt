@@ -23,7 +23,7 @@ use Rattle.fv_run.specs.declared.ending.Fault.TheVariants.{Usage, Unsound, NotAg
 use Rattle.fv_run.specs.Built.{lines_built}
 use Rattle.fv_run.specs.Endings.{IsWholeFault, raised_by}
 use Rattle.fv_run.specs.Promises.{line_at}
-use Rattle.fv_run.specs.Running.{asks_behind, cps_behind, EndsInPoint, HasAnsweredAll, HasChanged, HasFollowed, HasReason, Holds, IsAskedFor, IsAtRest, IsFileDamage, IsHurtBehind, IsLacking, IsLeafLost, IsLastFor, IsOverLimit, IsPastLimit, KeepsUp, MeetsDamage, most_rooms, rooms_along, IsSessionDamage, Ran, reads_blocks, StandsOnImage, Survives, SurvivesFrom, AsksNone, IsQuiet, UndergoesLines}
+use Rattle.fv_run.specs.Running.{asks_behind, cps_behind, takes, CountsPoints, EndsInPoint, HasAnsweredAll, HasChanged, HasFollowed, HasReason, Holds, IsAskedFor, IsAtRest, IsFileDamage, IsHurtBehind, IsLacking, IsLeafLost, IsLastFor, IsOverLimit, IsPastLimit, KeepsUp, MeetsDamage, most_rooms, rooms_along, IsSessionDamage, Ran, reads_blocks, StandsOnImage, Survives, SurvivesFrom, AsksNone, IsQuiet, UndergoesLines}
 use Rattle.fv_run.specs.Answering.{IsEndOf, Stopped, BeginsFor}
 use Rattle.fv_run.proofs.Admitted.{image_is_admitted}
 use Rattle.fv_run.proofs.KeepingUp.{keeps_up_since}
@@ -42,6 +42,13 @@ pub record RanOpen (limit : ℕ) (session : Session) (mid new : Shown) (result :
   pub keeps_up : IsTrue mid.tells → KeepsUp limit mid new result
   pub quiet : IsTrue mid.tells → session.pending ≡ 0 → IsQuiet most_rooms (lines_built mid.ends.left) mid new
 
+-- so many points were made from its root to the last one
+pub record CountsOpen (lines : List Line) (session next : Session) : Type 0 where
+  pub points : ℕ
+  pub least : cps_behind lines (length lines) < points
+  pub most : points ≤ length lines + 1
+  pub generation : next.pool.found.root.generation ≡ (session.pool.found.root.generation + points) % 2 ^ 64
+
 -- the last point of such a run
 pub record PointedOpen (session : Session) (mid new : Shown) : Type 0 where
   pub before : Image
@@ -49,11 +56,8 @@ pub record PointedOpen (session : Session) (mid new : Shown) : Type 0 where
   pub next : Session
   pub over : StandsOnImage before last
   pub quiet : ((line : ℕ) → asks_behind most_rooms (lines_built mid.ends.left) line ≡ false) → before ≡ mid.reads
-  pub points : ℕ
-  pub least : cps_behind (lines_built mid.ends.left) (length (lines_built mid.ends.left)) < points
-  pub most : points ≤ length (lines_built mid.ends.left) + 1
+  pub counted : ((line : ℕ) → takes (line_at (lines_built mid.ends.left) line) ≡ false) → CountsOpen (lines_built mid.ends.left) session next
   pub counts : IsFound new.reads next.pool.found
-  pub generation : next.pool.found.root.generation ≡ (session.pool.found.root.generation + points) % 2 ^ 64
   pub left : IsPointed new last next
   pub stands : StandsReady new next
   pub machine : (m : Machine) → BeginsFor mid session m → IsLastFor m (lines_built mid.ends.left) mid.reads before last new next
@@ -199,22 +203,28 @@ module _ (limit : ℕ) (session : Session) (old mid new : Shown) (laws : IsDisk 
   quiet_since rooms quiet output given asks =
       quiet output (given ∙ ap (λ (l : List ℕ). l ++ output) (sym unwritten.kept.given)) (subst (λ (l : List ℕ). AsksNone (rooms l) (lines_built l) output) (sym same_left) asks) ∙ unwritten.reads
 
+  counted_lines : (lines : List Line) → IsTrue old.tells → {next : Session} → IsFound new.reads next.pool.found → CountsOpen lines session next → CountsPoints lines old new
+  counted_lines lines tells {next} counts counted = record {
+    points = counted.points;
+    least = counted.least;
+    most = counted.most;
+    on = record {
+      old = session.pool.found;
+      new = next.pool.found;
+      counted = subst (λ (i : Image). IsFound i session.pool.found) unwritten.reads (stands.stands.found (mid_told tells)).reads;
+      counts = counts;
+      generation = counted.generation;
+    };
+  }
+
   pointed_lines : (lines : List Line) → IsTrue old.tells → PointedOpen session mid new → lines_built mid.ends.left ≡ lines → EndsInPoint lines old new
   pointed_lines lines tells p same = record {
     before = p.before;
     last = p.last;
     next = p.next;
     over = p.over;
-    points = p.points;
-    least = subst (λ (l : List Line). cps_behind l (length l) < p.points) same p.least;
-    most = subst (λ (l : List Line). p.points ≤ length l + 1) same p.most;
-    on = record {
-      old = session.pool.found;
-      new = p.next.pool.found;
-      counted = subst (λ (i : Image). IsFound i session.pool.found) unwritten.reads (stands.stands.found (mid_told tells)).reads;
-      counts = p.counts;
-      generation = p.generation;
-    };
+    counted = λ once. counted_lines lines tells p.counts (subst (λ (l : List Line). CountsOpen l session p.next) same
+        (p.counted (subst (λ (l : List Line). (line : ℕ) → takes (line_at l line) ≡ false) (sym same) once)));
     quiet = λ none. p.quiet (λ line. ap (λ (l : List Line). asks_behind most_rooms l line) same ∙ none line) ∙ unwritten.reads;
     left = p.left;
     stands = p.stands;

@@ -6,7 +6,7 @@ use Rattle.std.proofs.lemmas.Bool.Decides.{nat_tests}
 use Rattle.fv_model.specs.declared.commands.Command.{Command}
 use Rattle.fv_model.specs.Runs.{Line, Says, NoCommand, OutOfRange, is_cp}
 use Rattle.fv_aggregate.specs.Commands.{dirty_limit, most_room}
-use Rattle.fv_run.specs.Running.{asks_point, copies, left_by, pending_behind, room_in, IsRoomIn}
+use Rattle.fv_run.specs.Running.{added_by, asks_point, reaches, takes, left_by, pending_behind, room_in, IsRoomIn}
 use Rattle.fv_run.specs.Promises.{line_at}
 
 -- ---- lines
@@ -44,7 +44,7 @@ less_in less more rooms OutOfRange = omega arith
 
 -- so it asks for no point where it asks for none with more
 pub asks_less : (less more : Command → ℕ) → ((c : Command) → less c ≤ more c) → (pending : ℕ) (line : Line) → asks_point more pending line ≡ false → asks_point less pending line ≡ false
-asks_less less more rooms pending line none = by (is_cp line) (copies line) none
+asks_less less more rooms pending line none = by (is_cp line) (reaches line) none
   where
     a : ℕ
     a = room_in less line
@@ -61,8 +61,8 @@ asks_less less more rooms pending line none = by (is_cp line) (copies line) none
         let past : nat_lt dirty_limit (pending + b) ≡ true = grind (arith, nat_tests, y, le) in
         absurd (true≢false (sym (λ j. some j && past j) ∙ none))
 
-    by : (cp copied : Bool) → (cp || (copied || (nat_lt 0 (room_in more line) && nat_lt dirty_limit (pending + room_in more line)))) ≡ false → (cp || (copied || (nat_lt 0 (room_in less line) && nat_lt dirty_limit (pending + room_in less line)))) ≡ false
-    by true copied none = none
+    by : (cp reached : Bool) → (cp || (reached || (nat_lt 0 (room_in more line) && nat_lt dirty_limit (pending + room_in more line)))) ≡ false → (cp || (reached || (nat_lt 0 (room_in less line) && nat_lt dirty_limit (pending + room_in less line)))) ≡ false
+    by true reached none = none
     by false true none = none
     by false false none = low none (nat_lt 0 a) (nat_lt dirty_limit (pending + a)) refl refl
 
@@ -72,12 +72,20 @@ pub behind_none : (rooms : ℕ → Command → ℕ) (lines : List Line) → pend
 unfolding pending_behind
 behind_none rooms lines = refl
 
+-- nor does it leave more pending
+added_less : (less more : Command → ℕ) → ((c : Command) → less c ≤ more c) → (line : Line) → added_by less line ≤ added_by more line
+added_less less more rooms line = by (takes line)
+  where
+    by : (steps : Bool) → (if steps then dirty_limit else room_in less line) ≤ (if steps then dirty_limit else room_in more line)
+    by true = omega arith
+    by false = less_in less more rooms line
+
 left_more : (less more : Command → ℕ) → ((c : Command) → less c ≤ more c) → (line : Line) (least most : ℕ) → least ≤ most → left_by less least line ≤ left_by more most line
 left_more less more rooms line least most le = by (is_cp line)
   where
-    by : (cp : Bool) → (if cp then 0 else least + room_in less line) ≤ (if cp then 0 else most + room_in more line)
+    by : (cp : Bool) → (if cp then 0 else least + added_by less line) ≤ (if cp then 0 else most + added_by more line)
     by true = omega arith
-    by false = let room = less_in less more rooms line in omega (arith, le, room)
+    by false = let room = added_less less more rooms line in omega (arith, le, room)
 
 -- after one line more
 pub behind_more : (rooms : ℕ → Command → ℕ) (lines : List Line) (count : ℕ) (line : Line) → line_at lines count ≡ line → (less : Command → ℕ) → ((c : Command) → less c ≤ rooms count c)
@@ -91,4 +99,4 @@ behind_more rooms lines count line is less few old new before after =
 
 -- a line that is no `cp` leaves what was pending
 pub left_other : (rooms : Command → ℕ) (line : Line) (n : ℕ) → is_cp line ≡ false → n ≤ left_by rooms n line
-left_other rooms line n other = subst (λ (cp : Bool). n ≤ (if cp then 0 else n + room_in rooms line)) (sym other) (omega arith)
+left_other rooms line n other = subst (λ (cp : Bool). n ≤ (if cp then 0 else n + added_by rooms line)) (sym other) (omega arith)

@@ -25,15 +25,15 @@ use Rattle.fv_aggregate.specs.declared.fault.Fault.TheVariants as session_fault
 use Rattle.fv_aggregate.specs.Standing.{taken_since, StandsAfter, StandsFor, StandsReady}
 use Rattle.fv_aggregate.specs.Asking.{AsksWithin, IsShort}
 use Rattle.fv_aggregate.specs.Calls.{LacksBlocks, HasFilesToPlace, HasLostLeaf}
-use Rattle.fv_aggregate.specs.Commands.{asked_by, Asked, AsksPoint, room_by}
+use Rattle.fv_aggregate.specs.Commands.{Asked, AsksPoint}
 use Rattle.fv_aggregate.specs.Damages.{HasDamage}
 use Rattle.fv_aggregate.specs.Reading.{IsAsRead}
 use Rattle.fv_aggregate.specs.Calls as calls
 use Rattle.fv_aggregate.specs.Causes.{IsOpenFault, IsUnder}
 use Rattle.fv_aggregate.proofs.Clear.{none_taken}
 use Rattle.fv_run.specs.Promises.{line_at}
-use Rattle.fv_run.specs.Running.{asked_in, IsHurt, IsHurtBehind, IsLeafLost, only_asks, room_in, UndergoesLines}
-use Rattle.fv_run.specs.Answering.{IsHurtBy, LacksSpace, LosesLeaf}
+use Rattle.fv_run.specs.Running.{IsHurt, IsHurtBehind, IsHurtIn, IsLeafLost, only_asks, UndergoesLines}
+use Rattle.fv_run.specs.Answering.{IsHurtBy, IsHurtLine, LacksSpace, LosesLeaf}
 use Rattle.fv_run.proofs.Copies.{bad_copies}
 
 abbrev nothing_behind : Option (Result Root Shape)
@@ -170,7 +170,7 @@ hurt_by room asked old session new left at want found same (inr (inr bad)) = rec
 -- the call at work for the line behind `count` others
 pub hurt_behind : (lines : List Line) (count : ℕ) (line : Line) (i : Image) (first : Session) (over : Image) (session : Session) (end : Shown) → line_at lines count ≡ line
     → (IsTrue end.tells → UndergoesLines lines count i first over session) → (((j : ℕ) → j < count → only_asks (line_at lines j) ≡ true) → IsAsRead first session)
-    → IsHurtBy (room_in (room_by session.volumes) line) (asked_in (asked_by session.volumes) line) over session end → IsHurtBehind lines count i first end
+    → IsHurtLine line over session end → IsHurtBehind lines count i first end
 hurt_behind lines count line i first over session end same course opened hurt = record {
   session = session;
   over = over;
@@ -178,7 +178,7 @@ hurt_behind lines count line i first over session end same course opened hurt = 
   opened = opened;
   left = hurt.0;
   stands = hurt.1.0;
-  hurt = inl (subst (λ (l : Line). IsHurt (room_in (room_by session.volumes) l) (asked_in (asked_by session.volumes) l) over session end hurt.0) (sym same) hurt.1.1);
+  hurt = inl (subst (λ (l : Line). IsHurtIn l over session end hurt.0) (sym same) hurt.1.1);
 }
 
 -- the point behind all of them

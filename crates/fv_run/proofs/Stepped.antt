@@ -21,15 +21,15 @@ use Rattle.fv_lines.proofs.Counting as counting
 use Rattle.fv_lines.proofs.Ends.{whole_append}
 use Rattle.fv_aggregate.specs.declared.session.Session.{Session}
 use Rattle.fv_aggregate.specs.Asking.{AsksWithin}
-use Rattle.fv_aggregate.specs.Commands.{asked_by, most_room, room_by}
+use Rattle.fv_aggregate.specs.Commands.{most_room, room_by}
 use Rattle.fv_aggregate.specs.Standing.{IsWithoutFiles}
 use Rattle.fv_run.specs.declared.ending.Fault.{Fault}
 use Rattle.fv_run.specs.declared.ending.Fault.TheVariants.{Usage, Unsound, NotAggregate, Source, Sink, Disk, Memory, Damaged, Limit}
 use Rattle.fv_run.specs.Built.{built, lines_built}
 use Rattle.fv_run.specs.Endings.{count_of, IsWholeFault}
 use Rattle.fv_run.specs.Promises.{line_at}
-use Rattle.fv_run.specs.Running.{asked_in, begun, changes_volumes, HasChanged, Holds, IsOverLimit, IsHurtBehind, IsPastLimit, IsSessionDamage, KeepsUp, MeetsDamage, most_rooms, reads_blocks, room_in, rooms_along, Survives, asks_point, pending_behind, IsQuiet}
-use Rattle.fv_run.specs.Answering.{Applies, AsksFor, BeginsFor, HasAnswered, HasRead, IsAtEnd, IsCounted, IsEndOf, IsHurtBy, Lacks, LacksSpace, LosesLeaf, IsReady, IsSessionFault, StandsAt, Stopped, TellsLine}
+use Rattle.fv_run.specs.Running.{begun, changes_volumes, HasChanged, Holds, IsOverLimit, IsHurtBehind, IsPastLimit, IsSessionDamage, KeepsUp, MeetsDamage, most_rooms, reads_blocks, rooms_along, Survives, asks_point, pending_behind, IsQuiet}
+use Rattle.fv_run.specs.Answering.{Applies, AsksFor, BeginsFor, HasAnswered, HasRead, IsAtEnd, IsCounted, IsEndOf, IsHurtLine, Lacks, LacksSpace, LosesLeaf, IsReady, IsSessionFault, StandsAt, Stopped, TellsLine}
 use Rattle.fv_run.proofs.Following.{left_next, line_behind}
 use Rattle.fv_run.proofs.KeepingUp.{keeps_up_source, keeps_up_limit, keeps_up_line, next_most, next_all, end_most, knows_on}
 use Rattle.fv_run.proofs.Lines.{no_end, one_end}
@@ -300,7 +300,7 @@ module _ (limit : ℕ) (first : Session) (old : Shown) (held : Held) (session : 
             line = subst (λ (n : ℕ). (reads_blocks (line_at script n) ≡ true) ⊎ HasChanged script n) (sym read.answered) line;
           }))
 
-      meets : end.given ≡ mid.given → IsTrue old.tells → IsHurtBy (room_in (room_by session.volumes) (built (line_of bytes))) (asked_in (asked_by session.volumes) (built (line_of bytes))) mid.reads session end → MeetsDamage script first old end
+      meets : end.given ≡ mid.given → IsTrue old.tells → IsHurtLine (built (line_of bytes)) mid.reads session end → MeetsDamage script first old end
       meets same tells hurt =
           let read = so_far.reads tells in
           record {
@@ -308,7 +308,7 @@ module _ (limit : ℕ) (first : Session) (old : Shown) (held : Held) (session : 
             given = same ∙ finds.asks.given ∙ read.given;
             call = subst (λ (n : ℕ). IsHurtBehind script n old.reads first end) (sym read.answered) (hurt_behind script count (built (line_of bytes)) old.reads first now.reads session end (line_is tells)
                 (λ told. so_far.course tells) (undergoes_read script count old.reads first now.reads session (so_far.course tells))
-                (subst (λ (over : Image). IsHurtBy (room_in (room_by session.volumes) (built (line_of bytes))) (asked_in (asked_by session.volumes) (built (line_of bytes))) over session end) finds.asks.rests.stays.reads hurt));
+                (subst (λ (over : Image). IsHurtLine (built (line_of bytes)) over session end) finds.asks.rests.stays.reads hurt));
           }
 
       ends_so : end.given ≡ mid.given → (fault : Fault) → IsSessionFault (built (line_of bytes)) mid session end fault → IsEndOf limit first old end fault

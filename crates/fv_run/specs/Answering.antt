@@ -14,14 +14,14 @@ use Rattle.fv_lines.specs.Reading.{KnowsEnd, unread}
 use Rattle.fv_container.specs.Chains.{IsLeafDamage}
 use Rattle.fv_aggregate.specs.declared.session.Session.{Session}
 use Rattle.fv_aggregate.specs.Asking.{AsksWithin, IsShort}
-use Rattle.fv_aggregate.specs.Commands.{asked_by, Asked, room_by}
+use Rattle.fv_aggregate.specs.Commands.{Asked, room_by}
 use Rattle.fv_aggregate.specs.Reading.{IsAsRead}
 use Rattle.fv_aggregate.specs.Standing.{IsWithoutFiles, OneOf, StandsAfter, StandsFor, StandsReady}
 use Rattle.fv_run.specs.declared.ending.Fault.{Fault}
 use Rattle.fv_run.specs.declared.ending.Fault.TheVariants.{Source, Sink, Disk, Memory, Damaged, Limit}
 use Rattle.fv_run.specs.Endings.{IsWholeFault, count_of, raised_by}
 use Rattle.fv_run.specs.Built.{lines_built}
-use Rattle.fv_run.specs.Running.{asked_in, asks_behind, asks_point, changes_volumes, HasChanged, Holds, IsOverLimit, IsHurt, IsPastLimit, IsRoomIn, IsSessionDamage, KeepsUp, MeetsDamage, most_rooms, only_asks, reads_blocks, room_in, rooms_along, Survives, pending_behind, IsQuiet, UndergoesLine, UndergoesLines}
+use Rattle.fv_run.specs.Running.{asks_behind, asks_point, changes_volumes, HasChanged, Holds, IsOverLimit, IsHurt, IsHurtIn, IsPastLimit, IsRoomIn, IsSessionDamage, KeepsUp, MeetsDamage, most_rooms, only_asks, reads_blocks, rooms_along, Survives, pending_behind, IsQuiet, UndergoesLine, UndergoesLines}
 
 -- ---- lines and their replies
 
@@ -61,11 +61,15 @@ LacksSpace old session new = IsTrue old.tells → IsWithoutFiles session → (ro
 abbrev pub IsHurtBy : ℕ → Asked → Image → Session → Shown → Type 0
 IsHurtBy room asked over session new = (left : Session) × (StandsReady new left × IsHurt room asked over session new left)
 
+-- so it is of what a line asked for
+abbrev pub IsHurtLine : Line → Image → Session → Shown → Type 0
+IsHurtLine line over session new = (left : Session) × (StandsReady new left × IsHurtIn line over session new left)
+
 -- a fault of a session's calls in a line, each with its reason beside the counts
 abbrev pub IsSessionFault : Line → Shown → Session → Shown → Fault → Type 0
 IsSessionFault line old session new Disk = Unit {0}
 IsSessionFault line old session new Memory = Unit {0}
-IsSessionFault line old session new Damaged = IsHurtBy (room_in (room_by session.volumes) line) (asked_in (asked_by session.volumes) line) old.reads session new × ((reads_blocks line ≡ true) ⊎ LacksSpace old session new)
+IsSessionFault line old session new Damaged = IsHurtLine line old.reads session new × ((reads_blocks line ≡ true) ⊎ LacksSpace old session new)
 IsSessionFault line old session new fault = ⊥
 
 -- a session that hasn't failed, on its disk

@@ -19,12 +19,13 @@ use Rattle.fv_aggregate.specs.Adding.{IsPointed}
 use Rattle.fv_aggregate.specs.Asking.{IsShort}
 use Rattle.fv_aggregate.specs.Calls.{IsPlain, IsUntouched, IsWithinLimit, KeepsRoot, MakesNoHoles}
 use Rattle.fv_aggregate.specs.Causes.{IsOpenFault, IsUnwritten}
-use Rattle.fv_aggregate.specs.Commands.{asked_by, Asked, AsksNothing, AsksPoint, changes_volume, copies_blocks, dirty_limit, most_room, reads_files, room_by, room_of, volume_asked, is_refusal, removes_volume}
+use Rattle.fv_aggregate.specs.Commands.{asked_by, Asked, AsksNothing, AsksPoint, changes_volume, dirty_limit, most_room, reaches_disk, reads_files, room_by, room_of, takes_steps, volume_asked, is_refusal, removes_volume}
 use Rattle.fv_aggregate.specs.Damages.{HasBadCopies, HasDamageBehind, HasDamageIn, HasDamageLater, PassesLimit}
 use Rattle.fv_aggregate.specs.Opening.{IsOpened}
 use Rattle.fv_aggregate.specs.Reading.{IsAsRead}
 use Rattle.fv_aggregate.specs.Reclaiming.{HasPointed}
 use Rattle.fv_aggregate.specs.Standing.{IsWithoutFiles, StandsFor, StandsReady}
+use Rattle.fv_aggregate.specs.Working.{HasWorkDamage}
 use Rattle.fv_run.specs.declared.ending.Fault.{Fault}
 use Rattle.fv_run.specs.declared.ending.Fault.TheVariants.{Usage, Unsound, NotAggregate, Source, Sink, Disk, Memory, Damaged, Limit}
 use Rattle.fv_run.specs.Endings.{EndsWith, IsWholeFault, raised_by}
@@ -74,20 +75,32 @@ room_in rooms (Says command) = rooms command
 room_in rooms NoCommand = 0
 room_in rooms OutOfRange = 0
 
--- whether a line copies blocks of a volume at once
-abbrev pub copies : Line → Bool
-copies (Says command) = copies_blocks command
-copies NoCommand = false
-copies OutOfRange = false
+-- whether a line reaches the disk beside what it reads and the point that makes room for it: it copies blocks of a volume at once, or takes
+-- background steps
+abbrev pub reaches : Line → Bool
+reaches (Says command) = reaches_disk command
+reaches NoCommand = false
+reaches OutOfRange = false
+
+-- whether a line takes background steps, with as many points between them as they need
+abbrev pub takes : Line → Bool
+takes (Says command) = takes_steps command
+takes NoCommand = false
+takes OutOfRange = false
 
 -- whether a line asks for a consistency point where so many blocks may be pending: a `cp` does, and so does a command with room that would pass the
--- dirty limit with them, before which a point makes room for it; one that copies blocks counts as one of these, whatever its room is
+-- dirty limit with them, before which a point makes room for it; one that copies blocks or takes background steps counts as one of these, whatever
+-- its room is
 abbrev pub asks_point : (Command → ℕ) → ℕ → Line → Bool
-asks_point rooms pending line = is_cp line || (copies line || (nat_lt 0 (room_in rooms line) && nat_lt dirty_limit (pending + room_in rooms line)))
+asks_point rooms pending line = is_cp line || (reaches line || (nat_lt 0 (room_in rooms line) && nat_lt dirty_limit (pending + room_in rooms line)))
+
+-- so many blocks a line may leave pending beside those that were: its room, or after background steps the dirty limit
+abbrev pub added_by : (Command → ℕ) → Line → ℕ
+added_by rooms line = if takes line then dirty_limit else room_in rooms line
 
 -- how many blocks may be pending once a line is answered: none after a `cp`
 abbrev pub left_by : (Command → ℕ) → ℕ → Line → ℕ
-left_by rooms pending line = if is_cp line then 0 else pending + room_in rooms line
+left_by rooms pending line = if is_cp line then 0 else pending + added_by rooms line
 
 -- the rooms of commands behind the first `count` lines, in the machine that those make of `m`
 abbrev pub rooms_along : Machine → List Line → ℕ → Command → ℕ
@@ -182,19 +195,22 @@ pub record IsPointsOn (points : ℕ) (i j : Image) : Type 0 where
   pub counts : IsFound j new
   pub generation : new.root.generation ≡ (old.root.generation + points) % 2 ^ 64
 
+-- so many points were made in all, the last one among them: one for each `cp`, and at most one for each other line
+pub record CountsPoints (lines : List Line) (old new : Shown) : Type 0 where
+  pub points : ℕ
+  pub least : cps_behind lines (length lines) < points
+  pub most : points ≤ length lines + 1
+  pub on : IsPointsOn points old.reads new.reads
+
 -- A run ended in a consistency point: of the session `last`, over the image `before`. It left the session `next`, which stands on the disk, with nothing
--- pending and no file in memory, and another root counts. So many points were made in all, that one among them: one for each `cp`, and at most
--- one for each other line.
+-- pending and no file in memory, and another root counts. The points are counted where no line takes background steps: those make as many as they need.
 pub record EndsInPoint (lines : List Line) (old new : Shown) : Type 0 where
   pub before : Image
   pub last : Session
   pub next : Session
   pub over : StandsOnImage before last
   pub quiet : ((line : ℕ) → asks_behind most_rooms lines line ≡ false) → before ≡ old.reads
-  pub points : ℕ
-  pub least : cps_behind lines (length lines) < points
-  pub most : points ≤ length lines + 1
-  pub on : IsPointsOn points old.reads new.reads
+  pub counted : ((line : ℕ) → takes (line_at lines line) ≡ false) → CountsPoints lines old new
   pub left : IsPointed new last next
   pub stands : StandsReady new next
   pub machine : (m : Machine) → machine_of old.reads ≡ Some m → IsLastFor m lines old.reads before last new next
@@ -242,15 +258,15 @@ asked_in asked NoCommand = AsksNothing
 asked_in asked OutOfRange = AsksNothing
 
 -- whether a line changes a volume that was there before it and is there after it: its files, its snapshots, its size or its kind of guarantee; one that
--- copies blocks counts as one that does
+-- copies blocks or takes background steps counts as one that does
 abbrev pub changes_volumes : Line → Bool
-changes_volumes (Says command) = changes_volume command || copies_blocks command
+changes_volumes (Says command) = changes_volume command || reaches_disk command
 changes_volumes NoCommand = false
 changes_volumes OutOfRange = false
 
--- whether a line reads blocks of the files of a volume; one that changes them does, and so does one that copies them
+-- whether a line reads blocks of a volume; one that changes its files does, and so does one that copies them, or takes background steps
 abbrev pub reads_blocks : Line → Bool
-reads_blocks (Says command) = reads_files command || copies_blocks command
+reads_blocks (Says command) = reads_files command || reaches_disk command
 reads_blocks NoCommand = false
 reads_blocks OutOfRange = false
 
@@ -287,11 +303,11 @@ only_asks OutOfRange = false
 
 -- A session over the image `i` carried out a command, and left `next` over `j`. Of a command that reads no file this is all that a
 -- session's call says of one. One on files that is refused, with room within the dirty limit, leaves all but the cache and the numbers of
--- files in memory. With such room no entry of a volume that stays becomes a hole, but at a `cp`.
+-- files in memory. With such room no entry of a volume that stays becomes a hole, but at a `cp` and by background steps, which run points.
 pub record UndergoesCommand (command : Command) (i : Image) (session : Session) (j : Image) (next : Session) (reply : Reply) : Type 0 where
   pub plain : reads_files command ≡ false → IsPlain command (still_disk i) i session (still_disk j) j next (Ok reply)
   pub refused : reads_files command ≡ true → IsWithinLimit session command → IsTrue (is_refusal reply) → IsAsRead session next
-  pub entries : command ≢ Cp → IsWithinLimit session command → removes_volume command ≡ false → MakesNoHoles session next
+  pub entries : command ≢ Cp → takes_steps command ≡ false → IsWithinLimit session command → removes_volume command ≡ false → MakesNoHoles session next
 
 -- a line that says no command leaves all as it was
 abbrev pub UndergoesSaid : Line → Image → Session → Image → Session → Reply → Type 0
@@ -305,8 +321,8 @@ pub record UndergoesLine (line : Line) (i : Image) (session : Session) (j : Imag
   pub stands : StandsOnImage j next
   pub reply : Reply
   pub said : UndergoesSaid line i session j next reply
-  -- at most one point was made
-  pub root : KeepsRoot session next
+  -- at most one point was made, but by background steps
+  pub root : takes line ≡ false → KeepsRoot session next
   -- one that only asks for files leaves all but the cache and the numbers of files in memory
   pub read : only_asks line ≡ true → IsAsRead session next
   -- one that changes no volume that stays brings no file into memory
@@ -351,12 +367,21 @@ pub record IsHurt (room : ℕ) (asked : Asked) (over : Image) (session : Session
       ⊎ ((PassesLimit session.pending room × HasDamageBehind asked end session left at want found)
       ⊎ (IsTrue end.tells → HasBadCopies room asked (still_disk over) session))
 
+-- background steps met damage, by what the disk shows at the end, and left the session so
+abbrev pub IsHurtInSteps : Shown → Session → Type 0
+IsHurtInSteps end left = (at : ℕ) × (want : ℕ) × (found : ℕ) × HasWorkDamage end left at want found
+
+-- what a line asked for met damage: its steps, where it takes some, and else its call
+abbrev pub IsHurtIn : Line → Image → Session → Shown → Session → Type 0
+IsHurtIn line over session end left =
+    IsHurt (room_in (room_by session.volumes) line) (asked_in (asked_by session.volumes) line) over session end left
+    ⊎ ((takes line ≡ true) × IsHurtInSteps end left)
+
 -- The call of a session that was at work behind the first `count` lines met damage: the one that the next line asked for, or, where there
 -- is no further line, the point at the end.
 abbrev pub IsHurtNext : List Line → ℕ → Image → Session → Shown → Session → Type 0
 IsHurtNext lines count over session end left =
-    IsHurt (room_in (room_by session.volumes) (line_at lines count)) (asked_in (asked_by session.volumes) (line_at lines count)) over session end left
-    ⊎ ((length lines ≤ count) × IsHurt 0 AsksPoint over session end left)
+    IsHurtIn (line_at lines count) over session end left ⊎ ((length lines ≤ count) × IsHurt 0 AsksPoint over session end left)
 
 -- So it was. Those lines led to that session from the one that was opened on the image `i`, each over the image of its moment. The session
 -- that the call left stands on the disk. Where each of those lines only asks for files, the session is the one that was opened, but for its

@@ -10,10 +10,10 @@ use Rattle.fv_aggregate.specs.Telling.{names_from}
 use Rattle.fv_aggregate.specs.declared.session.Session.{Session}
 use Rattle.fv_model.specs.declared.answers.Reply.TheVariants.{Names}
 use Rattle.fv_model.specs.declared.commands.Command.TheVariants.{VolCreate, VolGuarantee, VolResize, VolStat, CloneCreate, Mirror}
-use Rattle.fv_aggregate.specs.Commands.{changed_by, dirty_limit, managed_by, room_by, volume_asked}
+use Rattle.fv_aggregate.specs.Commands.{changed_by, dirty_limit, managed_by, room_by, takes_steps, volume_asked}
 use Rattle.fv_aggregate.proofs.Answered.{fails}
 use Rattle.fv_aggregate.proofs.Added.{not_refused}
-use Rattle.fv_aggregate.proofs.Applied.{cp_asks, cp_built, cp_goes, cp_goes_for, cp_no_files, cp_no_list, cp_no_names, cp_no_snap, cp_no_whole, cp_replies, list_no_point, list_after, list_done, list_fails, list_replies, no_files}
+use Rattle.fv_aggregate.proofs.Applied.{cp_asks, cp_built, cp_goes, cp_goes_for, cp_no_files, cp_no_list, cp_no_names, cp_no_snap, cp_no_steps, cp_no_whole, cp_replies, list_no_point, list_after, list_done, list_fails, list_replies, no_files}
 use Rattle.fv_aggregate.proofs.Applying.{asks_none, booked_each, no_step, not_dead, pointed_same, rests_as}
 use Rattle.fv_aggregate.specs.Deciding.{makes_volume}
 use Rattle.fv_aggregate.proofs.Decided.{undecided}
@@ -25,6 +25,7 @@ use Rattle.fv_aggregate.proofs.MadeRoom.{cp_room, list_room, none_roomy, snaps_r
 use Rattle.fv_aggregate.proofs.Ready.{stands_ready}
 use Rattle.fv_aggregate.proofs.Removed.{removed_applied}
 use Rattle.fv_aggregate.proofs.Serving.{failed_applied, own_applied, rests_answers, rests_lacks}
+use Rattle.fv_aggregate.proofs.StepsApplied.{clean_applied, work_applied}
 use Rattle.fv_aggregate.proofs.SnapListed.{snaps_after, snaps_done, snaps_fail, snaps_no_point, snaps_replies}
 use Rattle.fv_aggregate.proofs.session.Session.apply_into.Goals as goal
 
@@ -68,6 +69,32 @@ returns-in-Mirror g c =
     (mirror_applied g.D.Disk.shown g.met.D.Disk.laws c.args.disk.now s fresh (stands_ready (g.D.Disk.shown c.args.disk.now) _ _ c.self.view_is c.self.invariant.2 c.requires.stands fresh) long c.in-Mirror.volume c.in-Mirror.size c.in-Mirror.kind c.args.steps.now
     c.in-Mirror.source c.in-Mirror.snapshot c.mirror_volume.new.disk n r c.mirror_volume.ensures)
 
+pub clean_volume-requires-clause-stands : goal.clean_volume-requires-clause-stands
+clean_volume-requires-clause-stands g c =
+    let fresh : IsNone c.args.self.now.failed = subst (λ (s : Session). IsNone s.failed) c.self.view_is (subst IsNone (sym c.in_default.is) refl) in
+    stands_ready (g.D.Disk.shown c.args.disk.now) _ _ c.self.view_is c.self.invariant.2 c.requires.stands fresh
+
+pub returns-in-Clean : goal.returns-in-Clean
+returns-in-Clean g c =
+    let s = c.args.self.now in let n = c.clean_volume.new.self in let r = answer c.clean_volume.new.into c.clean_volume.result in
+    let d = g.D.Disk.shown c.args.disk.now in let e = g.D.Disk.shown c.clean_volume.new.disk in
+    let fresh : IsNone s.failed = subst (λ (k : Session). IsNone k.failed) c.self.view_is (subst IsNone (sym c.in_default.is) refl) in
+    subst (λ (k : Command). HasApplied k d c.args.disk.now s c.args.steps.now e c.clean_volume.new.disk n c.args.steps.now r) (sym c.in-Clean.is)
+    (clean_applied d c.args.disk.now s fresh e c.clean_volume.new.disk n r c.args.steps.now c.in-Clean.volume c.clean_volume.ensures)
+
+pub work_steps-requires-clause-stands : goal.work_steps-requires-clause-stands
+work_steps-requires-clause-stands g c =
+    let fresh : IsNone c.args.self.now.failed = subst (λ (s : Session). IsNone s.failed) c.self.view_is (subst IsNone (sym c.in_default.is) refl) in
+    stands_ready (g.D.Disk.shown c.args.disk.now) _ _ c.self.view_is c.self.invariant.2 c.requires.stands fresh
+
+pub returns-in-Work : goal.returns-in-Work
+returns-in-Work g c =
+    let s = c.args.self.now in let n = c.work_steps.new.self in let r = answer c.work_steps.new.into c.work_steps.result in
+    let d = g.D.Disk.shown c.args.disk.now in let e = g.D.Disk.shown c.work_steps.new.disk in
+    let fresh : IsNone s.failed = subst (λ (k : Session). IsNone k.failed) c.self.view_is (subst IsNone (sym c.in_default.is) refl) in
+    subst (λ (k : Command). HasApplied k d c.args.disk.now s c.args.steps.now e c.work_steps.new.disk n c.args.steps.now r) (sym c.in-Work.is)
+    (work_applied d c.args.disk.now s fresh e c.work_steps.new.disk n r c.args.steps.now c.in-Work.steps c.work_steps.ensures)
+
 pub returns-in-Cp : goal.returns-in-Cp
 returns-in-Cp g c =
     let d = g.D.Disk.shown c.args.disk.now in let e = g.D.Disk.shown c.reclaim.new.disk in let s = c.args.self.now in
@@ -102,6 +129,7 @@ returns-in-Cp g c =
       roomy = λ once. none_roomy (room_by s.volumes command) d s e (answer c.reclaim.new.into c.reclaim.result) (cp_room s.volumes command c.in-Cp.is);
       calm = λ other. absurd (other c.in-Cp.is);
       entries = λ other. absurd (other c.in-Cp.is);
+      stepped = λ takes. cp_no_steps _ command c.in-Cp.is takes;
       files = λ tells none once without. c.reclaim.ensures.files tells;
       same = λ tells none once stays places same. pointed_same d s n (answer c.reclaim.new.into c.reclaim.result) c.reclaim.ensures.points.left tells;
       steps = record { other = λ none. refl; known = λ tells last m stands knows. no_step (answer c.reclaim.new.into c.reclaim.result) c.args.steps.now; path = λ tells last m stands name of. asks_none _ command name (no_files command (ap volume_asked c.in-Cp.is) (ap changed_by c.in-Cp.is)) of; dead = λ failed. refl };
@@ -113,7 +141,7 @@ pub returns-in_err-names_of-in-VolList : goal.returns-in_err-names_of-in-VolList
 returns-in_err-names_of-in-VolList g c =
     let d = g.D.Disk.shown c.args.disk.now in
     let fresh : IsNone c.args.self.now.failed = subst (λ (k : Session). IsNone k.failed) c.self.view_is (subst IsNone (sym c.in_default.is) refl) in
-    rests_lacks c.args.command.now d c.args.disk.now c.args.self.now c.args.steps.now (g.met.D.Disk.laws c.args.disk.now) fresh (stands_ready (g.D.Disk.shown c.args.disk.now) _ _ c.self.view_is c.self.invariant.2 c.requires.stands fresh) (no_files c.args.command.now (ap volume_asked c.in-VolList.is) (ap changed_by c.in-VolList.is)) (list_no_point _ c.args.command.now c.in-VolList.is) (list_room c.args.self.now.volumes c.args.command.now c.in-VolList.is)
+    rests_lacks c.args.command.now d c.args.disk.now c.args.self.now c.args.steps.now (g.met.D.Disk.laws c.args.disk.now) fresh (stands_ready (g.D.Disk.shown c.args.disk.now) _ _ c.self.view_is c.self.invariant.2 c.requires.stands fresh) (no_files c.args.command.now (ap volume_asked c.in-VolList.is) (ap changed_by c.in-VolList.is)) (ap takes_steps c.in-VolList.is) (list_no_point _ c.args.command.now c.in-VolList.is) (list_room c.args.self.now.volumes c.args.command.now c.in-VolList.is)
     (list_fails c.args.command.now c.in-VolList.is d c.args.disk.now c.args.self.now) (answer c.args.into.now c.from_residual.result) (fails c.args.into.now c.from_residual.result Memory (search rules))
 
 pub returns-in-VolList : goal.returns-in-VolList
@@ -122,7 +150,7 @@ returns-in-VolList g c =
     let fresh : IsNone c.args.self.now.failed = subst (λ (k : Session). IsNone k.failed) c.self.view_is (subst IsNone (sym c.in_default.is) refl) in
     let listed = subst (λ (k : Session). c.in_ok-names_of-in-VolList.field-0 ≡ names_from k.volumes 0 64) c.self.view_is c.in_ok-names_of-in-VolList.ensures in
     subst (λ (z : Reply). HasApplied c.args.command.now d c.args.disk.now c.args.self.now c.args.steps.now d c.args.disk.now c.args.self.now c.args.steps.now (Ok z)) (sym c.list.ensures)
-    (rests_answers c.args.command.now d c.args.disk.now c.args.self.now c.args.steps.now (g.met.D.Disk.laws c.args.disk.now) (Names c.in_ok-names_of-in-VolList.field-0) fresh (stands_ready (g.D.Disk.shown c.args.disk.now) _ _ c.self.view_is c.self.invariant.2 c.requires.stands fresh) (no_files c.args.command.now (ap volume_asked c.in-VolList.is) (ap changed_by c.in-VolList.is)) (list_no_point _ c.args.command.now c.in-VolList.is) (list_room c.args.self.now.volumes c.args.command.now c.in-VolList.is)
+    (rests_answers c.args.command.now d c.args.disk.now c.args.self.now c.args.steps.now (g.met.D.Disk.laws c.args.disk.now) (Names c.in_ok-names_of-in-VolList.field-0) fresh (stands_ready (g.D.Disk.shown c.args.disk.now) _ _ c.self.view_is c.self.invariant.2 c.requires.stands fresh) (no_files c.args.command.now (ap volume_asked c.in-VolList.is) (ap changed_by c.in-VolList.is)) (ap takes_steps c.in-VolList.is) (list_no_point _ c.args.command.now c.in-VolList.is) (list_room c.args.self.now.volumes c.args.command.now c.in-VolList.is)
     (λ m. list_after c.args.command.now m c.in-VolList.is) (λ tells last m stands. list_replies c.args.command.now c.in-VolList.is d c.args.self.now last m stands c.in_ok-names_of-in-VolList.field-0 listed)
     (list_done c.args.command.now c.in-VolList.is d c.args.disk.now c.args.self.now c.in_ok-names_of-in-VolList.field-0 listed))
 
@@ -130,7 +158,7 @@ pub returns-in_err-snapshots-in-SnapList : goal.returns-in_err-snapshots-in-Snap
 returns-in_err-snapshots-in-SnapList g c =
     let d = g.D.Disk.shown c.args.disk.now in
     let fresh : IsNone c.args.self.now.failed = subst (λ (k : Session). IsNone k.failed) c.self.view_is (subst IsNone (sym c.in_default.is) refl) in
-    rests_lacks c.args.command.now d c.args.disk.now c.args.self.now c.args.steps.now (g.met.D.Disk.laws c.args.disk.now) fresh (stands_ready (g.D.Disk.shown c.args.disk.now) _ _ c.self.view_is c.self.invariant.2 c.requires.stands fresh) (no_files c.args.command.now (ap volume_asked c.in-SnapList.is) (ap changed_by c.in-SnapList.is)) (snaps_no_point c.args.command.now c.in-SnapList.volume c.in-SnapList.is _) (snaps_room c.args.self.now.volumes c.args.command.now c.in-SnapList.volume c.in-SnapList.is)
+    rests_lacks c.args.command.now d c.args.disk.now c.args.self.now c.args.steps.now (g.met.D.Disk.laws c.args.disk.now) fresh (stands_ready (g.D.Disk.shown c.args.disk.now) _ _ c.self.view_is c.self.invariant.2 c.requires.stands fresh) (no_files c.args.command.now (ap volume_asked c.in-SnapList.is) (ap changed_by c.in-SnapList.is)) (ap takes_steps c.in-SnapList.is) (snaps_no_point c.args.command.now c.in-SnapList.volume c.in-SnapList.is _) (snaps_room c.args.self.now.volumes c.args.command.now c.in-SnapList.volume c.in-SnapList.is)
     (snaps_fail c.args.command.now c.in-SnapList.volume c.in-SnapList.is d c.args.disk.now c.args.self.now) (answer c.snapshots.new.into c.from_residual-in_err-snapshots-in-SnapList.result) (fails c.snapshots.new.into c.from_residual-in_err-snapshots-in-SnapList.result Memory (search rules))
 
 pub returns-in-SnapList : goal.returns-in-SnapList
@@ -139,7 +167,7 @@ returns-in-SnapList g c =
     let fresh : IsNone c.args.self.now.failed = subst (λ (k : Session). IsNone k.failed) c.self.view_is (subst IsNone (sym c.in_default.is) refl) in
     let reply = c.snapshots.new.into in
     let long = subst (λ (k : Session). length k.volumes ≡ 64) c.self.view_is (c.self.invariant.0 (subst IsNone (sym c.in_default.is) refl)).housed.long in
-    rests_answers c.args.command.now d c.args.disk.now c.args.self.now c.args.steps.now (g.met.D.Disk.laws c.args.disk.now) reply fresh (stands_ready (g.D.Disk.shown c.args.disk.now) _ _ c.self.view_is c.self.invariant.2 c.requires.stands fresh) (no_files c.args.command.now (ap volume_asked c.in-SnapList.is) (ap changed_by c.in-SnapList.is)) (snaps_no_point c.args.command.now c.in-SnapList.volume c.in-SnapList.is _) (snaps_room c.args.self.now.volumes c.args.command.now c.in-SnapList.volume c.in-SnapList.is)
+    rests_answers c.args.command.now d c.args.disk.now c.args.self.now c.args.steps.now (g.met.D.Disk.laws c.args.disk.now) reply fresh (stands_ready (g.D.Disk.shown c.args.disk.now) _ _ c.self.view_is c.self.invariant.2 c.requires.stands fresh) (no_files c.args.command.now (ap volume_asked c.in-SnapList.is) (ap changed_by c.in-SnapList.is)) (ap takes_steps c.in-SnapList.is) (snaps_no_point c.args.command.now c.in-SnapList.volume c.in-SnapList.is _) (snaps_room c.args.self.now.volumes c.args.command.now c.in-SnapList.volume c.in-SnapList.is)
     (snaps_after c.args.command.now c.in-SnapList.volume c.in-SnapList.is) (λ tells last m stands. snaps_replies c.args.command.now c.in-SnapList.volume c.in-SnapList.is d c.args.self.now long last m stands reply c.in_ok-snapshots-in-SnapList.ensures)
     (snaps_done c.args.command.now c.in-SnapList.volume c.in-SnapList.is d c.args.disk.now c.args.self.now reply c.in_ok-snapshots-in-SnapList.ensures)
 
@@ -199,6 +227,8 @@ serve-requires-clause-served g c =
       not_create = at.not-VolCreate;
       not_clone = at.not-CloneCreate;
       not_mirror = at.not-Mirror;
+      not_clean = at.not-Clean;
+      not_work = at.not-Work;
       not_destroy = at.not-VolDestroy;
       not_resize = at.not-VolResize;
       not_guarantee = at.not-VolGuarantee;

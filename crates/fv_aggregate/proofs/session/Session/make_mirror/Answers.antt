@@ -47,6 +47,7 @@ returns-in_err-make_room-clause-made g c =
 
 pub returns-in_err-add_mirror-clause-made : goal.returns-in_err-add_mirror-clause-made
 returns-in_err-add_mirror-clause-made g c =
+    let failed : c.from_residual-in_err-add_mirror.result ≡ Err c.in_err-add_mirror.field-0.0 = search rules in
     let f = c.in_err-add_mirror.field-0.0 in
     let a = c.args.admitted in
     let s = c.args.self.now in
@@ -55,7 +56,7 @@ returns-in_err-add_mirror-clause-made g c =
     let can = mirrors_still s n made.cores (same_blocks s n c.room_of-room.result (λ past. (made.pointed past).blocks) (λ low. (c.make_room.ensures.calm low).1)) c.args.name.now c.args.size c.args.kind a
     (can_make s.volumes s.pool.found.blocks c.args.name.now c.args.size c.args.kind a c.requires.admitted) in
     said g.D.Disk.shown c.args.disk.now s c.add_mirror.new.disk c.add_mirror.new.self c.room_of-room.result (overhead a.span + a.count) a (λ m. next m (Mirror a.source.name a.source.snapshot c.args.name.now c.args.size c.args.kind))
-    (answer c.args.into.now c.from_residual-in_err-add_mirror.result) (Err f) c.room_of-room.ensures (fails c.args.into.now c.from_residual-in_err-add_mirror.result f (search rules))
+    (answer c.args.into.now c.from_residual-in_err-add_mirror.result) (Err f) c.room_of-room.ensures (fails c.args.into.now c.from_residual-in_err-add_mirror.result f failed)
     (unmirrored g.D.Disk.shown c.args.disk.now (g.met.D.Disk.laws c.args.disk.now) s c.requires.fresh c.make_room.new.disk n c.room_of-room.result a (λ m. next m (Mirror a.source.name a.source.snapshot c.args.name.now c.args.size c.args.kind))
     c.make_room.ensures.calm made.runs c.make_room.ensures.pending c.add_mirror.new.disk c.add_mirror.new.self c.add_mirror.ensures.leaves f c.in_err-add_mirror.ensures.added
     (λ point m tells last stood there. can_be_copied (g.D.Disk.shown c.make_room.new.disk) n c.args.name.now c.args.size c.args.kind a c.room_of-room.result (g.D.Disk.shown c.add_mirror.new.disk) c.add_mirror.new.self c.add_mirror.ensures.leaves point m there f c.in_err-add_mirror.ensures.added can

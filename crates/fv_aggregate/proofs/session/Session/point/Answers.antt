@@ -11,6 +11,8 @@ use Rattle.fv_aggregate.specs.Standing.{StandsFor}
 use Rattle.fv_aggregate.proofs.Commits.{commits_kept}
 use Rattle.fv_aggregate.proofs.Keeping.{keeps_core}
 use Rattle.fv_aggregate.proofs.PointEnds.{done_asks, fails_as, has_full_room, point_done, point_is, point_lacks, point_moments, point_sides, point_wanting, pointed_left, room_pointed, stands_pointed, stayed, still_as, still_asks, still_for, still_unpointed, still_wants}
+use Rattle.fv_aggregate.proofs.LeftShown.{todo_at_rest}
+use Rattle.fv_aggregate.proofs.PointLeft.{left_pointed}
 use Rattle.fv_aggregate.proofs.PointFaults.{broken_asks, broken_for, broken_goes, broken_kept, broken_numbers, broken_stays, broken_unpointed}
 use Rattle.fv_aggregate.proofs.Pointed.{entries_behind}
 use Rattle.fv_aggregate.proofs.Ready.{ready_set}
@@ -47,6 +49,24 @@ returns-in-Ok-clause-room g c = λ tells last m stands fits.
     room_pointed (g.D.Disk.shown c.args.disk.now) (g.D.Disk.shown c.full_point.new.disk) _ _ c.self.view_is c.args.want c.full_point.new.pool c.full_point.new.volumes c.full_point.new.delays
     (c.in-Ok.ensures.point tells) (c.in-Ok.ensures.goes_on.loaded tells) last m stands fits
 
+-- what is left to do is what there was
+pub returns-in-Ok-clause-left : goal.returns-in-Ok-clause-left
+returns-in-Ok-clause-left g c = λ tells last m stands bare.
+    let e = c.in-Ok.ensures in
+    let fresh = subst (λ (s : Session). IsNone s.failed) (sym c.self.view_is) c.requires.fresh in
+    let point = point_is (g.D.Disk.shown c.args.disk.now) (g.D.Disk.shown c.full_point.new.disk) _ _ c.self.view_is c.args.want c.full_point.new.pool c.full_point.new.volumes c.full_point.new.delays
+    (e.point tells) (e.goes_on.loaded tells) last m stands in
+    left_pointed (g.D.Disk.shown c.args.disk.now) (g.D.Disk.shown c.full_point.new.disk) _ _ c.self.view_is c.args.want c.full_point.new.pool c.full_point.new.volumes c.full_point.new.delays
+    point e.goes_on (c.self.invariant.0 fresh) last m stands bare
+
+-- and what the image shows
+pub returns-in-Ok-clause-shown : goal.returns-in-Ok-clause-shown
+returns-in-Ok-clause-shown g c = λ tells last m stands.
+    let e = c.in-Ok.ensures in
+    let stood = stands_pointed (g.D.Disk.shown c.args.disk.now) (g.D.Disk.shown c.full_point.new.disk) _ _ c.self.view_is c.args.want c.full_point.new.pool c.full_point.new.volumes c.full_point.new.delays
+    (e.point tells) (e.goes_on.loaded tells) last m stands e.goes_on.fit.housed.long e.goes_on.none in
+    todo_at_rest (g.D.Disk.shown c.full_point.new.disk) _ m m stood e.goes_on.fit e.goes_on.unchanged e.goes_on.free e.goes_on.unkept e.goes_on.none
+
 pub returns-in-Err-DiskFault : goal.returns-in-Err-DiskFault
 returns-in-Err-DiskFault g c =
     let d = g.D.Disk.shown c.args.disk.now in
@@ -77,6 +97,8 @@ returns-in-Err-DiskFault g c =
       };
       kept = λ tells last m stands. broken_kept d s e _ stays last m long stands;
       room = λ tells last m stands fits. tt;
+      left = λ tells last m stands bare. tt;
+      shown = λ tells last m stands. tt;
     }
 
 pub invariant_of-self-in-Err-DiskFault : goal.invariant_of-self-in-Err-DiskFault

@@ -1,0 +1,200 @@
+-- What background steps do in a session, and what they leave to be done.
+--
+-- An example: of a mirror three pointers are unknown, that of its label and two in the node to which it leads. A step fills in the two,
+-- another one that of the label, and a third one finds nothing to do. The machine is the same all along; the next consistency point writes
+-- the node and the label.
+use Rattle.std.specs.Prelude.{◌≡◌, ◌≢◌, ◌≤◌, ◌<◌, ◌+◌, ◌^◌, ◌⊎◌, ℕ, Bool, true, false, cond, Option, Some, None, Result, length, max, IfErr, IfOk, IfSome, IsNone, IsTrue, OnOk}
+use Rattle.std.specs.List.{list_any, sum_by}
+use Rattle.fv_disk.specs.Shown.{Image, Shown}
+use Rattle.fv_disk.specs.Crash.{Leaves}
+use Rattle.fv_disk.specs.DiskCalls.{OnlyReads}
+use Rattle.fv_container.specs.Chains.{container_at, slot_count}
+use Rattle.fv_image.specs.HintRules.{is_unknown}
+use Rattle.fv_model.specs.Machines.{Machine}
+use Rattle.fv_pool.specs.declared.pool.Pool.{Pool}
+use Rattle.fv_pool.specs.BlocksOver.{LoadsPool}
+use Rattle.fv_pool.specs.Calls.{Reads}
+use Rattle.fv_volume.specs.declared.state.VolumeState.{VolumeState}
+use Rattle.fv_volume.specs.States.{States, state_at, with_state}
+use Rattle.fv_cleaner.specs.Cleaning.{CleansAt, MovesAt}
+use Rattle.fv_cleaner.specs.Left.{left_in}
+use Rattle.fv_cleaner.specs.Stepping.{CanClean, roots_of}
+use Rattle.fv_cp.specs.Placing.{HaveNoFiles, KeepCores}
+use Rattle.fv_aggregate.specs.declared.fault.Fault.{Fault}
+use Rattle.fv_aggregate.specs.declared.fault.Fault.TheVariants.{DiskFault, Damaged, Memory, Failed}
+use Rattle.fv_aggregate.specs.declared.session.Session.{Session}
+use Rattle.fv_aggregate.specs.Calls.{FailsByWrite, IsNoDamage, RoseOnDisk, SameCounts}
+use Rattle.fv_aggregate.specs.Causes.{KeepsEnds}
+use Rattle.fv_aggregate.specs.Commands.{dirty_limit, Asked}
+use Rattle.fv_aggregate.specs.Damages.{HasDamageIn}
+use Rattle.fv_aggregate.specs.Known.{KeepsNumbers}
+use Rattle.fv_aggregate.specs.Standing.{OneOf, StandsAfter, StandsFor, StandsReady}
+
+-- so many blocks a background step may add
+abbrev pub step_room : ℕ
+step_room = 8
+
+-- So many steps suffice: each fills in one pointer at least, and 64 volumes of 1,048,576 VVBNs, with 128 pointers in a block and 25 in a
+-- label, have fewer.
+abbrev pub most_steps : ℕ
+most_steps = 2 ^ 34
+
+-- ---- what is left to do
+
+-- not all places of the volume of a slot are known
+abbrev pub is_unclean : Option VolumeState → Bool
+is_unclean None = false
+is_unclean (Some x) = cond x.known false true
+
+-- no root pointer of it is unknown
+abbrev pub HasKnownRoots : Option VolumeState → Type 0
+HasKnownRoots o = IfSome o (λ x. list_any is_unknown (roots_of x) ≡ false)
+
+-- What is left to do in the volume of a slot, as its blocks lie now: nothing in a free slot, and nothing in a volume of which all places
+-- are known. Files in memory count as their blocks were at the last flush, and not yet as the next one will write them.
+abbrev pub todo_at : Image → Pool → Option VolumeState → ℕ
+todo_at i pool None = 0
+todo_at i pool (Some x) = cond x.known 0 (left_in i pool x)
+
+-- that of all volumes
+abbrev pub todo_in : Image → Pool → States → ℕ
+todo_in i pool states = sum_by (todo_at i pool) states
+
+abbrev pub todo : Shown → Session → ℕ
+todo disk session = todo_in disk.reads session.pool session.volumes
+
+-- ---- faults
+
+-- The volume of a slot can't be cleaned, as the session was just before the step: a block of it lacks its shape, an unknown pointer leads
+-- nowhere or to a block of no lower kind, or no block is free. Nothing changed by the step but that leaves of containers came into memory.
+pub record CantClean (disk : Shown) (session new : Session) : Type 0 where
+  pub slot : ℕ
+  pub cant : IfSome (state_at session.volumes slot) (CanClean disk session.pool) → ⊥
+  pub loads : LoadsPool disk session.pool new.pool
+  pub same : new ≡ record session { pool = new.pool }
+
+-- A volume took so many steps, and each left something to do: more than the pointers that all volumes of an aggregate can have.
+abbrev pub IsEndless : ℕ → ℕ → Type 0
+IsEndless want found = (want ≡ most_steps) × (found ≡ most_steps + 1)
+
+-- What is damaged, by the session as it was just before the part that found it: what this part asked for lacked something, a consistency
+-- point or the placing of files; or a volume can't be cleaned; or it took more steps than there can be.
+pub record HasWorkDamage (disk : Shown) (new : Session) (at want found : ℕ) : Type 0 where
+  pub session : Session
+  pub asked : Asked
+  pub part : HasDamageIn step_room asked disk session new at want found ⊎ (CantClean disk session new ⊎ IsEndless want found)
+
+-- why background steps end with a fault, and what the disk counted
+abbrev pub HasWorkFault : Shown → Shown → Session → Fault → Type 0
+HasWorkFault before after new DiskFault = RoseOnDisk before after × FailsByWrite before after new
+HasWorkFault before after new (Damaged at want found) = HasWorkDamage after new at want found × (SameCounts before after × IsNone new.failed)
+HasWorkFault before after new Memory = SameCounts before after × IsNone new.failed
+HasWorkFault before after new (Failed faults) = ⊥
+
+-- ---- the machine
+
+-- The machine stays: each image at each moment stands for it or for that of the last point, and a session that goes on stands for it.
+pub record StaysFor (before : Shown) (last m : Machine) (after : Shown) (new : Session) : Type 0 where
+  pub any_moment : Leaves before after (λ c g. OneOf last m m c × (g ≡ before.given))
+  pub stands : IsNone new.failed → StandsAfter after new last m m
+
+-- What background steps that add so many blocks do beside, whatever the disk tells; and where the session stands for a machine.
+pub record Backs {T : Type 0} (added : ℕ) (before : Shown) (old : Session) (after : Shown) (new : Session) (result : Result T Fault) : Type 0 where
+  pub ends : KeepsEnds before after
+  pub stands : IsNone new.failed → StandsReady after new
+  pub done : OnOk result (IsNone new.failed × SameCounts before after)
+  pub fault : IfErr result (HasWorkFault before after new)
+  pub pending : new.pending ≤ old.pending + added
+  -- room is made before it, so that the dirty limit isn't passed
+  pub within : new.pending ≤ max dirty_limit old.pending
+  pub numbers : IsNone new.failed → KeepsNumbers old.volumes new.volumes
+  -- a session that stands for a machine isn't damaged
+  pub whole : IsTrue before.tells → (last m : Machine) → StandsFor before old last m → IfErr result IsNoDamage
+  pub stays : IsTrue before.tells → (last m : Machine) → StandsFor before old last m → StaysFor before last m after new
+
+-- ---- one step, with no file in memory and with room for it
+
+-- A step was taken of the volume of a slot, which adds one block at most; or there was none to take, and nothing changed but the cache.
+abbrev pub StepsOn : ℕ → Shown → Session → Shown → Session → Bool → Type 0
+StepsOn slot before old after new true =
+    CleansAt before old.pool old.volumes slot new.pool new.volumes true × (new ≡ record old { volumes = new.volumes; pool = new.pool; pending = old.pending + 1 })
+StepsOn slot before old after new false = Reads before old.pool after new.pool × (new ≡ record old { pool = new.pool })
+
+-- what is left to do after it: less; or nothing in the volume of that slot, and in the others what there was
+abbrev pub FallsAt : ℕ → Shown → Session → Shown → Session → Bool → Type 0
+FallsAt slot before old after new true = todo after new < todo before old
+FallsAt slot before old after new false = todo_at before.reads old.pool (state_at old.volumes slot) ≡ 0
+
+-- What a step of the volume of a slot does. The rule on moving holds of it: no block gets another place to which a known pointer leads.
+pub record TakesStep (slot : ℕ) (before : Shown) (old : Session) (after : Shown) (new : Session) (result : Result Bool Fault) : Type 0 where
+  pub backs : Backs 1 before old after new result
+  pub only_reads : OnlyReads before after
+  pub none : HaveNoFiles new.volumes
+  pub steps : IfOk result (StepsOn slot before old after new)
+  pub unled : OnOk result (MovesAt before old.pool old.volumes slot new.pool)
+  -- where there is none in a volume that doesn't know its places, none of its roots is unknown, whatever the disk tells
+  pub roots : is_unclean (state_at old.volumes slot) ≡ true → IfOk result (λ took. took ≡ false → HasKnownRoots (state_at new.volumes slot))
+  pub falls : IsTrue before.tells → (last m : Machine) → StandsFor before old last m → IfOk result (FallsAt slot before old after new)
+
+-- what is left to do after a step that is looked for in each slot: less, or there was nothing
+abbrev pub Falls : Shown → Session → Shown → Session → Bool → Type 0
+Falls before old after new true = todo after new < todo before old
+Falls before old after new false = (todo before old ≡ 0) × (todo after new ≡ 0)
+
+-- The step was one of the volume of this slot, the first one that has one: in those before it nothing is left to do. The other volumes and
+-- their containers stay.
+pub record TakesFirst (before : Shown) (old new : Session) : Type 0 where
+  pub slot : ℕ
+  pub volume : VolumeState
+  pub volumes : new.volumes ≡ with_state old.volumes slot (Some volume)
+  pub containers : (s : ℕ) → s ≢ volume.slot → container_at new.pool.containers s ≡ container_at old.pool.containers s
+  pub idle : (k : ℕ) → k < slot → todo_at before.reads old.pool (state_at old.volumes k) ≡ 0
+
+-- which one was taken, if one was
+abbrev pub TakesFirstIf : Shown → Session → Session → Bool → Type 0
+TakesFirstIf before old new true = TakesFirst before old new
+TakesFirstIf before old new false = Unit {0}
+
+-- What a step does that is looked for slot by slot.
+pub record SeeksStep (before : Shown) (old : Session) (after : Shown) (new : Session) (result : Result Bool Fault) : Type 0 where
+  pub backs : Backs 1 before old after new result
+  pub only_reads : OnlyReads before after
+  pub none : HaveNoFiles new.volumes
+  pub falls : IsTrue before.tells → (last m : Machine) → StandsFor before old last m → IfOk result (Falls before old after new)
+  pub first : IsTrue before.tells → (last m : Machine) → StandsFor before old last m → IfOk result (TakesFirstIf before old new)
+
+-- ---- steps of a session
+
+-- The files in memory were placed.
+pub record PlacesAll {D : Type 0} (shown : D → Shown) (before : D) (old : Session) (after : D) (new : Session) (result : Result Unit Fault) : Type 0 where
+  pub backs : Backs 0 (shown before) old (shown after) new result
+  pub long : length new.volumes ≡ slot_count
+  pub none : OnOk result (HaveNoFiles new.volumes)
+  pub cores : KeepCores old.volumes new.volumes
+  pub idle : HaveNoFiles old.volumes → OnOk result ((after ≡ before) × (new ≡ old))
+
+-- what is left to do after one: nothing, where none was there to take
+abbrev pub NoneLeft : Shown → Session → Bool → Type 0
+NoneLeft after new true = Unit {0}
+NoneLeft after new false = todo after new ≡ 0
+
+-- One step, before which a consistency point makes room where that is lacking, and files in memory are placed. Where there are none what
+-- is left falls by it.
+pub record WorksOnce (before : Shown) (old : Session) (after : Shown) (new : Session) (result : Result Bool Fault) : Type 0 where
+  pub backs : Backs 1 before old after new result
+  pub none : OnOk result (HaveNoFiles new.volumes)
+  pub least : IsTrue before.tells → (last m : Machine) → StandsFor before old last m → IfOk result (NoneLeft after new)
+  pub falls : IsTrue before.tells → (last m : Machine) → StandsFor before old last m → HaveNoFiles old.volumes
+      → IfOk result (Falls before old after new)
+
+-- So many steps were asked for, and so many taken. Where those are fewer nothing is left to do. What was left fell by one for each step at
+-- least, where no file was in memory.
+pub record HasWorked (asked : ℕ) (before : Shown) (old : Session) (after : Shown) (new : Session) (taken : ℕ) : Type 0 where
+  pub most : taken ≤ asked
+  pub fewer : IsTrue before.tells → (last m : Machine) → StandsFor before old last m → taken < asked → todo after new ≡ 0
+  pub falls : IsTrue before.tells → (last m : Machine) → StandsFor before old last m → HaveNoFiles old.volumes
+      → todo after new + taken ≤ todo before old
+
+pub record Works (asked : ℕ) (before : Shown) (old : Session) (after : Shown) (new : Session) (result : Result ℕ Fault) : Type 0 where
+  pub backs : Backs asked before old after new result
+  pub worked : IfOk result (HasWorked asked before old after new)
