@@ -21,9 +21,9 @@ import subprocess
 import tempfile
 
 from check import program_of, read_words, tell_end
-from mirrors import COUNTS, RUNS, make, mirror_line, source_lines
+from mirrors import BLOCKS, COUNTS, RUNS, mirror_line, source_lines
 from names import replies
-from opening import calls_beyond
+from opening import calls_beyond, make
 
 FAN = 128  # pointers of a node
 IDLE = 100000  # lines `work 1` with nothing to do
@@ -65,7 +65,7 @@ def measure_steps(program, folder, counts):
     passed, each = [], []
     for count in counts:
         path = os.path.join(folder, "aggregate")
-        make(program, path, [*source_lines(count), mirror_line(count)])
+        make(program, path, [*source_lines(count), mirror_line(count)], BLOCKS)
         took = seconds(program, path, ["clean w"], folder) - seconds(program, path, [], folder)
         idle = calls_beyond(program, path, [], 0, folder)
         done = calls_beyond(program, path, ["clean w"], 0, folder)
@@ -83,7 +83,7 @@ def measure_steps(program, folder, counts):
 def measure_idle(program, folder):
     """Prints what a `work 1` with nothing to do takes, and answers whether the bar is passed."""
     path = os.path.join(folder, "aggregate")
-    make(program, path, [*source_lines(COUNTS[0]), mirror_line(COUNTS[0])])
+    make(program, path, [*source_lines(COUNTS[0]), mirror_line(COUNTS[0])], BLOCKS)
     passed = []
     for name, line in (("a mirror has no step left", "work 1000000"), ("all places are known", "clean w")):
         assert replies(program, path, [line]) == ["ok"]

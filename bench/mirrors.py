@@ -21,7 +21,7 @@ import time
 
 from check import program_of, read_words, tell_end
 from names import CONTENT, replies
-from opening import calls_beyond
+from opening import calls_beyond, make
 
 BLOCKS = 262144
 COUNTS = (1000, 10000, 100000)
@@ -29,14 +29,6 @@ RUNS = 3
 SAME = 1.25  # a block of a large mirror may cost so many times as much as one of a small one
 MORE_MEMORY = 6000  # KiB, of the largest mirror beside the least: entries of its container, and bits of its maps
 FEW = 40  # blocks: what a run reads and writes beside copies, overhead and leaves of containers
-
-
-def make(program, path, lines):
-    """Makes an aggregate with this volume."""
-    if os.path.exists(path):
-        os.remove(path)
-    subprocess.run([program, path, "create", str(BLOCKS)], check=True, stdout=subprocess.DEVNULL)
-    assert set(replies(program, path, lines)) <= {"ok"}
 
 
 def source_lines(count):
@@ -107,7 +99,7 @@ def measure_making(program, folder, counts):
     passed, each, memory = [], [], []
     for count in counts:
         path = os.path.join(folder, "aggregate")
-        make(program, path, source_lines(count))
+        make(program, path, source_lines(count), BLOCKS)
         seconds = min(run_seconds(program, path, mirror_line(count), folder) for _ in range(RUNS))
         memory.append(max(run_memory(program, path, mirror_line(count), folder) for _ in range(RUNS)))
         idle = calls_beyond(program, path, [], 0, folder)

@@ -60,11 +60,11 @@ def file_lines(volume, name, count, each=None):
     return lines
 
 
-def make(program, path, lines):
-    """Makes an aggregate of the largest size."""
+def make(program, path, lines, blocks=LARGEST):
+    """Makes an aggregate of so many blocks, of the largest size if none are told."""
     if os.path.exists(path):
         os.remove(path)
-    subprocess.run([program, path, "create", str(LARGEST)], check=True, stdout=subprocess.DEVNULL)
+    subprocess.run([program, path, "create", str(blocks)], check=True, stdout=subprocess.DEVNULL)
     assert set(replies(program, path, lines)) <= {"ok"}
 
 
