@@ -104,3 +104,4 @@ mod CleanedKnown
 mod CleanedMost
 mod CleanedLoop
 mod CleanedVolume
+mod LeftByCalls

@@ -36,11 +36,12 @@ use Rattle.fv_aggregate.specs.Standing.{StandsReady}
 use Rattle.fv_aggregate.proofs.Added.{done_allowed, not_refused, refused_for}
 use Rattle.fv_aggregate.proofs.Applied.{own_room}
 use Rattle.fv_aggregate.proofs.Applying.{no_step, not_dead}
-use Rattle.fv_aggregate.proofs.Calls.{rests_done}
+use Rattle.fv_aggregate.proofs.Calls.{reads_itself, rests_done}
 use Rattle.fv_aggregate.proofs.Damages.{damage_room}
 use Rattle.fv_aggregate.proofs.Decided.{done_decided}
 use Rattle.fv_aggregate.proofs.Holes.{kept_entries, no_holes}
 use Rattle.fv_aggregate.proofs.Keeping.{keeps_but}
+use Rattle.fv_aggregate.proofs.LeftByCalls.{left_refused, left_same}
 use Rattle.fv_aggregate.proofs.Mirrored.{mirror_accepted, mirror_done, mirror_refused}
 use Rattle.fv_aggregate.proofs.Missing.{refused_allows}
 use Rattle.fv_aggregate.proofs.Rooms.{copies_there, slot_there, wide_there}
@@ -160,6 +161,7 @@ module _ {D : Type 0} (shown : D → Shown) (laws : (x : D) → IsDisk (shown x)
       files = λ tells none once. absurd (true≢false once);
       same = λ tells none once. absurd (true≢false once);
       stepped = λ takes. absurd (true≢false (sym takes));
+      left = λ tells last m is bare why. left_same (shown before) s (shown before) s (reads_itself (shown before)) refl bare;
       steps = record { other = λ none. refl; known = λ tells last m is knows. no_step (Ok (Refused r)) steps; path = λ tells last m is other of. none_some _ other of; dead = λ failed. refl };
       numbers = λ alive. keeps_but _ s.volumes s.volumes (λ k known. known);
       dead = λ failed. refl;
@@ -266,6 +268,7 @@ module _ {D : Type 0} (shown : D → Shown) (laws : (x : D) → IsDisk (shown x)
       files = λ tells none once. absurd (true≢false once);
       same = λ tells none once. absurd (true≢false once);
       stepped = λ takes. absurd (true≢false (sym takes));
+      left = λ tells last m is bare. left_refused c (shown before) s (shown after) n refl result (not_refused _ result done);
       steps = record { other = λ none. refl; known = λ tells last m is knows. no_step result steps; path = λ tells last m is other of. none_some _ other of; dead = λ failed. refl };
       numbers = λ alive. keeps_but _ s.volumes n.volumes (made.numbers alive);
       dead = λ failed. not_dead _ s fresh failed;

@@ -212,12 +212,14 @@ unplaced_work shown first second third s n o f room placed = unworked (shown fir
 pub record HasGone (d : Shown) (s : Session) (count : ℕ) (e : Shown) (n : Session) : Type 0 where
   pub backs : Backs {T = Unit {0}} count d s e n (Ok tt)
   pub falls : IsTrue d.tells → (last m : Machine) → StandsFor d s last m → HaveNoFiles s.volumes → HaveNoFiles n.volumes × (todo e n + count ≤ todo d s)
+  pub none : HaveNoFiles s.volumes → HaveNoFiles n.volumes
 
 pub gone_none : (d : Shown) → IsDisk d → (s : Session) → IsNone s.failed → StandsReady d s → HasGone d s 0 d s
 gone_none d laws s fresh ready = record {
   backs = backs_ok d d laws s s 0 (reads_itself d) fresh ready (omega arith) (omega arith) (keeps_same s.volumes s.volumes refl)
       (λ tells last m is. is) tt refl;
   falls = λ tells last m is none. (none, omega arith);
+  none = λ none. none;
 }
 
 module _ (d : Shown) (s : Session) (count : ℕ) (e : Shown) (n : Session) (was : HasGone d s count e n) (g : Shown) (p : Session) where
@@ -229,6 +231,7 @@ module _ (d : Shown) (s : Session) (count : ℕ) (e : Shown) (n : Session) (was 
         let at : StandsAfter e n last m m = (was.backs.stays tells last m is).stands was.backs.done.0 in
         let less = once.falls (subst IsTrue (sym was.backs.ends.tells) tells) at.point m at.stands so_far.0 in
         (once.none, (let all = so_far.1 in omega (arith, less, all)));
+    none = λ none. once.none;
   }
     where
       backs_as : Backs {T = Bool} (count + 1) d s g p (Ok true) → Backs {T = Unit {0}} (count + 1) d s g p (Ok tt)
@@ -246,6 +249,7 @@ module _ (d : Shown) (s : Session) (count : ℕ) (e : Shown) (n : Session) (was 
           let at : StandsAfter e n last m m = (was.backs.stays tells last m is).stands was.backs.done.0 in
           let left = once.falls (subst IsTrue (sym was.backs.ends.tells) tells) at.point m at.stands so_far.0 in
           let all = so_far.1 in let before = left.0 in let after = left.1 in omega (arith, all, before, after);
+      none = λ none. once.none;
     };
   }
     where
@@ -265,5 +269,6 @@ gone_all d s asked e n was = record {
     most = omega arith;
     fewer = λ tells last m is less. absurd (omega (arith, less));
     falls = λ tells last m is none. (was.falls tells last m is none).1;
+    none = was.none;
   };
 }

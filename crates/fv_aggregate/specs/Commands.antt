@@ -7,7 +7,7 @@ use Rattle.fv_model.specs.declared.answers.Refusal.TheVariants.{Syntax}
 use Rattle.fv_model.specs.declared.answers.Reply.{Reply}
 use Rattle.fv_model.specs.declared.answers.Reply.TheVariants.{Refused}
 use Rattle.fv_model.specs.declared.commands.Command.{Command}
-use Rattle.fv_model.specs.declared.commands.Command.TheVariants.{VolCreate, VolDestroy, VolResize, VolGuarantee, VolStat, New, Put, Get, Len, Cut, Remove, Ls, SnapCreate, SnapDelete, SnapRestore, CloneCreate, SplitStart, SplitFinish, Mirror, Clean, Probe, Work, Cp}
+use Rattle.fv_model.specs.declared.commands.Command.TheVariants.{VolCreate, VolDestroy, VolResize, VolGuarantee, VolList, VolStat, New, Put, Get, Len, Cut, Remove, Ls, SnapCreate, SnapDelete, SnapRestore, SnapList, CloneCreate, SplitStart, SplitFinish, Mirror, Clean, Probe, Work, Cp}
 use Rattle.fv_model.specs.Machines.{Machine}
 use Rattle.fv_model.specs.Numbers.{greatest_span, is_index, is_reserve, is_size}
 use Rattle.fv_model.specs.Places.{ids_of}
@@ -134,6 +134,18 @@ reaches_disk (Mirror source snapshot mirror size kind) = true
 reaches_disk (Clean volume) = true
 reaches_disk (Work steps) = true
 reaches_disk command = false
+
+-- whether a command that is done leaves to background steps what there was to do, where no file is in memory: it only asks, or is a `cp`
+abbrev pub keeps_todo : Command → Bool
+keeps_todo VolList = true
+keeps_todo (VolStat volume) = true
+keeps_todo (Get volume snapshot file index) = true
+keeps_todo (Len volume snapshot file) = true
+keeps_todo (Ls volume snapshot) = true
+keeps_todo (SnapList volume) = true
+keeps_todo (Probe volume file index) = true
+keeps_todo Cp = true
+keeps_todo command = false
 
 -- the snapshot of it that is asked
 abbrev pub snapshot_asked : Command → Option (List ℕ)

@@ -63,6 +63,11 @@ todo_in i pool states = sum_by (todo_at i pool) states
 abbrev pub todo : Shown → Session → ℕ
 todo disk session = todo_in disk.reads session.pool session.volumes
 
+-- What is left to do stays, and no file is in memory.
+pub record LeavesTodo (before : Shown) (old : Session) (after : Shown) (new : Session) : Type 0 where
+  pub same : todo after new ≡ todo before old
+  pub none : HaveNoFiles new.volumes
+
 -- ---- faults
 
 -- The volume of a slot can't be cleaned, as the session was just before the step: a block of it lacks its shape, an unknown pointer leads
@@ -194,6 +199,8 @@ pub record HasWorked (asked : ℕ) (before : Shown) (old : Session) (after : Sho
   pub fewer : IsTrue before.tells → (last m : Machine) → StandsFor before old last m → taken < asked → todo after new ≡ 0
   pub falls : IsTrue before.tells → (last m : Machine) → StandsFor before old last m → HaveNoFiles old.volumes
       → todo after new + taken ≤ todo before old
+  -- no file comes into memory
+  pub none : HaveNoFiles old.volumes → HaveNoFiles new.volumes
 
 pub record Works (asked : ℕ) (before : Shown) (old : Session) (after : Shown) (new : Session) (result : Result ℕ Fault) : Type 0 where
   pub backs : Backs asked before old after new result

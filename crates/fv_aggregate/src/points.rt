@@ -74,6 +74,9 @@ impl Session {
         ensures points { Points 0 (D.shown disk.old) self.old (D.shown disk.new) self.new (answer into.new result) }
         ensures reply { IfOk (answer into.new result) (λ reply. reply ≡ Done) }
         ensures files { IsTrue (D.shown disk.old).tells → OnOk (answer into.new result) (IsWithoutFiles self.new) }
+        ensures left { IsTrue (D.shown disk.old).tells → (last m : Machine) → StandsFor (D.shown disk.old) self.old last m
+            → HaveNoFiles self.old.volumes
+            → OnOk (answer into.new result) (todo (D.shown disk.new) self.new ≡ todo (D.shown disk.old) self.old) }
     {
         self.point(disk, 0)?;
         done(into);

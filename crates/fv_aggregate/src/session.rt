@@ -121,6 +121,7 @@ impl Session {
     /// volume knows all its places then; one that knows them already is left as it is. `work` takes so many steps as it asks for, or all that are
     /// left, each of the first volume, by its slot, that has one; the machine stays. Both are answered `ok`. For example, of a mirror three pointers
     /// are unknown: that of its label, and two in the node to which it leads. Then `work 1` fills in the two, and a `clean` of the mirror the third.
+    /// Where no file is in memory a `cp`, a command that only asks, and one that is refused leave to such steps what there was to do.
     ///
     /// `steps` counts the unknown pointers that a `get` passes; there are none where the volume has no unknown place. A `probe` answers how many
     /// lie on the path to its cell, and counts none.

@@ -15,6 +15,7 @@ mod Following
 mod Generated
 mod KeepingUp
 mod LastPoint
+mod LeftAlong
 mod Limits
 mod Lines
 mod Opening

@@ -21,6 +21,7 @@ use Rattle.fv_run.specs.declared.ending.Fault.{Fault}
 use Rattle.fv_run.specs.declared.ending.Fault.TheVariants.{Source, Sink, Disk, Memory, Damaged, Limit}
 use Rattle.fv_run.specs.Endings.{IsWholeFault, count_of, raised_by}
 use Rattle.fv_run.specs.Built.{lines_built}
+use Rattle.fv_run.specs.Left.{LessAlong, LessByLine}
 use Rattle.fv_run.specs.Running.{asks_behind, asks_point, changes_volumes, HasChanged, Holds, IsOverLimit, IsHurt, IsHurtIn, IsPastLimit, IsRoomIn, IsSessionDamage, KeepsUp, MeetsDamage, most_rooms, only_asks, reads_blocks, rooms_along, Survives, pending_behind, IsQuiet, UndergoesLine, UndergoesLines}
 
 -- ---- lines and their replies
@@ -111,6 +112,8 @@ pub record Applies (session : Session) (line : Line) (old : Shown) (new_session 
   pub left : new.ends.left ≡ old.ends.left
   pub counts : Counts old new (raised_by result)
   pub writes : OnOk result (new.write_faults ≡ old.write_faults)
+  -- what is left to do
+  pub less : LessByLine session line old new_session new result
   pub calm : (pending : ℕ) → session.pending ≤ pending → asks_point (room_by session.volumes) pending line ≡ false → new.reads ≡ old.reads
 
 -- ---- all lines
@@ -175,6 +178,7 @@ pub record StandsAt (limit : ℕ) (first : Session) (old : Shown) (held : Held) 
   pub counted : IsTrue old.tells → first.pending ≡ 0 → IsCounted most_rooms (lines_built old.ends.left) old session now count
   -- until a line has changed a volume that stays
   pub asks : IsTrue old.tells → AsksWithin old first 0 → IsWithoutFiles first → AsksFor (lines_built old.ends.left) now session ⊎ HasChanged (lines_built old.ends.left) count
+  pub less : IsTrue old.tells → (m : Machine) → BeginsFor old first m → LessAlong m (lines_built old.ends.left) old.reads first now.reads session count
   pub answers : IsTrue old.tells → (m : Machine) → BeginsFor old first m → HasAnswered m (lines_built old.ends.left) (lines_built (unread held now)) old session now count
 
 -- All lines are answered, and so many there are.

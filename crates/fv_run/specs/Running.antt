@@ -30,6 +30,7 @@ use Rattle.fv_run.specs.declared.ending.Fault.{Fault}
 use Rattle.fv_run.specs.declared.ending.Fault.TheVariants.{Usage, Unsound, NotAggregate, Source, Sink, Disk, Memory, Damaged, Limit}
 use Rattle.fv_run.specs.Endings.{EndsWith, IsWholeFault, raised_by}
 use Rattle.fv_run.specs.Built.{lines_built}
+use Rattle.fv_run.specs.Left.{AllKeepTodo, FallsByWorks}
 use Rattle.fv_run.specs.Promises.{AreGuaranteed, AreIsolated, line_at}
 
 -- ---- replies
@@ -214,6 +215,8 @@ pub record EndsInPoint (lines : List Line) (old new : Shown) : Type 0 where
   pub left : IsPointed new last next
   pub stands : StandsReady new next
   pub machine : (m : Machine) → machine_of old.reads ≡ Some m → IsLastFor m lines old.reads before last new next
+  -- where each line only asks, is a `cp` or a `work`, or is refused, what is left to do fell by the steps of the `work` lines, or is none
+  pub lowered : (m : Machine) → machine_of old.reads ≡ Some m → AllKeepTodo m lines → FallsByWorks lines old.reads new.reads
 
 -- ---- what is read
 
