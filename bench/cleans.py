@@ -27,10 +27,9 @@ from opening import calls_beyond, make
 
 FAN = 128  # pointers of a node
 IDLE = 100000  # lines `work 1` with nothing to do
-# A step in a mirror of 100,000 blocks may cost so many times as much as one in a mirror of 10,000, where a search passes some 40 nodes.
-# In one of 1,000 blocks it passes 4.
+# A step in a larger mirror may cost so many times as much as one in a mirror of 1,000 blocks: a search begins at another node in each step,
+# so it passes few that are clean, however many there are. This holds for the blocks that it reads and for its time.
 SAME = 1.5
-MOST_READS = 4  # blocks that a step may read: its node, and three of the way to it
 MOST_IDLE = 5  # microseconds of a `work 1` with nothing to do
 
 
@@ -62,7 +61,7 @@ def seconds(program, path, lines, folder):
 
 def measure_steps(program, folder, counts):
     """Prints what a step costs, and answers which bars are passed."""
-    passed, each = [], []
+    passed, each, reads = [], [], []
     for count in counts:
         path = os.path.join(folder, "aggregate")
         make(program, path, [*source_lines(count), mirror_line(count)], BLOCKS)
@@ -73,10 +72,10 @@ def measure_steps(program, folder, counts):
         each.append(1000000 * took / steps(count))
         row = f"{steps(count):,} | {read / steps(count):.2f} | {node / steps(count):.2f} | {written / steps(count):.2f} | {each[-1]:.0f}"
         print(f"| {count:,} | {row} |", flush=True)
-        if read > MOST_READS * steps(count):
-            passed.append(f"a step in a mirror of {count:,} blocks reads {read / steps(count):.1f}, over {MOST_READS}")
-    if each[-1] > SAME * each[1]:
-        passed.append(f"a step takes {each[-1]:.0f} microseconds, over {SAME * each[1]:.0f}")
+        reads.append(read / steps(count))
+        for found, most, what in ((reads[-1], SAME * reads[0], "blocks read"), (each[-1], SAME * each[0], "microseconds")):
+            if found > most:
+                passed.append(f"a step in a mirror of {count:,} blocks: {what} {found:.2f}, over {most:.2f}")
     return passed
 
 

@@ -13,14 +13,14 @@ use Rattle.fv_model.specs.declared.commands.Command.TheVariants.{VolCreate, VolD
 use Rattle.fv_model.specs.Machines.{Machine}
 use Rattle.fv_model.specs.Effects.{change_of}
 use Rattle.fv_model.specs.Refusals.{conditions, next}
-use Rattle.fv_model.specs.Replies.{Allows, answer}
+use Rattle.fv_model.specs.Replies.{answer}
 use Rattle.fv_model.specs.Space.{overhead}
 use Rattle.fv_container.proofs.Changing.{maps_same}
 use Rattle.fv_aggregate.specs.declared.fault.Fault.{Fault}
 use Rattle.fv_aggregate.specs.declared.fault.Fault.TheVariants.{Memory}
 use Rattle.fv_aggregate.specs.declared.session.Session.{Session}
 use Rattle.fv_aggregate.specs.Calls.{Goes, GoesFor, IsForWant, IsNoDamage, IsPlain, IsUnpointed, KeepsAsking}
-use Rattle.fv_aggregate.specs.Commands.{asked_by, AsksNothing, AsksPoint, Replies, RepliesBy, volume_asked, changed_by, is_built, machine_after, managed_by, reads_files, room_by, room_with, snapped_by, takes_steps}
+use Rattle.fv_aggregate.specs.Commands.{asked_by, AsksPoint, Replies, RepliesBy, volume_asked, changed_by, is_built, machine_after, managed_by, reads_files, room_by, room_with, snapped_by, takes_steps}
 use Rattle.fv_aggregate.specs.Cleaning.{GoesAs}
 use Rattle.fv_aggregate.specs.Deciding.{makes_volume}
 use Rattle.fv_aggregate.specs.Standing.{StandsAfter, StandsFor}

@@ -1,29 +1,25 @@
 -- A session of which one volume is called known, once no root of it is unknown: its parts fit together still, and it stands for the machine in which the
 -- volume is known.
-use Rattle.std.proofs.Common.{◌≡◌, ◌≢◌, ◌≤◌, ◌<◌, ◌+◌, ℕ, Bool, true, false, cond, true≢false, List, [], ◌∷◌, length, Option, Some, None, ⊎_elim, refl, sym, ap, subst, ◌∙◌, arith, length-set}
+use Rattle.std.proofs.Common.{◌≡◌, ◌≢◌, ℕ, Bool, true, false, cond, true≢false, List, [], ◌∷◌, length, Option, Some, None, refl, sym, ap, subst, ◌∙◌, arith}
 use Rattle.std.specs.Prelude.{IfSome}
 use Rattle.std.specs.List.{list_any}
 use Rattle.std.specs.Option.{is_none, is_some, option_and_then, option_map, option_map_or}
 use Rattle.std.specs.Ordering.{eq_by_cmp}
 use Rattle.std.specs.FinMap as fin
-use Rattle.std.proofs.lemmas.Bool.{cases_eq}
 use Rattle.std.proofs.lemmas.Option.{same_Some}
 use Rattle.fv_disk.specs.Shown.{Shown}
 use Rattle.fv_model.specs.declared.answers.Refusal.{Refusal}
 use Rattle.fv_model.specs.declared.answers.Refusal.TheVariants.{NoVolume, VolumeInUse}
 use Rattle.fv_model.specs.declared.commands.Command.TheVariants.{Clean}
 use Rattle.fv_model.specs.Effects.{Becomes, Stays, change_of, changed, effect}
-use Rattle.fv_model.specs.Machines.{Machine, capacity}
-use Rattle.fv_model.specs.Refusals.{conditions, first_of, is_missing, is_splitting, next, of_volume, refusal}
+use Rattle.fv_model.specs.Machines.{Machine}
+use Rattle.fv_model.specs.Refusals.{conditions, first_of, is_splitting, next, refusal}
 use Rattle.fv_model.specs.Spelling.{name_cmp}
 use Rattle.fv_model.specs.Volumes.{Volume, Base as ModelBase}
 use Rattle.fv_laws.proofs.Changes.{same_name}
 use Rattle.fv_laws.proofs.Orders.{name_total, name_ties}
 use Rattle.fv_image.specs.HintRules.{is_unknown}
-use Rattle.fv_image.specs.Views.{Footing}
-use Rattle.fv_charge.specs.Ledgers.{committed}
-use Rattle.fv_container.specs.Chains.{Slots, container_at}
-use Rattle.fv_store.specs.Held.{StandsOn}
+use Rattle.fv_container.specs.Chains.{Slots}
 use Rattle.fv_pool.specs.declared.pool.Pool.{Pool}
 use Rattle.fv_volume.specs.declared.state.Base.{Base}
 use Rattle.fv_volume.specs.declared.state.VolumeState.{VolumeState}
@@ -33,11 +29,11 @@ use Rattle.fv_volume.specs.OneVolume.{base_as, content_for, volume_for, IsReady}
 use Rattle.fv_volume.specs.Slots.{sum_of}
 use Rattle.fv_volume.specs.States.{States, footing_in, state_at, with_state}
 use Rattle.fv_volume.proofs.TablesOf.{is_whole}
-use Rattle.fv_volumes.specs.Footing.{ends_in, footing_at, AreFooted, IsFooted, IsOnBase}
+use Rattle.fv_volumes.specs.Footing.{ends_in, AreFooted, IsFooted, IsOnBase}
 use Rattle.fv_volumes.proofs.StandingMaps.{maps_still}
 use Rattle.fv_cleaner.specs.Cleaning.{known_now}
 use Rattle.fv_cleaner.specs.Stepping.{roots_of}
-use Rattle.fv_cleaner.proofs.Finished.{finished_held, finished_volume, labelled_known}
+use Rattle.fv_cleaner.proofs.Finished.{finished_held, labelled_known}
 use Rattle.fv_cleaner.proofs.NoneLeft.{base_known}
 use Rattle.fv_cp.specs.Held.{machine_held, IsHeld}
 use Rattle.fv_cp.specs.Lent.{waiting_by, FitTogether}
@@ -50,7 +46,7 @@ use Rattle.fv_aggregate.proofs.Calls.{reads_itself}
 use Rattle.fv_aggregate.proofs.Commits.{commits_same}
 use Rattle.fv_aggregate.proofs.HeldMachine.{is_there}
 use Rattle.fv_aggregate.proofs.Looked.{reads_alone}
-use Rattle.fv_aggregate.proofs.Replaced.{other as elsewhere, each_slot, here, housed_as, lent_as, named_as, same_slot, same_sum, spaced_as}
+use Rattle.fv_aggregate.proofs.Replaced.{other as elsewhere, each_slot, housed_as, lent_as, named_as, same_slot, same_sum, spaced_as}
 
 -- ---- whatever the disk tells
 

@@ -1,13 +1,14 @@
 -- The steps of `clean` one after another, until none is left, and the command.
-use Rattle.std.proofs.Common.{◌≡◌, ◌≤◌, ◌<◌, ◌+◌, ◌^◌, ◌⊎◌, ℕ, Bool, true, false, cond, true≢false, List, length, Option, Some, None, Result, Ok, Err, inl, inr, ⊎_elim, refl, sym, ap, subst, ◌∙◌, arith}
-use Rattle.std.specs.Prelude.{IfErr, IfOk, IfSome, IsNone, IsTrue, OnErr, OnOk}
+use Rattle.std.proofs.Common.{◌≡◌, ◌≤◌, ◌<◌, ◌+◌, ℕ, Bool, true, false, List, Option, Some, Result, Ok, Err, inl, inr, ⊎_elim, refl, sym, ap, subst, ◌∙◌, arith}
+use Rattle.std.specs.Prelude.{IsNone, IsTrue}
 use Rattle.std.proofs.lemmas.Bool.{cases_eq}
 use Rattle.fv_disk.specs.Shown.{Image, IsDisk, Shown}
+use Rattle.fv_disk.specs.DiskCalls.{OnlyReads}
 use Rattle.fv_disk.proofs.Moments.{weaken}
+use Rattle.fv_disk.proofs.Resting.{reads_then}
 use Rattle.fv_model.specs.declared.commands.Command.TheVariants.{Clean}
 use Rattle.fv_model.specs.Machines.{Machine}
 use Rattle.fv_model.specs.Refusals.{next}
-use Rattle.fv_image.specs.WholeMachine.{machine_of}
 use Rattle.fv_laws.proofs.Changes.{same_name}
 use Rattle.fv_volume.specs.declared.state.VolumeState.{VolumeState}
 use Rattle.fv_volume.specs.Slots.{is_named, sum_of, HasName}
@@ -20,10 +21,9 @@ use Rattle.fv_aggregate.specs.declared.fault.Fault.TheVariants.{Damaged}
 use Rattle.fv_aggregate.specs.declared.session.Session.{Session}
 use Rattle.fv_aggregate.specs.Calls.{GoesFor}
 use Rattle.fv_aggregate.specs.Cleaning.{CleansOnce, Learns}
-use Rattle.fv_aggregate.specs.Commands.{AsksNothing}
-use Rattle.fv_aggregate.specs.Known.{KeepsNumbers}
-use Rattle.fv_aggregate.specs.Standing.{OneOf, StandsAfter, StandsFor, StandsReady}
-use Rattle.fv_aggregate.specs.Working.{is_unclean, most_steps, todo, Backs, HasKnownRoots}
+use Rattle.fv_aggregate.specs.Commands.{dirty_limit, AsksNothing}
+use Rattle.fv_aggregate.specs.Standing.{OneOf, StandsFor, StandsReady}
+use Rattle.fv_aggregate.specs.Working.{is_unclean, most_steps, step_room, todo, Backs, HasKnownRoots}
 use Rattle.fv_aggregate.proofs.Calls.{reads_itself}
 use Rattle.fv_aggregate.proofs.CleanedKnown.{commits_known, fit_known, known, numbers_known, ready_known, stands_for_known, stands_known}
 use Rattle.fv_aggregate.proofs.CleanedMost.{most_todo, todo_most}
@@ -42,6 +42,8 @@ pub record HasCleaned (slot : ℕ) (d : Shown) (s : Session) (count : ℕ) (e : 
   pub unclean : is_unclean (state_at n.volumes slot) ≡ true
   pub named : (name : List ℕ) → HasName s.volumes slot name → HasName n.volumes slot name
   pub falls : IsTrue d.tells → (last m : Machine) → StandsFor d s last m → 0 < count → HaveNoFiles n.volumes × (todo e n + count ≤ most_todo + 1)
+  pub less : IsTrue d.tells → (last m : Machine) → StandsFor d s last m → HaveNoFiles s.volumes → HaveNoFiles n.volumes × (todo e n + count ≤ todo d s)
+  pub calm : s.pending + count + step_room ≤ dirty_limit + 1 → OnlyReads d e
 
 pub cleaned_none : (slot : ℕ) (d : Shown) → IsDisk d → (s : Session) → IsNone s.failed → StandsReady d s → is_unclean (state_at s.volumes slot) ≡ true → HasCleaned slot d s 0 d s
 cleaned_none slot d laws s fresh ready unclean = record {
@@ -49,6 +51,8 @@ cleaned_none slot d laws s fresh ready unclean = record {
   unclean = unclean;
   named = λ name has. has;
   falls = λ tells last m is some. absurd (omega (arith, some));
+  less = λ tells last m is none. (none, omega arith);
+  calm = λ few. reads_itself d;
 }
 
 -- a step whatever it answered is a step
@@ -58,6 +62,16 @@ backs_unit x c d s g p is = record { ends = is.ends; stands = is.stands; done = 
 module _ (slot : ℕ) (d : Shown) (s : Session) (count : ℕ) (e : Shown) (n : Session) (was : HasCleaned slot d s count e n) (g : Shown) (p : Session) where
   pub all_backs : {T : Type 0} (r : Result T Fault) → Backs 1 e n g p r → Backs (count + 1) d s g p r
   all_backs r is = backs_then tt count 1 (count + 1) (omega arith) d s e n was.backs g p r is
+
+  -- no point was made for so many steps, nor for one more
+  pub calm_on : (r : Result Bool Fault) → CleansOnce slot e n g p r → s.pending + (count + 1) + step_room ≤ dirty_limit + 1 → OnlyReads d g
+  calm_on r once few =
+      let so_far = was.backs.pending in
+      reads_then d e g (was.calm (omega (arith, few))) (once.calm (omega (arith, few, so_far)))
+
+  -- as many steps were left as were taken, so all have room where all that was left has
+  pub calm_all : (r : Result Bool Fault) → CleansOnce slot e n g p r → IsTrue d.tells → (last m : Machine) → StandsFor d s last m → HaveNoFiles s.volumes → s.pending + todo d s + step_room ≤ dirty_limit → OnlyReads d g
+  calm_all r once tells last m is none few = let most = (was.less tells last m is none).1 in calm_on r once (omega (arith, few, most))
 
   pub cleaned_more : CleansOnce slot e n g p (Ok true) → HasCleaned slot d s (count + 1) g p
   cleaned_more once = record {
@@ -79,6 +93,12 @@ module _ (slot : ℕ) (d : Shown) (s : Session) (count : ℕ) (e : Shown) (n : S
           omega (arith, less, before))
           (cases_eq count 0),
     );
+    less = λ tells last m is none.
+        let so_far = was.less tells last m is none in
+        let at = (was.backs.stays tells last m is).stands was.backs.done.0 in
+        let fell = once.falls (subst IsTrue (sym was.backs.ends.tells) tells) at.point m at.stands so_far.0 refl in
+        (once.none, (let before = so_far.1 in omega (arith, fell, before)));
+    calm = calm_on (Ok true) once;
   }
     where
       all : Backs {T = Unit {0}} (count + 1) d s g p (Ok tt)
@@ -107,13 +127,24 @@ module _ (slot : ℕ) (d : Shown) (s : Session) (fresh : IsNone s.failed) (name 
   after m = next m (Clean name)
 
   -- a step failed
-  pub learns_fault : (c : ℕ) (e : Shown) (n : Session) (f : Fault) → Backs {T = Bool} c d s e n (Err f) → Learns after slot d s e n (Err f)
-  learns_fault c e n f is = record {
-    goes = in_steps c d s fresh e n (Err f) (backs_err c c (omega arith) d s e n f is);
+  pub learns_fault : (count : ℕ) (e : Shown) (n : Session) (was : HasCleaned slot d s count e n) (g : Shown) (p : Session) (f : Fault) → CleansOnce slot e n g p (Err f) → Learns after slot d s g p (Err f)
+  learns_fault count e n was g p f once = record {
+    goes = in_steps (count + 1) d s fresh g p (Err f) (backs_err (count + 1) (count + 1) (omega arith) d s g p f is);
     numbers = is.numbers;
     known = tt;
-    goes_for = λ tells last m stands. for_failed c d s e n f is tells last m (after m) stands;
+    goes_for = λ tells last m stands. for_failed (count + 1) d s g p f is tells last m (after m) stands;
+    keeps = record {
+      undone = λ tells last m stands none still.
+          let so_far = was.less tells last m stands none in
+          let at = (was.backs.stays tells last m stands).stands was.backs.done.0 in
+          let same = once.undone (subst IsTrue (sym was.backs.ends.tells) tells) at.point m at.stands so_far.0 still in
+          let most = so_far.1 in omega (arith, same, most);
+      calm = calm_all slot d s count e n was g p (Err f) once;
+    };
   }
+    where
+      is : Backs {T = Bool} (count + 1) d s g p (Err f)
+      is = all_backs slot d s count e n was g p (Err f) once.backs
 
   -- each of so many steps left something to do
   pub learns_endless : (e : Shown) (n : Session) (count : ℕ) → most_steps ≤ count → HasCleaned slot d s count e n → Learns after slot d s e n (Err (Damaged 0 most_steps (most_steps + 1)))
@@ -128,6 +159,10 @@ module _ (slot : ℕ) (d : Shown) (s : Session) (fresh : IsNone s.failed) (name 
     numbers = was.backs.numbers;
     known = tt;
     goes_for = λ tells last m stands. let most = (was.falls tells last m stands (omega (arith, past))).1 in absurd (omega (arith, most, past));
+    keeps = record {
+      undone = λ tells last m stands none still. let most = (was.less tells last m stands none).1 in omega (arith, most);
+      calm = λ tells last m stands none few. let most = (was.less tells last m stands none).1 in was.calm (omega (arith, few, most));
+    };
   }
 
   -- none was left to take
@@ -172,6 +207,7 @@ module _ (slot : ℕ) (d : Shown) (s : Session) (fresh : IsNone s.failed) (name 
             still = λ none. tt;
             whole = tt;
           };
+      keeps = record { undone = λ tells last m stands none still. tt; calm = calm_all slot d s count e n was g p (Ok false) once };
     }
 
 -- ---- the end of cleaning

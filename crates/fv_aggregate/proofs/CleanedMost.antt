@@ -1,10 +1,10 @@
 -- How much can be left to do in a session: of each volume at most 25 root pointers are unknown, and 128 in each block under its VVBNs.
-use Rattle.std.proofs.Common.{◌≡◌, ◌≤◌, ◌<◌, ◌+◌, ◌*◌, ℕ, zero, suc, Bool, true, false, cond, List, [], ◌∷◌, length, map, Option, Some, None, refl, sym, ap, subst, ◌∙◌, arith}
-use Rattle.std.specs.Prelude.{IfSome, count_by, sum_by}
+use Rattle.std.proofs.Common.{◌≡◌, ◌≤◌, ◌+◌, ◌*◌, ℕ, zero, suc, Bool, true, false, cond, [], ◌∷◌, length, map, Option, Some, None, refl, ap, arith}
+use Rattle.std.specs.Prelude.{IfSome, sum_by}
 use Rattle.std.specs.List.{range_with_len}
 use Rattle.std.proofs.lemmas.List.{length-map}
 use Rattle.std.proofs.lemmas.List.Sums.{count_by-le-length, sum_by-cons}
-use Rattle.fv_disk.specs.Shown.{Image, Shown}
+use Rattle.fv_disk.specs.Shown.{Shown}
 use Rattle.fv_model.specs.Machines.{Machine}
 use Rattle.fv_image.specs.HintRules.{is_unknown}
 use Rattle.fv_image.specs.Views.{Placed}
@@ -14,7 +14,7 @@ use Rattle.fv_volume.specs.declared.state.VolumeState.{VolumeState}
 use Rattle.fv_volume.specs.Held.{IsHeldIn}
 use Rattle.fv_snapshot.proofs.Full.{few_snaps}
 use Rattle.fv_volume.specs.States.{States, head_in, state_at}
-use Rattle.fv_cleaner.specs.Left.{left_in, unknown_among, unknown_inside, unknown_under}
+use Rattle.fv_cleaner.specs.Left.{left_in, unknown_inside}
 use Rattle.fv_cleaner.specs.Searching.{lies_in, pointers_of, Lies}
 use Rattle.fv_cleaner.specs.Stepping.{root_of_snap, roots_of}
 use Rattle.fv_cleaner.proofs.Searched.{few_pointers}

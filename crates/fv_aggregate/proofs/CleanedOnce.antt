@@ -1,8 +1,10 @@
 -- One step of a volume, before which room is made and files are placed: its name stays, and that not all its places are known.
-use Rattle.std.proofs.Common.{◌≡◌, ◌≢◌, ◌<◌, ◌≤◌, ◌+◌, ℕ, Bool, true, false, true≢false, cond, List, length, Option, Some, None, Result, Ok, Err, inl, inr, refl, sym, ap, subst, ◌∙◌, arith, length-set}
-use Rattle.std.specs.Prelude.{IfOk, IfSome, IsNone, IsTrue, OnOk}
+use Rattle.std.proofs.Common.{◌≡◌, ◌<◌, ◌≤◌, ◌+◌, ℕ, Bool, true, false, true≢false, cond, List, length, Option, Some, None, Result, Ok, Err, inl, inr, refl, sym, ap, subst, ◌∙◌, arith, length-set}
+use Rattle.std.specs.Prelude.{IfOk, IsNone, IsTrue, OnErr, OnOk}
 use Rattle.std.specs.Option.{option_map}
 use Rattle.fv_disk.specs.Shown.{Shown}
+use Rattle.fv_disk.specs.DiskCalls.{OnlyReads}
+use Rattle.fv_disk.proofs.Resting.{reads_then}
 use Rattle.fv_model.specs.Machines.{Machine}
 use Rattle.fv_model.specs.Spelling.{is_same_name}
 use Rattle.fv_pool.specs.declared.pool.Pool.{Pool}
@@ -10,19 +12,21 @@ use Rattle.fv_pool.specs.Calls.{Reads}
 use Rattle.fv_volume.specs.declared.state.VolumeState.{VolumeState}
 use Rattle.fv_volume.specs.Held.{core_of}
 use Rattle.fv_volume.specs.Slots.{is_named, HasName}
-use Rattle.fv_volume.specs.States.{States, state_at, with_state}
-use Rattle.fv_cleaner.specs.Cleaning.{CleansAt, Steps, StepsIn}
+use Rattle.fv_volume.specs.States.{States, state_at}
+use Rattle.fv_cleaner.specs.Cleaning.{Steps, StepsIn}
 use Rattle.fv_cleaner.specs.Stepping.{CleansVolume}
 use Rattle.fv_cp.specs.Placing.{HaveNoFiles, KeepCores}
 use Rattle.fv_aggregate.specs.declared.fault.Fault.{Fault}
 use Rattle.fv_aggregate.specs.declared.session.Session.{Session}
 use Rattle.fv_aggregate.specs.Cleaning.{CleansOnce}
+use Rattle.fv_aggregate.specs.Commands.{dirty_limit}
 use Rattle.fv_aggregate.specs.Standing.{StandsAfter, StandsFor}
-use Rattle.fv_aggregate.specs.Working.{is_unclean, todo, todo_at, Backs, FallsAt, HasKnownRoots, PlacesAll, StepsOn, TakesStep}
+use Rattle.fv_aggregate.specs.Working.{is_unclean, step_room, todo, todo_at, Backs, FallsAt, PlacesAll, StepsOn, TakesStep}
 use Rattle.fv_aggregate.proofs.Replaced.{same_slot}
 use Rattle.fv_aggregate.proofs.Worked.{unclean_there, IsThere}
 use Rattle.fv_aggregate.proofs.WorkedCalls.{backs_err, backs_then}
 use Rattle.fv_aggregate.proofs.WorkedOthers.{left_read}
+use Rattle.fv_aggregate.proofs.WorkedSince.{ready_backs, still_reads, MadeRoom}
 
 -- ---- what stays of the volumes
 
@@ -97,14 +101,13 @@ still_todo d e p q reads (Some z) = ap (λ (n : ℕ). cond z.known 0 n) (left_re
 
 -- ---- one step
 
-module _ {D : Type 0} (shown : D → Shown) (slot : ℕ) (first second third : D) (s n o : Session) (unclean : is_unclean (state_at s.volumes slot) ≡ true) (room : Backs {T = Unit {0}} 0 (shown first) s (shown second) n (Ok tt))
-    (cores : KeepCores s.volumes n.volumes) (files : HaveNoFiles s.volumes → HaveNoFiles n.volumes)
-    (left : IsTrue (shown first).tells → (last m : Machine) → StandsFor (shown first) s last m → HaveNoFiles s.volumes → todo (shown second) n ≡ todo (shown first) s) (placed : PlacesAll shown second n third o (Ok tt)) where
-  pub roomy_backs : Backs {T = Unit {0}} 0 (shown first) s (shown third) o (Ok tt)
-  roomy_backs = backs_then tt 0 0 0 (omega arith) (shown first) s (shown second) n room (shown third) o (Ok tt) placed.backs
+module _ {D : Type 0} (shown : D → Shown) (slot : ℕ) (first second third : D) (s n o : Session) (unclean : is_unclean (state_at s.volumes slot) ≡ true)
+    (made : MadeRoom shown first s second n) (placed : PlacesAll shown second n third o (Ok tt)) where
+  abbrev roomy_backs : Backs {T = Unit {0}} 0 (shown first) s (shown third) o (Ok tt)
+  roomy_backs = ready_backs shown first second third s n o made placed
 
   say_placed : SaySame s.volumes o.volumes
-  say_placed = say_then s.volumes n.volumes o.volumes (say_cores s.volumes n.volumes cores) (say_cores n.volumes o.volumes placed.cores)
+  say_placed = say_then s.volumes n.volumes o.volumes (say_cores s.volumes n.volumes made.cores) (say_cores n.volumes o.volumes placed.cores)
 
   pub unclean_placed : is_unclean (state_at o.volumes slot) ≡ true
   unclean_placed = same_unclean s.volumes o.volumes say_placed slot ∙ unclean
@@ -119,6 +122,10 @@ module _ {D : Type 0} (shown : D → Shown) (slot : ℕ) (first second third : D
     roots = step.roots unclean_placed;
     least = λ tells last m is. let at = stood tells last m is in least r step.steps (step.falls (tells_then tells) at.point m at.stands);
     falls = λ tells last m is none. let at = stood tells last m is in falls r (same_todo tells last m is none) (step.falls (tells_then tells) at.point m at.stands);
+    undone = λ tells last m is none still. undone r (same_todo tells last m is none) step.undone;
+    calm = λ within. reads_then (shown first) (shown third) (shown last_disk)
+        (reads_then (shown first) (shown second) (shown third) (still_reads shown first second (made.calm within).0) placed.only_reads)
+        step.only_reads;
   }
     where
       tells_then : IsTrue (shown first).tells → IsTrue (shown third).tells
@@ -129,8 +136,8 @@ module _ {D : Type 0} (shown : D → Shown) (slot : ℕ) (first second third : D
 
       same_todo : IsTrue (shown first).tells → (last m : Machine) → StandsFor (shown first) s last m → HaveNoFiles s.volumes → todo (shown third) o ≡ todo (shown first) s
       same_todo tells last m is none =
-          let idle = placed.idle (files none) in
-          (λ j. todo (shown (idle.0 j)) (idle.1 j)) ∙ left tells last m is none
+          let idle = placed.idle (made.files none) in
+          (λ j. todo (shown (idle.0 j)) (idle.1 j)) ∙ made.left tells last m is none
 
       say_all : (took : Bool) → StepsOn slot (shown third) o (shown last_disk) p took → SaySame s.volumes p.volumes
       say_all took steps = say_then s.volumes o.volumes p.volumes say_placed (say_stepped slot (shown third) o (shown last_disk) p placed.long unclean_placed took steps)
@@ -164,9 +171,14 @@ module _ {D : Type 0} (shown : D → Shown) (slot : ℕ) (first second third : D
       falls (Ok false) same is = λ isnt. absurd (true≢false (sym isnt))
       falls (Err f) same is = tt
 
+      undone : (r : Result Bool Fault) → todo (shown third) o ≡ todo (shown first) s → OnErr r (todo (shown last_disk) p ≡ todo (shown third) o) → OnErr r (todo (shown last_disk) p ≡ todo (shown first) s)
+      undone (Ok took) same is = tt
+      undone (Err f) same is = is ∙ same
+
 -- a fault before it
-pub uncleaned : (slot : ℕ) (d : Shown) (s : Session) (e : Shown) (n : Session) (f : Fault) → Backs {T = Unit {0}} 0 d s e n (Err f) → CleansOnce slot d s e n (Err f)
-uncleaned slot d s e n f is = record {
+pub uncleaned : (slot : ℕ) (d : Shown) (s : Session) (e : Shown) (n : Session) (f : Fault) → Backs {T = Unit {0}} 0 d s e n (Err f) → (HaveNoFiles s.volumes → IsNone n.failed → todo e n ≡ todo d s)
+    → (s.pending + step_room ≤ dirty_limit → OnlyReads d e) → CleansOnce slot d s e n (Err f)
+uncleaned slot d s e n f is undone calm = record {
   backs = backs_err 0 1 (omega arith) d s e n f is;
   long = tt;
   none = tt;
@@ -175,8 +187,13 @@ uncleaned slot d s e n f is = record {
   roots = tt;
   least = λ tells last m was. tt;
   falls = λ tells last m was none. tt;
+  undone = λ tells last m was none still. undone none still;
+  calm = calm;
 }
 
-pub unplaced_clean : {D : Type 0} (shown : D → Shown) (slot : ℕ) (first second third : D) (s n o : Session) (f : Fault) → Backs {T = Unit {0}} 0 (shown first) s (shown second) n (Ok tt) → PlacesAll shown second n third o (Err f)
+pub unplaced_clean : {D : Type 0} (shown : D → Shown) (slot : ℕ) (first second third : D) (s n o : Session) (f : Fault) → MadeRoom shown first s second n → PlacesAll shown second n third o (Err f)
     → CleansOnce slot (shown first) s (shown third) o (Err f)
-unplaced_clean shown slot first second third s n o f room placed = uncleaned slot (shown first) s (shown third) o f (backs_then tt 0 0 0 (omega arith) (shown first) s (shown second) n room (shown third) o (Err f) placed.backs)
+unplaced_clean shown slot first second third s n o f made placed = uncleaned slot (shown first) s (shown third) o f
+    (backs_then tt 0 0 0 (omega arith) (shown first) s (shown second) n made.backs (shown third) o (Err f) placed.backs)
+    (λ none still. absurd (placed.filed (made.files none)))
+    (λ within. reads_then (shown first) (shown second) (shown third) (still_reads shown first second (made.calm within).0) placed.only_reads)

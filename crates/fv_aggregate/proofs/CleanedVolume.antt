@@ -1,11 +1,10 @@
 -- What the command `clean` answers, and what it does: nothing without the volume, nothing where all its places are known, and else steps.
-use Rattle.std.proofs.Common.{◌≡◌, ◌≤◌, ◌<◌, ◌⊎◌, ℕ, Bool, true, false, cond, true≢false, List, [], ◌∷◌, length, Option, Some, None, Result, Ok, Err, inl, inr, ⊎_elim, refl, sym, ap, subst, ◌∙◌, arith}
-use Rattle.std.specs.Prelude.{IfErr, IfOk, IfSome, IsNone, IsTrue, OnErr, OnOk}
+use Rattle.std.proofs.Common.{◌≡◌, ◌≤◌, ◌<◌, ℕ, Bool, true, false, cond, true≢false, List, [], ◌∷◌, length, Option, Some, None, Ok, Err, inl, ⊎_elim, refl, sym, ap, subst, ◌∙◌, arith}
+use Rattle.std.specs.Prelude.{IsNone}
 use Rattle.std.specs.Option.{is_none, option_map_or}
 use Rattle.std.specs.FinMap as fin
 use Rattle.std.proofs.lemmas.Bool.{cases_lt}
 use Rattle.fv_disk.specs.Shown.{IsDisk, Shown}
-use Rattle.fv_model.specs.declared.answers.Refusal.{Refusal}
 use Rattle.fv_model.specs.declared.answers.Refusal.TheVariants.{NoVolume, VolumeInUse}
 use Rattle.fv_model.specs.declared.answers.Reply.{Reply}
 use Rattle.fv_model.specs.declared.answers.Reply.TheVariants.{Done, Refused}
@@ -19,15 +18,13 @@ use Rattle.fv_container.specs.Chains.{slot_count}
 use Rattle.fv_volume.specs.declared.state.VolumeState.{VolumeState}
 use Rattle.fv_volume.specs.Slots.{is_named, HasName, NoneHasName}
 use Rattle.fv_volume.specs.States.{States, state_at}
-use Rattle.fv_cp.specs.Held.{machine_held}
 use Rattle.fv_aggregate.specs.declared.fault.Fault.{Fault}
 use Rattle.fv_aggregate.specs.declared.session.Session.{Session}
-use Rattle.fv_aggregate.specs.Calls.{GoesFor}
-use Rattle.fv_aggregate.specs.Cleaning.{Cleans, CleansNamed, GoesInSteps, Learns}
+use Rattle.fv_aggregate.specs.Cleaning.{Cleans, CleansNamed, KeepsSteps, Learns}
 use Rattle.fv_aggregate.specs.Standing.{StandsFor, StandsReady}
 use Rattle.fv_aggregate.specs.Working.{is_unclean}
 use Rattle.fv_aggregate.proofs.Asked.{answer_allows}
-use Rattle.fv_aggregate.proofs.Calls.{same_counts, same_ends}
+use Rattle.fv_aggregate.proofs.Calls.{reads_itself, same_counts, same_ends}
 use Rattle.fv_aggregate.proofs.CleanedKnown.{held_accepted, next_known}
 use Rattle.fv_aggregate.proofs.HeldMachine.{not_there}
 use Rattle.fv_aggregate.proofs.Keeping.{keeps_same}
@@ -36,9 +33,12 @@ use Rattle.fv_aggregate.proofs.Standing.{rests_for_last}
 
 -- ---- a session that stays
 
+keeps_itself : (disk : Shown) (s : Session) (reply : Reply) → KeepsSteps {T = Reply} disk s disk s (Ok reply)
+keeps_itself disk s reply = record { undone = λ tells last m stands none still. tt; calm = λ tells last m stands none few. reads_itself disk }
+
 module _ {D : Type 0} (name : List ℕ) (disk : Shown) (laws : IsDisk disk) (at : D) (s : Session) (fresh : IsNone s.failed) (ready : StandsReady disk s) (reply : Reply)
     (same : (last m : Machine) → StandsFor disk s last m → (next m (Clean name) ≡ m) × Allows m (Clean name) reply) where
-  stays_as : CleansNamed name at s at s (Ok reply) → Cleans name disk at s disk at s (Ok reply)
+  stays_as : CleansNamed name disk disk at s at s (Ok reply) → Cleans name disk at s disk at s (Ok reply)
   stays_as cleans = record {
     goes = record { ends = same_ends disk; stands = λ none. ready; done = (fresh, (fresh, same_counts disk)); fault = tt; within = omega arith };
     numbers = λ none. keeps_same s.volumes s.volumes refl;
@@ -71,6 +71,7 @@ module _ {D : Type 0} (name : List ℕ) (disk : Shown) (laws : IsDisk disk) (at 
         missing = λ nowhere. (refl, (refl, refl));
         answered = λ slot low has. absurd (not_both s.volumes name none slot low has);
         idle = λ slot low has known. absurd (not_both s.volumes name none slot low has);
+        keeps = keeps_itself disk s (Refused NoVolume);
       })
 
   -- ---- with it
@@ -117,6 +118,7 @@ module _ {D : Type 0} (name : List ℕ) (disk : Shown) (laws : IsDisk disk) (at 
           missing = λ none. absurd (not_both s.volumes name none slot low has);
           answered = λ k near other. (refl, ap (λ (n : ℕ). is_unclean (state_at s.volumes n)) (one_slot k other) ∙ clean);
           idle = λ k near other is. (refl, (refl, refl));
+          keeps = keeps_itself disk s Done;
         })
       where
         known : at_it.x.known ≡ true
@@ -138,6 +140,7 @@ module _ {D : Type 0} (name : List ℕ) (disk : Shown) (laws : IsDisk disk) (at 
           missing = λ none. absurd (not_both s.volumes name none slot low has);
           answered = λ k near other. (refl, ap (λ (n : ℕ). is_unclean (state_at new.volumes n)) (one_slot k other) ∙ is.known);
           idle = λ k near other clean. absurd (true≢false (sym unclean ∙ ap (λ (n : ℕ). is_unclean (state_at s.volumes n)) (sym (one_slot k other)) ∙ clean));
+          keeps = record { undone = λ tells last m stands none still. tt; calm = is.keeps.calm };
         };
       }
 
@@ -152,5 +155,6 @@ module _ {D : Type 0} (name : List ℕ) (disk : Shown) (laws : IsDisk disk) (at 
           missing = λ none. absurd (not_both s.volumes name none slot low has);
           answered = λ k near other. tt;
           idle = λ k near other clean. absurd (true≢false (sym unclean ∙ ap (λ (n : ℕ). is_unclean (state_at s.volumes n)) (sym (one_slot k other)) ∙ clean));
+          keeps = record { undone = is.keeps.undone; calm = is.keeps.calm };
         };
       }

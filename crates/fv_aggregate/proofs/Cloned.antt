@@ -5,15 +5,13 @@ use Rattle.std.specs.Option.{is_some, option_map, option_map_or}
 use Rattle.std.specs.FinMap as fin
 use Rattle.std.specs.FinSet as set
 use Rattle.std.proofs.lemmas.Bool.Decides.{nat_tests}
-use Rattle.std.proofs.lemmas.Option.{none-some, same_Some}
 use Rattle.fv_disk.specs.Shown.{Shown}
-use Rattle.fv_charge.specs.Ledgers.{committed}
 use Rattle.fv_model.specs.declared.answers.Refusal.{Refusal}
 use Rattle.fv_model.specs.declared.answers.Reply.TheVariants.{Done}
 use Rattle.fv_model.specs.declared.commands.Kind.{Kind}
 use Rattle.fv_model.specs.declared.commands.Command.{Command}
 use Rattle.fv_model.specs.declared.commands.Command.TheVariants.{CloneCreate}
-use Rattle.fv_model.specs.Effects.{Becomes as BecomesVolume, Change, Stays, at_snapshot, at_volume, change_of, changed, clone_of, effect}
+use Rattle.fv_model.specs.Effects.{Becomes as BecomesVolume, Stays, at_snapshot, change_of, changed, clone_of, effect}
 use Rattle.fv_model.specs.Machines.{Machine, capacity}
 use Rattle.fv_model.specs.Numbers.{greatest_span}
 use Rattle.fv_model.specs.Places.{ids_of}
@@ -27,18 +25,16 @@ use Rattle.fv_pool.specs.declared.pool.Pool.{Pool}
 use Rattle.fv_volume.specs.declared.state.Snap.{Snap}
 use Rattle.fv_volume.specs.declared.state.VolumeState.{VolumeState}
 use Rattle.fv_volume.specs.OneVolume.{blocks_in, standing_kept, volume_for}
-use Rattle.fv_volume.specs.Asking.{snap_named}
 use Rattle.fv_volume.specs.Cloning.{count_in}
-use Rattle.fv_volume.specs.States.{States, ledger_of_empty, state_at, with_state}
+use Rattle.fv_volume.specs.States.{States, with_state}
 use Rattle.fv_volume.proofs.Cloned.{called}
 use Rattle.fv_volume.proofs.SnapFinds.{told_named}
 use Rattle.fv_volumes.specs.Footing.{AreFooted}
 use Rattle.fv_clone.specs.declared.admitting.Admitted.{Admitted}
 use Rattle.fv_clone.specs.Admitting.{span_for as span_on_slot, Admits, Refuses}
-use Rattle.fv_clone.specs.Creating as creating
 use Rattle.fv_clone.proofs.Held.{made_held, made_told, volume_stays}
 use Rattle.fv_clone.proofs.Machine.{accepted, refused_as, span_in}
-use Rattle.fv_clone.proofs.Placed.{base_called, base_named, footed_now, home, home_there, source}
+use Rattle.fv_clone.proofs.Placed.{base_named, footed_now, home, home_there, source}
 use Rattle.fv_cp.specs.Held.{machine_held, IsHeldIn}
 use Rattle.fv_aggregate.specs.declared.session.Session.{Session}
 use Rattle.fv_aggregate.specs.Adding.{IsAdded, IsCloned}

@@ -1,10 +1,11 @@
 -- What is damaged in a call of a session, by the steps that it is made of.
-use Rattle.std.proofs.Common.{◌≡◌, ◌≤◌, ◌⊎◌, ℕ, List, Option, Some, None, Err, inl, inr, ⊎_elim, refl, sym, ap, subst, ◌∙◌, length, arith, get_or-set_same, Bool, true, false}
+use Rattle.std.proofs.Common.{◌≡◌, ◌≤◌, ◌⊎◌, ℕ, List, Option, Some, None, Err, inl, inr, refl, sym, ap, subst, ◌∙◌, length, arith, get_or-set_same, Bool, true, false}
 use Rattle.std.specs.Prelude.{unwrap_or, IsNone, IsSome, IsTrue}
 use Rattle.std.specs.Option.{option_map}
 use Rattle.fv_disk.specs.Shown.{Image, Shown}
 use Rattle.fv_disk.specs.declared.fault.BlockFault.TheVariants as block
 use Rattle.fv_disk.proofs.Resting.{reads_then}
+use Rattle.fv_model.specs.declared.commands.Kind.{Kind}
 use Rattle.fv_tables.specs.Told.{Standing}
 use Rattle.fv_container.specs.Chains.{AreCleanOn}
 use Rattle.fv_volmap.specs.Slots.{Volume}
@@ -25,7 +26,7 @@ use Rattle.fv_aggregate.specs.declared.session.Session.{Session}
 use Rattle.fv_aggregate.specs.Adding.{IsPointed}
 use Rattle.fv_aggregate.specs.Commands.{Asked, AsksCopies, AsksLeaves, AsksNothing, AsksPlacing, AsksPoint, AsksTable}
 use Rattle.fv_aggregate.specs.Asking.{AsksWithin}
-use Rattle.fv_aggregate.specs.Damages.{ComesToLeaves, ComesToPlace, ComesToPoint, HasBadTable, HasDamage, HasDamageIn, HasLoaded, HasReadFor, HasUnplaced, LacksBlocks, PassesLimit}
+use Rattle.fv_aggregate.specs.Damages.{ComesToLeaves, ComesToPlace, ComesToPoint, HasBadCopies, HasBadTable, HasDamage, HasDamageIn, HasLoaded, HasReadFor, HasUnplaced, LacksBlocks, PassesLimit}
 use Rattle.fv_aggregate.specs.Reading.{IsAsRead, WasRead}
 
 -- ---- a table of a volume
@@ -220,11 +221,16 @@ point_leaves slot e = cc
 nothing_leaves : (slot : ℕ) → AsksNothing ≡ AsksLeaves slot → ⊥
 nothing_leaves slot e = cc
 
-point_copies : (slot : ℕ) (snapshot : List ℕ) → AsksPoint ≡ AsksCopies slot snapshot → ⊥
-point_copies slot snapshot e = cc
+point_copies : (slot : ℕ) (snapshot mirror : List ℕ) (size : ℕ) (kind : Kind) → AsksPoint ≡ AsksCopies slot snapshot mirror size kind → ⊥
+point_copies slot snapshot mirror size kind e = cc
 
-nothing_copies : (slot : ℕ) (snapshot : List ℕ) → AsksNothing ≡ AsksCopies slot snapshot → ⊥
-nothing_copies slot snapshot e = cc
+pub nothing_copies : (slot : ℕ) (snapshot mirror : List ℕ) (size : ℕ) (kind : Kind) → AsksNothing ≡ AsksCopies slot snapshot mirror size kind → ⊥
+nothing_copies slot snapshot mirror size kind e = cc
+
+-- a call that asks for no copies meets no bad ones
+module _ (asked : Asked) (copyless : (slot : ℕ) (snapshot mirror : List ℕ) (size : ℕ) (kind : Kind) → asked ≡ AsksCopies slot snapshot mirror size kind → ⊥) where
+  pub no_copies : (X : Type 0) (old : Session) (d : Shown) (s : Session) → HasBadCopies asked old d s → X
+  no_copies X old d s bad = absurd (copyless bad.admitted.source.parent bad.admitted.source.snapshot bad.name bad.size bad.kind bad.asks)
 
 -- one that may add more
 module _ (asked : Asked) (least room : ℕ) (le : least ≤ room) where
@@ -253,12 +259,12 @@ module _ (asked : Asked) (least room : ℕ) (le : least ≤ room) where
   damage_more before old after new at want found (inl (reads, inl now)) = inl (reads, inl (in_more after old new at want found now))
   damage_more before old after new at want found (inl (reads, inr later)) = inl (reads, inr (record { session = later.session; read = later.read; damage = in_more after later.session new at want found later.damage }))
   damage_more before old after new at want found (inr (inl (past, behind))) = inr (inl (passes_more old.pending past, behind))
-  damage_more before old after new at want found (inr (inr bad)) =
-      inr (inr (record { fresh = bad.fresh; admitted = bad.admitted; asks = bad.asks; not = ⊎_elim (λ no. inl no) (λ past. inr (passes_more old.pending past)) bad.not }))
+  damage_more before old after new at want found (inr (inr (inl bad))) = inr (inr (inl bad))
+  damage_more before old after new at want found (inr (inr (inr (past, bad)))) = inr (inr (inr (passes_more old.pending past, bad)))
 
 -- A call that asks for no table, nor for copies, nor to place the files of a volume or to read leaves by itself, is part of one that comes to a point where this
 -- does.
-module _ (part asked : Asked) (least room : ℕ) (old : Session) (none : (slot : ℕ) (snapshot : Option (List ℕ)) (cell : Bool) → part ≡ AsksTable slot snapshot cell → ⊥) (never : (slot : ℕ) → part ≡ AsksPlacing slot → ⊥) (leafless : (slot : ℕ) → part ≡ AsksLeaves slot → ⊥) (copyless : (slot : ℕ) (snapshot : List ℕ) → part ≡ AsksCopies slot snapshot → ⊥)
+module _ (part asked : Asked) (least room : ℕ) (old : Session) (none : (slot : ℕ) (snapshot : Option (List ℕ)) (cell : Bool) → part ≡ AsksTable slot snapshot cell → ⊥) (never : (slot : ℕ) → part ≡ AsksPlacing slot → ⊥) (leafless : (slot : ℕ) → part ≡ AsksLeaves slot → ⊥) (copyless : (slot : ℕ) (snapshot mirror : List ℕ) (size : ℕ) (kind : Kind) → part ≡ AsksCopies slot snapshot mirror size kind → ⊥)
     (point : ComesToPoint least part old → ComesToPoint room asked old) (place : (slot : ℕ) → ComesToPlace least part old slot → ComesToPlace room asked old slot) where
   leaves_part : (slot : ℕ) → (part ≡ AsksLeaves slot) ⊎ ComesToPlace least part old slot → ComesToLeaves room asked old
   leaves_part slot (inl is) = absurd (leafless slot is)
@@ -271,7 +277,8 @@ module _ (part asked : Asked) (least room : ℕ) (old : Session) (none : (slot :
   damage_part before after new at want found (inl (reads, inl (inr (inr (inr bad))))) = absurd (none bad.slot bad.snapshot bad.cell bad.asks)
   damage_part before after new at want found (inl (reads, inr later)) = absurd (none later.read.slot later.read.snapshot later.read.cell later.read.asks)
   damage_part before after new at want found (inr (inl (past, behind))) = absurd (none behind.read.slot behind.read.snapshot behind.read.cell behind.read.asks)
-  damage_part before after new at want found (inr (inr bad)) = absurd (copyless bad.admitted.source.parent bad.admitted.source.snapshot bad.asks)
+  damage_part before after new at want found (inr (inr (inl bad))) = no_copies part copyless _ old before old bad
+  damage_part before after new at want found (inr (inr (inr (past, behind)))) = no_copies part copyless _ old after new behind.bad
 
 -- a point that makes room for a call
 pub damage_point : (asked : Asked) (room : ℕ) (old : Session) → PassesLimit old.pending room → (before after : Shown) (new : Session) (at want found : ℕ) → HasDamage 0 AsksPoint before old after new at want found → HasDamage room asked before old after new at want found
@@ -300,8 +307,8 @@ table_placing slot snapshot cell other e = cc
 table_leaves : (slot : ℕ) (snapshot : Option (List ℕ)) (cell : Bool) (other : ℕ) → AsksTable slot snapshot cell ≡ AsksLeaves other → ⊥
 table_leaves slot snapshot cell other e = cc
 
-table_copies : (slot : ℕ) (snapshot : Option (List ℕ)) (cell : Bool) (other : ℕ) (kept : List ℕ) → AsksTable slot snapshot cell ≡ AsksCopies other kept → ⊥
-table_copies slot snapshot cell other kept e = cc
+table_copies : (slot : ℕ) (snapshot : Option (List ℕ)) (cell : Bool) (other : ℕ) (kept mirror : List ℕ) (size : ℕ) (kind : Kind) → AsksTable slot snapshot cell ≡ AsksCopies other kept mirror size kind → ⊥
+table_copies slot snapshot cell other kept mirror size kind e = cc
 
 module _ (slot : ℕ) (snapshot : Option (List ℕ)) where
   same_slot : (k : ℕ) (o : Option (List ℕ)) (b : Bool) → AsksTable slot snapshot false ≡ AsksTable k o b → slot ≡ k
@@ -367,7 +374,8 @@ module _ (slot : ℕ) (snapshot : Option (List ℕ)) where
     damage_cell true before old after new at want found (inl (reads, inr later)) = inl (reads, inr (record { session = later.session; read = cell_read old later.session later.read; damage = cell_in after later.session new at want found later.damage }))
     damage_cell true before old after new at want found (inr (inl (past, behind))) =
         inr (inl (past, record { session = behind.session; read = cell_read old behind.session behind.read; pointed = behind.pointed; left = behind.left; bad = cell_bad after behind.pointed new at want found behind.bad }))
-    damage_cell true before old after new at want found (inr (inr bad)) = absurd (table_copies slot snapshot false bad.admitted.source.parent bad.admitted.source.snapshot bad.asks)
+    damage_cell true before old after new at want found (inr (inr (inl bad))) = no_copies (AsksTable slot snapshot false) (table_copies slot snapshot false) _ old before old bad
+    damage_cell true before old after new at want found (inr (inr (inr (past, behind)))) = no_copies (AsksTable slot snapshot false) (table_copies slot snapshot false) _ old after new behind.bad
 
 -- blocks were read, and then again
 pub as_read_then : (s n p : Session) → IsAsRead s n → IsAsRead n p → IsAsRead s p
@@ -403,7 +411,8 @@ module _ (d : Shown) (s : Session) (fresh : IsNone s.failed) (slot : ℕ) (snaps
   damage_read (inl (reads, inl now)) = inl (reads_then d e g read.only_reads reads, inr (record { session = n; read = read_for; damage = now }))
   damage_read (inl (reads, inr later)) = inl (reads_then d e g read.only_reads reads, inr (record { session = later.session; read = both_for later.session later.read; damage = later.damage }))
   damage_read (inr (inl (past, behind))) = inr (inl ((past.0, (let same = same_pending in omega (arith, past.1, same))), record { session = behind.session; read = both_for behind.session behind.read; pointed = behind.pointed; left = behind.left; bad = behind.bad }))
-  damage_read (inr (inr bad)) = absurd (table_copies slot snapshot cell bad.admitted.source.parent bad.admitted.source.snapshot bad.asks)
+  damage_read (inr (inr (inl bad))) = no_copies asked (table_copies slot snapshot cell) _ n e n bad
+  damage_read (inr (inr (inr (past, behind)))) = no_copies asked (table_copies slot snapshot cell) _ n g new behind.bad
 
   -- and for which a point made room
   pub damage_behind : PassesLimit s.pending room → g.tells ≡ e.tells → (p : Session) → IsPointed e n p → HasBadTable asked g p new at want found → HasDamage room asked d s g new at want found

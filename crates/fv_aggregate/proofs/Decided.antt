@@ -1,5 +1,5 @@
 -- Commands that make a volume are decided by the volumes alone, and nothing is decided for the others.
-use Rattle.std.proofs.Common.{◌≡◌, ◌⊎◌, ⊎_elim, ℕ, Bool, true, false, true≢false, List, Option, None, Some, Result, Ok, Err, is_some, refl, sym, ap, subst, ◌∙◌}
+use Rattle.std.proofs.Common.{◌≡◌, ◌⊎◌, ⊎_elim, ℕ, true, false, true≢false, Result, Ok, Err, is_some, refl, sym, subst}
 use Rattle.std.specs.Prelude.{IfOk}
 use Rattle.fv_model.specs.declared.answers.Refusal.{Refusal}
 use Rattle.fv_model.specs.declared.answers.Reply.{Reply}

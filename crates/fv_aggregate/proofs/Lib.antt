@@ -22,12 +22,14 @@ mod MirroredVolume
 mod MirroredCopy
 mod MirroredCounts
 mod MirroredStands
+mod MirroredBehind
 mod MirroredSteps
 mod MirroredSettled
 mod Mirrored
 mod MirroredHeld
 mod MirroredUnmade
 mod MirroredWhole
+mod MirroredRoom
 mod MirroredMade
 mod Telling
 pub mod Charges
@@ -97,10 +99,15 @@ mod LeftShown
 mod WorkedStands
 mod Worked
 mod WorkedCalls
+mod WorkedSince
 mod WorkedLoops
 mod SteppedBy
+mod CleanedAt
 mod CleanedOnce
 mod CleanedKnown
 mod CleanedMost
 mod CleanedLoop
 mod CleanedVolume
+mod LeftByCalls
+pub mod PathShown
+pub mod PathAnswered

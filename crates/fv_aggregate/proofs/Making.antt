@@ -16,7 +16,7 @@ use Rattle.fv_aggregate.specs.declared.fault.Fault.{Fault}
 use Rattle.fv_aggregate.specs.declared.session.Session.{Session}
 use Rattle.fv_aggregate.specs.Applying.{HasApplied}
 use Rattle.fv_aggregate.specs.Calls.{Goes, GoesFor, IsWithinLimit}
-use Rattle.fv_aggregate.specs.Commands.{asked_by, Asked, AsksNothing, dirty_limit, is_built, is_refusal, machine_after, managed_by, reads_files, room_by, room_with, snapped_by, takes_steps, Replies, RepliesBy}
+use Rattle.fv_aggregate.specs.Commands.{asked_by, Asked, AsksNothing, dirty_limit, is_built, is_refusal, keeps_todo, machine_after, managed_by, reads_files, room_by, room_with, snapped_by, takes_steps, Replies, RepliesBy}
 use Rattle.fv_aggregate.specs.Deciding.{DecidesMaking}
 use Rattle.fv_aggregate.specs.Making.{MakesVolume}
 use Rattle.fv_aggregate.specs.Standing.{StandsFor, StandsReady}
@@ -25,6 +25,7 @@ use Rattle.fv_aggregate.proofs.Applying.{asks_none, goes_at_once, no_step, no_st
 use Rattle.fv_aggregate.proofs.Calls.{rests_asks, rests_done}
 use Rattle.fv_aggregate.proofs.Holes.{kept_entries, no_holes}
 use Rattle.fv_aggregate.proofs.Keeping.{keeps_but}
+use Rattle.fv_aggregate.proofs.LeftByCalls.{left_untouched}
 use Rattle.fv_aggregate.proofs.MadeRoom.{refused_roomy}
 
 -- a command that makes a volume, and is none of the others
@@ -32,6 +33,7 @@ pub record IsMaking (c : Command) : Type 0 where
   pub built : is_built c ≡ true
   pub no_files : reads_files c ≡ false
   pub at_once : takes_steps c ≡ false
+  pub no_asking : keeps_todo c ≡ false
   pub no_whole : managed_by c ≡ None
   pub no_snap : snapped_by c ≡ None
   pub no_point : c ≢ Cp
@@ -50,6 +52,7 @@ making_create name size kind = record {
   built = refl;
   no_files = refl;
   at_once = refl;
+  no_asking = refl;
   no_whole = refl;
   no_snap = refl;
   no_point = λ e. cc;
@@ -66,6 +69,7 @@ making_clone clone parent snapshot size kind = record {
   built = refl;
   no_files = refl;
   at_once = refl;
+  no_asking = refl;
   no_whole = refl;
   no_snap = refl;
   no_point = λ e. cc;
@@ -159,6 +163,7 @@ module _ {D : Type 0} (shown : D → Shown) (c : Command) (is : IsMaking c) (bef
     files = λ tells none once without. made.makes.holding.files tells without;
     same = λ tells none once stays places same. made.makes.holding.same tells same;
     stepped = λ takes fresh. no_steps c is.at_once _ takes;
+    left = λ tells last m stands bare. left_untouched c (shown before) s (shown after) n before after (rests_as shown before after) is.no_asking result made.refused bare;
     steps = record { other = λ none. refl; known = λ tells last m stands knows. no_step result steps; path = λ tells last m stands name of. asks_none _ c name is.no_files of; dead = λ failed. refl };
     numbers = λ alive. keeps_but _ s.volumes n.volumes (made.makes.runs.numbers alive);
     dead = λ failed. not_dead _ s made.fresh failed;

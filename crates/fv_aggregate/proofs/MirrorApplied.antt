@@ -22,7 +22,9 @@ use Rattle.fv_volume.specs.Cloning.{count_in}
 use Rattle.fv_volume.specs.Held.{IsReadyIn}
 use Rattle.fv_volume.specs.States.{States}
 use Rattle.fv_mirror.specs.declared.admitting.Admitted.{Admitted}
-use Rattle.fv_mirror.specs.Admitting.{Admits, Refuses}
+use Rattle.fv_mirror.specs.Admitting.{Admits, CanMake, Refuses}
+use Rattle.fv_mirror.specs.Making.{CanCopy}
+use Rattle.fv_mirror.proofs.Made.{can_make}
 use Rattle.fv_aggregate.specs.declared.fault.Fault.{Fault}
 use Rattle.fv_aggregate.specs.declared.fault.Fault.TheVariants.{DiskFault, Damaged, Memory, Failed}
 use Rattle.fv_aggregate.specs.declared.session.Session.{Session}
@@ -30,20 +32,25 @@ use Rattle.fv_aggregate.specs.Applying.{HasApplied}
 use Rattle.fv_aggregate.specs.Calls.{Goes, HasDamage, HasFault, HasWritten, IsDone, IsWithinLimit, SameCounts}
 use Rattle.fv_aggregate.specs.Commands.{asked_by, Asked, AsksCopies, AsksNothing, copies_at, copies_within, dirty_limit, is_built, machine_after, reads_files, room_by, room_with, span_within, wide_at, wide_among}
 use Rattle.fv_image.specs.Views.{slots}
+use Rattle.fv_aggregate.specs.Damages.{HasBadCopies}
 use Rattle.fv_aggregate.specs.Deciding.{CanMirror}
 use Rattle.fv_aggregate.specs.Mirroring.{HasMirrorFault, IsMirrorDone, IsUncopied, MakesMirror, Mirrors, RefusesMirror, TakesMirror, WritesFree, WritesLittle}
+use Rattle.fv_aggregate.specs.Reclaiming.{MakesRoom}
 use Rattle.fv_aggregate.specs.Standing.{StandsReady}
 use Rattle.fv_aggregate.proofs.Added.{done_allowed, not_refused, refused_for}
 use Rattle.fv_aggregate.proofs.Applied.{own_room}
 use Rattle.fv_aggregate.proofs.Applying.{no_step, not_dead}
-use Rattle.fv_aggregate.proofs.Calls.{rests_done}
+use Rattle.fv_aggregate.proofs.Calls.{reads_itself, rests_done}
 use Rattle.fv_aggregate.proofs.Damages.{damage_room}
 use Rattle.fv_aggregate.proofs.Decided.{done_decided}
 use Rattle.fv_aggregate.proofs.Holes.{kept_entries, no_holes}
 use Rattle.fv_aggregate.proofs.Keeping.{keeps_but}
+use Rattle.fv_aggregate.proofs.LeftByCalls.{left_refused, left_same}
+use Rattle.fv_aggregate.proofs.MadeRoom.{refused_roomy}
 use Rattle.fv_aggregate.proofs.Mirrored.{mirror_accepted, mirror_done, mirror_refused}
 use Rattle.fv_aggregate.proofs.Missing.{refused_allows}
 use Rattle.fv_aggregate.proofs.Rooms.{copies_there, slot_there, wide_there}
+use Rattle.fv_aggregate.proofs.StillAdmitted.{mirrors_still}
 
 -- ---- the room of a mirror
 
@@ -80,12 +87,12 @@ mirror_some states source snapshot name size kind = let some = own_room (wide_am
 
 -- what it asks for
 mirror_asks : (d : Shown) (s : Session) → StandsReady d s → (name : List ℕ) (size : ℕ) (kind : Kind) (a : Admitted) → Admits s.volumes s.pool.found.blocks name size kind a
-    → asked_by s.volumes (Mirror a.source.name a.source.snapshot name size kind) ≡ AsksCopies a.source.parent a.source.snapshot
+    → asked_by s.volumes (Mirror a.source.name a.source.snapshot name size kind) ≡ AsksCopies a.source.parent a.source.snapshot name size kind
 unfolding asked_by
 mirror_asks d s stands name size kind a is =
     let home = is.asked.source.home in
     let ready = subst (λ (o : Option VolumeState). IfSome o (IsReadyIn d s.pool home.slot)) home.there (stands.ready home.slot) in
-    ap (λ (k : ℕ). AsksCopies k a.source.snapshot) (slot_there s.volumes home.slot a.source.name home.has home.within ∙ sym ready.slot ∙ sym (ap (λ (b : Base). b.parent) is.source_is))
+    ap (λ (k : ℕ). AsksCopies k a.source.snapshot name size kind) (slot_there s.volumes home.slot a.source.name home.has home.within ∙ sym ready.slot ∙ sym (ap (λ (b : Base). b.parent) is.source_is))
 
 none_some : (X : Type 0) (other : List ℕ) → ◌≡◌ {A = Option (List ℕ)} None (Some other) → X
 none_some X other e = absurd (wrong e)
@@ -154,12 +161,13 @@ module _ {D : Type 0} (shown : D → Shown) (laws : (x : D) → IsDisk (shown x)
       on_files = λ files. absurd (true≢false (sym files ∙ reads_none source snapshot name size kind));
       point = λ tells last m is cp. no_point source snapshot name size kind _ cp;
       sides = λ tells last m is cp. no_point source snapshot name size kind _ cp;
-      roomy = λ once. absurd (true≢false once);
+      roomy = λ once. refused_roomy (room_by s.volumes (Mirror source snapshot name size kind)) (shown before) s (shown before) r;
       calm = λ other once. absurd (true≢false once);
       entries = λ other once few stays. no_holes s s (kept_entries s s refl);
       files = λ tells none once. absurd (true≢false once);
       same = λ tells none once. absurd (true≢false once);
       stepped = λ takes. absurd (true≢false (sym takes));
+      left = λ tells last m is bare why. left_same (shown before) s (shown before) s (reads_itself (shown before)) refl bare;
       steps = record { other = λ none. refl; known = λ tells last m is knows. no_step (Ok (Refused r)) steps; path = λ tells last m is other of. none_some _ other of; dead = λ failed. refl };
       numbers = λ alive. keeps_but _ s.volumes s.volumes (λ k known. known);
       dead = λ failed. refl;
@@ -176,7 +184,7 @@ module _ {D : Type 0} (shown : D → Shown) (laws : (x : D) → IsDisk (shown x)
     room = overhead a.span + a.count
 
     abbrev asked : Asked
-    asked = AsksCopies a.source.parent a.source.snapshot
+    asked = AsksCopies a.source.parent a.source.snapshot name size kind
 
     room_is : room_by s.volumes c ≡ room
     room_is = mirror_room_by s.volumes s.pool.found.blocks name size kind a admits
@@ -212,13 +220,19 @@ module _ {D : Type 0} (shown : D → Shown) (laws : (x : D) → IsDisk (shown x)
     damaged : (at want found : ℕ) → HasDamage room AsksNothing (shown before) s (shown after) n at want found → HasDamage room asked (shown before) s (shown after) n at want found
     damaged at want found is = damage_room asked room s (shown before) (shown after) n at want found is
 
+    -- the copies can't be made
+    bad : (d : Shown) (k : Session) → CanMake k.volumes k.pool.found.blocks name size kind a → (CanCopy d k.volumes k.pool a → ⊥) → HasBadCopies asked s d k
+    bad d k still never = record { fresh = fresh; name = name; size = size; kind = kind; admitted = a; asks = refl; admits = admits; still = still; not = never }
+
     uncopied : (at want found : ℕ) → IsUncopied room (shown before) s a (shown after) n → HasDamage room asked (shown before) s (shown after) n at want found
-    uncopied at want found is = inr (inr (record {
-      fresh = fresh;
-      admitted = a;
-      asks = refl;
-      not = ⊎_elim (λ no. inl no) (λ (past : dirty_limit < s.pending + room). inr ((let some = own_room a.span in omega (arith, some)), past)) is;
-    }))
+    uncopied at want found (inl never) = inr (inr (inl (bad (shown before) s (can_make s.volumes s.pool.found.blocks name size kind a admits) never)))
+    uncopied at want found (inr is) = inr (inr (inr (
+      ((let some = own_room a.span in omega (arith, some)), is.past),
+      record {
+        left = is.left;
+        bad = bad (shown after) n (mirrors_still s n is.left.cores is.left.blocks name size kind a (can_make s.volumes s.pool.found.blocks name size kind a admits)) is.not;
+      },
+    )))
 
     fault_of : (r : Result Reply Fault) → IfErr r (HasMirrorFault room a (shown before) s (shown after) n) → IfErr r (HasFault room asked (shown before) s (shown after) n)
     fault_of (Ok y) is = tt
@@ -260,12 +274,13 @@ module _ {D : Type 0} (shown : D → Shown) (laws : (x : D) → IsDisk (shown x)
       on_files = λ files. absurd (true≢false (sym files ∙ reads_none a.source.name a.source.snapshot name size kind));
       point = λ tells last m is cp. no_point a.source.name a.source.snapshot name size kind _ cp;
       sides = λ tells last m is cp. no_point a.source.name a.source.snapshot name size kind _ cp;
-      roomy = λ once. absurd (true≢false once);
+      roomy = λ once. subst (λ (k : ℕ). MakesRoom k (shown before) s (shown after) result) (sym room_is) made.roomy;
       calm = λ other once. absurd (true≢false once);
       entries = λ other once few stays. made.entries (low few);
       files = λ tells none once. absurd (true≢false once);
       same = λ tells none once. absurd (true≢false once);
       stepped = λ takes. absurd (true≢false (sym takes));
+      left = λ tells last m is bare. left_refused c (shown before) s (shown after) n refl result (not_refused _ result done);
       steps = record { other = λ none. refl; known = λ tells last m is knows. no_step result steps; path = λ tells last m is other of. none_some _ other of; dead = λ failed. refl };
       numbers = λ alive. keeps_but _ s.volumes n.volumes (made.numbers alive);
       dead = λ failed. not_dead _ s fresh failed;

@@ -33,10 +33,12 @@ use Rattle.fv_aggregate.specs.Commands.{AsksNothing}
 use Rattle.fv_aggregate.specs.Known.{KeepsNumbers, KnowsNumbers}
 use Rattle.fv_aggregate.specs.Mirroring.{HasMirrorFault, HasNoMirrorCause, IsMirrorAdded, IsNoneAdded, LeavesCopies, MakesMirror, WritesFree, WritesLittle}
 use Rattle.fv_aggregate.specs.Parts.{AreSet}
+use Rattle.fv_aggregate.specs.Reclaiming.{HasMadeRoom}
 use Rattle.fv_aggregate.specs.Standing.{OneOf, StandsFor, StandsReady}
 use Rattle.fv_aggregate.proofs.Added.{unmade_for}
 use Rattle.fv_aggregate.proofs.Holes.{kept_entries, no_holes}
 use Rattle.fv_aggregate.proofs.Keeping.{keeps_none, keeps_with}
+use Rattle.fv_aggregate.proofs.MirroredBehind.{could_copy, pointed_behind}
 use Rattle.fv_aggregate.proofs.MirroredDisk.{found_free, free_moments, map_over, writes_free}
 use Rattle.fv_aggregate.proofs.MirroredVolume.{container_elsewhere, others_stay, row_long, there_now}
 use Rattle.fv_aggregate.proofs.Ready.{set_ready}
@@ -114,6 +116,7 @@ module _ {D : Type 0} (shown : D → Shown) (before : D) (laws : IsDisk (shown b
     numbers = made.numbers;
     goes_for = λ tells last m stands. unmade_for (shown before) old (shown mid) session room last m (next m) f (made.goes_for tells last m stands);
     pointed = λ past. tt;
+    roomy = λ tells last m stands some past. tt;
     free = λ few. subst (λ (d : D). WritesFree old.pool.map (shown before) (shown d)) (sym (calm few).0) (writes_none (shown before) laws old.pool.map);
     entries = λ few. subst (λ (s : Session). MakesNoHoles old s) (sym (calm few).1) (no_holes old old (kept_entries old old refl));
     unmade = λ few alive. subst (λ (s : Session). IsUnmade old.volumes old.pool s.volumes s.pool) (sym (calm few).1) (record { states = refl; map = refl; containers = refl });
@@ -169,8 +172,9 @@ module _ {D : Type 0} (shown : D → Shown) (before : D) (laws : IsDisk (shown b
     wrote : WritesLittle room (shown before) old (shown after)
     wrote = ⊎_elim (λ (past : 256 < old.pending + room). inr (inl past)) (λ (low : old.pending + room ≤ 256). inr (inr (first_free low))) (cases_lt 256 (old.pending + room))
 
-    none_fault : (f : Fault) → HasNoMirrorCause (shown mid) session a (shown after) new f → HasMirrorFault room a (shown before) old (shown after) new f
-    none_fault DiskFault cause =
+    none_fault : (f : Fault) → IsNoneAdded (shown mid) session a room (shown after) new f → (256 < old.pending + room → IsPointed (shown before) old session) → HasMirrorFault room a (shown before) old (shown after) new f
+    none_fault DiskFault none left =
+        let cause = none.cause in
         let counts = made.goes.done.counts in
         record {
           reason = fresh;
@@ -184,18 +188,25 @@ module _ {D : Type 0} (shown : D → Shown) (before : D) (laws : IsDisk (shown b
           };
           disk = tt;
         }
-    none_fault (Damaged at want found) cause =
+    none_fault (Damaged at want found) none left =
+        let cause = none.cause in
         let counts = made.goes.done.counts in
+        let unmade = none.same cause.1.1 in
         record {
           reason = inr (⊎_elim
-              (λ (past : 256 < old.pending + room). inr past)
+              (λ (past : 256 < old.pending + room). inr (record {
+                past = past;
+                left = pointed_behind (shown before) old (shown mid) session (shown after) new ends.tells leaves unmade (none.pending cause.1.1) (left past);
+                not = λ can. cause.0 (could_copy (shown mid) session.pool (shown after) new.pool leaves.others session.volumes new.volumes unmade a can);
+              }))
               (λ (low : old.pending + room ≤ 256). inl (λ can. cause.0 (subst (λ (s : Session). CanCopy (shown mid) s.volumes s.pool a) (sym (calm low).1) (subst (λ (x : D). CanCopy (shown x) old.volumes old.pool a) (sym (calm low).0) can))))
               (cases_lt 256 (old.pending + room)));
           counts = record { faults = cause.1.0.faults ∙ counts.faults; write_faults = cause.1.0.write_faults ∙ counts.write_faults };
           session = cause.1.1;
           disk = wrote;
         }
-    none_fault Memory cause =
+    none_fault Memory none left =
+        let cause = none.cause in
         let counts = made.goes.done.counts in
         record {
           reason = fresh;
@@ -203,7 +214,7 @@ module _ {D : Type 0} (shown : D → Shown) (before : D) (laws : IsDisk (shown b
           session = cause.1;
           disk = wrote;
         }
-    none_fault (Failed faults) cause = absurd cause
+    none_fault (Failed faults) none left = absurd none.cause
 
     none_whole : (f : Fault) → CanCopy (shown mid) session.volumes session.pool a → HasNoMirrorCause (shown mid) session a (shown after) new f → IsNoDamage f
     none_whole DiskFault can cause = tt
@@ -215,12 +226,13 @@ module _ {D : Type 0} (shown : D → Shown) (before : D) (laws : IsDisk (shown b
     pub unmirrored : (f : Fault) → IsNoneAdded (shown mid) session a room (shown after) new f
         → ((point m : Machine) → IsTrue (shown before).tells → (last : Machine) → StandsFor (shown before) old last m → StandsFor (shown mid) session point m → CanCopy (shown mid) session.volumes session.pool a)
         → ((point m : Machine) → IsTrue (shown before).tells → StandsFor (shown mid) session point m → IsNone new.failed → StandsFor (shown after) new point m)
+        → (256 < old.pending + room → IsPointed (shown before) old session)
         → MakesMirror shown room a next before old after new (Err f)
-    unmirrored f none can still = record {
+    unmirrored f none can still left = record {
       ends = ends;
       stands = λ alive. stands_on (none.set_now alive);
       done = tt;
-      fault = none_fault f none.cause;
+      fault = none_fault f none left;
       pending = omega (arith, none.most, less);
       numbers = λ alive s known. subst (λ (xs : States). KnowsNumbers (state_at xs s)) (sym (none.same alive).states) (made.numbers made.goes.done.goes_on s known);
       goes_for = λ tells last m stands.
@@ -231,6 +243,7 @@ module _ {D : Type 0} (shown : D → Shown) (before : D) (laws : IsDisk (shown b
             whole = none_whole f (can goes.done.point m tells last stands goes.done.stands) none.cause;
           };
       pointed = λ past. tt;
+      roomy = λ tells last m stands some past. tt;
       free = first_free;
       entries = λ few. subst (λ (s : Session). MakesNoHoles s new) (calm few).1 none.entries;
       unmade = λ few alive. subst (λ (s : Session). IsUnmade s.volumes s.pool new.volumes new.pool) (calm few).1 (none.same alive);
@@ -247,8 +260,9 @@ module _ {D : Type 0} (shown : D → Shown) (before : D) (laws : IsDisk (shown b
           (cases_lt 256 (old.pending + room))
 
       pub mirrored : (IsTrue (shown before).tells → (last m : Machine) → StandsFor (shown before) old last m → (point : Machine) → StandsFor (shown mid) session point m → StandsFor (shown after) new point (next m))
+          → (IsTrue (shown before).tells → (last m : Machine) → StandsFor (shown before) old last m → 256 < old.pending + room → HasMadeRoom room old (shown after) m)
           → MakesMirror shown room a next before old after new (Ok Done)
-      mirrored becomes = record {
+      mirrored becomes behind = record {
         ends = ends;
         stands = λ alive. stands_on added.set_now;
         done = record {
@@ -268,6 +282,7 @@ module _ {D : Type 0} (shown : D → Shown) (before : D) (laws : IsDisk (shown b
               whole = tt;
             };
         pointed = λ past. record { mid = session; pointed = left past; found = leaves.others.found };
+        roomy = λ tells last m stands some past accepted. behind tells last m stands past;
         free = first_free;
         entries = λ few. subst (λ (s : Session). MakesNoHoles s new) (calm few).1 (mirror_entries (shown mid) session name size kind a room (shown after) new added);
         unmade = λ few alive. tt;

@@ -141,7 +141,30 @@ point_done before old after new was now none counts pool states same goes = reco
 pub done_asks : (before : Shown) (old : Session) (after : Shown) (new : Session) (pool : Pool) (states : States) → new.pending ≡ 0 → GoesOnWhole before pool states after new.pool new.volumes → KeepsAsking 0 before old after new
 done_asks before old after new pool states none goes = λ tells kept asks fresh. record { asked = omega (arith, asked_unchanged new.volumes goes.fit.housed.long goes.unchanged); pending = omega (arith, none) }
 
--- the files of a volume couldn't be placed
+-- the files of a volume couldn't be placed, over the disk behind the failure
+abbrev pub files_to_place : (disk after : Shown) (session : Session) (at want found : ℕ) → IsNone session.failed → FailsToPlace disk session.pool session.volumes after (cp.Damaged at want found) → HasFilesToPlace after session at want found
+files_to_place disk after session at want found fresh fails = record {
+  fresh = fresh;
+  files = files_there disk session.pool session.volumes after (cp.Damaged at want found) fails;
+  slot = fails.slot;
+  state = fails.state;
+  there = fails.own;
+  mid = fails.mid;
+  root = fails.placed.found;
+  committed = fails.placed.committed;
+  placed = fails.placed.entries;
+  shapes = fails.placed.shapes;
+  entries = fails.entries;
+  between = fails.between;
+  ahead = fails.ahead;
+  others = fails.placed.others;
+  rest = fails.placed.rest;
+  done = inl fails.done;
+  first = λ none. (fails.first none).0;
+  fails = fails.fails;
+}
+
+-- and over that before it
 pub filed_as : (disk : Shown) (session : Session) (after : Shown) → OnlyReads disk after → (at want found : ℕ) → IsNone session.failed → FailsToPlace disk session.pool session.volumes after (cp.Damaged at want found) → HasFilesToPlace disk session at want found
 filed_as disk session after reads at want found fresh fails = record {
   fresh = fresh;
@@ -271,26 +294,7 @@ module _ (before : Shown) (old : Session) (after : Shown) (new : Session) (has :
             (λ (leaf : LacksLeaf after new.pool.containers at want found). inr (inr (inl ((0, inr (inr (inl refl))), lost_leaf at want found was leaf)))))
             (λ (lacks : FailsToPlace before old.pool old.volumes after (cp.Damaged at want found)).
             inr (inl (record {
-              files = record {
-                fresh = was;
-                files = files_there before old.pool old.volumes after (cp.Damaged at want found) lacks;
-                slot = lacks.slot;
-                state = lacks.state;
-                there = lacks.own;
-                mid = lacks.mid;
-                root = lacks.placed.found;
-                committed = lacks.placed.committed;
-                placed = lacks.placed.entries;
-                shapes = lacks.placed.shapes;
-                entries = lacks.entries;
-                between = lacks.between;
-                ahead = lacks.ahead;
-                others = lacks.placed.others;
-                rest = lacks.placed.rest;
-                done = inl lacks.done;
-                first = λ none. (lacks.first none).0;
-                fails = lacks.fails;
-              };
+              files = files_to_place before after old at want found was lacks;
               comes = inr (inl refl);
               before = λ other. lacks.done;
             })))

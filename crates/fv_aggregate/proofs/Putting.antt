@@ -1,5 +1,5 @@
 -- A volume that was put among those of a session, by either call that makes one: they fit together with it, and calls can be made on it.
-use Rattle.std.proofs.Common.{◌≡◌, ◌≢◌, ◌<◌, ◌≤◌, ◌+◌, ℕ, true, false, List, [], ◌∷◌, map, length, Option, Some, None, refl, sym, ap, subst, ◌∙◌, arith}
+use Rattle.std.proofs.Common.{◌≡◌, ℕ, List, [], ◌∷◌, map, length, Option, Some, None, refl, sym, ap, subst, ◌∙◌, arith}
 use Rattle.std.specs.Prelude.{IfSome}
 use Rattle.std.specs.Option.{option_map}
 use Rattle.std.proofs.lemmas.List.{get_or-set_same}
@@ -8,19 +8,17 @@ use Rattle.fv_disk.specs.Shown.{Shown}
 use Rattle.fv_charge.specs.declared.ledger.Ledger.{Ledger}
 use Rattle.fv_charge.specs.Ledgers.{committed}
 use Rattle.fv_model.specs.declared.commands.Kind.{Kind}
-use Rattle.fv_model.specs.Machines.{capacity}
 use Rattle.fv_model.specs.Space.{overhead, span_of}
 use Rattle.fv_container.specs.Chains.{IsSlots, paged_at}
-use Rattle.fv_image.specs.Views.{Head, Snap as HeadSnap}
+use Rattle.fv_image.specs.Views.{Head}
 use Rattle.fv_store.specs.Held.{StandsOn}
 use Rattle.fv_pool.specs.declared.pool.Pool.{Pool}
 use Rattle.fv_volume.specs.declared.state.Base.{Base}
 use Rattle.fv_volume.specs.declared.state.Snap.{Snap}
 use Rattle.fv_volume.specs.declared.state.VolumeState.{VolumeState}
 use Rattle.fv_volume.specs.Files.{IsLabelled}
-use Rattle.fv_volume.specs.OneVolume.{IsBooked}
-use Rattle.fv_volume.specs.Slots.{sum_of, IsFirstFree, NoneHasName}
-use Rattle.fv_volume.specs.States.{States, empty_head, head_in, ledger_of_empty, parent_in, snap_in, state_at, with_state}
+use Rattle.fv_volume.specs.Slots.{IsFirstFree, NoneHasName}
+use Rattle.fv_volume.specs.States.{States, ledger_of_empty, parent_in, snap_in, state_at, with_state}
 use Rattle.fv_volume.proofs.Cloned.{called, kind_is, size_is, span_is}
 use Rattle.fv_volume.proofs.TablesOf.{no_footing}
 use Rattle.fv_volumes.specs.Creating.{Admits, IsMade, IsNew, with_holes, with_holes_on}
@@ -31,7 +29,7 @@ use Rattle.fv_clone.proofs.Placed.{home, made_labelled}
 use Rattle.fv_cp.specs.Lent.{FitTogether}
 use Rattle.fv_cp.specs.Placing.{AreReady}
 use Rattle.fv_aggregate.specs.declared.session.Session.{Session}
-use Rattle.fv_aggregate.specs.Adding.{IsAdded, IsCloned, IsCreated, IsPutIn, IsYetToWrite}
+use Rattle.fv_aggregate.specs.Adding.{IsCloned, IsCreated, IsPutIn, IsYetToWrite}
 use Rattle.fv_aggregate.specs.Parts.{silent}
 use Rattle.fv_aggregate.proofs.Beside.{fit_beside, ready_beside}
 

@@ -61,6 +61,7 @@ use Rattle.fv_aggregate.proofs.Asked.{answer_allows}
 use Rattle.fv_aggregate.proofs.CallEnds.{goes_broken, goes_damaged, goes_done, goes_for_broken, goes_for_done, goes_for_fault, goes_wanting}
 use Rattle.fv_aggregate.proofs.Having.{contents, has_volumes}
 use Rattle.fv_aggregate.proofs.Keeping.{gone_keeps}
+use Rattle.fv_aggregate.proofs.LeftByCalls.{left_untouched}
 use Rattle.fv_aggregate.proofs.Looked.{asks_read, stands_for_read, stands_read, was_read}
 use Rattle.fv_aggregate.proofs.MadeRoom.{managed_room, none_roomy}
 use Rattle.fv_aggregate.proofs.Managed.{after_built, replies_built}
@@ -362,6 +363,7 @@ module _ {D : Type 0} (name : List ℕ) (d e : Shown) (at left : D) (s n : Sessi
     files = λ tells none once without. did.files without;
     same = λ tells none once stays. absurd (true≢false stays);
     stepped = λ takes. absurd (true≢false (sym takes));
+    left = λ tells last m held bare. left_untouched (VolDestroy name) d s e n at left (λ same. only) refl r refused bare;
     steps = record { other = λ none. refl; known = λ tells last m held knows. no_step r steps; path = λ tells last m held other of. absurd (none_snapped other of); dead = λ failed. refl };
     numbers = λ alive. did.numbers;
     dead = λ failed. not_dead _ s fresh failed;

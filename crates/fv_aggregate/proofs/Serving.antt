@@ -1,5 +1,5 @@
 -- What `apply` does with a command, by what the call does that carries it out.
-use Rattle.std.proofs.Common.{◌≡◌, inl, ◌≢◌, ◌<◌, ◌≤◌, ◌+◌, ◌⊎◌, ℕ, Bool, true, false, List, Option, Some, None, Result, Ok, Err, inr, true≢false, refl, sym, ap, subst, ◌∙◌, arith}
+use Rattle.std.proofs.Common.{◌≡◌, inl, ◌≢◌, ◌<◌, ◌≤◌, ◌+◌, ◌⊎◌, ⊎_elim, ℕ, Bool, true, false, List, Option, Some, None, Result, Ok, Err, inr, true≢false, refl, sym, ap, subst, ◌∙◌, arith}
 use Rattle.std.specs.Prelude.{IfOk, IfSome, IsNone, IsSome, IsTrue, OnErr, OnOk}
 use Rattle.std.specs.Option.{is_some}
 use Rattle.fv_disk.specs.Shown.{IsDisk, Shown}
@@ -30,11 +30,12 @@ use Rattle.fv_aggregate.specs.Probing.{CountsPath, TellsPath}
 use Rattle.fv_aggregate.specs.Reclaiming.{MakesRoom}
 use Rattle.fv_aggregate.specs.Standing.{StandsFor, StandsReady}
 use Rattle.fv_aggregate.proofs.Applied.{fault_plain, no_files, rests_for, rests_for_fault}
-use Rattle.fv_aggregate.proofs.Applying.{asks_none, goes_at_once, look_asks, look_files, look_goes, look_goes_for, look_name, look_no_point, look_refused, look_reply, look_same, look_unchanged, make_asks, make_calm, make_entries, make_goes, make_goes_for, make_name, make_no_point, make_reply, make_still, make_unasked, make_unchanged, make_within, no_step, no_steps, not_dead, same_map}
+use Rattle.fv_aggregate.proofs.Applying.{asks_none, goes_at_once, look_asks, look_files, look_goes, look_goes_for, look_name, look_no_point, look_refused, look_reply, look_same, look_unchanged, make_asks, make_calm, make_entries, make_goes, make_goes_for, make_name, make_no_point, make_reply, make_still, make_unasked, make_unchanged, make_within, no_step, no_steps, not_dead, rests_as, same_map}
 use Rattle.fv_aggregate.proofs.Calls.{reads_itself, rests_asks, rests_done, rests_wanting, stays_failed}
 use Rattle.fv_aggregate.proofs.Changing.{change_at_once, change_of_volume, change_reads, change_room, look_at_once, look_reads, look_room}
 use Rattle.fv_aggregate.proofs.Holes.{kept_entries, no_holes}
 use Rattle.fv_aggregate.proofs.Keeping.{keeps_but, keeps_managed, knows_named, may_lose, named_as}
+use Rattle.fv_aggregate.proofs.LeftByCalls.{change_todo, left_any, left_asked, left_read_refused, left_same, left_untouched, managed_kept, snap_todo}
 use Rattle.fv_aggregate.proofs.Looked.{was_unread}
 use Rattle.fv_aggregate.proofs.Managed.{manages_over}
 use Rattle.fv_aggregate.proofs.MadeRoom.{managed_room, none_roomy}
@@ -73,6 +74,7 @@ module _ {D : Type 0} (c : Command) (d : Shown) (at : D) (s : Session) (steps : 
     files = λ tells none once without. on_ok without r;
     same = λ tells none once stays places same. on_ok same r;
     stepped = λ takes fresh. no_steps c at_once _ takes;
+    left = λ tells last m stands bare. left_any c d s d s (left_same d s d s (reads_itself d) refl bare) r;
     steps = record { other = λ none. refl; known = λ tells last m stands knows. no_step r steps; path = λ tells last m stands name of. asks_none _ c name reads of; dead = λ failed. refl };
     numbers = λ alive k known stays. known;
     dead = λ failed. refl;
@@ -120,6 +122,7 @@ module _ {D : Type 0} (c : Command) (d : Shown) (at : D) (s : Session) (steps : 
     files = λ tells none once without. tt;
     same = λ tells none once stays places same. tt;
     stepped = λ takes fresh. not_dead _ s fresh some;
+    left = λ tells last m stands bare. tt;
     steps = record { other = λ none. refl; known = λ tells last m stands knows. tt; path = λ tells last m stands name of. tt; dead = λ failed. refl };
     numbers = λ alive k known stays. known;
     dead = λ failed. refl;
@@ -155,6 +158,7 @@ managed_applied c d laws at old fit fresh stands steps new reply stays either ma
       files = λ tells none once without. over.files without;
       same = λ tells none once stays places same. same_map old new (over.map stays) same;
       stepped = λ takes fresh. no_steps c (managed_at_once c either) _ takes;
+      left = λ tells last m held bare why. left_same d old d new (reads_itself d) (⊎_elim (managed_kept old c new reply manages) over.refused why) bare;
       steps = record { other = λ none. refl; known = λ tells last m held knows. refl; path = λ tells last m held name of. asks_none _ c name reads of; dead = λ failed. refl };
       numbers = λ alive. keeps_managed old c new reply fit.housed.long manages;
       dead = λ failed. refl;
@@ -218,6 +222,7 @@ look_applied c name asks d at s start e left n steps r fresh looks beside = reco
   files = λ tells none once without. look_files c name asks d s e n r looks without;
   same = λ tells none once stays places same. look_same c name asks d s e n r looks same;
   stepped = λ takes fresh. no_steps c (look_at_once c name asks) _ takes;
+  left = λ tells last m stands bare. left_asked c d s e n r looks.read bare;
   steps = record {
     other = beside.other;
     known = beside.known;
@@ -266,6 +271,7 @@ make_applied c name of d at s e left n steps r fresh makes roomy unmade beside =
   files = λ tells isnt once without. make_unchanged c name of d s e n r makes _ isnt;
   same = λ tells isnt once stays places same. make_unchanged c name of d s e n r makes _ isnt;
   stepped = λ takes fresh. no_steps c (change_at_once name c (change_of_volume name c of)) _ takes;
+  left = λ tells last m stands bare. left_read_refused c d s e n (change_todo name c (change_of_volume name c of)) r (makes.refused tells last m stands) bare;
   steps = record { other = λ none. refl; known = λ tells last m stands knows. no_step r steps; path = λ tells last m stands other asked. make_unasked c name of d s e n r makes _ (subst IsSome (sym asked) refl); dead = λ failed. refl };
   numbers = beside.kept;
   dead = λ failed. not_dead _ s fresh failed;
@@ -290,6 +296,7 @@ snap_applied c name of shown at s left n steps r fresh did missing needs roomy =
   files = λ tells none once without. did.files tells without;
   same = λ tells none once stays which same. did.same tells which same;
   stepped = λ takes fresh. no_steps c (snap_at_once name c of) _ takes;
+  left = λ tells last m stands bare. left_untouched c (shown at) s (shown left) n at left (rests_as shown at left) (snap_todo name c of) r did.refused bare;
   steps = record { other = λ none. refl; known = λ tells last m stands knows. no_step r steps; path = λ tells last m stands other asked. asks_none _ c other (snap_reads name c of) asked; dead = λ failed. refl };
   numbers = did.numbers;
   dead = λ failed. not_dead _ s fresh failed;

@@ -1,7 +1,6 @@
 -- Each command on snapshots, carried out by the call of the volume of its slot: what the session answers, and what it stands for then.
 use Rattle.std.proofs.Common.{◌≡◌, ◌<◌, ◌≤◌, ◌+◌, ◌⊎◌, ℕ, true, false, List, length, Option, Some, None, is_some, Result, Ok, Err, inl, inr, ⊎_elim, true≢false, refl, sym, ap, subst, ◌∙◌, arith}
 use Rattle.std.specs.Prelude.{IfErr, IfSome, IsNone}
-use Rattle.std.specs.FinMap as fin
 use Rattle.std.proofs.lemmas.List.{set-get_or}
 use Rattle.fv_disk.specs.Shown.{IsDisk, Rose, Shown}
 use Rattle.fv_disk.specs.DiskCalls.{OnlyReads}

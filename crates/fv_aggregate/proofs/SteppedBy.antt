@@ -1,6 +1,6 @@
 -- What calls of background steps do as `apply` tells it: the machine stays.
-use Rattle.std.proofs.Common.{◌≡◌, ◌≤◌, ◌+◌, ℕ, Bool, true, false, not, Option, Some, None, Result, Ok, Err, refl, sym, ap, subst, ◌∙◌, arith}
-use Rattle.std.specs.Prelude.{if◌then◌else◌, IfErr, IfOk, IsNone, IsTrue, OnErr, OnOk}
+use Rattle.std.proofs.Common.{◌≡◌, ℕ, Bool, true, false, not, Option, Some, None, Result, Ok, Err, refl, sym, ap, subst, ◌∙◌, arith}
+use Rattle.std.specs.Prelude.{if◌then◌else◌, IfErr, IsNone, IsTrue, OnErr, OnOk}
 use Rattle.fv_disk.specs.Shown.{IsDisk, Shown}
 use Rattle.fv_model.specs.declared.answers.Refusal.{Refusal}
 use Rattle.fv_model.specs.declared.answers.Refusal.TheVariants.{Range}
@@ -100,7 +100,7 @@ module _ {D : Type 0} (steps : ℕ) (shown : D → Shown) (before : D) (laws : I
     numbers = rests.numbers;
     goes_for = goes_for_steps 0 d old fresh d old (Ok (Refused Range)) rests;
     reply = λ tells last m stands. far_allows m steps far;
-    takes = record { far = λ far. (refl, (refl, refl)); taken = λ near. absurd (both near) };
+    takes = record { far = λ far. (refl, (refl, refl)); taken = λ near. absurd (both near); undone = λ tells last m is none still. tt; calm = λ few. reads_itself d };
   }
     where
       d : Shown
@@ -124,7 +124,7 @@ module _ {D : Type 0} (steps : ℕ) (shown : D → Shown) (before : D) (laws : I
       numbers = done.numbers;
       goes_for = goes_for_steps steps (shown before) old fresh (shown after) new (Ok Done) done;
       reply = λ tells last m stands. work_allows m steps near;
-      takes = record { far = λ far. not_far far; taken = λ near. (refl, (taken, works.worked)) };
+      takes = record { far = λ far. not_far far; taken = λ near. (refl, (taken, works.worked)); undone = λ tells last m is none still. tt; calm = works.calm };
     }
       where
         done : Backs {T = Reply} steps (shown before) old (shown after) new (Ok Done)
@@ -137,7 +137,7 @@ module _ {D : Type 0} (steps : ℕ) (shown : D → Shown) (before : D) (laws : I
       numbers = undone.numbers;
       goes_for = goes_for_steps steps (shown before) old fresh (shown after) new (Err f) undone;
       reply = λ tells last m stands. tt;
-      takes = record { far = λ far. not_far far; taken = λ near. tt };
+      takes = record { far = λ far. not_far far; taken = λ near. tt; undone = works.undone; calm = works.calm };
     }
       where
         undone : Backs {T = Reply} steps (shown before) old (shown after) new (Err f)

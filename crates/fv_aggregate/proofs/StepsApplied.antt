@@ -3,6 +3,7 @@ use Rattle.std.proofs.Common.{◌≡◌, ◌≢◌, ◌<◌, ◌⊎◌, ⊎_elim
 use Rattle.std.specs.Prelude.{if◌then◌else◌, IfOk, IsNone, IsTrue}
 use Rattle.std.proofs.lemmas.Bool.{cases_lt}
 use Rattle.fv_disk.specs.Shown.{Shown}
+use Rattle.fv_disk.specs.DiskCalls.{OnlyReads}
 use Rattle.fv_model.specs.declared.answers.Reply.{Reply}
 use Rattle.fv_model.specs.declared.commands.Command.{Command}
 use Rattle.fv_model.specs.declared.commands.Command.TheVariants.{Clean, Cp, SnapList, VolDestroy, VolList, Work}
@@ -19,7 +20,7 @@ use Rattle.fv_aggregate.specs.declared.session.Session.{Session}
 use Rattle.fv_aggregate.specs.Applying.{HasApplied}
 use Rattle.fv_aggregate.specs.Calls.{GoesFor, IsPlain, IsUntouched}
 use Rattle.fv_aggregate.specs.Cleaning.{Cleans, CleansNamed, GoesAs, GoesInSteps, StepsBy, TakesAll, TakesSteps}
-use Rattle.fv_aggregate.specs.Commands.{asked_by, is_built, is_refusal, machine_after, managed_by, reaches_disk, reads_files, room_by, snapped_by, takes_steps, Replies, RepliesBy}
+use Rattle.fv_aggregate.specs.Commands.{asked_by, is_built, is_refusal, keeps_todo, machine_after, managed_by, reaches_disk, reads_files, room_by, snapped_by, takes_steps, Replies, RepliesBy}
 use Rattle.fv_aggregate.specs.Deciding.{makes_volume}
 use Rattle.fv_aggregate.specs.Known.{KeepsNumbers}
 use Rattle.fv_aggregate.specs.Standing.{StandsFor}
@@ -27,12 +28,14 @@ use Rattle.fv_aggregate.proofs.Added.{not_refused}
 use Rattle.fv_aggregate.proofs.Applying.{asks_none, no_step, not_dead}
 use Rattle.fv_aggregate.proofs.Decided.{undecided}
 use Rattle.fv_aggregate.proofs.Keeping.{keeps_but}
+use Rattle.fv_aggregate.proofs.LeftByCalls.{left_untouched}
 
 -- ---- a command that takes steps
 
 -- it is none of the others
 record IsStepping (c : Command) : Type 0 where
   takes : takes_steps c ≡ true
+  no_asking : keeps_todo c ≡ false
   reaches : reaches_disk c ≡ true
   built : is_built c ≡ true
   no_files : reads_files c ≡ false
@@ -48,6 +51,7 @@ stepping_clean : (name : List ℕ) → IsStepping (Clean name)
 unfolding is_built reads_files
 stepping_clean name = record {
   takes = refl;
+  no_asking = refl;
   reaches = refl;
   built = refl;
   no_files = refl;
@@ -64,6 +68,7 @@ stepping_work : (steps : ℕ) → IsStepping (Work steps)
 unfolding is_built reads_files
 stepping_work steps = record {
   takes = refl;
+  no_asking = refl;
   reaches = refl;
   built = refl;
   no_files = refl;
@@ -80,6 +85,8 @@ stepping_work steps = record {
 record HasStepped {D : Type 0} (c : Command) (shown : Shown) (before : D) (old : Session) (shown_after : Shown) (after : D) (new : Session)
     (result : Result Reply Fault) : Type 0 where
   fresh : IsNone old.failed
+  -- a disk that stays shows what it showed
+  rests : after ≡ before → OnlyReads shown shown_after
   goes : GoesInSteps shown old shown_after new result
   goes_for : IsTrue shown.tells → (last m : Machine) → StandsFor shown old last m → GoesFor shown last m (next m c) shown_after new result
   reply : IsTrue shown.tells → (last m : Machine) → StandsFor shown old last m → IfOk result (Allows m c)
@@ -133,12 +140,13 @@ module _ {D : Type 0} (c : Command) (is : IsStepping c) (d : Shown) (at : D) (s 
     on_files = λ files. absurd (true≢false (sym files ∙ is.no_files));
     point = λ tells last m stands cp. absurd (is.no_point cp);
     sides = λ tells last m stands cp. absurd (is.no_point cp);
-    roomy = λ once. reached _ once;
+    roomy = λ once. absurd (true≢false (sym is.takes ∙ once));
     calm = λ other once. reached _ once;
     entries = λ other once. absurd (true≢false (sym is.takes ∙ once));
     files = λ tells none once. reached _ once;
     same = λ tells none once. reached _ once;
     stepped = λ takes fresh. did.stepped;
+    left = λ tells last m stands bare. left_untouched c d s e n at left did.rests is.no_asking result did.refused bare;
     steps = record {
       other = λ none. refl;
       known = λ tells last m stands knows. no_step result start;
@@ -177,8 +185,9 @@ first_named states name (suc n) = ⊎_elim
 
 -- ---- both
 
-module _ {D : Type 0} (d : Shown) (at : D) (s : Session) (fresh : IsNone s.failed) (e : Shown) (left : D) (n : Session) (result : Result Reply Fault) (start : ℕ) where
-  clean_refused : (name : List ℕ) → CleansNamed name at s left n result → IfOk result (λ reply. IsTrue (is_refusal reply) → IsUntouched at s left n)
+module _ {D : Type 0} (d : Shown) (at : D) (s : Session) (fresh : IsNone s.failed) (e : Shown) (left : D) (n : Session) (result : Result Reply Fault)
+    (rests : left ≡ at → OnlyReads d e) (start : ℕ) where
+  clean_refused : (name : List ℕ) → CleansNamed name d e at s left n result → IfOk result (λ reply. IsTrue (is_refusal reply) → IsUntouched at s left n)
   clean_refused name cleans = ⊎_elim
       (λ none. rests_refused _ (cleans.missing (record { none = none })).1 result)
       (λ some. not_refused _ result (if_ok (λ reply is. is.0) result (cleans.answered some.0 some.1.0 some.1.1)))
@@ -187,6 +196,7 @@ module _ {D : Type 0} (d : Shown) (at : D) (s : Session) (fresh : IsNone s.faile
   pub clean_applied : (name : List ℕ) → Cleans name d at s e left n result → HasApplied (Clean name) d at s start e left n start result
   clean_applied name does = stepped_applied (Clean name) (stepping_clean name) d at s e left n result (record {
     fresh = fresh;
+    rests = rests;
     goes = does.goes;
     goes_for = does.goes_for;
     reply = does.reply;
@@ -214,6 +224,7 @@ module _ {D : Type 0} (d : Shown) (at : D) (s : Session) (fresh : IsNone s.faile
   pub work_applied : (steps : ℕ) → TakesAll steps d at s e left n result → HasApplied (Work steps) d at s start e left n start result
   work_applied steps does = stepped_applied (Work steps) (stepping_work steps) d at s e left n result (record {
     fresh = fresh;
+    rests = rests;
     goes = does.goes;
     goes_for = λ tells last m stands. subst (λ (k : Machine). GoesFor d last m k e n result) (sym (work_next steps m)) (does.goes_for tells last m stands);
     reply = does.reply;

@@ -53,6 +53,7 @@ use Rattle.fv_aggregate.proofs.Keeping.{keeps_same}
 use Rattle.fv_aggregate.proofs.Looked.{fit_read, stands_for_read, stands_read}
 use Rattle.fv_aggregate.proofs.Returned.{breaks_beside, put_back}
 use Rattle.fv_aggregate.proofs.Standing.{known_still, rests_for_last, settled_after_reads, stands_for_last, stays_for}
+use Rattle.fv_aggregate.proofs.WorkedOthers.{todo_loaded}
 use Rattle.fv_aggregate.proofs.WorkedParts.{commits_moved, fit_moved, moved_on, none_moved, numbers_moved, ready_moved, IsMovedOn}
 use Rattle.fv_aggregate.proofs.WorkedStands.{cleanable, none_falls, stepped_falls, stepped_for}
 
@@ -366,6 +367,7 @@ module _ (d e : Shown) (laws : IsDisk d) (s : Session) (slot : ℕ) (may : MaySt
         roots = λ unclean other. absurd (true≢false other);
         falls = λ tells last m is.
             stepped_falls d s fit may.none slot x may.there.is may.there.unclean last m is e q new cleans reads cache may.few;
+        undone = tt;
       }
 
       pub took_step : (was : Session) → s ≡ was → e.faults ≡ d.faults → MovesAt d s.pool s.volumes slot q
@@ -413,6 +415,7 @@ module _ (d e : Shown) (laws : IsDisk d) (s : Session) (slot : ℕ) (may : MaySt
         roots = λ unclean none. subst (λ (ss : States). HasKnownRoots (state_at ss slot)) (sym same_volumes)
             (subst HasKnownRoots (sym may.there.is) idle.cleans.roots.0);
         falls = λ tells last m is. none_falls d s fit may.none slot x may.there.is may.there.unclean last m is q new cleans;
+        undone = tt;
       }
 
       pub none_step : (was : Session) → s ≡ was → e.faults ≡ d.faults → MovesAt d s.pool s.volumes slot q
@@ -459,7 +462,11 @@ module _ (d e : Shown) (laws : IsDisk d) (s : Session) (slot : ℕ) (may : MaySt
         unled = tt;
         roots = λ unclean. tt;
         falls = λ tells last m is. tt;
+        undone = todo_loaded d e s n (subst (LoadsPool d s.pool) (sym beside.0) loads) reads (beside.1 ∙ same);
       }
+        where
+          beside : (n.pool ≡ q) × (n.volumes ≡ new)
+          beside = breaks_beside e fault (record s { volumes = new; pool = q }) n f breaks
 
       pub failed_step : (was : Session) → s ≡ was → TakesStep slot d was e n (Err f)
       failed_step was back = subst (λ (k : Session). TakesStep slot d k e n (Err f)) back failed_by

@@ -10,6 +10,7 @@ use Rattle.fv_store.specs.Held.{StandsOn}
 use Rattle.fv_pool.specs.declared.pool.Pool.{Pool}
 use Rattle.fv_pool.specs.declared.fault.VolumeFault.{VolumeFault}
 use Rattle.fv_pool.specs.declared.fault.VolumeFault.TheVariants as volume
+use Rattle.fv_pool.specs.Calls.{Reads}
 use Rattle.fv_pool.specs.Causes.{IsNoDamage}
 use Rattle.fv_volume.specs.declared.state.VolumeState.{VolumeState}
 use Rattle.fv_volume.specs.Held.{IsPlaceFault}
@@ -25,15 +26,16 @@ use Rattle.fv_aggregate.specs.declared.fault.Fault.{Fault}
 use Rattle.fv_aggregate.specs.declared.fault.Fault.TheVariants.{DiskFault, Damaged, Memory, Failed}
 use Rattle.fv_aggregate.specs.declared.session.Session.{Session}
 use Rattle.fv_aggregate.specs.Calls.{HasDamage, Runs, SameCounts}
-use Rattle.fv_aggregate.specs.Commands.{AsksCopies, AsksNothing, AsksPlacing, AsksTable}
+use Rattle.fv_aggregate.specs.Commands.{AsksNothing, AsksPlacing, AsksTable}
 use Rattle.fv_aggregate.specs.Known.{KeepsNumbers}
 use Rattle.fv_aggregate.specs.Looking.{Breaks}
-use Rattle.fv_aggregate.specs.Standing.{OneOf, StandsAfter, StandsReady}
-use Rattle.fv_aggregate.specs.Working.{is_unclean, step_room, todo_at, Backs, HasWorkDamage, HasWorkFault, PlacesAll, StaysFor, TakesStep}
+use Rattle.fv_aggregate.specs.Standing.{OneOf, StandsAfter, StandsFor, StandsReady}
+use Rattle.fv_aggregate.specs.Working.{is_unclean, step_room, todo_at, AreLaid, Backs, HasWorkDamage, HasWorkFault, PlacesAll, StaysFor, TakesStep}
 use Rattle.fv_aggregate.proofs.Calls.{reads_itself}
+use Rattle.fv_aggregate.proofs.Damages.{no_copies, nothing_copies}
 use Rattle.fv_aggregate.proofs.Keeping.{keeps_core, keeps_same}
-use Rattle.fv_aggregate.proofs.Looked.{reads_alone}
-use Rattle.fv_aggregate.proofs.PointEnds.{has_full_room, still_for, still_stands, HasStayed}
+use Rattle.fv_aggregate.proofs.Looked.{machine_read, reads_alone}
+use Rattle.fv_aggregate.proofs.PointEnds.{files_to_place, has_full_room, still_for, still_stands, HasStayed}
 use Rattle.fv_aggregate.proofs.Returned.{breaks_beside}
 use Rattle.fv_aggregate.proofs.Worked.{backs_fault, backs_ok, FaultCause}
 
@@ -158,16 +160,13 @@ module _ (d : Shown) (s : Session) (fresh : IsNone s.failed) (e : Shown) (n : Se
   no_table : (slot : ℕ) (snapshot : Option (List ℕ)) (cell : Bool) → AsksNothing ≡ AsksTable slot snapshot cell → ⊥
   no_table slot snapshot cell e = cc
 
-  no_copies : (slot : ℕ) (snapshot : List ℕ) → AsksNothing ≡ AsksCopies slot snapshot → ⊥
-  no_copies slot snapshot e = cc
-
   room_damage : (at want found : ℕ) → HasDamage step_room AsksNothing d s e n at want found → HasWorkDamage e n at want found
   room_damage at want found (inl (reads, inl now)) = record { session = s; asked = AsksNothing; part = inl now }
   room_damage at want found (inl (reads, inr after)) = absurd (no_table after.read.slot after.read.snapshot after.read.cell after.read.asks)
   room_damage at want found (inr (inl (past, behind))) =
       absurd (no_table behind.read.slot behind.read.snapshot behind.read.cell behind.read.asks)
-  room_damage at want found (inr (inr copies)) =
-      absurd (no_copies copies.admitted.source.parent copies.admitted.source.snapshot copies.asks)
+  room_damage at want found (inr (inr (inl bad))) = no_copies AsksNothing nothing_copies _ s d s bad
+  room_damage at want found (inr (inr (inr (past, behind)))) = no_copies AsksNothing nothing_copies _ s e n behind.bad
 
   pub backs_unroomed : (f : Fault) → n.pending ≤ s.pending → Runs {T = Unit {0}} step_room AsksNothing (λ m. m) d s e n (Err f)
       → Backs {T = Unit {0}} 0 d s e n (Err f)
@@ -224,26 +223,7 @@ module _ (d e : Shown) (laws : IsDisk d) (s : Session) (fresh : IsNone s.failed)
         session = s;
         asked = AsksPlacing lacks.slot;
         part = inl (inr (inl (record {
-          files = record {
-            fresh = fresh;
-            files = files_there d s.pool s.volumes e (volume.Damaged at want found) lacks;
-            slot = lacks.slot;
-            state = lacks.state;
-            there = lacks.own;
-            mid = lacks.mid;
-            root = lacks.placed.found;
-            committed = lacks.placed.committed;
-            placed = lacks.placed.entries;
-            shapes = lacks.placed.shapes;
-            entries = lacks.entries;
-            between = lacks.between;
-            ahead = lacks.ahead;
-            others = lacks.placed.others;
-            rest = lacks.placed.rest;
-            done = inl lacks.done;
-            first = λ none. (lacks.first none).0;
-            fails = lacks.fails;
-          };
+          files = files_to_place d e s at want found fresh lacks;
           comes = inl refl;
           before = λ other. lacks.done;
         })));
@@ -292,7 +272,25 @@ module _ {D : Type 0} (shown : D → Shown) (first second : D) (laws : IsDisk (s
         none = none;
         cores = are.cores;
         idle = λ bare. let as_was = idle bare in (as_was.1.1, λ j. record v { volumes = as_was.1.0 j; pool = as_was.0 j });
+        only_reads = are.only_reads;
+        laid = λ tells last m is. laid last m is;
+        filed = tt;
       })
+    where
+      read : Reads (shown first) q (shown second) q
+      read = record { leaves = record { map = refl; containers = refl; kept = refl; found = refl; version = refl }; only_reads = are.only_reads; stands = stands }
+
+      laid : (last m : Machine) → StandsFor (shown first) v last m → AreLaid (shown first) v (shown second).reads q new m
+      laid last m is = record {
+        image = are.only_reads.stays.reads;
+        machine = sym (machine_read (shown first) (shown second) q q read new) ∙ are.machine last is.held ∙ is.machine;
+        found = are.found;
+        version = are.version;
+        others = are.others;
+        entries = are.entries;
+        unused = are.unused last is.held;
+        rest = are.rest;
+      }
 
   pub places_err : (fault : VolumeFault) (n : Session) (f : Fault) → Breaks (shown second) fault (record v { volumes = new; pool = q }) n f
       → IsPlaceFault (shown first) (shown second) fault → FailsToPlace (shown first) v.pool v.volumes (shown second) fault
@@ -307,6 +305,9 @@ module _ {D : Type 0} (shown : D → Shown) (first second : D) (laws : IsDisk (s
     cores = subst (KeepCores v.volumes) (sym (breaks_beside (shown second) fault (record v { volumes = new; pool = q }) n f breaks).1)
         are.cores;
     idle = λ bare. tt;
+    only_reads = are.only_reads;
+    laid = λ tells last m is. tt;
+    filed = files_there (shown first) v.pool v.volumes (shown second) fault fails;
   })
 
 -- ---- a slot in which nothing is to be done
@@ -330,6 +331,7 @@ idle_step d laws s fresh ready none slot known = record {
   unled = by (state_at s.volumes slot);
   roots = λ unclean. absurd (true≢false (sym unclean ∙ known));
   falls = λ tells last m is. none_todo d.reads s.pool (state_at s.volumes slot) known;
+  undone = tt;
 }
   where
     by : (o : Option VolumeState) → MovesIn d s.pool o s.pool

@@ -1,13 +1,13 @@
 -- Steps that are looked for slot by slot, and steps one after another.
-use Rattle.std.proofs.Common.{◌≡◌, ◌≢◌, ◌≤◌, ◌<◌, ◌+◌, ℕ, Bool, true, false, true≢false, cond, List, length, Option, Some, None, Result, Ok, Err, ⊎_elim, refl, sym, ap, subst, ◌∙◌, arith}
-use Rattle.std.specs.Prelude.{IfOk, IsNone, IsTrue, OnOk}
-use Rattle.std.proofs.lemmas.Bool.{cases_eq, cases_lt}
+use Rattle.std.proofs.Common.{◌≡◌, ◌≢◌, ◌≤◌, ◌<◌, ◌+◌, ℕ, Bool, true, false, true≢false, cond, length, Option, Some, None, Result, Ok, Err, ⊎_elim, refl, sym, ap, subst, ◌∙◌, arith}
+use Rattle.std.specs.Prelude.{IsNone, IsTrue}
+use Rattle.std.proofs.lemmas.Bool.{cases_eq}
 use Rattle.fv_container.specs.Chains.{Slots, container_at}
-use Rattle.fv_disk.specs.Shown.{Image, IsDisk, Shown}
+use Rattle.fv_disk.specs.Shown.{IsDisk, Shown}
+use Rattle.fv_disk.specs.DiskCalls.{OnlyReads}
 use Rattle.fv_disk.proofs.Resting.{reads_then}
 use Rattle.fv_model.specs.Machines.{Machine}
 use Rattle.fv_pool.specs.declared.pool.Pool.{Pool}
-use Rattle.fv_pool.specs.BlocksOver.{LeavesPool}
 use Rattle.fv_pool.specs.Calls.{Reads}
 use Rattle.fv_volume.specs.declared.state.VolumeState.{VolumeState}
 use Rattle.fv_volume.specs.States.{States, state_at, with_state}
@@ -17,7 +17,7 @@ use Rattle.fv_aggregate.specs.declared.fault.Fault.{Fault}
 use Rattle.fv_aggregate.specs.declared.session.Session.{Session}
 use Rattle.fv_aggregate.specs.Commands.{dirty_limit}
 use Rattle.fv_aggregate.specs.Standing.{StandsAfter, StandsFor, StandsReady}
-use Rattle.fv_aggregate.specs.Working.{step_room, todo, todo_at, Backs, Falls, HasWorked, NoneLeft, PlacesAll, SeeksStep, TakesFirst, TakesStep, Works, WorksOnce}
+use Rattle.fv_aggregate.specs.Working.{step_room, todo, todo_at, Backs, FallsSince, SeeksStep, StepsSince, TakesFirst, TakesStep, Works, WorksOnce}
 use Rattle.fv_aggregate.proofs.Calls.{reads_itself}
 use Rattle.fv_aggregate.proofs.Keeping.{keeps_same}
 use Rattle.fv_aggregate.proofs.Looked.{reads_alone, stands_for_read, stands_read}
@@ -102,7 +102,7 @@ module _ (d : Shown) (laws : IsDisk d) (s : Session) (fresh : IsNone s.failed) (
 
   -- a step of the next slot is the first one
   first_step : (p : Session) (o : Option VolumeState) → StepsIn e n.pool n.volumes count o p.pool p.volumes true
-      → ((k : ℕ) → k < count → todo_at d.reads s.pool (state_at s.volumes k) ≡ 0) → TakesFirst d s p
+      → ((k : ℕ) → k < count → todo_at d.reads s.pool (state_at s.volumes k) ≡ 0) → TakesFirst d.reads s.pool s.volumes p
   first_step p None steps idle = absurd (true≢false steps.0)
   first_step p (Some x) steps idle =
       let moved = moved_on e n.pool x p.pool steps.volume steps.cleans in
@@ -123,6 +123,7 @@ module _ (d : Shown) (laws : IsDisk d) (s : Session) (fresh : IsNone s.failed) (
     none = step.none;
     falls = λ tells last m is. let less = step.falls (subst IsTrue (sym was.reads.only_reads.stays.tells) tells) last m (sought_for last m is) in omega (arith, less, todo_same);
     first = λ tells last m is. first_step p (state_at n.volumes count) step.steps.0 (was.none tells last m is);
+    undone = tt;
   }
 
   -- it fails
@@ -133,6 +134,7 @@ module _ (d : Shown) (laws : IsDisk d) (s : Session) (fresh : IsNone s.failed) (
     none = step.none;
     falls = λ tells last m is. tt;
     first = λ tells last m is. tt;
+    undone = step.undone ∙ todo_same;
   }
 
   -- none has
@@ -148,122 +150,151 @@ module _ (d : Shown) (laws : IsDisk d) (s : Session) (fresh : IsNone s.failed) (
         let zero : todo d s ≡ 0 = none_slots (todo_at d.reads s.pool) s.volumes (λ k low. was.none tells last m is k (omega (arith, low, long, all))) in
         (zero, todo_same ∙ zero);
     first = λ tells last m is. tt;
+    undone = tt;
   }
-
--- ---- one step of a session
-
-falls_from : (d e g : Shown) (s o p : Session) → todo e o ≡ todo d s → (r : Result Bool Fault) → IfOk r (Falls e o g p) → IfOk r (Falls d s g p)
-falls_from d e g s o p same (Ok true) is = omega (arith, same, is)
-falls_from d e g s o p same (Ok false) is = (sym same ∙ is.0, is.1)
-falls_from d e g s o p same (Err f) is = tt
-
-module _ {D : Type 0} (shown : D → Shown) (first second third last_disk : D) (s n o p : Session)
-    (room : Backs {T = Unit {0}} 0 (shown first) s (shown second) n (Ok tt))
-    (left : IsTrue (shown first).tells → (last m : Machine) → StandsFor (shown first) s last m → HaveNoFiles s.volumes
-    → todo (shown second) n ≡ todo (shown first) s)
-    (files : HaveNoFiles s.volumes → HaveNoFiles n.volumes) (placed : PlacesAll shown second n third o (Ok tt)) where
-  ready_backs : Backs {T = Unit {0}} 0 (shown first) s (shown third) o (Ok tt)
-  ready_backs = backs_then tt 0 0 0 (omega arith) (shown first) s (shown second) n room (shown third) o (Ok tt) placed.backs
-
-  tells_then : IsTrue (shown first).tells → IsTrue (shown third).tells
-  tells_then tells = subst IsTrue (sym ready_backs.ends.tells) tells
-
-  stood : IsTrue (shown first).tells → (last m : Machine) → StandsFor (shown first) s last m → StandsAfter (shown third) o last m m
-  stood tells last m is = (ready_backs.stays tells last m is).stands ready_backs.done.0
-
-  idle_same : HaveNoFiles s.volumes → todo (shown third) o ≡ todo (shown second) n
-  idle_same none = let idle = placed.idle (files none) in λ j. todo (shown (idle.0 j)) (idle.1 j)
-
-  pub worked_once : (r : Result Bool Fault) → SeeksStep (shown third) o (shown last_disk) p r → WorksOnce (shown first) s (shown last_disk) p r
-  worked_once r seeks = record {
-    backs = backs_then tt 0 1 1 (omega arith) (shown first) s (shown third) o ready_backs (shown last_disk) p r seeks.backs;
-    none = on r seeks.none;
-    least = λ tells last m is. let at = stood tells last m is in least r (seeks.falls (tells_then tells) at.point m at.stands);
-    falls = λ tells last m is none.
-        let at = stood tells last m is in
-        falls_from (shown first) (shown third) (shown last_disk) s o p (idle_same none ∙ left tells last m is none) r
-        (seeks.falls (tells_then tells) at.point m at.stands);
-  }
-    where
-      on : (r : Result Bool Fault) → HaveNoFiles p.volumes → OnOk r (HaveNoFiles p.volumes)
-      on (Ok b) is = is
-      on (Err f) is = tt
-
-      least : (r : Result Bool Fault) → IfOk r (Falls (shown third) o (shown last_disk) p) → IfOk r (NoneLeft (shown last_disk) p)
-      least (Ok true) is = tt
-      least (Ok false) is = is.1
-      least (Err f) is = tt
-
--- no file is in memory after a point, nor where none was made
-pub files_then : (d : Shown) (s n : Session) → (dirty_limit < s.pending + step_room → HaveNoFiles n.volumes)
-    → (s.pending + step_room ≤ dirty_limit → n ≡ s) → HaveNoFiles s.volumes → HaveNoFiles n.volumes
-files_then d s n past low none = ⊎_elim past (λ within. subst (λ (k : Session). HaveNoFiles k.volumes) (sym (low within)) none)
-    (cases_lt dirty_limit (s.pending + step_room))
-
--- a fault before it
-pub unworked : (d : Shown) (s : Session) (e : Shown) (n : Session) (f : Fault) → Backs {T = Unit {0}} 0 d s e n (Err f) → WorksOnce d s e n (Err f)
-unworked d s e n f is = record { backs = backs_err 0 1 (omega arith) d s e n f is; none = tt; least = λ tells last m was. tt; falls = λ tells last m was none. tt }
-
-pub unplaced_work : {D : Type 0} (shown : D → Shown) (first second third : D) (s n o : Session) (f : Fault) → Backs {T = Unit {0}} 0 (shown first) s (shown second) n (Ok tt) → PlacesAll shown second n third o (Err f) → WorksOnce (shown first) s (shown third) o (Err f)
-unplaced_work shown first second third s n o f room placed = unworked (shown first) s (shown third) o f (backs_then tt 0 0 0 (omega arith) (shown first) s (shown second) n room (shown third) o (Err f) placed.backs)
 
 -- ---- steps one after another
 
-pub record HasGone (d : Shown) (s : Session) (count : ℕ) (e : Shown) (n : Session) : Type 0 where
-  pub backs : Backs {T = Unit {0}} count d s e n (Ok tt)
-  pub falls : IsTrue d.tells → (last m : Machine) → StandsFor d s last m → HaveNoFiles s.volumes → HaveNoFiles n.volumes × (todo e n + count ≤ todo d s)
+-- So many steps were taken, each of which found one to take. After the first one no file is in memory, and what is left falls by each since the
+-- files in memory were placed for it. Where each step has room no point is made.
+pub record HasGone {D : Type 0} (shown : D → Shown) (d : D) (s : Session) (count : ℕ) (e : D) (n : Session) : Type 0 where
+  pub backs : Backs {T = Unit {0}} count (shown d) s (shown e) n (Ok tt)
+  pub falls : IsTrue (shown d).tells → (last m : Machine) → StandsFor (shown d) s last m → HaveNoFiles s.volumes
+      → HaveNoFiles n.volumes × (todo (shown e) n + count ≤ todo (shown d) s)
+  pub none : HaveNoFiles s.volumes → HaveNoFiles n.volumes
+  pub start : count ≡ 0 → (e ≡ d) × (n ≡ s)
+  pub bare : 0 < count → HaveNoFiles n.volumes
+  pub since : IsTrue (shown d).tells → (last m : Machine) → StandsFor (shown d) s last m → 0 < count
+      → FallsSince (shown d) s (shown e) n m count
+  pub calm : s.pending + count + step_room ≤ dirty_limit + 1 → OnlyReads (shown d) (shown e)
 
-pub gone_none : (d : Shown) → IsDisk d → (s : Session) → IsNone s.failed → StandsReady d s → HasGone d s 0 d s
-gone_none d laws s fresh ready = record {
-  backs = backs_ok d d laws s s 0 (reads_itself d) fresh ready (omega arith) (omega arith) (keeps_same s.volumes s.volumes refl)
-      (λ tells last m is. is) tt refl;
+pub gone_none : {D : Type 0} (shown : D → Shown) (d : D) → IsDisk (shown d) → (s : Session) → IsNone s.failed → StandsReady (shown d) s
+    → HasGone shown d s 0 d s
+gone_none shown d laws s fresh ready = record {
+  backs = backs_ok (shown d) (shown d) laws s s 0 (reads_itself (shown d)) fresh ready (omega arith) (omega arith)
+      (keeps_same s.volumes s.volumes refl) (λ tells last m is. is) tt refl;
   falls = λ tells last m is none. (none, omega arith);
+  none = λ none. none;
+  start = λ zero. (refl, refl);
+  bare = λ some. absurd (omega (arith, some));
+  since = λ tells last m is some. absurd (omega (arith, some));
+  calm = λ few. reads_itself (shown d);
 }
 
-module _ (d : Shown) (s : Session) (count : ℕ) (e : Shown) (n : Session) (was : HasGone d s count e n) (g : Shown) (p : Session) where
-  pub gone_more : WorksOnce e n g p (Ok true) → HasGone d s (count + 1) g p
+module _ {D : Type 0} (shown : D → Shown) (d : D) (s : Session) (count : ℕ) (e : D) (n : Session) (was : HasGone shown d s count e n)
+    (g : D) (p : Session) where
+  stood : IsTrue (shown d).tells → (last m : Machine) → StandsFor (shown d) s last m → StandsAfter (shown e) n last m m
+  stood tells last m is = (was.backs.stays tells last m is).stands was.backs.done.0
+
+  tells_on : IsTrue (shown d).tells → IsTrue (shown e).tells
+  tells_on tells = subst IsTrue (sym was.backs.ends.tells) tells
+
+  -- the step placed the files, where it was the first one
+  placed_first : count ≡ 0 → (m : Machine) (took : Bool) → StepsSince (shown e) n (shown g) p m took
+      → StepsSince (shown d) s (shown g) p m took
+  placed_first zero m took is =
+      let same = was.start zero in
+      subst (λ (k : Session). StepsSince (shown d) k (shown g) p m took) same.1
+      (subst (λ (z : D). StepsSince (shown z) n (shown g) p m took) same.0 is)
+
+  -- no point was made for so many, nor for one more
+  calm_on : (r : Result Bool Fault) → WorksOnce (shown e) n (shown g) p r → s.pending + (count + 1) + step_room ≤ dirty_limit + 1
+      → OnlyReads (shown d) (shown g)
+  calm_on r once few =
+      let so_far = was.backs.pending in
+      reads_then (shown d) (shown e) (shown g) (was.calm (omega (arith, few))) (once.calm (omega (arith, few, so_far)))
+
+  pub gone_more : WorksOnce (shown e) n (shown g) p (Ok true) → HasGone shown d s (count + 1) g p
   gone_more once = record {
-    backs = backs_as (backs_then tt count 1 (count + 1) (omega arith) d s e n was.backs g p (Ok true) once.backs);
+    backs = backs_as (backs_then tt count 1 (count + 1) (omega arith) (shown d) s (shown e) n was.backs (shown g) p (Ok true) once.backs);
     falls = λ tells last m is none.
         let so_far = was.falls tells last m is none in
-        let at : StandsAfter e n last m m = (was.backs.stays tells last m is).stands was.backs.done.0 in
-        let less = once.falls (subst IsTrue (sym was.backs.ends.tells) tells) at.point m at.stands so_far.0 in
+        let at = stood tells last m is in
+        let less = once.falls (tells_on tells) at.point m at.stands so_far.0 in
         (once.none, (let all = so_far.1 in omega (arith, less, all)));
+    none = λ none. once.none;
+    start = λ zero. absurd (omega (arith, zero));
+    bare = λ some. once.none;
+    since = λ tells last m is some. since tells last m is;
+    calm = calm_on (Ok true) once;
   }
     where
-      backs_as : Backs {T = Bool} (count + 1) d s g p (Ok true) → Backs {T = Unit {0}} (count + 1) d s g p (Ok tt)
+      backs_as : Backs {T = Bool} (count + 1) (shown d) s (shown g) p (Ok true) → Backs {T = Unit {0}} (count + 1) (shown d) s (shown g) p (Ok tt)
       backs_as is = record { ends = is.ends; stands = is.stands; done = is.done; fault = tt; pending = is.pending; within = is.within; numbers = is.numbers; whole = λ tells last m stands. tt; stays = is.stays }
+
+      since : IsTrue (shown d).tells → (last m : Machine) → StandsFor (shown d) s last m → FallsSince (shown d) s (shown g) p m (count + 1)
+      since tells last m is = ⊎_elim
+          (λ (zero : count ≡ 0).
+          let at = stood tells last m is in
+          let one = placed_first zero m true (once.since (tells_on tells) at.point m at.stands) in
+          record { placed = one.placed; falls = (let less = one.falls in omega (arith, less, zero)) })
+          (λ (later : count ≡ 0 → ⊥).
+          let at = stood tells last m is in
+          let so_far = was.since tells last m is (omega (arith, later)) in
+          let less = once.falls (tells_on tells) at.point m at.stands (was.bare (omega (arith, later))) in
+          record { placed = so_far.placed; falls = (let all = so_far.falls in omega (arith, less, all)) })
+          (cases_eq count 0)
 
   -- none was left to take
-  pub gone_early : (asked : ℕ) → count < asked → WorksOnce e n g p (Ok false) → Works asked d s g p (Ok count)
+  pub gone_early : (asked : ℕ) → count < asked → WorksOnce (shown e) n (shown g) p (Ok false) → Works asked (shown d) s (shown g) p (Ok count)
   gone_early asked low once = record {
-    backs = backs_as (backs_then tt count 1 asked (omega (arith, low)) d s e n was.backs g p (Ok false) once.backs);
+    backs = backs_as (backs_then tt count 1 asked (omega (arith, low)) (shown d) s (shown e) n was.backs (shown g) p (Ok false) once.backs);
     worked = record {
       most = omega (arith, low);
-      fewer = λ tells last m is less. let at : StandsAfter e n last m m = (was.backs.stays tells last m is).stands was.backs.done.0 in once.least (subst IsTrue (sym was.backs.ends.tells) tells) at.point m at.stands;
+      fewer = λ tells last m is less. let at = stood tells last m is in once.least (tells_on tells) at.point m at.stands;
       falls = λ tells last m is none.
           let so_far = was.falls tells last m is none in
-          let at : StandsAfter e n last m m = (was.backs.stays tells last m is).stands was.backs.done.0 in
-          let left = once.falls (subst IsTrue (sym was.backs.ends.tells) tells) at.point m at.stands so_far.0 in
+          let at = stood tells last m is in
+          let left = once.falls (tells_on tells) at.point m at.stands so_far.0 in
           let all = so_far.1 in let before = left.0 in let after = left.1 in omega (arith, all, before, after);
+      since = λ tells last m is some. since tells last m is;
+      none = λ none. once.none;
     };
+    undone = λ tells last m is none still. tt;
+    calm = λ few. calm_on (Ok false) once (omega (arith, few, low));
   }
     where
-      backs_as : Backs {T = Bool} asked d s g p (Ok false) → Backs {T = ℕ} asked d s g p (Ok count)
+      backs_as : Backs {T = Bool} asked (shown d) s (shown g) p (Ok false) → Backs {T = ℕ} asked (shown d) s (shown g) p (Ok count)
       backs_as is = record { ends = is.ends; stands = is.stands; done = is.done; fault = tt; pending = is.pending; within = is.within; numbers = is.numbers; whole = λ tells last m stands. tt; stays = is.stays }
 
-  pub gone_fault : (asked : ℕ) → count < asked → (f : Fault) → WorksOnce e n g p (Err f) → Works asked d s g p (Err f)
+      since : IsTrue (shown d).tells → (last m : Machine) → StandsFor (shown d) s last m → FallsSince (shown d) s (shown g) p m count
+      since tells last m is = ⊎_elim
+          (λ (zero : count ≡ 0).
+          let at = stood tells last m is in
+          let one = placed_first zero m false (once.since (tells_on tells) at.point m at.stands) in
+          record { placed = one.placed; falls = (let after = one.falls.1 in omega (arith, after, zero)) })
+          (λ (later : count ≡ 0 → ⊥).
+          let at = stood tells last m is in
+          let so_far = was.since tells last m is (omega (arith, later)) in
+          let left = once.falls (tells_on tells) at.point m at.stands (was.bare (omega (arith, later))) in
+          record { placed = so_far.placed; falls = (let all = so_far.falls in let before = left.0 in let after = left.1 in omega (arith, all, before, after)) })
+          (cases_eq count 0)
+
+  pub gone_fault : (asked : ℕ) → count < asked → (f : Fault) → WorksOnce (shown e) n (shown g) p (Err f)
+      → Works asked (shown d) s (shown g) p (Err f)
   gone_fault asked low f once = record {
-    backs = backs_err (count + 1) asked (omega (arith, low)) d s g p f (backs_then tt count 1 (count + 1) (omega arith) d s e n was.backs g p (Err f) once.backs);
+    backs = backs_err (count + 1) asked (omega (arith, low)) (shown d) s (shown g) p f
+        (backs_then tt count 1 (count + 1) (omega arith) (shown d) s (shown e) n was.backs (shown g) p (Err f) once.backs);
     worked = tt;
+    undone = λ tells last m is none still.
+        let so_far = was.falls tells last m is none in
+        let at = stood tells last m is in
+        let same = once.undone (tells_on tells) at.point m at.stands so_far.0 still in
+        let all = so_far.1 in omega (arith, same, all);
+    calm = λ few. calm_on (Err f) once (omega (arith, few, low));
   }
 
-pub gone_all : (d : Shown) (s : Session) (asked : ℕ) (e : Shown) (n : Session) → HasGone d s asked e n → Works asked d s e n (Ok asked)
-gone_all d s asked e n was = record {
+pub gone_all : {D : Type 0} (shown : D → Shown) (d : D) (s : Session) (asked : ℕ) (e : D) (n : Session) → HasGone shown d s asked e n
+    → Works asked (shown d) s (shown e) n (Ok asked)
+gone_all shown d s asked e n was = record {
   backs = record { ends = was.backs.ends; stands = was.backs.stands; done = was.backs.done; fault = tt; pending = was.backs.pending; within = was.backs.within; numbers = was.backs.numbers; whole = λ tells last m is. tt; stays = was.backs.stays };
   worked = record {
     most = omega arith;
     fewer = λ tells last m is less. absurd (omega (arith, less));
     falls = λ tells last m is none. (was.falls tells last m is none).1;
+    since = was.since;
+    none = was.none;
   };
+  undone = λ tells last m is none still. tt;
+  calm = was.calm;
 }

@@ -12,7 +12,7 @@ use Rattle.fv_container.specs.Mapped.{Mapped}
 use Rattle.fv_container.specs.Chains.{TellsEntries, container_at, own_entry, parent_at}
 use Rattle.fv_volmap.specs.Slots.{taken_in}
 use Rattle.fv_pool.specs.declared.pool.Pool.{Pool}
-use Rattle.fv_pool.specs.BlocksOver.{LeavesPool, held_entry}
+use Rattle.fv_pool.specs.BlocksOver.{LeavesPool, LoadsPool, held_entry}
 use Rattle.fv_pool.specs.Keeping.{kept_or, seen}
 use Rattle.fv_pool.specs.Moving.{MovesBlock}
 use Rattle.fv_pool.proofs.AlongChains.{FoundAt, held_found, held_stays}
@@ -26,7 +26,8 @@ use Rattle.fv_cleaner.specs.Searching.{lies_in, placed_by}
 use Rattle.fv_cleaner.specs.Staying.{MayBeCleaned}
 use Rattle.fv_cleaner.specs.Stepping.{CleansVolume, roots_of}
 use Rattle.fv_cleaner.proofs.Beside.{kept_other, was_free}
-use Rattle.fv_aggregate.specs.Working.{todo_at}
+use Rattle.fv_aggregate.specs.declared.session.Session.{Session}
+use Rattle.fv_aggregate.specs.Working.{todo, todo_at}
 
 -- ---- sums over slots
 
@@ -75,6 +76,28 @@ unfolding left_in
 left_read disk after pool q z leaves reads = λ j.
     unknown_among (roots_of z) + unknown_under
     (λ v. placed_by (leaves.kept j) (reads.stays.reads j) (held_entry z.map (leaves.containers j) z.slot v)) z.map.span
+
+-- where leaves of containers came into memory
+left_loaded : (disk after : Shown) (pool q : Pool) (z : VolumeState) → LoadsPool disk pool q → OnlyReads disk after
+    → left_in after.reads q z ≡ left_in disk.reads pool z
+unfolding left_in
+left_loaded disk after pool q z loads reads = λ j.
+    unknown_among (roots_of z) + unknown_under (λ v. placed_by (loads.kept j) (reads.stays.reads j) (held v j)) z.map.span
+  where
+    held : (v : ℕ) → held_entry z.map q.containers z.slot v ≡ held_entry z.map pool.containers z.slot v
+    held = held_stays pool.containers q.containers (λ s v. Unit {0})
+        (λ s v r. ap (λ (ps : List (Option ℕ)). slice_index_or ps s None) loads.containers.parents)
+        (λ s v r. ap (λ (c : Option Mapped). own_entry c v) (loads.containers.maps s)) (λ s v t r none up. tt) z.map z.slot (λ v taken. tt)
+
+pub todo_loaded : (disk after : Shown) (old new : Session) → LoadsPool disk old.pool new.pool → OnlyReads disk after
+    → new.volumes ≡ old.volumes → todo after new ≡ todo disk old
+todo_loaded disk after old new loads reads same =
+    same_slots (todo_at after.reads new.pool) (todo_at disk.reads old.pool) old.volumes new.volumes (ap length same)
+    (λ k. ap (λ (ss : List (Option VolumeState)). todo_at after.reads new.pool (state_at ss k)) same ∙ one (state_at old.volumes k))
+  where
+    one : (o : Option VolumeState) → todo_at after.reads new.pool o ≡ todo_at disk.reads old.pool o
+    one None = refl
+    one (Some z) = ap (λ (n : ℕ). cond z.known 0 n) (left_loaded disk after old.pool new.pool z loads reads)
 
 -- a volume of a session in another slot
 record IsOff (states : States) (slot s : ℕ) : Type 0 where

@@ -2,7 +2,7 @@
 --
 -- An example: a mirror has 4,000 unknown pointers. `clean w` takes 4,000 steps at most, with a point before each step for which there is no room, and
 -- then the volume knows all its places. `work 10` takes ten of these steps; the machine is the same after it.
-use Rattle.std.specs.Prelude.{◌≡◌, ◌<◌, ◌≤◌, ◌+◌, ◌⊎◌, ℕ, Bool, true, false, cond, List, Option, Some, None, Result, Ok, Err, length, max, IfErr, IfOk, IfSome, IsNone, IsTrue, OnErr, OnOk}
+use Rattle.std.specs.Prelude.{◌≡◌, ◌<◌, ◌≤◌, ◌+◌, ℕ, Bool, true, false, List, Some, Result, Ok, length, max, IfErr, IfOk, IsNone, IsTrue, OnErr, OnOk}
 use Rattle.fv_disk.specs.Shown.{Shown}
 use Rattle.fv_disk.specs.DiskCalls.{OnlyReads}
 use Rattle.fv_model.specs.declared.answers.Refusal.TheVariants.{NoVolume, Range}
@@ -26,7 +26,7 @@ use Rattle.fv_aggregate.specs.Causes.{KeepsEnds}
 use Rattle.fv_aggregate.specs.Commands.{Asked, dirty_limit}
 use Rattle.fv_aggregate.specs.Known.{KeepsNumbers}
 use Rattle.fv_aggregate.specs.Standing.{StandsFor, StandsReady}
-use Rattle.fv_aggregate.specs.Working.{is_unclean, todo, todo_at, Backs, Falls, HasKnownRoots, HasWorked, HasWorkDamage}
+use Rattle.fv_aggregate.specs.Working.{is_unclean, step_room, todo, todo_at, Backs, HasKnownRoots, HasWorked, HasWorkDamage}
 
 -- ---- a call that takes steps
 
@@ -64,6 +64,16 @@ pub record CleansOnce (slot : ℕ) (before : Shown) (old : Session) (after : Sho
   pub roots : IfOk result (λ took. took ≡ false → HasKnownRoots (state_at new.volumes slot))
   pub least : IsTrue before.tells → (last m : Machine) → StandsFor before old last m → IfOk result (λ took. took ≡ false → todo_at after.reads new.pool (state_at new.volumes slot) ≡ 0)
   pub falls : IsTrue before.tells → (last m : Machine) → StandsFor before old last m → HaveNoFiles old.volumes → IfOk result (λ took. took ≡ true → todo after new < todo before old)
+  -- a fault takes no step and loses none
+  pub undone : IsTrue before.tells → (last m : Machine) → StandsFor before old last m → HaveNoFiles old.volumes → IsNone new.failed → OnErr result (todo after new ≡ todo before old)
+  -- no consistency point is made where there is room
+  pub calm : old.pending + step_room ≤ dirty_limit → OnlyReads before after
+
+-- Where a call takes steps until none is left, and no file is in memory before it: after a fault that the session survives the steps taken before it stay
+-- taken. Each step lowers what is left and adds one block at most, so where all that is left has room no consistency point is made.
+pub record KeepsSteps {T : Type 0} (before : Shown) (old : Session) (after : Shown) (new : Session) (result : Result T Fault) : Type 0 where
+  pub undone : IsTrue before.tells → (last m : Machine) → StandsFor before old last m → HaveNoFiles old.volumes → IsNone new.failed → OnErr result (todo after new ≤ todo before old)
+  pub calm : IsTrue before.tells → (last m : Machine) → StandsFor before old last m → HaveNoFiles old.volumes → old.pending + todo before old + step_room ≤ dirty_limit → OnlyReads before after
 
 -- The volume of a name knows all its places now, whose slot this is. Else it only took steps.
 pub record Learns (next : Machine → Machine) (slot : ℕ) (before : Shown) (old : Session) (after : Shown) (new : Session) (result : Result Unit Fault) : Type 0 where
@@ -71,19 +81,25 @@ pub record Learns (next : Machine → Machine) (slot : ℕ) (before : Shown) (ol
   pub numbers : IsNone new.failed → KeepsNumbers old.volumes new.volumes
   pub known : OnOk result (is_unclean (state_at new.volumes slot) ≡ false)
   pub goes_for : IsTrue before.tells → (last m : Machine) → StandsFor before old last m → GoesFor before last m (next m) after new result
+  pub keeps : KeepsSteps before old after new result
 
 -- ---- commands
 
--- A volume that is there is clean now; where it was, nothing changed. Without it the command is refused.
-pub record CleansNamed {D : Type 0} (name : List ℕ) (before : D) (old : Session) (after : D) (new : Session) (result : Result Reply Fault) : Type 0 where
+-- A volume that is there is clean now; where it was, nothing changed. Without it the command is refused. A fault loses no step, and no consistency
+-- point is made where all that is left to do has room.
+pub record CleansNamed {D : Type 0} (name : List ℕ) (shown shown_after : Shown) (before : D) (old : Session) (after : D) (new : Session) (result : Result Reply Fault) : Type 0 where
   pub missing : NoneHasName old.volumes name → (result ≡ Ok (Refused NoVolume)) × IsUntouched before old after new
   pub answered : (slot : ℕ) → slot < slot_count → HasName old.volumes slot name → IfOk result (λ reply. (reply ≡ Done) × (is_unclean (state_at new.volumes slot) ≡ false))
   pub idle : (slot : ℕ) → slot < slot_count → HasName old.volumes slot name → is_unclean (state_at old.volumes slot) ≡ false → (result ≡ Ok Done) × IsUntouched before old after new
+  pub keeps : KeepsSteps shown old shown_after new result
 
--- So many steps were taken as a command asks for, or all that were left; or their number is out of range.
+-- So many steps were taken as a command asks for, or all that were left; or their number is out of range. A fault loses no step, and no consistency
+-- point is made where all steps have room.
 pub record TakesSteps {D : Type 0} (shown shown_after : Shown) (steps : ℕ) (before : D) (old : Session) (after : D) (new : Session) (result : Result Reply Fault) : Type 0 where
   pub far : is_step_count steps ≡ false → (result ≡ Ok (Refused Range)) × IsUntouched before old after new
   pub taken : is_step_count steps ≡ true → IfOk result (λ reply. (reply ≡ Done) × ((taken : ℕ) × HasWorked steps shown old shown_after new taken))
+  pub undone : IsTrue shown.tells → (last m : Machine) → StandsFor shown old last m → HaveNoFiles old.volumes → IsNone new.failed → OnErr result (todo shown_after new ≤ todo shown old)
+  pub calm : old.pending + steps + step_room ≤ dirty_limit + 1 → OnlyReads shown shown_after
 
 -- What `clean` does in a session that hasn't failed, whatever the disk tells; and where the session stands for a machine.
 pub record Cleans {D : Type 0} (name : List ℕ) (shown : Shown) (before : D) (old : Session) (shown_after : Shown) (after : D) (new : Session) (result : Result Reply Fault) : Type 0 where
@@ -91,7 +107,7 @@ pub record Cleans {D : Type 0} (name : List ℕ) (shown : Shown) (before : D) (o
   pub numbers : IsNone new.failed → KeepsNumbers old.volumes new.volumes
   pub goes_for : IsTrue shown.tells → (last m : Machine) → StandsFor shown old last m → GoesFor shown last m (next m (Clean name)) shown_after new result
   pub reply : IsTrue shown.tells → (last m : Machine) → StandsFor shown old last m → IfOk result (Allows m (Clean name))
-  pub cleans : CleansNamed name before old after new result
+  pub cleans : CleansNamed name shown shown_after before old after new result
 
 -- what `work` does in one
 pub record TakesAll {D : Type 0} (steps : ℕ) (shown : Shown) (before : D) (old : Session) (shown_after : Shown) (after : D) (new : Session) (result : Result Reply Fault) : Type 0 where
@@ -102,6 +118,6 @@ pub record TakesAll {D : Type 0} (steps : ℕ) (shown : Shown) (before : D) (old
   pub takes : TakesSteps shown shown_after steps before old after new result
 
 abbrev pub StepsBy : {D : Type 0} → Command → Shown → D → Session → Shown → D → Session → Result Reply Fault → Type 0
-StepsBy (Clean volume) shown before old shown_after after new result = CleansNamed volume before old after new result
+StepsBy (Clean volume) shown before old shown_after after new result = CleansNamed volume shown shown_after before old after new result
 StepsBy (Work steps) shown before old shown_after after new result = TakesSteps shown shown_after steps before old after new result
 StepsBy command shown before old shown_after after new result = Unit {0}

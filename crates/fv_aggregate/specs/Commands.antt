@@ -7,7 +7,8 @@ use Rattle.fv_model.specs.declared.answers.Refusal.TheVariants.{Syntax}
 use Rattle.fv_model.specs.declared.answers.Reply.{Reply}
 use Rattle.fv_model.specs.declared.answers.Reply.TheVariants.{Refused}
 use Rattle.fv_model.specs.declared.commands.Command.{Command}
-use Rattle.fv_model.specs.declared.commands.Command.TheVariants.{VolCreate, VolDestroy, VolResize, VolGuarantee, VolStat, New, Put, Get, Len, Cut, Remove, Ls, SnapCreate, SnapDelete, SnapRestore, CloneCreate, SplitStart, SplitFinish, Mirror, Clean, Probe, Work, Cp}
+use Rattle.fv_model.specs.declared.commands.Command.TheVariants.{VolCreate, VolDestroy, VolResize, VolGuarantee, VolList, VolStat, New, Put, Get, Len, Cut, Remove, Ls, SnapCreate, SnapDelete, SnapRestore, SnapList, CloneCreate, SplitStart, SplitFinish, Mirror, Clean, Probe, Work, Cp}
+use Rattle.fv_model.specs.declared.commands.Kind.{Kind}
 use Rattle.fv_model.specs.Machines.{Machine}
 use Rattle.fv_model.specs.Numbers.{greatest_span, is_index, is_reserve, is_size}
 use Rattle.fv_model.specs.Places.{ids_of}
@@ -135,6 +136,18 @@ reaches_disk (Clean volume) = true
 reaches_disk (Work steps) = true
 reaches_disk command = false
 
+-- whether a command that is done leaves to background steps what there was to do, where no file is in memory: it only asks, or is a `cp`
+abbrev pub keeps_todo : Command → Bool
+keeps_todo VolList = true
+keeps_todo (VolStat volume) = true
+keeps_todo (Get volume snapshot file index) = true
+keeps_todo (Len volume snapshot file) = true
+keeps_todo (Ls volume snapshot) = true
+keeps_todo (SnapList volume) = true
+keeps_todo (Probe volume file index) = true
+keeps_todo Cp = true
+keeps_todo command = false
+
 -- the snapshot of it that is asked
 abbrev pub snapshot_asked : Command → Option (List ℕ)
 snapshot_asked (Get volume snapshot file index) = snapshot
@@ -234,15 +247,19 @@ copies_in m source snapshot size = option_map_or (λ v. copies_on v snapshot siz
 abbrev pub room_of : Machine → Command → ℕ
 room_of m command = room_with (map_in m) (span_in m) (wide_in m) (copies_in m) command
 
+-- What is told of the slot of the first volume of a name in these slots; and what is told where no volume has it.
+unfoldable pub first_among : (ℕ → ℕ) → ℕ → States → List ℕ → List ℕ → ℕ
+first_among at none states [] name = none
+first_among at none states (slot ∷ rest) name = if is_named (state_at states slot) name then at slot else first_among at none states rest name
+
 -- the blocks of the map of a snapshot of a slot's volume; none of a free slot
 abbrev pub map_at : Option VolumeState → ℕ
 map_at None = 0
 map_at (Some x) = map_blocks x.span
 
 -- those of the first volume of a name in these slots; none where no volume has it
-unfoldable pub map_among : States → List ℕ → List ℕ → ℕ
-map_among states [] name = 0
-map_among states (slot ∷ rest) name = if is_named (state_at states slot) name then map_at (state_at states slot) else map_among states rest name
+abbrev pub map_among : States → List ℕ → List ℕ → ℕ
+map_among states some name = first_among (λ slot. map_at (state_at states slot)) 0 states some name
 
 -- the span of a clone of a snapshot of a slot's volume, by the numbers in the snapshot's map slot; none of a free slot
 abbrev pub span_at : Option VolumeState → List ℕ → ℕ → ℕ
@@ -250,9 +267,8 @@ span_at None snapshot size = 0
 span_at (Some x) snapshot size = option_map_or (λ q. span_within (span_of size (count_in x q.slot) x.span)) (snap_named x.snapshots snapshot) 0
 
 -- that of the first volume of a name in these slots; none where no volume has it
-unfoldable pub span_among : States → List ℕ → List ℕ → List ℕ → ℕ → ℕ
-span_among states [] parent snapshot size = 0
-span_among states (slot ∷ rest) parent snapshot size = if is_named (state_at states slot) parent then span_at (state_at states slot) snapshot size else span_among states rest parent snapshot size
+abbrev pub span_among : States → List ℕ → List ℕ → List ℕ → ℕ → ℕ
+span_among states some parent snapshot size = first_among (λ slot. span_at (state_at states slot) snapshot size) 0 states some parent
 
 -- the span of a mirror of a slot's volume; none of a free slot
 abbrev pub wide_at : Option VolumeState → ℕ → ℕ
@@ -260,9 +276,8 @@ wide_at None size = 0
 wide_at (Some x) size = span_within (span_of size 0 x.span)
 
 -- that of the first volume of a name in these slots; none where no volume has it
-unfoldable pub wide_among : States → List ℕ → List ℕ → ℕ → ℕ
-wide_among states [] source size = 0
-wide_among states (slot ∷ rest) source size = if is_named (state_at states slot) source then wide_at (state_at states slot) size else wide_among states rest source size
+abbrev pub wide_among : States → List ℕ → List ℕ → ℕ → ℕ
+wide_among states some source size = first_among (λ slot. wide_at (state_at states slot) size) 0 states some source
 
 -- so many blocks a mirror of a snapshot of a slot's volume copies, by the numbers in the snapshot's map slot; none of a free slot
 abbrev pub copies_at : Option VolumeState → List ℕ → ℕ → ℕ
@@ -270,9 +285,8 @@ copies_at None snapshot size = 0
 copies_at (Some x) snapshot size = option_map_or (λ q. copies_within size (count_in x q.slot)) (snap_named x.snapshots snapshot) 0
 
 -- that of the first volume of a name in these slots; none where no volume has it
-unfoldable pub copies_among : States → List ℕ → List ℕ → List ℕ → ℕ → ℕ
-copies_among states [] source snapshot size = 0
-copies_among states (slot ∷ rest) source snapshot size = if is_named (state_at states slot) source then copies_at (state_at states slot) snapshot size else copies_among states rest source snapshot size
+abbrev pub copies_among : States → List ℕ → List ℕ → List ℕ → ℕ → ℕ
+copies_among states some source snapshot size = first_among (λ slot. copies_at (state_at states slot) snapshot size) 0 states some source
 
 -- the room of a command by a session's volumes
 abbrev pub room_by : States → Command → ℕ
@@ -300,18 +314,17 @@ pub data Asked : Type 0 where
   AsksLeaves : (slot : ℕ) → Asked
   -- the active table of a slot's volume, or that of a snapshot of it, and whether a cell of a file is read in it
   AsksTable : (slot : ℕ) (snapshot : Option (List ℕ)) (cell : Bool) → Asked
-  -- copies of the blocks of a snapshot of a slot's volume
-  AsksCopies : (slot : ℕ) (snapshot : List ℕ) → Asked
+  -- copies of the blocks of a snapshot of a slot's volume, for a mirror of this name, size and kind
+  AsksCopies : (slot : ℕ) (snapshot mirror : List ℕ) (size : ℕ) (kind : Kind) → Asked
 
 -- it is copies that are asked for
 abbrev pub AsksCopy : Asked → Type 0
-AsksCopy (AsksCopies slot snapshot) = Unit {0}
+AsksCopy (AsksCopies slot snapshot mirror size kind) = Unit {0}
 AsksCopy asked = ⊥
 
 -- the slot of the first volume of a name in these slots, and the one behind the last where none of them has it
-unfoldable pub slot_among : States → List ℕ → List ℕ → ℕ
-slot_among states [] name = slot_count
-slot_among states (slot ∷ rest) name = if is_named (state_at states slot) name then slot else slot_among states rest name
+abbrev pub slot_among : States → List ℕ → List ℕ → ℕ
+slot_among states some name = first_among (λ slot. slot) slot_count states some name
 
 abbrev pub slot_named : States → List ℕ → ℕ
 slot_named states name = slot_among states slots name
@@ -331,6 +344,6 @@ asked_by states (Probe volume file index) = AsksTable (slot_named states volume)
 asked_by states (SnapCreate volume snapshot) = AsksPlacing (slot_named states volume)
 asked_by states (SnapDelete volume snapshot) = AsksPlacing (slot_named states volume)
 asked_by states (VolDestroy volume) = AsksLeaves (slot_named states volume)
-asked_by states (Mirror source snapshot mirror size kind) = AsksCopies (slot_named states source) snapshot
+asked_by states (Mirror source snapshot mirror size kind) = AsksCopies (slot_named states source) snapshot mirror size kind
 asked_by states Cp = AsksPoint
 asked_by states command = AsksNothing

@@ -5,6 +5,7 @@ use Rattle.fv_disk.specs.Shown.{Shown}
 use Rattle.fv_disk.specs.DiskCalls.{OnlyReads}
 use Rattle.fv_disk.specs.declared.fault.BlockFault.TheVariants as block
 use Rattle.fv_image.specs.Layout.{root_place}
+use Rattle.fv_model.specs.declared.commands.Kind.{Kind}
 use Rattle.fv_aggmap.specs.Space.{free_blocks}
 use Rattle.fv_container.specs.Chains.{container_at}
 use Rattle.fv_pool.specs.declared.fault.VolumeFault.TheVariants as volume
@@ -18,6 +19,7 @@ use Rattle.fv_volume.specs.Asking.{standing_of, table_named, TellsBy}
 use Rattle.fv_volume.specs.OneVolume.{home_in}
 use Rattle.fv_volume.specs.States.{States, state_at}
 use Rattle.fv_mirror.specs.declared.admitting.Admitted.{Admitted}
+use Rattle.fv_mirror.specs.Admitting.{Admits, CanMake}
 use Rattle.fv_mirror.specs.Making.{CanCopy}
 use Rattle.fv_cp.specs.Lent.{blocks_asked}
 use Rattle.fv_cp.specs.Placing.{AreButPlaced, HaveNoFiles, HaveNoneBefore, KeepShapes, MayFail, PlacesEntries, RestsPlaced}
@@ -117,13 +119,19 @@ pub record HasBadTable (asked : Asked) (disk : Shown) (session new : Session) (a
 
 -- ---- in copies
 
--- A snapshot of which copies are asked for can't be copied: it isn't whole, or too few blocks are free. What is copied behind a point that made room
--- isn't told.
-pub record HasBadCopies (room : ℕ) (asked : Asked) (disk : Shown) (session : Session) : Type 0 where
-  pub fresh : IsNone session.failed
+-- The mirror for which copies are asked was admitted by the session before the call, and they can't be made of what this one has:
+-- its snapshot of that name isn't whole, or too few blocks are free.
+pub record HasBadCopies (asked : Asked) (old : Session) (disk : Shown) (session : Session) : Type 0 where
+  pub fresh : IsNone old.failed
+  pub name : List ℕ
+  pub size : ℕ
+  pub kind : Kind
   pub admitted : Admitted
-  pub asks : asked ≡ AsksCopies admitted.source.parent admitted.source.snapshot
-  pub not : (CanCopy disk session.volumes session.pool admitted → ⊥) ⊎ PassesLimit session.pending room
+  pub asks : asked ≡ AsksCopies admitted.source.parent admitted.source.snapshot name size kind
+  pub admits : Admits old.volumes old.pool.found.blocks name size kind admitted
+  -- the snapshot has the same map slot still
+  pub still : CanMake session.volumes session.pool.found.blocks name size kind admitted
+  pub not : CanCopy disk session.volumes session.pool admitted → ⊥
 
 -- ---- in a call
 
@@ -178,9 +186,17 @@ pub record HasDamageBehind (asked : Asked) (disk : Shown) (old new : Session) (a
   pub left : IsPointed disk session pointed
   pub bad : HasBadTable asked disk pointed new at want found
 
--- What is damaged where a call that may add `room` blocks, and asks for this, answers so, by what the disk shows then, and of copies by what it showed
--- before. Nothing was written, but where a point made room for a command that passes the dirty limit, and where blocks are copied.
+-- So it is behind a point that made room for the copies: the session that is left, which but for its cache is as the point left it,
+-- can't make them.
+pub record HasBadCopiesBehind (asked : Asked) (disk : Shown) (old new : Session) : Type 0 where
+  pub left : IsPointed disk old new
+  pub bad : HasBadCopies asked old disk new
+
+-- What is damaged where a call that may add `room` blocks, and asks for this, answers so, by what the disk shows then, and of copies
+-- without a point by what it showed before. Nothing was written, but where a point made room for a command that passes the dirty limit,
+-- and where blocks are copied.
 abbrev pub HasDamage : ℕ → Asked → Shown → Session → Shown → Session → ℕ → ℕ → ℕ → Type 0
 HasDamage room asked before old after new at want found =
     (OnlyReads before after × (HasDamageIn room asked after old new at want found ⊎ HasDamageLater room asked after old new at want found))
-    ⊎ ((PassesLimit old.pending room × HasDamageBehind asked after old new at want found) ⊎ HasBadCopies room asked before old)
+    ⊎ ((PassesLimit old.pending room × HasDamageBehind asked after old new at want found)
+    ⊎ (HasBadCopies asked old before old ⊎ (PassesLimit old.pending room × HasBadCopiesBehind asked after old new)))

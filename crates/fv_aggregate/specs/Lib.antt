@@ -26,5 +26,6 @@ pub mod Reclaiming
 pub mod Removing
 pub mod Working
 pub mod LeftOver
+pub mod PathShown
 pub mod Cleaning
 pub mod Applying

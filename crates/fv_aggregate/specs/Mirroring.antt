@@ -35,6 +35,7 @@ use Rattle.fv_aggregate.specs.Causes.{KeepsEnds}
 use Rattle.fv_aggregate.specs.Commands.{AsksNothing, dirty_limit}
 use Rattle.fv_aggregate.specs.Known.{KeepsNumbers}
 use Rattle.fv_aggregate.specs.Parts.{AreSet}
+use Rattle.fv_aggregate.specs.Reclaiming.{MakesRoom}
 use Rattle.fv_aggregate.specs.Standing.{StandsFor, StandsReady}
 
 -- ---- the copies
@@ -107,10 +108,16 @@ pub record SettlesSession {D : Type 0} (shown : D → Shown) (before : D) (old :
 
 -- ---- the whole
 
+-- a point made room, and the session that is left, which but for its cache is as that point left it, can't make the copies
+pub record IsUncopiedBehind (room : ℕ) (old : Session) (a : Admitted) (after : Shown) (new : Session) : Type 0 where
+  pub past : dirty_limit < old.pending + room
+  pub left : IsPointed after old new
+  pub not : mirrors.CanCopy after new.volumes new.pool a → ⊥
+
 -- Why no mirror is made, once it was admitted: a call of the disk failed, memory ran out, or there is damage: of the point that makes room, or since what
--- is copied isn't whole. Beside that point only free blocks were written where the session goes on.
+-- is copied isn't whole, before the call or behind that point. Beside the point only free blocks were written where the session goes on.
 abbrev pub IsUncopied : ℕ → Shown → Session → Admitted → Shown → Session → Type 0
-IsUncopied room before old a after new = (mirrors.CanCopy before old.volumes old.pool a → ⊥) ⊎ (dirty_limit < old.pending + room)
+IsUncopied room before old a after new = (mirrors.CanCopy before old.volumes old.pool a → ⊥) ⊎ IsUncopiedBehind room old a after new
 
 abbrev pub WritesLittle : ℕ → Shown → Session → Shown → Type 0
 WritesLittle room before old after = OnlyReads before after ⊎ ((dirty_limit < old.pending + room) ⊎ WritesFree old.pool.map before after)
@@ -151,6 +158,8 @@ pub record MakesMirror {D : Type 0} (shown : D → Shown) (room : ℕ) (a : Admi
   pub goes_for : IsTrue (shown before).tells → (last m : Machine) → StandsFor (shown before) old last m → GoesFor (shown before) last m (next m) (shown after) new result
   -- behind a point, where the room passes the dirty limit
   pub pointed : dirty_limit < old.pending + room → OnOk result (IsBehindPoint (shown before) old new)
+  -- and what that point made of the session that stood for a machine
+  pub roomy : MakesRoom room (shown before) old (shown after) result
   -- without a point
   pub free : old.pending + room ≤ dirty_limit → WritesFree old.pool.map (shown before) (shown after)
   pub entries : old.pending + room ≤ dirty_limit → MakesNoHoles old new

@@ -81,7 +81,8 @@ pub record HasPointed (want : ℕ) (old : Session) (after : Shown) (new : Sessio
 
 -- A point made room for a command. What the command read before it changed the cache and the numbers of files in memory alone, so that the session
 -- was `first` then. Of that the point left what a point leaves, for the room of the command, and the session `mid`, on which the command was
--- carried out.
+-- carried out. All this is there still behind the command: copies of blocks are written to blocks that neither root holds, and of `mid`
+-- only the cache is that behind the copies.
 pub record HasMadeRoom (room : ℕ) (old : Session) (after : Shown) (m : Machine) : Type 0 where
   pub first : Session
   pub read : LeavesPool old.pool first.pool

@@ -3,13 +3,15 @@
 -- An example: of a mirror three pointers are unknown, that of its label and two in the node to which it leads. A step fills in the two,
 -- another one that of the label, and a third one finds nothing to do. The machine is the same all along; the next consistency point writes
 -- the node and the label.
-use Rattle.std.specs.Prelude.{◌≡◌, ◌≢◌, ◌≤◌, ◌<◌, ◌+◌, ◌^◌, ◌⊎◌, ℕ, Bool, true, false, cond, Option, Some, None, Result, length, max, IfErr, IfOk, IfSome, IsNone, IsTrue, OnOk}
+use Rattle.std.specs.Prelude.{◌≡◌, ◌≢◌, ◌≤◌, ◌<◌, ◌+◌, ◌^◌, ◌⊎◌, ℕ, Bool, true, false, cond, Option, Some, None, Result, length, max, IfErr, IfOk, IfSome, IsNone, IsTrue, OnErr, OnOk}
 use Rattle.std.specs.List.{list_any, sum_by}
 use Rattle.fv_disk.specs.Shown.{Image, Shown}
 use Rattle.fv_disk.specs.Crash.{Leaves}
 use Rattle.fv_disk.specs.DiskCalls.{OnlyReads}
 use Rattle.fv_container.specs.Chains.{container_at, slot_count}
 use Rattle.fv_image.specs.HintRules.{is_unknown}
+use Rattle.fv_image.specs.WholeMachine.{machine_of}
+use Rattle.fv_root.specs.Finding.{IsFound}
 use Rattle.fv_model.specs.Machines.{Machine}
 use Rattle.fv_pool.specs.declared.pool.Pool.{Pool}
 use Rattle.fv_pool.specs.BlocksOver.{LoadsPool}
@@ -19,7 +21,9 @@ use Rattle.fv_volume.specs.States.{States, state_at, with_state}
 use Rattle.fv_cleaner.specs.Cleaning.{CleansAt, MovesAt}
 use Rattle.fv_cleaner.specs.Left.{left_in}
 use Rattle.fv_cleaner.specs.Stepping.{CanClean, roots_of}
-use Rattle.fv_cp.specs.Placing.{HaveNoFiles, KeepCores}
+use Rattle.fv_cp.specs.Held.{machine_held}
+use Rattle.fv_cp.specs.Placing.{AreButPlaced, HaveNoFiles, KeepCores, LeavesUnused, PlacesEntries, RestsPlaced}
+use Rattle.fv_cp.specs.Points.{IsNextRoot}
 use Rattle.fv_aggregate.specs.declared.fault.Fault.{Fault}
 use Rattle.fv_aggregate.specs.declared.fault.Fault.TheVariants.{DiskFault, Damaged, Memory, Failed}
 use Rattle.fv_aggregate.specs.declared.session.Session.{Session}
@@ -28,6 +32,8 @@ use Rattle.fv_aggregate.specs.Causes.{KeepsEnds}
 use Rattle.fv_aggregate.specs.Commands.{dirty_limit, Asked}
 use Rattle.fv_aggregate.specs.Damages.{HasDamageIn}
 use Rattle.fv_aggregate.specs.Known.{KeepsNumbers}
+use Rattle.fv_aggregate.specs.LeftOver.{todo_under}
+use Rattle.fv_aggregate.specs.PathShown.{KeepsTables}
 use Rattle.fv_aggregate.specs.Standing.{OneOf, StandsAfter, StandsFor, StandsReady}
 
 -- so many blocks a background step may add
@@ -62,6 +68,12 @@ todo_in i pool states = sum_by (todo_at i pool) states
 
 abbrev pub todo : Shown → Session → ℕ
 todo disk session = todo_in disk.reads session.pool session.volumes
+
+-- What is left to do stays, and so does the active table of each volume. No file is in memory.
+pub record LeavesTodo (before : Shown) (old : Session) (after : Shown) (new : Session) : Type 0 where
+  pub same : todo after new ≡ todo before old
+  pub tables : KeepsTables before.reads old after.reads new
+  pub none : HaveNoFiles new.volumes
 
 -- ---- faults
 
@@ -135,25 +147,30 @@ pub record TakesStep (slot : ℕ) (before : Shown) (old : Session) (after : Show
   -- where there is none in a volume that doesn't know its places, none of its roots is unknown, whatever the disk tells
   pub roots : is_unclean (state_at old.volumes slot) ≡ true → IfOk result (λ took. took ≡ false → HasKnownRoots (state_at new.volumes slot))
   pub falls : IsTrue before.tells → (last m : Machine) → StandsFor before old last m → IfOk result (FallsAt slot before old after new)
+  -- a fault leaves what was left
+  pub undone : OnErr result (todo after new ≡ todo before old)
 
--- what is left to do after a step that is looked for in each slot: less, or there was nothing
+-- what is left to do after a step that is looked for in each slot: less than there was, or there was nothing
+abbrev pub FallsTo : ℕ → ℕ → Bool → Type 0
+FallsTo was now true = now < was
+FallsTo was now false = (was ≡ 0) × (now ≡ 0)
+
 abbrev pub Falls : Shown → Session → Shown → Session → Bool → Type 0
-Falls before old after new true = todo after new < todo before old
-Falls before old after new false = (todo before old ≡ 0) × (todo after new ≡ 0)
+Falls before old after new took = FallsTo (todo before old) (todo after new) took
 
 -- The step was one of the volume of this slot, the first one that has one: in those before it nothing is left to do. The other volumes and
--- their containers stay.
-pub record TakesFirst (before : Shown) (old new : Session) : Type 0 where
+-- their containers stay. The volumes were these, over this image.
+pub record TakesFirst (at : Image) (pool : Pool) (states : States) (new : Session) : Type 0 where
   pub slot : ℕ
   pub volume : VolumeState
-  pub volumes : new.volumes ≡ with_state old.volumes slot (Some volume)
-  pub containers : (s : ℕ) → s ≢ volume.slot → container_at new.pool.containers s ≡ container_at old.pool.containers s
-  pub idle : (k : ℕ) → k < slot → todo_at before.reads old.pool (state_at old.volumes k) ≡ 0
+  pub volumes : new.volumes ≡ with_state states slot (Some volume)
+  pub containers : (s : ℕ) → s ≢ volume.slot → container_at new.pool.containers s ≡ container_at pool.containers s
+  pub idle : (k : ℕ) → k < slot → todo_at at pool (state_at states k) ≡ 0
 
 -- which one was taken, if one was
-abbrev pub TakesFirstIf : Shown → Session → Session → Bool → Type 0
-TakesFirstIf before old new true = TakesFirst before old new
-TakesFirstIf before old new false = Unit {0}
+abbrev pub TakesFirstIf : Image → Pool → States → Session → Bool → Type 0
+TakesFirstIf at pool volumes new true = TakesFirst at pool volumes new
+TakesFirstIf at pool volumes new false = Unit {0}
 
 -- What a step does that is looked for slot by slot.
 pub record SeeksStep (before : Shown) (old : Session) (after : Shown) (new : Session) (result : Result Bool Fault) : Type 0 where
@@ -161,7 +178,42 @@ pub record SeeksStep (before : Shown) (old : Session) (after : Shown) (new : Ses
   pub only_reads : OnlyReads before after
   pub none : HaveNoFiles new.volumes
   pub falls : IsTrue before.tells → (last m : Machine) → StandsFor before old last m → IfOk result (Falls before old after new)
-  pub first : IsTrue before.tells → (last m : Machine) → StandsFor before old last m → IfOk result (TakesFirstIf before old new)
+  pub first : IsTrue before.tells → (last m : Machine) → StandsFor before old last m → IfOk result (TakesFirstIf before.reads old.pool old.volumes new)
+  pub undone : OnErr result (todo after new ≡ todo before old)
+
+-- ---- files in memory
+
+-- The files in memory were placed, and nothing else was done: the volumes stand for the machine over the image that was there, and each is
+-- what it was but for its files. So what is left to do in them counts each block of a file as the flush wrote it.
+pub record AreLaid (before : Shown) (old : Session) (at : Image) (pool : Pool) (volumes : States) (m : Machine) : Type 0 where
+  pub image : at ≡ before.reads
+  pub machine : machine_held before pool volumes ≡ m
+  pub found : pool.found ≡ old.pool.found
+  pub version : pool.version ≡ old.pool.version
+  pub others : AreButPlaced old.volumes volumes
+  pub entries : PlacesEntries old.pool.map old.pool.containers pool.containers
+  pub unused : LeavesUnused old.pool pool volumes
+  -- a volume without files in memory is as it was
+  pub rest : RestsPlaced old.pool old.volumes pool volumes
+
+-- A consistency point placed them: the image stands for the machine under the next root, and what is left to do is what it shows.
+pub record ArePointed (old : Session) (at : Image) (pool : Pool) (volumes : States) (m : Machine) : Type 0 where
+  pub next : IsNextRoot old.pool.found pool.found
+  pub found : IsFound at pool.found
+  pub machine : machine_of at ≡ Some m
+  pub shown : todo_in at pool volumes ≡ todo_under pool.found at
+
+-- The volumes of a session of the machine `m` once its files in memory were placed, by a consistency point where room for a step was lacking.
+-- Where none was in memory as much is left to do as before.
+pub record FilesPlaced (before : Shown) (old : Session) (m : Machine) : Type 0 where
+  pub at : Image
+  pub pool : Pool
+  pub volumes : States
+  pub none : HaveNoFiles volumes
+  pub cores : KeepCores old.volumes volumes
+  pub way : ((old.pending + step_room ≤ dirty_limit) × AreLaid before old at pool volumes m)
+      ⊎ ((dirty_limit < old.pending + step_room) × ArePointed old at pool volumes m)
+  pub same : HaveNoFiles old.volumes → todo_in at pool volumes ≡ todo before old
 
 -- ---- steps of a session
 
@@ -172,11 +224,22 @@ pub record PlacesAll {D : Type 0} (shown : D → Shown) (before : D) (old : Sess
   pub none : OnOk result (HaveNoFiles new.volumes)
   pub cores : KeepCores old.volumes new.volumes
   pub idle : HaveNoFiles old.volumes → OnOk result ((after ≡ before) × (new ≡ old))
+  pub only_reads : OnlyReads (shown before) (shown after)
+  pub laid : IsTrue (shown before).tells → (last m : Machine) → StandsFor (shown before) old last m
+      → OnOk result (AreLaid (shown before) old (shown after).reads new.pool new.volumes m)
+  -- it fails only where there are files to place
+  pub filed : IfErr result (λ fault. HaveNoFiles old.volumes → ⊥)
 
 -- what is left to do after one: nothing, where none was there to take
 abbrev pub NoneLeft : Shown → Session → Bool → Type 0
 NoneLeft after new true = Unit {0}
 NoneLeft after new false = todo after new ≡ 0
+
+-- Once the files in memory were placed, a step was taken of the first slot that has one, and less is left to do; or nothing was left.
+pub record StepsSince (before : Shown) (old : Session) (after : Shown) (new : Session) (m : Machine) (took : Bool) : Type 0 where
+  pub placed : FilesPlaced before old m
+  pub falls : FallsTo (todo_in placed.at placed.pool placed.volumes) (todo after new) took
+  pub first : TakesFirstIf placed.at placed.pool placed.volumes new took
 
 -- One step, before which a consistency point makes room where that is lacking, and files in memory are placed. Where there are none what
 -- is left falls by it.
@@ -186,15 +249,35 @@ pub record WorksOnce (before : Shown) (old : Session) (after : Shown) (new : Ses
   pub least : IsTrue before.tells → (last m : Machine) → StandsFor before old last m → IfOk result (NoneLeft after new)
   pub falls : IsTrue before.tells → (last m : Machine) → StandsFor before old last m → HaveNoFiles old.volumes
       → IfOk result (Falls before old after new)
+  pub since : IsTrue before.tells → (last m : Machine) → StandsFor before old last m → IfOk result (StepsSince before old after new m)
+  -- a fault takes no step and loses none
+  pub undone : IsTrue before.tells → (last m : Machine) → StandsFor before old last m → HaveNoFiles old.volumes → IsNone new.failed
+      → OnErr result (todo after new ≡ todo before old)
+  -- no consistency point is made where there is room
+  pub calm : old.pending + step_room ≤ dirty_limit → OnlyReads before after
+
+-- what is left fell by so much at least, once the files in memory were placed
+pub record FallsSince (before : Shown) (old : Session) (after : Shown) (new : Session) (m : Machine) (taken : ℕ) : Type 0 where
+  pub placed : FilesPlaced before old m
+  pub falls : todo after new + taken ≤ todo_in placed.at placed.pool placed.volumes
 
 -- So many steps were asked for, and so many taken. Where those are fewer nothing is left to do. What was left fell by one for each step at
--- least, where no file was in memory.
+-- least, where no file was in memory, and else once the files were placed.
 pub record HasWorked (asked : ℕ) (before : Shown) (old : Session) (after : Shown) (new : Session) (taken : ℕ) : Type 0 where
   pub most : taken ≤ asked
   pub fewer : IsTrue before.tells → (last m : Machine) → StandsFor before old last m → taken < asked → todo after new ≡ 0
   pub falls : IsTrue before.tells → (last m : Machine) → StandsFor before old last m → HaveNoFiles old.volumes
       → todo after new + taken ≤ todo before old
+  pub since : IsTrue before.tells → (last m : Machine) → StandsFor before old last m → 0 < asked
+      → FallsSince before old after new m taken
+  -- no file comes into memory
+  pub none : HaveNoFiles old.volumes → HaveNoFiles new.volumes
 
+-- After a fault that the session survives the steps taken before it stay taken. Each step adds one block at most, so with room for the last
+-- one no consistency point is made.
 pub record Works (asked : ℕ) (before : Shown) (old : Session) (after : Shown) (new : Session) (result : Result ℕ Fault) : Type 0 where
   pub backs : Backs asked before old after new result
   pub worked : IfOk result (HasWorked asked before old after new)
+  pub undone : IsTrue before.tells → (last m : Machine) → StandsFor before old last m → HaveNoFiles old.volumes → IsNone new.failed
+      → OnErr result (todo after new ≤ todo before old)
+  pub calm : old.pending + asked + step_room ≤ dirty_limit + 1 → OnlyReads before after

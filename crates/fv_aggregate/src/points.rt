@@ -9,10 +9,11 @@ ghost use Rattle.fv_cp.specs.Placing.{HaveNoFiles, KeepCores};
 ghost use Rattle.fv_aggregate.specs.declared.fault.Fault.TheVariants.{Memory};
 ghost use Rattle.fv_aggregate.specs.Answers.{answer};
 ghost use Rattle.fv_aggregate.specs.Adding.{HasRoom, IsPointed, StillAdmits};
-ghost use Rattle.fv_aggregate.specs.Calls.{Goes, GoesFor, IsForWant, KeepsAsking, KeepsHolding, Runs};
+ghost use Rattle.fv_aggregate.specs.Calls.{Goes, GoesFor, IsForWant, IsUnpointed, KeepsAsking, KeepsHolding, Runs};
 ghost use Rattle.fv_aggregate.specs.Commands.{AsksNothing, AsksPoint, dirty_limit};
 ghost use Rattle.fv_aggregate.specs.Known.{KeepsNumbers};
 ghost use Rattle.fv_aggregate.specs.LeftOver.{todo_under};
+ghost use Rattle.fv_aggregate.specs.PathShown.{KeepsTables};
 ghost use Rattle.fv_aggregate.specs.Reclaiming.{HasPointed, Points};
 ghost use Rattle.fv_aggregate.specs.Standing.{IsWithoutFiles, StandsFor, StandsReady};
 ghost use Rattle.fv_aggregate.specs.Working.{todo};
@@ -51,6 +52,10 @@ impl Session {
         ensures left { IsTrue (D.shown disk.old).tells → (last m : Machine) → StandsFor (D.shown disk.old) self.old last m
             → HaveNoFiles self.old.volumes → OnOk result (todo (D.shown disk.new) self.new ≡ todo (D.shown disk.old) self.old) }
         ensures files { HaveNoFiles self.old.volumes → OnOk result (HaveNoFiles self.new.volumes) }
+        ensures shown { IsTrue (D.shown disk.old).tells → (last m : Machine) → StandsFor (D.shown disk.old) self.old last m
+            → dirty_limit < self.old.pending + room
+            → OnOk result (todo (D.shown disk.new) self.new ≡ todo_under self.new.pool.found (D.shown disk.new).reads) }
+        ensures undone { IsNone self.new.failed → OnErr result (IsUnpointed (D.shown disk.old) self.old (D.shown disk.new) self.new) }
     {
         if self.has_room(room) {
             Ok(())
@@ -74,6 +79,12 @@ impl Session {
         ensures points { Points 0 (D.shown disk.old) self.old (D.shown disk.new) self.new (answer into.new result) }
         ensures reply { IfOk (answer into.new result) (λ reply. reply ≡ Done) }
         ensures files { IsTrue (D.shown disk.old).tells → OnOk (answer into.new result) (IsWithoutFiles self.new) }
+        ensures left { IsTrue (D.shown disk.old).tells → (last m : Machine) → StandsFor (D.shown disk.old) self.old last m
+            → HaveNoFiles self.old.volumes
+            → OnOk (answer into.new result) (todo (D.shown disk.new) self.new ≡ todo (D.shown disk.old) self.old) }
+        ensures tables { IsTrue (D.shown disk.old).tells → (last m : Machine) → StandsFor (D.shown disk.old) self.old last m
+            → HaveNoFiles self.old.volumes
+            → OnOk (answer into.new result) (KeepsTables (D.shown disk.old).reads self.old (D.shown disk.new).reads self.new) }
     {
         self.point(disk, 0)?;
         done(into);
@@ -97,6 +108,9 @@ impl Session {
             → commits m + want ≤ capacity m.blocks → OnOk result (HasRoom (D.shown disk.new) self.new want) }
         ensures left { IsTrue (D.shown disk.old).tells → (last m : Machine) → StandsFor (D.shown disk.old) self.old last m
             → HaveNoFiles self.old.volumes → OnOk result (todo (D.shown disk.new) self.new ≡ todo (D.shown disk.old) self.old) }
+        ensures tables { IsTrue (D.shown disk.old).tells → (last m : Machine) → StandsFor (D.shown disk.old) self.old last m
+            → HaveNoFiles self.old.volumes
+            → OnOk result (KeepsTables (D.shown disk.old).reads self.old (D.shown disk.new).reads self.new) }
         ensures shown { IsTrue (D.shown disk.old).tells → (last m : Machine) → StandsFor (D.shown disk.old) self.old last m
             → OnOk result (todo (D.shown disk.new) self.new ≡ todo_under self.new.pool.found (D.shown disk.new).reads) }
     {

@@ -18,6 +18,7 @@ ghost use Rattle.fv_aggregate.specs.Commands.{AsksPoint};
 ghost use Rattle.fv_aggregate.specs.Causes.{HasOpenCause, IsUnwritten, OpenFails};
 ghost use Rattle.fv_aggregate.specs.LeftOver.{todo_under};
 ghost use Rattle.fv_aggregate.specs.Opening.{IsFresh, IsOpened, TellsDelayed};
+ghost use Rattle.fv_aggregate.specs.PathShown.{HasPathsOf};
 ghost use Rattle.fv_aggregate.specs.Reclaiming.{Points};
 ghost use Rattle.fv_aggregate.specs.Standing.{IsWithoutFiles, Stands, StandsFor, StandsReady, charged_in};
 ghost use Rattle.fv_aggregate.specs.Telling.{charged_from};
@@ -100,6 +101,8 @@ impl Session {
             → IfOk result (TellsDelayed (D.shown disk.old).reads) }
         ensures left { IsTrue (D.shown disk.old).tells → (m : Machine) → machine_of (D.shown disk.old).reads ≡ Some m
             → IfOk result (λ session. todo (D.shown disk.new) session ≡ todo_under session.pool.found (D.shown disk.old).reads) }
+        ensures paths { IsTrue (D.shown disk.old).tells → (m : Machine) → machine_of (D.shown disk.old).reads ≡ Some m
+            → IfOk result (HasPathsOf (D.shown disk.old).reads (D.shown disk.new).reads) }
         ensures fault { IsTrue (D.shown disk.old).tells → IfErr result (OpenFails (D.shown disk.old).reads) }
         ensures unwritten { IsUnwritten (D.shown disk.old) (D.shown disk.new) }
         ensures cause { HasOpenCause (D.shown disk.old).faults (D.shown disk.new).faults result }
@@ -121,6 +124,8 @@ impl Session {
     /// volume knows all its places then; one that knows them already is left as it is. `work` takes so many steps as it asks for, or all that are
     /// left, each of the first volume, by its slot, that has one; the machine stays. Both are answered `ok`. For example, of a mirror three pointers
     /// are unknown: that of its label, and two in the node to which it leads. Then `work 1` fills in the two, and a `clean` of the mirror the third.
+    /// Where no file is in memory a `cp`, a command that only asks, and one that is refused leave to such steps what there was to do, and leave the
+    /// places of all blocks that an active table reaches as a `probe` counts them.
     ///
     /// `steps` counts the unknown pointers that a `get` passes; there are none where the volume has no unknown place. A `probe` answers how many
     /// lie on the path to its cell, and counts none.

@@ -3,6 +3,7 @@ mod Filled
 pub mod Searched
 mod Undamaged
 mod Rooted
+mod RootsWalked
 pub mod Unled
 pub mod Ruled
 mod Stepped

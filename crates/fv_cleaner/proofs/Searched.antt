@@ -20,7 +20,7 @@ use Rattle.fv_image.proofs.WellNodes.{length_items}
 use Rattle.fv_places.specs.ByKind.{pointers_by}
 use Rattle.fv_places.specs.Firsts.{NoneUnknown, IsFirstAt, IsFirst}
 use Rattle.fv_cleaner.specs.declared.searching.Found.{Found}
-use Rattle.fv_cleaner.specs.Searching.{AreClear, IsClear, Lies, Looks, LooksBelow}
+use Rattle.fv_cleaner.specs.Searching.{AreClearFrom, IsClear, Lies, Looks, LooksBelow, LooksFrom}
 
 -- ---- a block has at most 128 pointers
 
@@ -43,33 +43,47 @@ few_pointers (Some OfInodes) b = omega (arith, few_in_inodes b (inodes_at b) ref
 
 -- ---- what unknown pointers lead to
 
-module _ (at : Lies) (ps : List Pointer) where
+module _ (at : Lies) (ps : List Pointer) (start : ℕ) where
   -- behind the first unknown pointer from an index on, where what it leads to is clear
-  pub clear_next : (from : ℕ) (f : ℕ × Pointer) → AreClear at ps from → IsFirstAt ps from f → IsClear at f.1.vvbn → AreClear at ps (f.0 + 1)
-  clear_next from f before first clear i low unknown = ⊎_elim
-      (λ (early : i < from). before i early unknown)
-      (λ (late : from ≤ i). ⊎_elim
+  pub clear_next : (from : ℕ) (f : ℕ × Pointer) → AreClearFrom at ps start from → IsFirstAt ps from f → IsClear at f.1.vvbn → AreClearFrom at ps start (f.0 + 1)
+  clear_next from f before first clear i late low unknown = ⊎_elim
+      (λ (early : i < from). before i late early unknown)
+      (λ (behind : from ≤ i). ⊎_elim
       (λ (same : i ≡ f.0). subst (λ (p : Pointer). IsClear at p.vvbn) (sym (ap (λ (k : ℕ). get_or ps k hole) same ∙ first.stands)) clear)
       (λ other. let less : i < f.0 = omega (arith, low, other) in
-      let no : true ≡ false = sym unknown ∙ first.first i late less in absurd cc)
+      let no : true ≡ false = sym unknown ∙ first.first i behind less in absurd cc)
       (cases_eq i f.0))
       (cases_lt i from)
 
   -- with none from an index on
-  pub clear_all : (from : ℕ) → AreClear at ps from → NoneUnknown ps from (length ps) → AreClear at ps (length ps)
-  clear_all from before none i low unknown = ⊎_elim
-      (λ (early : i < from). before i early unknown)
-      (λ (late : from ≤ i). let no : true ≡ false = sym unknown ∙ none i late low in absurd cc)
+  pub clear_all : (from : ℕ) → AreClearFrom at ps start from → NoneUnknown ps from (length ps) → AreClearFrom at ps start (length ps)
+  clear_all from before none i late low unknown = ⊎_elim
+      (λ (early : i < from). before i late early unknown)
+      (λ (behind : from ≤ i). let no : true ≡ false = sym unknown ∙ none i behind low in absurd cc)
       (cases_lt i from)
 
   -- past the last
-  pub clear_past : (from : ℕ) → AreClear at ps from → length ps ≤ from → AreClear at ps (length ps)
-  clear_past from before past i low unknown = before i (omega (arith, low, past)) unknown
+  pub clear_past : (from : ℕ) → AreClearFrom at ps start from → length ps ≤ from → AreClearFrom at ps start (length ps)
+  clear_past from before past i late low unknown = before i late (omega (arith, low, past)) unknown
 
--- what one look found is found below, and one that found nothing saw a clear block
-pub found_below : (at : Lies) (v kind : ℕ) (ps : List Pointer) (block : List ℕ) (next : Option Found) → is_some next ≡ true → Looks at v block next → LooksBelow at kind ps block next
-found_below at v kind ps block None some looks = absurd cc
-found_below at v kind ps block (Some f) some looks = looks
+  -- before the first look
+  pub clear_none : AreClearFrom at ps start start
+  clear_none i late low unknown = absurd (omega (arith, late, low))
+
+-- what one look from the first pointer on says is said of all
+pub looks_all : (at : Lies) (kind : ℕ) (ps : List Pointer) (block : List ℕ) (next : Option Found) → LooksFrom at ps 0 block next → LooksBelow at kind ps block next
+looks_all at kind ps block None looks = λ over i low unknown. looks i (omega arith) low unknown
+looks_all at kind ps block (Some f) looks = looks
+
+-- one that found a block from elsewhere on found one below
+pub looks_some : (at : Lies) (kind from : ℕ) (ps : List Pointer) (block : List ℕ) (next : Option Found) → is_some next ≡ true → LooksFrom at ps from block next → LooksBelow at kind ps block next
+looks_some at kind from ps block None some looks = absurd cc
+looks_some at kind from ps block (Some f) some looks = looks
+
+-- what one look found is found from an index on, and one that found nothing saw a clear block
+pub found_from : (at : Lies) (v from : ℕ) (ps : List Pointer) (block : List ℕ) (next : Option Found) → is_some next ≡ true → Looks at v block next → LooksFrom at ps from block next
+found_from at v from ps block None some looks = absurd cc
+found_from at v from ps block (Some f) some looks = looks
 
 pub saw_clear : (at : Lies) (v : ℕ) (block : List ℕ) (next : Option Found) → is_some next ≡ false → Looks at v block next → IsClear at v
 saw_clear at v block None none looks = looks

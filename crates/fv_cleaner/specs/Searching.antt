@@ -74,6 +74,15 @@ abbrev pub Looks : Lies → ℕ → List ℕ → Option Found → Type 0
 Looks at v block None = IsClear at v
 Looks at v block (Some f) = IsUnclear at f.vvbn (found_block f block)
 
+-- each unknown pointer of a list from an index on, up to another one, leads to a block that holds none
+abbrev pub AreClearFrom : Lies → List Pointer → ℕ → ℕ → Type 0
+AreClearFrom at ps from end = (i : ℕ) → from ≤ i → i < end → is_unknown (get_or ps i hole) ≡ true → IsClear at (get_or ps i hole).vvbn
+
+-- what the search under the pointers from an index on says: what the unknown ones lead to holds none, or a block was read that does
+abbrev pub LooksFrom : Lies → List Pointer → ℕ → List ℕ → Option Found → Type 0
+LooksFrom at ps from block None = AreClearFrom at ps from (length ps)
+LooksFrom at ps from block (Some f) = IsUnclear at f.vvbn (found_block f block)
+
 -- what the search under the pointers of a block of a kind says: what the unknown ones lead to holds none, or a block was read that does
 abbrev pub LooksBelow : Lies → ℕ → List Pointer → List ℕ → Option Found → Type 0
 LooksBelow at kind ps block None = 2 < kind → AreClear at ps (length ps)

@@ -30,8 +30,9 @@ use fv_volumes::Volumes;
 /// hasn't the shape of its kind or leads to one whose kind isn't below its own; or where a leaf of a container doesn't stand where it has to.
 /// `DiskFault` only where a read failed in this call, and `Memory` where memory ran out. Nothing but leaves in memory and the cache changes then.
 ///
-/// It writes nothing. Costs a look-up and a read for each root, and for each unknown pointer of at most six blocks: 24 and 1 roots, and 128
-/// pointers on each level at most.
+/// It writes nothing. Costs a look-up and a read for each root, 24 and 1 of them at most; a look-up, a read and two decodes for each child
+/// that the search looks at: a few on average on each of at most six levels, and all 128 of a node twice at most; and a look-up, two decodes
+/// and an encode for each unknown pointer of the block that it cleans.
 pub fn clean_step<D: Disk>(
     volumes: &mut Volumes,
     slot: u8,

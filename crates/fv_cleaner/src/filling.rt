@@ -27,7 +27,7 @@ use fv_volmap::VolMap;
 /// below its own; or where a leaf of a container doesn't stand where it has to. `DiskFault` only where a read failed in this call. `Memory`
 /// never comes. At `Err` the content of `block` is open.
 ///
-/// Costs a look-up, a decode and an encode for each unknown pointer.
+/// Costs a look-up, two decodes and an encode for each unknown pointer, 128 at most, and a decode.
 #[tactic(auto, using(crate::proofs::Lying::leaves_then, fv_disk::proofs::Resting::reads_then))]
 pub fn fill_all<D: Disk>(
     pool: &mut Pool,

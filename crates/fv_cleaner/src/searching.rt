@@ -11,9 +11,9 @@ ghost use Rattle.fv_places.specs.ByKind.{form_of, pointers_by, shape_in};
 ghost use Rattle.fv_pool.specs.BlocksOver.{LeavesPool};
 ghost use Rattle.fv_store.specs.Held.{StandsOn};
 ghost use Rattle.fv_disk.specs.declared.fault.BlockFault.TheVariants.{Damaged};
-ghost use Rattle.fv_cleaner.specs.Searching.{CanFollow, IsFoundIn, IsNext, IsUnclear, IsUndamaged, LeadBelow, LeadsBelow, Looks, LooksBelow, Searches, found_block, lies_in};
+ghost use Rattle.fv_cleaner.specs.Searching.{CanFollow, IsFoundIn, IsNext, IsUnclear, IsUndamaged, LeadBelow, LeadsBelow, Looks, LooksBelow, LooksFrom, Searches, found_block, lies_in};
 
-use fv_codec::Shape;
+use fv_codec::{Node, Shape};
 use fv_container::Entry;
 use fv_disk::{Block, BlockFault, Disk, ZERO};
 use fv_places::{first_unknown, has_unknown};
@@ -28,6 +28,12 @@ const OVER_CELLS: u8 = 2;
 const TOPMOST: u8 = 7;
 /// The most pointers that a block has.
 pub(crate) const POINTERS: u32 = 128;
+/// How many roots an inode block has.
+const RECORDS: u64 = 16;
+/// What steps are spread by. It is odd, so steps that follow each other begin at 128 indices in turn.
+const BY_STEPS: u64 = 0x9e37_79b9_7f4a_7c15;
+/// What points are spread by.
+const BY_POINTS: u64 = 0xc13f_a9a9_02a6_328f;
 
 /// A block that was found, by its number and its entry.
 #[derive(Clone, Copy, Debug, PartialEq, Eq)]
@@ -47,7 +53,8 @@ pub struct Found {
 /// that of the block with the pointer to it; or where a leaf of a container doesn't stand where it has to. `DiskFault` only where a read
 /// failed in this call. `Memory` never comes. At `Err` the content of `into` is open.
 ///
-/// Costs a look-up and a read for each unknown pointer of at most six blocks.
+/// Costs a look-up, a read and two decodes for each child that it looks at. On each of at most six levels these are a few on average, since
+/// it begins at another child in each step; at most they are all children of a node twice, as where all are clean.
 pub fn find_under<D: Disk>(
     pool: &mut Pool,
     disk: &mut D,
@@ -106,8 +113,11 @@ fn descend<D: Disk>(
     Ok(found)
 }
 
-/// Reads the first block that an unknown pointer of a block leads to and that holds one itself; `None` where there is none. Of a node over
-/// cells nothing is read.
+/// Reads a block that an unknown pointer of a block leads to and that holds one itself; `None` where there is none. Of a node over cells
+/// nothing is read.
+///
+/// Steps clean the children of a node one by one, so a look that began at the first each time would pass all that are clean by now. It
+/// begins elsewhere in each step, and at the first one only where it finds nothing from there on.
 #[tactic(auto, using(crate::proofs::Lying::leaves_then, fv_disk::proofs::Resting::reads_then))]
 fn look_below<D: Disk>(
     pool: &mut Pool,
@@ -136,8 +146,44 @@ fn look_below<D: Disk>(
     if found.entry.kind <= OVER_CELLS {
         return Ok(None);
     }
+    let start = start_in(pool, found.entry.kind, block);
+    let next = look_from(pool, disk, map, home, found, block, start, into)?;
+    if next.is_some() {
+        return Ok(next);
+    }
+    look_from(pool, disk, map, home, found, block, 0, into)
+}
+
+/// Reads the first block that an unknown pointer of a block from an index on leads to and that holds one itself; `None` where there is
+/// none.
+#[tactic(auto, using(crate::proofs::Lying::leaves_then, fv_disk::proofs::Resting::reads_then))]
+fn look_from<D: Disk>(
+    pool: &mut Pool,
+    disk: &mut D,
+    map: &VolMap,
+    home: &Home,
+    found: &Found,
+    block: &Block,
+    start: u32,
+    into: &mut Block,
+) -> Result<Option<Found>, BlockFault>
+    requires slot { home.now.slot < slot_count }
+    requires over { 2 < found.now.entry.kind }
+    requires greatest { found.now.entry.kind ≤ 7 }
+    requires stands { StandsOn (D.shown disk.old) pool.old.store.pairs }
+    ensures looks { TellsEntries (D.shown disk.old) pool.old.containers
+        → IfOk result (LooksFrom (lies_in map.now pool.old home.now.slot (D.shown disk.old).reads) (pointers_by (form_of found.now.entry.kind) block.now) start into.new) }
+    ensures lower { IfOk result (λ next. IfSome next (λ n. n.entry.kind < found.now.entry.kind)) }
+    ensures found { IfOk result (λ next. IfSome next (λ n. IsFoundIn map.now n into.new)) }
+    ensures leaves { LeavesPool pool.old pool.new }
+    ensures stands { StandsOn (D.shown disk.new) pool.new.store.pairs }
+    ensures only_reads { OnlyReads (D.shown disk.old) (D.shown disk.new) }
+    ensures cause { HasBlockCause (D.shown disk.old).faults (D.shown disk.new).faults result }
+    ensures undamaged { TellsEntries (D.shown disk.old) pool.old.containers → CanFollow (lies_in map.now pool.old home.now.slot (D.shown disk.old).reads) → shape_in (form_of found.now.entry.kind) block.now ≡ Ok tt
+        → LeadBelow (lies_in map.now pool.old home.now.slot (D.shown disk.old).reads) found.now.entry.kind (pointers_by (form_of found.now.entry.kind) block.now) → IfErr result IsUndamaged }
+{
     let most = found.entry.kind - 1;
-    let mut from = 0;
+    let mut from = start;
     for _ in 0..POINTERS {
         let (index, pointer) = match first_unknown(found.entry.kind, block, from) {
             Ok(Some(first)) => first,
@@ -151,6 +197,34 @@ fn look_below<D: Disk>(
         from = index + 1;
     }
     Ok(None)
+}
+
+/// An index at which a look at the pointers of a block of a kind begins. Any index serves. This one is another in each step and behind each
+/// point, since a step takes a free block and a point counts the root's generation on, and another for each kind of block. An example: of
+/// a node's 79 children 40 are clean. A look that begins at the first passes all 40, and one that begins anywhere passes one on average, or
+/// a few where clean ones stand side by side. Costs a decode.
+fn start_in(pool: &Pool, kind: u8, block: &Block) -> u32
+    requires least { 3 ≤ kind }
+    requires greatest { kind ≤ 7 }
+{
+    let free = u64::from(pool.map.free_count()).wrapping_mul(BY_STEPS);
+    let mixed = free.wrapping_add(pool.found.root.generation.wrapping_mul(BY_POINTS));
+    let part = (mixed >> (7 * u32::from(kind - 3))) % u64::from(POINTERS);
+    u32::try_from(part.wrapping_mul(width_of(block)) / u64::from(POINTERS)).unwrap_or(0)
+}
+
+/// How many pointers a node has up to the last one that leads somewhere; of another block, which is one of inodes, 16.
+fn width_of(block: &Block) -> u64 {
+    let Ok(node) = Node::decode(block) else {
+        return RECORDS;
+    };
+    let mut width = 0;
+    for index in 0..POINTERS {
+        if node.children[index as usize].stamp != 0 {
+            width = u64::from(index) + 1;
+        }
+    }
+    width
 }
 
 /// Reads the block under a VVBN, of a kind at most `most`, where it holds an unknown pointer; `None` where it holds none. Data isn't read.

@@ -2,15 +2,12 @@
 use Rattle.std.proofs.Common.{◌≡◌, ◌<◌, ℕ, List, Some, sym, ap, subst, ◌∙◌}
 use Rattle.std.specs.Prelude.{IfSome, IsSome, OnOk, Result, Ok, Err}
 use Rattle.std.specs.declared.alloc.AllocError.{AllocError}
-use Rattle.std.proofs.lemmas.Option.{same_Some}
 use Rattle.fv_container.specs.Chains.{paged_at, parent_at}
 use Rattle.fv_container.specs.Paged.{empty_paged}
 use Rattle.fv_image.specs.Views.{Head, entry_count}
 use Rattle.fv_model.specs.declared.commands.Kind.{Kind}
 use Rattle.fv_volmap.specs.Slots.{slot_at, slot_count as map_slot_count}
 use Rattle.fv_pool.specs.declared.pool.Pool.{Pool}
-use Rattle.fv_volume.specs.declared.state.Base.{Base}
-use Rattle.fv_volume.specs.declared.state.Snap.{Snap}
 use Rattle.fv_volume.specs.declared.state.VolumeState.{VolumeState}
 use Rattle.fv_volume.specs.Cloning.{IsCloneOf}
 use Rattle.fv_volume.specs.Files.{IsLabelled}
@@ -19,39 +16,19 @@ use Rattle.fv_volumes.specs.Creating.{with_holes_on}
 use Rattle.fv_clone.specs.declared.admitting.Admitted.{Admitted}
 use Rattle.fv_clone.specs.Admitting.{CanMake}
 use Rattle.fv_clone.specs.Creating.{IsCloned}
-use Rattle.fv_clone.proofs.Asked.{base_inside, base_used, labelled_at}
+use Rattle.fv_clone.proofs.Source.{same_home, snap_inside, snap_used, IsOfAsked}
 
 module _ (states : States) (pool : Pool) (name : List ℕ) (size : ℕ) (kind : Kind) (a : Admitted) (admits : CanMake states pool.found.blocks name size kind a) (each : (s : ℕ) → IfSome (state_at states s) (IsLabelled s)) where
-  -- its parent, and the snapshot
-  abbrev pub parent : VolumeState
-  parent = admits.asked.source.home.volume
-
-  abbrev pub snap : Snap
-  snap = admits.asked.source.snap
-
-  pub parent_labelled : IsLabelled admits.asked.source.home.slot parent
-  parent_labelled = labelled_at states each admits.asked.source.home.slot parent admits.asked.source.home.there
-
-  -- The base leads to the parent's slot.
-  pub home_is : a.base.parent ≡ admits.asked.source.home.slot
-  home_is = ap (λ (b : Base). b.parent) admits.base_is ∙ parent_labelled.slot_is
-
-  pub parent_there : state_at states a.base.parent ≡ Some parent
-  parent_there = ap (state_at states) home_is ∙ admits.asked.source.home.there
-
-  pub snap_slot : a.base.slot ≡ snap.slot
-  snap_slot = ap (λ (b : Base). b.slot) admits.base_is
+  -- its base is of the snapshot that is asked
+  abbrev pub of_asked : IsOfAsked states a.base name size
+  of_asked = record { asked = admits.asked; is = admits.base_is; labelled = each }
 
   module _ (y : VolumeState) (there : state_at states a.base.parent ≡ Some y) where
-    same : parent ≡ y
-    same = same_Some parent y (sym parent_there ∙ there)
-
     pub inside_of : a.base.slot < map_slot_count
-    inside_of = subst (λ (n : ℕ). n < map_slot_count) (sym snap_slot) (base_inside parent admits.asked.source.home.slot a.base.snapshot snap parent_labelled admits.asked.source.found)
+    inside_of = snap_inside of_asked
 
     pub used_of : IsSome (slot_at y.map a.base.slot)
-    used_of = subst (λ (z : VolumeState). IsSome (slot_at z.map a.base.slot)) same
-        (subst (λ (n : ℕ). IsSome (slot_at parent.map n)) (sym snap_slot) (base_used parent admits.asked.source.home.slot a.base.snapshot snap parent_labelled admits.asked.source.found))
+    used_of = snap_used of_asked y there
 
     -- Once it is put in its slot it is made.
     pub cloned_by : (state : VolumeState) → IsCloneOf y a.base a.slot name size kind a.span state → (new : States) (r : Result (Unit {0}) AllocError) → OnOk r (new ≡ with_state states state.slot (Some state))
@@ -62,7 +39,7 @@ module _ (states : States) (pool : Pool) (name : List ℕ) (size : ℕ) (kind : 
         record {
           admits = admits;
           state = state;
-          is = subst (λ (z : VolumeState). IsCloneOf z a.base a.slot name size kind a.span state) (sym same) is;
+          is = subst (λ (z : VolumeState). IsCloneOf z a.base a.slot name size kind a.span state) (sym (same_home of_asked y there)) is;
           row = row ∙ ap (λ (n : ℕ). with_state states n (Some state)) is.slot_is;
           holes = holes ∙ (λ i. with_holes_on pool (is.slot_is i) (span i) (Some a.base.parent));
           container = ap (paged_at left.containers) (sym is.slot_is) ∙ container ∙ ap (λ (n : ℕ). Some (empty_paged (entry_count n))) span;

@@ -28,7 +28,8 @@ use Rattle.fv_mirror.specs.declared.admitting.Admitted.{Admitted}
 use Rattle.fv_mirror.specs.Admitting.{CanMake}
 use Rattle.fv_mirror.specs.Making.{source_bits, CanCopy}
 use Rattle.fv_mirror.proofs.Counted.{copies_counted}
-use Rattle.fv_mirror.proofs.Made.{home_is, snap, snap_slot, source, source_labelled, source_there}
+use Rattle.fv_clone.proofs.Source.{home_slot, snap_slot}
+use Rattle.fv_mirror.proofs.Made.{of_asked, snap, source, source_there}
 use Rattle.fv_mirror.proofs.Source.{kept_there, tells_source}
 use Rattle.fv_mirror.proofs.Whole.{source_whole}
 
@@ -44,10 +45,10 @@ module _ (disk : Disk) (pool : Pool) (states : States) (name : List ℕ) (size :
   y_there = source_there states pool name size kind a admits labelled
 
   y_slot : y.slot ≡ a.source.parent
-  y_slot = (source_labelled states pool name size kind a admits labelled).slot_is ∙ sym (home_is states pool name size kind a admits labelled)
+  y_slot = home_slot (of_asked states pool name size kind a admits labelled)
 
   q_slot : a.source.slot ≡ q.slot
-  q_slot = snap_slot states pool name size kind a admits labelled
+  q_slot = snap_slot (of_asked states pool name size kind a admits labelled)
 
   y_held : IsHeldIn disk pool a.source.parent y
   y_held = subst (λ (o : Option VolumeState). IfSome o (IsHeldIn disk pool a.source.parent)) y_there (each a.source.parent)

@@ -1,5 +1,5 @@
 -- A mirror as it is made: its maps, its numbers, and its label.
-use Rattle.std.proofs.Common.{◌≡◌, ◌≢◌, ◌≤◌, ◌*◌, ℕ, true, false, List, [], Some, None, refl, sym, ap, subst, ◌∙◌, ⊎_elim, arith}
+use Rattle.std.proofs.Common.{◌≡◌, ◌≢◌, ◌≤◌, ◌*◌, ℕ, true, List, [], Some, None, refl, sym, ap, subst, ◌∙◌, ⊎_elim, arith}
 use Rattle.std.specs.Prelude.{IfSome}
 use Rattle.std.proofs.lemmas.Bool.{cases_eq, false≢true}
 use Rattle.std.proofs.lemmas.Bool.Decides.{nat_tests}
@@ -53,25 +53,6 @@ module _ (from : Slot) (span : ℕ) (maps : Maps) (is : AreMapsOf from span maps
 -- ---- its label
 
 module _ (y : VolumeState) (b : Base) (count slot : ℕ) (name : List ℕ) (size : ℕ) (kind : Kind) (span : ℕ) (x : VolumeState) (is : IsMirrorOf y b count slot name size kind span x) where
-  -- its numbers
-  pub size_is : x.size ≡ size
-  size_is = ap (λ (h : Head). h.size) is.head
-
-  pub kind_is : x.kind ≡ kind
-  kind_is = ap (λ (h : Head). h.kind) is.head
-
-  pub most_is : x.most ≡ 2 * size
-  most_is = ap (λ (h : Head). h.most) is.head
-
-  pub span_is : x.span ≡ span
-  span_is = ap (λ (h : Head). h.span) is.head
-
-  pub now_is : x.now ≡ y.now
-  now_is = ap (λ (h : Head). h.now) is.head
-
-  pub known_is : x.known ≡ false
-  known_is = ap (λ (h : Head). h.known) is.head
-
   pub called : x.name ≡ name
   called = ap (λ (h : Head). h.name) is.head
 
@@ -90,6 +71,10 @@ module _ (y : VolumeState) (b : Base) (count slot : ℕ) (name : List ℕ) (size
 
     can_say : IsSayable x
     can_say =
+        let size_is : x.size ≡ size = ap (λ (h : Head). h.size) is.head in
+        let most_is : x.most ≡ 2 * size = ap (λ (h : Head). h.most) is.head in
+        let span_is : x.span ≡ span = ap (λ (h : Head). h.span) is.head in
+        let now_is : x.now ≡ y.now = ap (λ (h : Head). h.now) is.head in
         let small : 1 ≤ size = grind (arith, nat_tests, sized) in
         let large : size ≤ 500000 = grind (arith, nat_tests, sized) in
         record {
@@ -113,12 +98,12 @@ module _ (y : VolumeState) (b : Base) (count slot : ℕ) (name : List ℕ) (size
     mirror_labelled = record {
       slot_is = is.slot_is;
       form = ap has_form is.head;
-      span = omega (arith, span_is, fits);
-      map = maps_span (slot_at y.map b.slot) span x.map is.maps ∙ sym span_is;
+      span = (let span_is : x.span ≡ span = ap (λ (h : Head). h.span) is.head in omega (arith, span_is, fits));
+      map = maps_span (slot_at y.map b.slot) span x.map is.maps ∙ sym (ap (λ (h : Head). h.span) is.head);
       snapshots = sayable;
       slots = slots_of_one (head_in x) x.map no_base no_snaps (one_map (slot_at y.map b.slot) span x.map is.maps);
       waits = no_waits x is.rests.fresh;
-      counts = ap (λ (l : Ledger). l.span) is.ledger ∙ sym span_is;
+      counts = ap (λ (l : Ledger). l.span) is.ledger ∙ sym (ap (λ (h : Head). h.span) is.head);
       levels = subst (λ (r : Rooted). r.levels ≤ 2) (sym is.active) few;
       named = ap is_name called ∙ is.named;
       label = label_range x can_say;

@@ -25,11 +25,12 @@ use Rattle.fv_volume.specs.Stored.{has_stored_map, is_rewritten}
 use Rattle.fv_volume.proofs.StayingMaps.{active_moves}
 use Rattle.fv_volumes.specs.Housed.{AreHoused}
 use Rattle.fv_volumes.specs.UnderRoot.{IsLentAt, IsLentSlot}
+use Rattle.fv_volumes.proofs.Added.{others_stay, paged_elsewhere, put_there, IsPut}
 use Rattle.fv_volumes.proofs.StillLoaded.{still_loaded}
 use Rattle.fv_mirror.specs.declared.admitting.Admitted.{Admitted}
 use Rattle.fv_mirror.specs.Making.{HasCopies, IsMirrored}
 use Rattle.fv_mirror.proofs.Labelled.{one_map}
-use Rattle.fv_mirror.proofs.Placed.{home, made, made_paged, made_there, others_stay, paged_elsewhere}
+use Rattle.fv_mirror.proofs.Placed.{home, made, put}
 use Rattle.fv_mirror.proofs.Spaced.{mirror_apart}
 
 -- ---- over an image that has the blocks which the root holds
@@ -102,6 +103,9 @@ module _ (disk : Disk) (pool : Pool) (states : States) (name : List ℕ) (size :
   abbrev x : VolumeState
   x = made disk pool states name size kind a after new left mirrored housed
 
+  abbrev its : IsPut states pool.containers a.slot x mirrored.container None new left.containers
+  its = put disk pool states name size kind a after new left mirrored housed
+
   abbrev y : VolumeState
   y = home disk pool states name size kind a after new left mirrored housed
 
@@ -120,9 +124,9 @@ module _ (disk : Disk) (pool : Pool) (states : States) (name : List ℕ) (size :
     pub slots_now : (s : ℕ) → s < 64 → IsLentAt after.reads found s (state_at new s) (paged_at left.containers s)
     slots_now s inside = ⊎_elim
         (λ (here : s ≡ a.slot). subst (λ (k : ℕ). IsLentAt after.reads found k (state_at new k) (paged_at left.containers k)) (sym here)
-        (subst (λ (o : Option VolumeState). IsLentAt after.reads found a.slot o (paged_at left.containers a.slot)) (sym (made_there disk pool states name size kind a after new left mirrored housed))
-        (subst (λ (c : Option Paged). IsLentAt after.reads found a.slot (Some x) c) (sym (made_paged disk pool states name size kind a after new left mirrored housed)) slot_new)))
-        (λ (other : s ≢ a.slot). subst (λ (o : Option VolumeState). IsLentAt after.reads found s o (paged_at left.containers s)) (sym (others_stay disk pool states name size kind a after new left mirrored housed s other))
-        (subst (λ (c : Option Paged). IsLentAt after.reads found s (state_at states s) c) (sym (paged_elsewhere disk pool states name size kind a after new left mirrored housed s other))
+        (subst (λ (o : Option VolumeState). IsLentAt after.reads found a.slot o (paged_at left.containers a.slot)) (sym (put_there its))
+        (subst (λ (c : Option Paged). IsLentAt after.reads found a.slot (Some x) c) (sym mirrored.there) slot_new)))
+        (λ (other : s ≢ a.slot). subst (λ (o : Option VolumeState). IsLentAt after.reads found s o (paged_at left.containers s)) (sym (others_stay its s other))
+        (subst (λ (c : Option Paged). IsLentAt after.reads found s (state_at states s) c) (sym (paged_elsewhere its s other))
         (still_lent found disk.reads after.reads s inside agree (state_at states s) (paged_at pool.containers s) (slots s inside))))
         (cases_eq s a.slot)

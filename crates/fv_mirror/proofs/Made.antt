@@ -3,7 +3,6 @@ use Rattle.std.proofs.Common.{◌≡◌, ◌<◌, ◌≤◌, ◌+◌, ℕ, Bool,
 use Rattle.std.specs.Prelude.{IfErr, IfSome, IsErrAnd, IsSome}
 use Rattle.std.specs.Option.{is_some}
 use Rattle.std.proofs.lemmas.Bool.{cases_Bool}
-use Rattle.std.proofs.lemmas.Option.{same_Some}
 use Rattle.fv_disk.specs.Shown.{Shown as Disk}
 use Rattle.fv_bits.specs.Members.{is_member}
 use Rattle.fv_aggmap.specs.Space.{Space, free_blocks}
@@ -25,14 +24,13 @@ use Rattle.fv_pool.specs.declared.pool.Pool.{Pool}
 use Rattle.fv_pool.specs.Keeping.{Blocks, seen}
 use Rattle.std.specs.FinMap as fin
 use Rattle.fv_volmap.specs.Slots.{IsVolume, Slot, map_or_empty, slot_at, slot_count as map_slot_count}
-use Rattle.fv_volume.specs.declared.state.Base.{Base}
 use Rattle.fv_volume.specs.declared.state.Snap.{Snap}
 use Rattle.fv_volume.specs.declared.state.VolumeState.{VolumeState}
 use Rattle.fv_volume.specs.Files.{IsLabelled}
 use Rattle.fv_volume.specs.Mirroring.{IsMirrorOf}
 use Rattle.fv_volume.specs.Slots.{sum_of}
 use Rattle.fv_volume.specs.States.{States, state_at, with_state}
-use Rattle.fv_clone.proofs.Asked.{base_inside, base_used, labelled_at}
+use Rattle.fv_clone.proofs.Source.{home_inside, home_labelled, home_there, same_home, snap_inside, snap_used, IsOfAsked}
 use Rattle.fv_copies.specs.declared.landing.Landing.{Landing}
 use Rattle.fv_copies.specs.Copying.{Copy, HasCopied, IsSource, IsWhole, LeavesTaken, content_of, copies_below}
 use Rattle.fv_copies.specs.Landings.{AreMarked, HasLanded, AreUnmarked, Lands}
@@ -107,34 +105,31 @@ module _ (states : States) (pool : Pool) (name : List ℕ) (size : ℕ) (kind : 
   abbrev pub snap : Snap
   snap = admits.asked.source.snap
 
-  pub source_labelled : IsLabelled admits.asked.source.home.slot source
-  source_labelled = labelled_at states each admits.asked.source.home.slot source admits.asked.source.home.there
+  -- what it's of is the snapshot that is asked
+  abbrev pub of_asked : IsOfAsked states a.source name size
+  of_asked = record { asked = admits.asked; is = admits.source_is; labelled = each }
 
-  pub home_is : a.source.parent ≡ admits.asked.source.home.slot
-  home_is = ap (λ (b : Base). b.parent) admits.source_is ∙ source_labelled.slot_is
+  pub source_labelled : IsLabelled admits.asked.source.home.slot source
+  source_labelled = home_labelled of_asked
 
   pub source_there : state_at states a.source.parent ≡ Some source
-  source_there = ap (state_at states) home_is ∙ admits.asked.source.home.there
+  source_there = home_there of_asked
 
   pub is_there : is_some (state_at states a.source.parent) ≡ true
   is_there = ap is_some source_there
 
-  pub snap_slot : a.source.slot ≡ snap.slot
-  snap_slot = ap (λ (b : Base). b.slot) admits.source_is
-
   pub inside_slots : a.source.parent < slot_count
-  inside_slots = subst (λ (n : ℕ). n < slot_count) (sym home_is) admits.asked.source.home.within
+  inside_slots = home_inside of_asked
 
   pub inside_of : a.source.slot < map_slot_count
-  inside_of = subst (λ (n : ℕ). n < map_slot_count) (sym snap_slot) (base_inside source admits.asked.source.home.slot a.source.snapshot snap source_labelled admits.asked.source.found)
+  inside_of = snap_inside of_asked
 
   module _ (y : VolumeState) (there : state_at states a.source.parent ≡ Some y) where
     pub same : source ≡ y
-    same = same_Some source y (sym source_there ∙ there)
+    same = same_home of_asked y there
 
     pub used_of : IsSome (slot_at y.map a.source.slot)
-    used_of = subst (λ (z : VolumeState). IsSome (slot_at z.map a.source.slot)) same
-        (subst (λ (n : ℕ). IsSome (slot_at source.map n)) (sym snap_slot) (base_used source admits.asked.source.home.slot a.source.snapshot snap source_labelled admits.asked.source.found))
+    used_of = snap_used of_asked y there
 
     pub is_used : is_some (slot_at y.map a.source.slot) ≡ true
     is_used = used_of

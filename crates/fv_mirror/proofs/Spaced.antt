@@ -28,7 +28,8 @@ use Rattle.fv_volume.specs.Stored.{has_block, is_of, leads, AreApartIn, AreSpace
 use Rattle.fv_volumes.specs.Housed.{AreHoused}
 use Rattle.fv_mirror.specs.declared.admitting.Admitted.{Admitted}
 use Rattle.fv_mirror.specs.Making.{HasCopies, IsMirrored}
-use Rattle.fv_mirror.proofs.Placed.{container_elsewhere, made, made_paged, made_span, made_there, others_stay, slot_inside_all}
+use Rattle.fv_volumes.proofs.Added.{container_elsewhere, others_stay, put_there, IsPut}
+use Rattle.fv_mirror.proofs.Placed.{made, made_span, put}
 use Rattle.fv_mirror.proofs.Source.{next_taken}
 
 -- a block that an entry leads to
@@ -120,16 +121,19 @@ module _ (disk : Disk) (pool : Pool) (states : States) (name : List ℕ) (size :
   abbrev x : VolumeState
   x = made disk pool states name size kind a after new left mirrored housed
 
+  abbrev its : IsPut states pool.containers a.slot x mirrored.container None new left.containers
+  its = put disk pool states name size kind a after new left mirrored housed
+
   long : length mirrored.container.map.entries ≡ entry_count x.span
   long = mirrored.long ∙ ap entry_count (sym (made_span disk pool states name size kind a after new left mirrored housed))
 
   has_new : (b : ℕ) → has_block (state_at new a.slot) (container_at left.containers a.slot) b ≡ leads mirrored.container.map (entry_count x.span) b
   has_new b =
-      (λ i. has_block (made_there disk pool states name size kind a after new left mirrored housed i) (map_in (made_paged disk pool states name size kind a after new left mirrored housed i)) b)
+      (λ i. has_block (put_there its i) (map_in (mirrored.there i)) b)
       ∙ of_mirror disk pool a.source.parent bits mirrored.container after left copies mirrored.nowhere x mirrored.is.label b
 
   has_old : (s b : ℕ) → s ≢ a.slot → has_block (state_at new s) (container_at left.containers s) b ≡ has_block (state_at states s) (container_at pool.containers s) b
-  has_old s b other = λ i. has_block (others_stay disk pool states name size kind a after new left mirrored housed s other i) (container_elsewhere disk pool states name size kind a after new left mirrored housed s other i) b
+  has_old s b other = λ i. has_block (others_stay its s other i) (container_elsewhere its s other i) b
 
   new_leads : (s b : ℕ) → s ≡ a.slot → has_block (state_at new s) (container_at left.containers s) b ≡ true → LeadsTo mirrored.container b
   new_leads s b same has_it = lead_to disk pool a.source.parent bits mirrored.container after left copies (entry_count x.span) b
@@ -167,6 +171,6 @@ module _ (disk : Disk) (pool : Pool) (states : States) (name : List ℕ) (size :
     set = λ b set. ⊎_elim
         (λ (was : is_member pool.map.next b ≡ true). let s = spaced.set b was in (s.0, s.1, has_old s.0 b (was_other s.0 b s.2) ∙ s.2))
         (λ (is : LeadsTo mirrored.container b).
-        (a.slot, slot_inside_all disk pool states name size kind a after new left mirrored housed, has_new b ∙ lead_from disk pool a.source.parent bits mirrored.container after left copies (entry_count x.span) b long is))
+        (a.slot, mirrored.admits.free.within, has_new b ∙ lead_from disk pool a.source.parent bits mirrored.container after left copies (entry_count x.span) b long is))
         (copies.come b set);
   }

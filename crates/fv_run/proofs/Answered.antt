@@ -17,13 +17,16 @@ use Rattle.fv_aggregate.specs.declared.session.Session.{Session}
 use Rattle.fv_aggregate.specs.Standing.{OneOf, StandsAfter}
 use Rattle.fv_run.specs.declared.ending.Fault.{Fault}
 use Rattle.fv_run.specs.declared.ending.Fault.TheVariants.{Sink}
+use Rattle.fv_run.specs.Probes.{PathsAfter}
+use Rattle.fv_run.specs.Promises.{line_at}
 use Rattle.fv_run.specs.Running.{asks_point, begun, pending_behind, rooms_along, HasFollowed, IsAfterSome, IsAtRest, Survives}
 use Rattle.fv_run.specs.Answering.{BeginsFor, HasAnswered, IsCounted, IsLine, StandsOnward}
 use Rattle.fv_run.proofs.Acked.{up_to_take}
 use Rattle.fv_run.proofs.Applying.{applied_one, next_point, none_applied, still_applied}
 use Rattle.fv_run.proofs.Applying as applying
-use Rattle.fv_run.proofs.Following.{follows_first, follows_part, one_more, one_text, taken_next, left_next}
+use Rattle.fv_run.proofs.Following.{follows_first, follows_part, line_behind, one_more, one_text, taken_next, left_next}
 use Rattle.fv_run.proofs.Lines.{no_end}
+use Rattle.fv_run.proofs.ProbesAlong.{paths_next, paths_still, probes_answered, replies_long, tells_next}
 use Rattle.fv_run.proofs.Sessions.{images_stand, rests_standing_for}
 use Rattle.fv_run.proofs.Surviving.{after_some, asked_for, rested, rested_after, which_point, IsOnward, one_of, one_told}
 
@@ -39,6 +42,8 @@ none_answered m lines old session laws stands = record {
   given = sym (append-nil old.given);
   answered = refl;
   left_over = refl;
+  paths = λ keep. stands.paths;
+  probes = λ k less. absurd (omega (arith, less));
   applied = none_applied m lines old session stands;
   crash = started old (Survives m lines old.given) laws
       (λ c now. survives m lines old.given c old.given [] (sym (append-nil old.given))
@@ -51,7 +56,13 @@ module _ (m : Machine) (lines left : List Line) (old : Shown) (session : Session
 
   -- what was given by now follows the machine
   pub followed : (new : Shown) → new.given ≡ now.given → HasFollowed m lines old new
-  followed new same = record { output = output; given = same ∙ so_far.given; follows = follows_first m lines count so_far.replies so_far.allowed }
+  followed new same = record {
+    output = output;
+    given = same ∙ so_far.given;
+    follows = follows_first m lines count so_far.replies so_far.allowed;
+    probes = probes_answered m lines old.reads output so_far.replies [] count (sym (append-nil output)) so_far.applied.within so_far.allowed
+        (λ k low in_lines. let answered = so_far.answered in omega (arith, low, answered)) so_far.probes;
+  }
 
   here : (c : Image) (g : List ℕ) → machine_of c ≡ Some (after m lines so_far.applied.point) → g ≡ now.given → Survives m lines old.given c g
   here c g stands same = survives m lines old.given c g output (same ∙ so_far.given)
@@ -74,6 +85,8 @@ module _ (m : Machine) (lines left : List Line) (old : Shown) (session : Session
     given = same ∙ so_far.given;
     answered = so_far.answered;
     left_over = so_far.left_over;
+    paths = paths_still m lines count old.reads now.reads mid.reads session rests.stays.reads so_far.paths;
+    probes = so_far.probes;
     applied = still_applied m lines old session now count so_far.applied mid rests;
     crash = crash_asked mid still;
   }
@@ -127,10 +140,15 @@ module _ (m : Machine) (lines : List Line) (line : Line) (rest : List Line) (old
     all_allowed = subst (λ (l : List Line). AnswersAll m l (so_far.replies ++ reply ∷ [])) (sym (taken_next count lines rest line so_far.left_over)) (one_more m (take count lines) so_far.replies line reply so_far.allowed allowed)
 
     -- a part of the reply was given
-    pub followed_part : (k : ℕ) × (new.given ≡ end.given ++ take k (text reply)) → HasFollowed m lines old new
-    followed_part part = record {
+    pub followed_part : IsLine (text reply) → (k : ℕ) × (k < length (text reply)) × (new.given ≡ end.given ++ take k (text reply)) → HasFollowed m lines old new
+    followed_part is part = record {
       output = given_so_far ++ take part.0 (text reply);
-      given = given_at part.0 new.given part.1;
+      given = given_at part.0 new.given part.2;
+      probes =
+          let none : whole (take part.0 (text reply)) ≡ 0 = no_end (text reply) part.0 is part.1 in
+          let counted : whole (given_so_far ++ take part.0 (text reply)) ≡ count = whole_append given_so_far (take part.0 (text reply)) ∙ rw (so_far.answered, none) (omega arith) in
+          probes_answered m lines old.reads (given_so_far ++ take part.0 (text reply)) so_far.replies (take part.0 (text reply)) count refl
+          so_far.applied.within so_far.allowed (λ k low in_lines. omega (arith, low, counted)) so_far.probes;
       follows = follows_part m lines given_so_far (text reply) part.0 (subst (λ (l : List ℕ). Follows m lines l) (one_text so_far.replies reply) (follows_first m lines (count + 1) (so_far.replies ++ reply ∷ []) all_allowed));
     }
 
@@ -143,12 +161,20 @@ module _ (m : Machine) (lines : List Line) (line : Line) (rest : List Line) (old
         (subst (λ (f : Fault). count < begun (Err f) (given_so_far ++ take part.0 (text reply))) (sym sink) (omega (arith, counted)))
         (which_point m lines rest line count so_far.left_over stands.after.point (after m lines so_far.applied.point) (stays (after_line (after m lines count) line) stands.after))
 
+    is_next : line_at lines count ≡ line
+    is_next = line_behind count lines rest line so_far.left_over
+
     more_text : whole (flat_map text (so_far.replies ++ reply ∷ [])) ≡ count + 1
     more_text = ap whole (one_text so_far.replies reply) ∙ whole_append given_so_far (text reply) ∙ rw (so_far.answered, one) refl
 
     -- all of it was given
-    pub answered_one : Rests end new → new.given ≡ end.given ++ text reply → IsCounted (rooms_along m lines) lines old next_session new (count + 1) → HasAnswered m lines rest old next_session new (count + 1)
-    answered_one rests given counted = record {
+    pub answered_one : Rests end new → new.given ≡ end.given ++ text reply → IsCounted (rooms_along m lines) lines old next_session new (count + 1)
+        → PathsAfter (after m lines count) line reply mid.reads session end.reads next_session → HasAnswered m lines rest old next_session new (count + 1)
+    answered_one rests given counted behind = record {
+      paths = paths_still m lines (count + 1) old.reads end.reads new.reads next_session rests.stays.reads
+          (paths_next m lines count line is_next old.reads mid.reads session end.reads next_session reply so_far.paths behind);
+      probes = tells_next m lines count line is_next old.reads mid.reads session end.reads next_session reply so_far.paths behind so_far.replies
+          (replies_long m lines count so_far.replies so_far.applied.within so_far.allowed) so_far.probes;
       replies = so_far.replies ++ reply ∷ [];
       allowed = all_allowed;
       given = given ∙ ap (λ (l : List ℕ). l ++ text reply) (same ∙ so_far.given) ∙ append_assoc old.given given_so_far (text reply) ∙ ap (λ (l : List ℕ). old.given ++ l) (sym (one_text so_far.replies reply));

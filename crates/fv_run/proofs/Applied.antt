@@ -34,10 +34,14 @@ use Rattle.fv_run.specs.declared.ending.Fault.{Fault}
 use Rattle.fv_run.specs.declared.ending.Fault.TheVariants.{Disk, Memory, Damaged}
 use Rattle.fv_run.specs.Endings.{count_of, of_session, IsWholeFault}
 use Rattle.fv_run.specs.Built.{built}
+use Rattle.fv_run.specs.Left.{steps_of, LessByLine}
+use Rattle.fv_run.specs.Probes.{PathsByLine}
 use Rattle.fv_run.specs.Running.{added_by, asked_in, asks_point, changes_volumes, left_by, room_in, IsHurt, IsRoomIn, only_asks, reads_blocks, takes, UndergoesCommand, UndergoesSaid}
 use Rattle.fv_run.specs.Answering.{Applies, IsReady, IsSessionFault, LacksSpace}
 use Rattle.fv_run.proofs.Rooms.{left_other}
 use Rattle.fv_run.proofs.Courses.{stands_on}
+use Rattle.fv_run.proofs.LeftAlong.{less_unsaid}
+use Rattle.fv_run.proofs.ProbesAlong.{paths_unsaid}
 use Rattle.fv_run.proofs.Sessions.{as_read_itself, hurt_by, images_stand, lacks, never_failed}
 
 -- ---- a command, built or not
@@ -331,8 +335,8 @@ said_range OutOfRange e = refl
 -- ---- lines that say no command
 
 no_change : (session : Session) (line : Line) (reply : Reply) (host : Shown) → IsDisk host → IsReady host session → is_cp line ≡ false
-    → UndergoesSaid line host.reads session host.reads session reply → ((m : Machine) → AllowsAt m line reply) → ((m : Machine) → after_line m line ≡ m) → Applies session line host session host (Ok reply)
-no_change session line reply host laws ready no_point said allowed stays = record {
+    → UndergoesSaid line host.reads session host.reads session reply → ((m : Machine) → AllowsAt m line reply) → ((m : Machine) → after_line m line ≡ m) → steps_of line ≡ 0 → ((c : Command) → line ≡ Says c → ⊥) → Applies session line host session host (Ok reply)
+no_change session line reply host laws ready no_point said allowed stays no_steps none_said = record {
   done = λ tells last m stands. (
     allowed m,
     record {
@@ -361,6 +365,8 @@ no_change session line reply host laws ready no_point said allowed stays = recor
   left = refl;
   counts = counts_none host;
   writes = refl;
+  less = less_unsaid session line host reply no_steps;
+  paths = paths_unsaid session line host reply none_said;
   calm = λ pending few none. refl;
 }
   where
@@ -371,10 +377,10 @@ no_change session line reply host laws ready no_point said allowed stays = recor
         differ e = cc
 
 pub applied_none : (session : Session) (line : Line) (host : Shown) → IsDisk host → IsReady host session → line ≡ NoCommand → Applies session (built line) host session host (Ok (Refused Syntax))
-applied_none session line host laws ready is = subst (λ (l : Line). Applies session (built l) host session host (Ok (Refused Syntax))) (sym is) (no_change session NoCommand (Refused Syntax) host laws ready refl (refl, refl) (λ m. refl) (λ m. refl))
+applied_none session line host laws ready is = subst (λ (l : Line). Applies session (built l) host session host (Ok (Refused Syntax))) (sym is) (no_change session NoCommand (Refused Syntax) host laws ready refl (refl, refl) (λ m. refl) (λ m. refl) refl (λ c says. absurd cc))
 
 pub applied_range : (session : Session) (line : Line) (host : Shown) → IsDisk host → IsReady host session → line ≡ OutOfRange → Applies session (built line) host session host (Ok (Refused Range))
-applied_range session line host laws ready is = subst (λ (l : Line). Applies session (built l) host session host (Ok (Refused Range))) (sym is) (no_change session OutOfRange (Refused Range) host laws ready refl (refl, refl) (λ m. refl) (λ m. refl))
+applied_range session line host laws ready is = subst (λ (l : Line). Applies session (built l) host session host (Ok (Refused Range))) (sym is) (no_change session OutOfRange (Refused Range) host laws ready refl (refl, refl) (λ m. refl) (λ m. refl) refl (λ c says. absurd cc))
 
 -- ---- commands
 
@@ -418,8 +424,10 @@ module _ (session new_session : Session) (line : Line) (command : Command) (old 
       → (command ≡ Cp → new_session.pending ≡ 0)
       → (reads_files command ≡ true → IsSome (volume_asked command) → IsAsRead session new_session)
       → (IsTrue old.tells → UndergoesCommand command old.reads session new.reads new_session reply)
+      → LessByLine session (built line) old new_session new (Ok reply)
+      → PathsByLine session (built line) old new_session new (Ok reply)
       → Applies session (built line) old new_session new (Ok reply)
-  applied at_once reply calm goes keeps files goes_for replies point pointed read undergoes = record {
+  applied at_once reply calm goes keeps files goes_for replies point pointed read undergoes less paths = record {
     done = λ tells last m so_far. (
       subst (λ (l : Line). AllowsAt m (built l) reply) (sym says) (allowed_built m command reply (replies tells last m so_far)),
       record {
@@ -452,6 +460,8 @@ module _ (session new_session : Session) (line : Line) (command : Command) (old 
     left = ap (λ (e : Ends). e.left) goes.ends.ends;
     counts = record { tells = goes.ends.tells; source = ap (λ (e : Ends). e.source_faults) goes.ends.ends; sink = ap (λ (e : Ends). e.sink_faults) goes.ends.ends; disk = goes.done.counts.faults };
     writes = goes.done.counts.write_faults;
+    less = less;
+    paths = paths;
     calm = calm_by calm;
   }
     where
@@ -493,6 +503,8 @@ module _ (session new_session : Session) (line : Line) (command : Command) (old 
       left = ap (λ (e : Ends). e.left) goes.ends.ends;
       counts = counts;
       writes = tt;
+      less = λ tells last m so_far none. tt;
+      paths = λ tells last m so_far. tt;
       calm = calm_by calm;
     }
 

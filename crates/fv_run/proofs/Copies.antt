@@ -1,5 +1,4 @@
 -- What can be copied of a session's volumes, over what the disk reads.
-use Rattle.std.proofs.Common.{inl, inr, ⊎_elim, ℕ}
 use Rattle.std.specs.Prelude.{IfSome, IsTrue, None, Option, Some}
 use Rattle.fv_disk.specs.Shown.{Shown}
 use Rattle.fv_pool.specs.declared.pool.Pool.{Pool}
@@ -10,7 +9,7 @@ use Rattle.fv_mirror.specs.declared.admitting.Admitted.{Admitted}
 use Rattle.fv_mirror.specs.Making.{CanCopy, source_bits}
 use Rattle.fv_aggregate.specs.declared.session.Session.{Session}
 use Rattle.fv_aggregate.specs.Commands.{Asked}
-use Rattle.fv_aggregate.specs.Damages.{HasBadCopies, PassesLimit}
+use Rattle.fv_aggregate.specs.Damages.{HasBadCopies}
 use Rattle.fv_run.specs.Running.{still_disk}
 
 module _ (disk : Shown) (tells : IsTrue disk.tells) where
@@ -34,13 +33,15 @@ module _ (disk : Shown) (tells : IsTrue disk.tells) where
       }
 
   -- so what can't be copied from it can't be copied from that image
-  pub bad_copies : (room : ℕ) (asked : Asked) (session : Session) → HasBadCopies room asked disk session → HasBadCopies room asked (still_disk disk.reads) session
-  bad_copies room asked session bad = record {
+  pub bad_copies : (asked : Asked) (old session : Session) → HasBadCopies asked old disk session → HasBadCopies asked old (still_disk disk.reads) session
+  bad_copies asked old session bad = record {
     fresh = bad.fresh;
+    name = bad.name;
+    size = bad.size;
+    kind = bad.kind;
     admitted = bad.admitted;
     asks = bad.asks;
-    not = ⊎_elim
-        (λ (never : CanCopy disk session.volumes session.pool bad.admitted → ⊥). inl (λ (can : CanCopy (still_disk disk.reads) session.volumes session.pool bad.admitted). never (can_copy session.volumes session.pool bad.admitted can)))
-        (λ (past : PassesLimit session.pending room). inr past)
-        bad.not;
+    admits = bad.admits;
+    still = bad.still;
+    not = λ can. bad.not (can_copy session.volumes session.pool bad.admitted can);
   }

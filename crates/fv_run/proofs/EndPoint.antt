@@ -11,18 +11,23 @@ use Rattle.fv_lines.specs.Reading.{unread}
 use Rattle.fv_image.specs.Held.{view_at}
 use Rattle.fv_root.specs.Finding.{root_found}
 use Rattle.fv_cp.specs.Choosing.{LeavesRoom}
+use Rattle.fv_cp.specs.Placing.{HaveNoFiles}
 use Rattle.fv_aggregate.specs.Commands.{AsksPoint}
 use Rattle.fv_aggregate.specs.declared.session.Session.{Session}
 use Rattle.fv_aggregate.specs.Calls.{Goes}
+use Rattle.fv_aggregate.specs.LeftOver.{todo_under}
 use Rattle.fv_aggregate.specs.Reclaiming.{HasPointed, Points}
 use Rattle.fv_aggregate.specs.Standing.{StandsFor, StandsReady}
+use Rattle.fv_aggregate.specs.Working.{todo}
 use Rattle.fv_aggregate.proofs.MadeRoom.{entries_still}
 use Rattle.fv_run.specs.Answering.{BeginsFor, HasAnswered, IsAtEnd}
 use Rattle.fv_run.specs.Promises.{line_at}
 use Rattle.fv_run.specs.Built.{lines_built}
+use Rattle.fv_run.specs.Left.{works_of, AllKeepTodo, FallsBy}
 use Rattle.fv_run.specs.Running.{still_disk, takes, IsLastFor}
 use Rattle.fv_run.proofs.Courses.{pointed_on, stands_on}
 use Rattle.fv_run.proofs.LastPoint.{all_lines}
+use Rattle.fv_run.proofs.LeftAlong.{lower_behind}
 use Rattle.fv_run.proofs.PointsMade.{cps_more, gone_next, HasMade, points_made}
 use Rattle.fv_run.proofs.Ran.{PointedOpen}
 use Rattle.fv_run.proofs.Sessions.{rests_standing, rests_standing_for, stays_standing_for}
@@ -49,7 +54,9 @@ pointed_still want last next point new m rests is = record {
 -- ---- the point behind all lines
 
 module _ (limit : ℕ) (session : Session) (mid : Shown) (last : Session) (end : Shown) (count : ℕ) (at_end : IsAtEnd limit session mid last end count) (laws : IsDisk end) (next : Session) (point : Shown)
-    (goes : Goes {T = Unit {0}} 0 AsksPoint end last point next (Ok tt)) (points : Points {T = Unit {0}} 0 end last point next (Ok tt)) (new : Shown) (rests : Rests point new) (tells : IsTrue mid.tells) (begins : session.pending ≡ 0) where
+    (goes : Goes {T = Unit {0}} 0 AsksPoint end last point next (Ok tt)) (points : Points {T = Unit {0}} 0 end last point next (Ok tt))
+    (stays : IsTrue end.tells → (before m : Machine) → StandsFor end last before m → HaveNoFiles last.volumes → todo point next ≡ todo end last)
+    (shown : IsTrue end.tells → (before m : Machine) → StandsFor end last before m → todo point next ≡ todo_under next.pool.found point.reads) (new : Shown) (rests : Rests point new) (tells : IsTrue mid.tells) (begins : session.pending ≡ 0) where
   abbrev L : List Line
   L = lines_built mid.ends.left
 
@@ -72,6 +79,17 @@ module _ (limit : ℕ) (session : Session) (mid : Shown) (last : Session) (end :
 
       all : count ≡ length L
       all = let within = a.applied.within in let most = all_lines limit session mid last end count at_end tells in omega (arith, within, most)
+
+  lower : (m : Machine) → BeginsFor mid session m → HaveNoFiles session.volumes → AllKeepTodo m L
+      → FallsBy (works_of L) (todo mid session) (todo_under next.pool.found new.reads)
+  lower m begun none keep =
+      let a = at_end.stands.answers tells m begun in
+      let within = a.applied.within in
+      let most = all_lines limit session mid last end count at_end tells in
+      lower_behind m L mid.reads session end.reads last count point.reads new.reads next (omega (arith, within, most)) none
+      (at_end.stands.less tells m begun) (stays end_tells (after m L a.applied.point) (after m L count) a.applied.stands)
+      (shown end_tells (after m L a.applied.point) (after m L count) a.applied.stands)
+      rests.stays.reads keep
 
   made : ((line : ℕ) → takes (line_at L line) ≡ false) → HasMade L count session.pool.found last.pool.found
   made once = points_made L once count mid.reads session end.reads last (at_end.stands.course tells)
@@ -99,4 +117,5 @@ module _ (limit : ℕ) (session : Session) (mid : Shown) (last : Session) (end :
     left = pointed_on end new last next end_tells points.left;
     stands = stands_now;
     machine = for_machine;
+    lowered = lower;
   }

@@ -17,6 +17,7 @@ use Rattle.fv_aggregate.specs.declared.session.Session.{Session}
 use Rattle.fv_aggregate.specs.Calls.{SameCounts}
 use Rattle.fv_aggregate.specs.Causes.{HasOpenCause, IsOpenFault, IsUnwritten}
 use Rattle.fv_aggregate.specs.Opening.{IsOpened}
+use Rattle.fv_aggregate.specs.PathShown.{HasPathsOf}
 use Rattle.fv_aggregate.specs.Standing.{StandsFor, StandsReady}
 use Rattle.fv_run.specs.declared.ending.Fault.{Fault}
 use Rattle.fv_run.specs.declared.ending.Fault.TheVariants.{Usage, Unsound, NotAggregate, Source, Sink, Disk, Memory, Damaged, Limit}
@@ -91,9 +92,14 @@ module _ (lines : List Line) (old mid : Shown) (laws : IsDisk old) (unwritten : 
   -- ---- it was
 
   module _ (session : Session) (new : Shown) (stands : StandsReady mid session) (stood : IsTrue old.tells → (m : Machine) → machine_of old.reads ≡ Some m → StandsFor mid session m m) (calm : SameCounts old mid)
-      (loaded : IsTrue old.tells → IsOpened old.reads session) (begins : session.pending ≡ 0) where
+      (loaded : IsTrue old.tells → IsOpened old.reads session) (begins : session.pending ≡ 0)
+      (opened_paths : IsTrue old.tells → (m : Machine) → machine_of old.reads ≡ Some m → HasPathsOf old.reads mid.reads session) where
     machine : IsTrue old.tells → (m : Machine) → machine_of old.reads ≡ Some m → BeginsFor mid session m
-    machine tells m is = record { stands = stood tells m is; pending = begins }
+    machine tells m is = record {
+      stands = stood tells m is;
+      pending = begins;
+      paths = subst (λ (i : Image). HasPathsOf i mid.reads session) (sym unwritten.reads) (opened_paths tells m is);
+    }
 
     mid_told : IsTrue old.tells → IsTrue mid.tells
     mid_told tells = rw unwritten.kept.tells tells

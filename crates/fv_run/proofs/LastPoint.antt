@@ -1,5 +1,5 @@
 -- All lines are answered; then come the last consistency point and the line of `done`.
-use Rattle.std.proofs.Common.{◌≡◌, ◌⊎◌, inl, inr, ⊎_elim, ℕ, ◌+◌, ◌≤◌, ◌++◌, List, [], length, map, take, drop, sym, ap, subst, ◌∙◌, arith, append_assoc, append-nil}
+use Rattle.std.proofs.Common.{◌≡◌, ◌⊎◌, inl, inr, ⊎_elim, ℕ, ◌+◌, ◌≤◌, ◌++◌, List, [], length, map, take, drop, refl, sym, ap, subst, ◌∙◌, arith, append_assoc, append-nil}
 use Rattle.std.specs.Prelude.{flat_map, Some, None, Result, Ok, Err, IsNone, IsTrue}
 use Rattle.std.proofs.lemmas.List.{length-drop}
 use Rattle.fv_disk.specs.Shown.{Ends, Image, Shown, Rose}
@@ -30,6 +30,7 @@ use Rattle.fv_run.specs.declared.ending.Fault.{Fault}
 use Rattle.fv_run.specs.declared.ending.Fault.TheVariants.{Disk, Memory, Damaged}
 use Rattle.fv_run.specs.Built.{built, lines_built}
 use Rattle.fv_run.specs.Endings.{count_of, IsWholeFault, of_session}
+use Rattle.fv_run.specs.Probes.{AnswersProbes}
 use Rattle.fv_run.specs.Running.{HasChanged, IsAtRest, IsHurtBehind, IsOverLimit, KeepsUp, MeetsDamage, most_rooms, rooms_along, Survives, IsQuiet}
 use Rattle.fv_run.specs.Answering.{AsksFor, HasAnswered, IsAtEnd, IsEndOf, IsHurtBy, Lacks, LacksSpace, LosesLeaf, IsLine, TellsLine, BeginsFor}
 use Rattle.fv_run.proofs.Acked.{acked_all, acked_whole, up_to_take}
@@ -37,6 +38,7 @@ use Rattle.fv_run.proofs.Courses.{undergoes_read}
 use Rattle.fv_run.proofs.Following.{follows_part, follows_whole, full}
 use Rattle.fv_run.proofs.KeepingUp.{keeps_up_between, none_before}
 use Rattle.fv_run.proofs.Limits.{all_read, same_behind}
+use Rattle.fv_run.proofs.ProbesAlong.{probes_answered}
 use Rattle.fv_run.proofs.Lines.{no_end, one_end}
 use Rattle.fv_run.proofs.Sessions.{leaf_lost, hurt_by, hurt_last, images_stand, lacks, never_failed, reads_stand, rests_standing_for}
 use Rattle.fv_run.proofs.Surviving.{after_some, after_all, asked_for, part_of_one, rested}
@@ -173,6 +175,14 @@ module _ (limit : ℕ) (session : Session) (mid : Shown) (last : Session) (end :
           let a = answers tells m stands in
           subst (λ (n : ℕ). Full m L (flat_map text a.replies ++ done_text n)) (sym (all_is tells m stands)) (full m L count a.replies (all_answered tells m stands) a.allowed)
 
+      probes_told : (tells : IsTrue mid.tells) (m : Machine) (stands : BeginsFor mid session m) (bytes : List ℕ)
+          → AnswersProbes m (lines_built mid.ends.left) mid.reads (flat_map text (answers tells m stands).replies ++ bytes)
+      probes_told tells m stands bytes =
+          let a = answers tells m stands in
+          let all = all_is tells m stands in
+          probes_answered m (lines_built mid.ends.left) mid.reads (flat_map text a.replies ++ bytes) a.replies bytes count refl a.applied.within a.allowed
+          (λ k low in_lines. omega (arith, in_lines, all)) a.probes
+
       done_whole : (tells : IsTrue mid.tells) (m : Machine) (stands : BeginsFor mid session m) → IsLine (done_text count) → whole (flat_map text (answers tells m stands).replies ++ done_text count) ≡ length (lines_built mid.ends.left) + 1
       done_whole tells m stands line =
           let a = answers tells m stands in
@@ -216,6 +226,7 @@ module _ (limit : ℕ) (session : Session) (mid : Shown) (last : Session) (end :
             output = flat_map text (answers tells m stands).replies ++ done_text count;
             given = given_at tells m stands new.given (done_text count) (told.tells.gives.all (point_told tells));
             follows = follows_whole m (lines_built mid.ends.left) (flat_map text (answers tells m stands).replies ++ done_text count) (full_output tells m stands);
+            probes = probes_told tells m stands (done_text count);
           };
           crash = crash_done tells m stands (one_end (done_text count) told.line) told.tells.any_moment;
           at_rest = λ none. rested_whole tells m stands told;
@@ -246,6 +257,7 @@ module _ (limit : ℕ) (session : Session) (mid : Shown) (last : Session) (end :
                 given = given_at tells m stands new.given (take part.0 (done_text count)) part.2;
                 follows = follows_part m (lines_built mid.ends.left) (flat_map text (answers tells m stands).replies) (done_text count) part.0
                     (follows_whole m (lines_built mid.ends.left) (flat_map text (answers tells m stands).replies ++ done_text count) (full_output tells m stands));
+                probes = probes_told tells m stands (take part.0 (done_text count));
               };
               crash = crash_done tells m stands (one_end (done_text count) told.line) told.tells.any_moment;
               at_rest = λ none. rested_part tells m stands fault told;

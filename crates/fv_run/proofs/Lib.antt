@@ -15,6 +15,8 @@ mod Following
 mod Generated
 mod KeepingUp
 mod LastPoint
+mod LeftAlong
+mod ProbesAlong
 mod Limits
 mod Lines
 mod Opening

@@ -19,6 +19,7 @@ use Rattle.fv_run.specs.declared.ending.Fault.TheVariants.{NotAggregate, Disk, M
 use Rattle.fv_run.specs.Built.{lines_built}
 use Rattle.fv_run.specs.Endings.{count_of, IsWholeFault, of_opening}
 use Rattle.fv_run.specs.Running.{HasFollowed, HasReason, IsAtRest, IsOverLimit, IsUnopened, Ran, Survives, SurvivesFrom}
+use Rattle.fv_run.proofs.ProbesAlong.{probes_answered}
 use Rattle.fv_run.proofs.Admitted.{image_is_admitted}
 use Rattle.fv_run.proofs.Acked.{acked_part, up_to_take}
 use Rattle.fv_run.proofs.Following.{follows_first}
@@ -47,7 +48,13 @@ module _ (limit : ℕ) (old mid : Shown) (laws : IsDisk old) (unwritten : IsUnwr
       unwritten.time (λ c now. inl (unwritten.images c now, unwritten.kept.given))
 
   none_given : (m : Machine) → HasFollowed m script old mid
-  none_given m = record { output = []; given = unwritten.kept.given ∙ sym (append-nil old.given); follows = follows_first m script 0 [] tt }
+  none_given m = record {
+    output = [];
+    given = unwritten.kept.given ∙ sym (append-nil old.given);
+    follows = follows_first m script 0 [] tt;
+    probes = probes_answered m script old.reads [] [] [] 0 refl (omega arith) tt (λ k less. absurd (omega (arith, less)))
+        (λ k less. absurd (omega (arith, less)));
+  }
 
   none_taken : IsOverLimit limit old mid → ⊥
   none_taken past = let same : mid.ends.left ≡ old.ends.left = ap (λ (e : Ends). e.left) unwritten.kept.ends in omega (arith, past.taken, ap (λ (l : List ℕ). length l) same)

@@ -9,24 +9,31 @@ use Rattle.fv_model.specs.Machines.{Machine}
 use Rattle.fv_model.specs.Runs.{after, acked, Full, Follows, Line, whole}
 use Rattle.fv_image.specs.WholeMachine.{machine_of}
 use Rattle.fv_root.specs.Finding.{IsFound}
+use Rattle.fv_cp.specs.Placing.{HaveNoFiles}
 use Rattle.fv_lines.specs.Counts.{Counts}
 use Rattle.fv_lines.proofs.Counting.{counts_then}
 use Rattle.fv_aggregate.specs.declared.session.Session.{Session}
 use Rattle.fv_aggregate.specs.Adding.{IsPointed}
 use Rattle.fv_aggregate.specs.Asking.{AsksWithin}
 use Rattle.fv_aggregate.specs.Calls.{SameCounts}
+use Rattle.fv_aggregate.specs.LeftOver.{todo_under}
 use Rattle.fv_aggregate.specs.Opening.{IsOpened}
+use Rattle.fv_aggregate.specs.PathShown.{HasPathsOf}
 use Rattle.fv_aggregate.specs.Causes.{IsUnwritten}
 use Rattle.fv_aggregate.specs.Standing.{IsWithoutFiles, StandsFor, StandsReady}
+use Rattle.fv_aggregate.specs.Working.{todo}
 use Rattle.fv_run.specs.declared.ending.Fault.{Fault}
 use Rattle.fv_run.specs.declared.ending.Fault.TheVariants.{Usage, Unsound, NotAggregate, Source, Sink, Disk, Memory, Damaged, Limit}
 use Rattle.fv_run.specs.Built.{lines_built}
+use Rattle.fv_run.specs.Left.{works_of, AllKeepTodo, FallsBy, FallsByWorks}
 use Rattle.fv_run.specs.Endings.{IsWholeFault, raised_by}
 use Rattle.fv_run.specs.Promises.{line_at}
+use Rattle.fv_run.specs.Probes.{AnswersProbes}
 use Rattle.fv_run.specs.Running.{asks_behind, cps_behind, takes, CountsPoints, EndsInPoint, HasAnsweredAll, HasChanged, HasFollowed, HasReason, Holds, IsAskedFor, IsAtRest, IsFileDamage, IsHurtBehind, IsLacking, IsLeafLost, IsLastFor, IsOverLimit, IsPastLimit, KeepsUp, MeetsDamage, most_rooms, rooms_along, IsSessionDamage, Ran, reads_blocks, StandsOnImage, Survives, SurvivesFrom, AsksNone, IsQuiet, UndergoesLines}
 use Rattle.fv_run.specs.Answering.{IsEndOf, Stopped, BeginsFor}
 use Rattle.fv_run.proofs.Admitted.{image_is_admitted}
 use Rattle.fv_run.proofs.KeepingUp.{keeps_up_since}
+use Rattle.fv_run.proofs.LeftAlong.{lower_in_run}
 use Rattle.fv_run.proofs.Sessions.{not_opened}
 use Rattle.fv_run.proofs.Opening.{crash_opened, crash_unsettled}
 use Rattle.fv_run.proofs.Promises.{are_guaranteed, are_isolated}
@@ -61,6 +68,8 @@ pub record PointedOpen (session : Session) (mid new : Shown) : Type 0 where
   pub left : IsPointed new last next
   pub stands : StandsReady new next
   pub machine : (m : Machine) → BeginsFor mid session m → IsLastFor m (lines_built mid.ends.left) mid.reads before last new next
+  pub lowered : (m : Machine) → BeginsFor mid session m → HaveNoFiles session.volumes → AllKeepTodo m (lines_built mid.ends.left)
+      → FallsBy (works_of (lines_built mid.ends.left)) (todo mid session) (todo_under next.pool.found new.reads)
 
 pub stopped_open : (limit : ℕ) (session : Session) (mid new : Shown) (fault : Fault) → Stopped limit session mid new fault → RanOpen limit session mid new (Err fault)
 stopped_open limit session mid new fault stopped = record {
@@ -75,9 +84,15 @@ stopped_open limit session mid new fault stopped = record {
 }
 
 module _ (limit : ℕ) (session : Session) (old mid new : Shown) (laws : IsDisk old) (unwritten : IsUnwritten old mid) (stands : StandsReady mid session)
-    (stood : IsTrue old.tells → (m : Machine) → machine_of old.reads ≡ Some m → StandsFor mid session m m) (within : IsTrue old.tells → AsksWithin mid session 0) (none : IsTrue old.tells → IsWithoutFiles session) (calm : SameCounts old mid) (loaded : IsTrue old.tells → IsOpened old.reads session) (begins : session.pending ≡ 0) where
+    (stood : IsTrue old.tells → (m : Machine) → machine_of old.reads ≡ Some m → StandsFor mid session m m) (within : IsTrue old.tells → AsksWithin mid session 0) (none : IsTrue old.tells → IsWithoutFiles session) (calm : SameCounts old mid) (loaded : IsTrue old.tells → IsOpened old.reads session) (begins : session.pending ≡ 0)
+    (opened_left : IsTrue old.tells → (m : Machine) → machine_of old.reads ≡ Some m → todo mid session ≡ todo_under session.pool.found old.reads)
+    (opened_paths : IsTrue old.tells → (m : Machine) → machine_of old.reads ≡ Some m → HasPathsOf old.reads mid.reads session) where
   machine : IsTrue old.tells → (m : Machine) → machine_of old.reads ≡ Some m → BeginsFor mid session m
-  machine tells m is = record { stands = stood tells m is; pending = begins }
+  machine tells m is = record {
+    stands = stood tells m is;
+    pending = begins;
+    paths = subst (λ (i : Image). HasPathsOf i mid.reads session) (sym unwritten.reads) (opened_paths tells m is);
+  }
 
   mid_told : IsTrue old.tells → IsTrue mid.tells
   mid_told tells = rw unwritten.kept.tells tells
@@ -89,7 +104,13 @@ module _ (limit : ℕ) (session : Session) (old mid new : Shown) (laws : IsDisk 
   since_given output is = is ∙ ap (λ (l : List ℕ). l ++ output) unwritten.kept.given
 
   followed_since : (m : Machine) → HasFollowed m (lines_built mid.ends.left) mid new → HasFollowed m (lines_built old.ends.left) old new
-  followed_since m f = record { output = f.output; given = since_given f.output f.given; follows = subst (λ (l : List ℕ). Follows m (lines_built l) f.output) same_left f.follows }
+  followed_since m f = record {
+    output = f.output;
+    given = since_given f.output f.given;
+    follows = subst (λ (l : List ℕ). Follows m (lines_built l) f.output) same_left f.follows;
+    probes = subst (λ (i : Image). AnswersProbes m (lines_built old.ends.left) i f.output) unwritten.reads
+        (subst (λ (l : List ℕ). AnswersProbes m (lines_built l) mid.reads f.output) same_left f.probes);
+  }
 
   answered_since : (m : Machine) → HasAnsweredAll m (lines_built mid.ends.left) mid new → HasAnsweredAll m (lines_built old.ends.left) old new
   answered_since m a = record {
@@ -217,6 +238,12 @@ module _ (limit : ℕ) (session : Session) (old mid new : Shown) (laws : IsDisk 
     };
   }
 
+  lowered_lines : (lines : List Line) (next : Session) (m : Machine) → IsTrue old.tells → machine_of old.reads ≡ Some m
+      → IsFound new.reads next.pool.found → FallsBy (works_of lines) (todo mid session) (todo_under next.pool.found new.reads) → FallsByWorks lines old.reads new.reads
+  lowered_lines lines next m tells is counts falls =
+      lower_in_run lines old.reads session.pool.found (todo mid session) new.reads next.pool.found (loaded tells).found counts
+      (opened_left tells m is) falls
+
   pointed_lines : (lines : List Line) → IsTrue old.tells → PointedOpen session mid new → lines_built mid.ends.left ≡ lines → EndsInPoint lines old new
   pointed_lines lines tells p same = record {
     before = p.before;
@@ -230,6 +257,9 @@ module _ (limit : ℕ) (session : Session) (old mid new : Shown) (laws : IsDisk 
     stands = p.stands;
     machine = λ m is. subst (λ (i : Image). IsLastFor m lines i p.before p.last new p.next) unwritten.reads
         (subst (λ (l : List Line). IsLastFor m l mid.reads p.before p.last new p.next) same (p.machine m (machine tells m is)));
+    lowered = λ m is keep. lowered_lines lines p.next m tells is p.counts
+        (subst (λ (l : List Line). AllKeepTodo m l → FallsBy (works_of l) (todo mid session) (todo_under p.next.pool.found new.reads)) same
+        (p.lowered m (machine tells m is) (none tells).none) keep);
   }
 
   pointed_since : (result : Result Unit Fault) → IsTrue old.tells → OnOk result (PointedOpen session mid new) → OnOk result (EndsInPoint (lines_built old.ends.left) old new)

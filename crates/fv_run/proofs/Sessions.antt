@@ -161,11 +161,12 @@ not_damaged i at want number none fault = ⊎_elim
 
 -- ---- calls that met damage
 
--- what was damaged, by what the disk shows after it, and where copies are asked for by what it showed before
+-- what was damaged, by what the disk shows after it, and where copies are asked for without a point by what it showed before
 pub hurt_by : (room : ℕ) (asked : Asked) (old : Shown) (session : Session) (new : Shown) (left : Session) (at want found : ℕ) → new.tells ≡ old.tells → HasDamage room asked old session new left at want found → IsHurt room asked old.reads session new left
 hurt_by room asked old session new left at want found same (inl unwritten) = record { at = at; want = want; found = found; damage = inl unwritten.1 }
 hurt_by room asked old session new left at want found same (inr (inl behind)) = record { at = at; want = want; found = found; damage = inr (inl behind) }
-hurt_by room asked old session new left at want found same (inr (inr bad)) = record { at = at; want = want; found = found; damage = inr (inr (λ told. bad_copies old (subst IsTrue same told) room asked session bad)) }
+hurt_by room asked old session new left at want found same (inr (inr (inl bad))) = record { at = at; want = want; found = found; damage = inr (inr (inl (λ told. bad_copies old (subst IsTrue same told) asked session session bad))) }
+hurt_by room asked old session new left at want found same (inr (inr (inr behind))) = record { at = at; want = want; found = found; damage = inr (inr (inr behind)) }
 
 -- the call at work for the line behind `count` others
 pub hurt_behind : (lines : List Line) (count : ℕ) (line : Line) (i : Image) (first : Session) (over : Image) (session : Session) (end : Shown) → line_at lines count ≡ line

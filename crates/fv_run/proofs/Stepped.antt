@@ -36,6 +36,7 @@ use Rattle.fv_run.proofs.Lines.{no_end, one_end}
 use Rattle.fv_run.proofs.Limits.{all_read, ends_before, ends_all, past_limit, same_behind, none_behind, to_come_most}
 use Rattle.fv_run.proofs.Counted.{bound_for, bound_most, calm_next, counted_next, counted_none, counted_still, quiet_next, quiet_still}
 use Rattle.fv_run.proofs.Rooms.{first_in, later_in, greater_room, room_of_line}
+use Rattle.fv_run.proofs.LeftAlong.{along_line, along_none, along_still}
 use Rattle.fv_run.proofs.Courses.{undergoes_next, undergoes_none, undergoes_read, undergoes_still}
 use Rattle.fv_run.proofs.Sessions.{leaf_lost, hurt_behind, rests_asking, rests_standing}
 use Rattle.fv_run.proofs.Answered.{none_answered, followed, rested_here, asked, crash_asked, left_as, crash_applied, rested_unapplied, crash_told, followed_part, rested_part, answered_one}
@@ -53,6 +54,7 @@ starts limit first old laws ready = record {
   course = λ tells. undergoes_none (lines_built old.ends.left) old.reads first;
   counted = λ tells none. counted_none most_rooms (lines_built old.ends.left) old first none;
   asks = λ tells asks none. inl (record { none = none; room = 0; line = inl refl; asks = asks });
+  less = λ tells m stands. along_none m (lines_built old.ends.left) old.reads first;
   answers = λ tells m stands. none_answered m (lines_built old.ends.left) old first laws stands;
 }
 
@@ -183,6 +185,7 @@ module _ (limit : ℕ) (first : Session) (old : Shown) (held : Held) (session : 
         course = λ tells. undergoes_still script count old.reads first now.reads mid.reads session finds.asks.rests.stays.reads (so_far.course tells);
         counted = λ tells none. counted_still most_rooms script old session now count (so_far.counted tells none) mid finds.asks.rests.stays.reads;
         asks = λ tells within none. asks_still finds.asks.rests (so_far.asks tells within none);
+        less = λ tells m stands. along_still m script old.reads first now.reads mid.reads session count finds.asks.rests.stays.reads (so_far.less tells m stands);
         answers = λ tells m stands.
             let more = finds.reads (told tells) in
             left_as m (lines_built old.ends.left) (lines_built (unread held now)) (lines_built (unread new_held mid)) old session mid count (ap lines_built (more.found.0 ∙ sym more.found.1))
@@ -337,15 +340,9 @@ module _ (limit : ℕ) (first : Session) (old : Shown) (held : Held) (session : 
 
       -- a fault of a session's call comes in a line
       in_line : (fault : Fault) → IsSessionFault (built (line_of bytes)) mid session end fault → (output : List ℕ) → begun (Err fault) output ≡ whole output + 1
-      in_line Usage is output = refl
-      in_line Unsound is output = refl
-      in_line NotAggregate is output = refl
       in_line Source is output = absurd is
-      in_line Sink is output = refl
-      in_line Disk is output = refl
-      in_line Memory is output = refl
-      in_line Damaged is output = refl
       in_line Limit is output = absurd is
+      in_line fault is output = refl
 
       unanswered : IsTrue old.tells → end.given ≡ mid.given → (output : List ℕ) → end.given ≡ old.given ++ output → whole output ≡ count
       unanswered tells same output given = answered_by end tells output (same ∙ finds.asks.given) given
@@ -397,7 +394,7 @@ module _ (limit : ℕ) (first : Session) (old : Shown) (held : Held) (session : 
             let one : whole (text reply) ≡ 1 = one_end (text reply) tells_it.line in
             let part = tells_it.tells.gives.part (end_told tells) in
             record {
-              replies = followed_part m L (built (line_of bytes)) (lines_built (unread new_held mid)) old session mid count answers next_session end moments (calm_along (Ok reply) applies tells m stands) (end_told tells) applies.given reply done.0 done.1 new tells_it.tells.any_moment one (part.0, part.2);
+              replies = followed_part m L (built (line_of bytes)) (lines_built (unread new_held mid)) old session mid count answers next_session end moments (calm_along (Ok reply) applies tells m stands) (end_told tells) applies.given reply done.0 done.1 new tells_it.tells.any_moment one tells_it.line part;
               crash = crash_told m L (built (line_of bytes)) (lines_built (unread new_held mid)) old session mid count answers next_session end moments (calm_along (Ok reply) applies tells m stands) (end_told tells) applies.given reply done.0 done.1 new tells_it.tells.any_moment one;
               at_rest = λ calm. rested_part m L (built (line_of bytes)) (lines_built (unread new_held mid)) old session mid count answers next_session end moments (calm_along (Ok reply) applies tells m stands) (end_told tells) applies.given reply done.0 done.1 new tells_it.tells.any_moment one
                   tells_it.tells.gives.rests tells_it.line part fault tells_it.sink;
@@ -484,6 +481,10 @@ module _ (limit : ℕ) (first : Session) (old : Shown) (held : Held) (session : 
               (undergoes_still script count old.reads first now.reads mid.reads session finds.asks.rests.stays.reads (so_far.course tells)) (applies.led (mid_told tells)));
           counted = λ tells none. next_counted most_rooms (mid_counted tells none) mid_bound tells;
           asks = asks_next tells_it;
+          less = λ tells m stands.
+              let answers = found_next tells m stands in
+              along_line m script count (built (line_of bytes)) (line_is tells) old.reads first now.reads mid.reads session end.reads new.reads next_session finds.asks.rests.stays.reads
+              tells_it.tells.gives.rests.stays.reads (so_far.less tells m stands) (applies.less (mid_told tells) (after m script answers.applied.point) (after m script count) answers.applied.stands);
           answers = λ tells m stands.
               let L : List Line = lines_built old.ends.left in
               let answers = found_next tells m stands in
@@ -491,7 +492,8 @@ module _ (limit : ℕ) (first : Session) (old : Shown) (held : Held) (session : 
               let moments = applies.any_moment (mid_told tells) (after m L answers.applied.point) (after m L count) answers.applied.stands in
               left_as m L (lines_built (unread new_held mid)) (lines_built (unread new_held new)) old next_session new (count + 1) (ap lines_built (sym (same_left tells_it)))
               (answered_one m L (built (line_of bytes)) (lines_built (unread new_held mid)) old session mid count answers next_session end moments (calm_along (Ok reply) applies tells m stands) (end_told tells) applies.given reply done.0 done.1 new tells_it.tells.any_moment
-              (one_end (text reply) tells_it.line) tells_it.tells.gives.rests (tells_it.tells.gives.all (end_told tells)) (next_counted (rooms_along m script) answers.applied.counted (bound_along tells m stands) tells));
+              (one_end (text reply) tells_it.line) tells_it.tells.gives.rests (tells_it.tells.gives.all (end_told tells)) (next_counted (rooms_along m script) answers.applied.counted (bound_along tells m stands) tells)
+              (applies.paths (mid_told tells) (after m L answers.applied.point) (after m L count) answers.applied.stands));
         }
           where
             next_counted : (rooms : ℕ → Command → ℕ) → IsCounted rooms script old session mid count → ((c : Command) → room_by session.volumes c ≤ rooms count c) → IsTrue old.tells → IsCounted rooms script old next_session new (count + 1)

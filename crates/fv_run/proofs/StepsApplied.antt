@@ -22,6 +22,8 @@ use Rattle.fv_run.specs.declared.ending.Fault.{Fault}
 use Rattle.fv_run.specs.declared.ending.Fault.TheVariants.{Disk, Memory, Damaged}
 use Rattle.fv_run.specs.Endings.{count_of, of_session, IsWholeFault}
 use Rattle.fv_run.specs.Built.{built}
+use Rattle.fv_run.specs.Left.{LessByLine}
+use Rattle.fv_run.specs.Probes.{PathsByLine}
 use Rattle.fv_run.specs.Running.{asks_point, changes_volumes, left_by, only_asks, reads_blocks, takes, UndergoesCommand, UndergoesSaid}
 use Rattle.fv_run.specs.Answering.{Applies, IsReady, IsSessionFault}
 use Rattle.fv_run.proofs.Applied.{allowed_built, after_built, applied, unapplied}
@@ -83,8 +85,10 @@ module _ (session new_session : Session) (line : Line) (command : Command) (old 
       → (IsTrue old.tells → (last m : Machine) → StandsFor old session last m → GoesFor {T = Reply} old last m (machine_after m command) new new_session (Ok reply))
       → (IsTrue old.tells → (last m : Machine) → StandsFor old session last m → Replies m command reply)
       → (IsTrue old.tells → UndergoesCommand command old.reads session new.reads new_session reply)
+      → LessByLine session (built line) old new_session new (Ok reply)
+      → PathsByLine session (built line) old new_session new (Ok reply)
       → Applies session (built line) old new_session new (Ok reply)
-  steps_applied reply goes goes_for replies undergoes = record {
+  steps_applied reply goes goes_for replies undergoes less paths = record {
     done = λ tells last m so_far. (
       as_line (λ (l : Line). AllowsAt m l reply) (allowed_built m command reply (replies tells last m so_far)),
       record {
@@ -114,6 +118,8 @@ module _ (session new_session : Session) (line : Line) (command : Command) (old 
     left = ap (λ (e : Ends). e.left) goes.ends.ends;
     counts = record { tells = goes.ends.tells; source = ap (λ (e : Ends). e.source_faults) goes.ends.ends; sink = ap (λ (e : Ends). e.sink_faults) goes.ends.ends; disk = goes.done.1.1.faults };
     writes = goes.done.1.1.write_faults;
+    less = less;
+    paths = paths;
     calm = λ pending few none. asks _ pending none;
   }
     where
@@ -146,6 +152,8 @@ module _ (session new_session : Session) (line : Line) (command : Command) (old 
       left = ap (λ (e : Ends). e.left) goes.ends.ends;
       counts = counts;
       writes = tt;
+      less = λ tells last m so_far none. tt;
+      paths = λ tells last m so_far. tt;
       calm = λ pending few none. never _ (asks_point (room_by session.volumes) pending (built line))
           (as_line (λ (l : Line). asks_point (room_by session.volumes) pending l ≡ true) (said_point command is (room_by session.volumes) pending)) none;
     }
@@ -184,13 +192,15 @@ module _ (session new_session : Session) (line : Line) (command : Command) (old 
       → (command ≡ Cp → new_session.pending ≡ 0)
       → (reads_files command ≡ true → IsSome (volume_asked command) → IsAsRead session new_session)
       → (IsTrue old.tells → UndergoesCommand command old.reads session new.reads new_session reply)
+      → LessByLine session (built line) old new_session new (Ok reply)
+      → PathsByLine session (built line) old new_session new (Ok reply)
       → Applies session (built line) old new_session new (Ok reply)
-  applied_as reply calm goes keeps files goes_for replies point pointed read undergoes = by (takes_steps command) refl goes
+  applied_as reply calm goes keeps files goes_for replies point pointed read undergoes less paths = by (takes_steps command) refl goes
     where
       by : (steps : Bool) → takes_steps command ≡ steps → GoesAs {T = Reply} steps (room_by session.volumes command) (asked_by session.volumes command) old session new new_session (Ok reply)
           → Applies session (built line) old new_session new (Ok reply)
-      by true is goes = steps_applied session new_session line command old new says ready is reply goes goes_for replies undergoes
-      by false is goes = applied session new_session line command old new says ready is reply calm goes keeps files goes_for replies point pointed read undergoes
+      by true is goes = steps_applied session new_session line command old new says ready is reply goes goes_for replies undergoes less paths
+      by false is goes = applied session new_session line command old new says ready is reply calm goes keeps files goes_for replies point pointed read undergoes less paths
 
   pub unapplied_as : Calm → (fault : SessionFault) → GoesAs {T = Reply} (takes_steps command) (room_by session.volumes command) (asked_by session.volumes command) old session new new_session (Err fault)
       → (reads_files command ≡ false → reaches_disk command ≡ false → calls.IsForWant old session new new_session fault)

@@ -15,12 +15,15 @@ use Rattle.fv_container.specs.Chains.{IsLeafDamage}
 use Rattle.fv_aggregate.specs.declared.session.Session.{Session}
 use Rattle.fv_aggregate.specs.Asking.{AsksWithin, IsShort}
 use Rattle.fv_aggregate.specs.Commands.{Asked, room_by}
+use Rattle.fv_aggregate.specs.PathShown.{HasPathsOf}
 use Rattle.fv_aggregate.specs.Reading.{IsAsRead}
 use Rattle.fv_aggregate.specs.Standing.{IsWithoutFiles, OneOf, StandsAfter, StandsFor, StandsReady}
 use Rattle.fv_run.specs.declared.ending.Fault.{Fault}
 use Rattle.fv_run.specs.declared.ending.Fault.TheVariants.{Source, Sink, Disk, Memory, Damaged, Limit}
 use Rattle.fv_run.specs.Endings.{IsWholeFault, count_of, raised_by}
 use Rattle.fv_run.specs.Built.{lines_built}
+use Rattle.fv_run.specs.Left.{LessAlong, LessByLine}
+use Rattle.fv_run.specs.Probes.{HasPathsBehind, PathsByLine, TellPaths}
 use Rattle.fv_run.specs.Running.{asks_behind, asks_point, changes_volumes, HasChanged, Holds, IsOverLimit, IsHurt, IsHurtIn, IsPastLimit, IsRoomIn, IsSessionDamage, KeepsUp, MeetsDamage, most_rooms, only_asks, reads_blocks, rooms_along, Survives, pending_behind, IsQuiet, UndergoesLine, UndergoesLines}
 
 -- ---- lines and their replies
@@ -90,10 +93,11 @@ pub record AsksFor (lines : List Line) (disk : Shown) (session : Session) : Type
   pub line : IsRoomIn lines room
   pub asks : AsksWithin disk session room
 
--- a session begins for a machine: it stands for it, and so does its last point, with nothing pending
+-- a session begins for a machine: it stands for it, and so does its last point, with nothing pending, and with the paths that its image shows
 pub record BeginsFor (disk : Shown) (session : Session) (m : Machine) : Type 0 where
   pub stands : StandsFor disk session m m
   pub pending : session.pending ≡ 0
+  pub paths : HasPathsOf disk.reads disk.reads session
 
 -- A line is applied, and nothing is given.
 pub record Applies (session : Session) (line : Line) (old : Shown) (new_session : Session) (new : Shown) (result : Result Reply Fault) : Type 0 where
@@ -111,6 +115,10 @@ pub record Applies (session : Session) (line : Line) (old : Shown) (new_session 
   pub left : new.ends.left ≡ old.ends.left
   pub counts : Counts old new (raised_by result)
   pub writes : OnOk result (new.write_faults ≡ old.write_faults)
+  -- what is left to do
+  pub less : LessByLine session line old new_session new result
+  -- the paths to cells, and what a probe answers
+  pub paths : PathsByLine session line old new_session new result
   pub calm : (pending : ℕ) → session.pending ≤ pending → asks_point (room_by session.volumes) pending line ≡ false → new.reads ≡ old.reads
 
 -- ---- all lines
@@ -158,6 +166,8 @@ pub record HasAnswered (m : Machine) (lines left : List Line) (old : Shown) (ses
   pub given : now.given ≡ old.given ++ flat_map text replies
   pub answered : whole (flat_map text replies) ≡ count
   pub left_over : left ≡ drop count lines
+  pub paths : HasPathsBehind m lines count old.reads now.reads session
+  pub probes : TellPaths m lines old.reads replies
   pub crash : Leaves old now (Survives m lines old.given)
 
 -- so many lines of a script are answered, on a session that began at `old`
@@ -175,6 +185,7 @@ pub record StandsAt (limit : ℕ) (first : Session) (old : Shown) (held : Held) 
   pub counted : IsTrue old.tells → first.pending ≡ 0 → IsCounted most_rooms (lines_built old.ends.left) old session now count
   -- until a line has changed a volume that stays
   pub asks : IsTrue old.tells → AsksWithin old first 0 → IsWithoutFiles first → AsksFor (lines_built old.ends.left) now session ⊎ HasChanged (lines_built old.ends.left) count
+  pub less : IsTrue old.tells → (m : Machine) → BeginsFor old first m → LessAlong m (lines_built old.ends.left) old.reads first now.reads session count
   pub answers : IsTrue old.tells → (m : Machine) → BeginsFor old first m → HasAnswered m (lines_built old.ends.left) (lines_built (unread held now)) old session now count
 
 -- All lines are answered, and so many there are.

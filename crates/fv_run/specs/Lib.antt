@@ -5,6 +5,8 @@ pub mod Checking
 pub mod Creating
 pub mod Endings
 pub mod Generating
+pub mod Left
+pub mod Probes
 pub mod Meaning
 pub mod Promises
 pub mod Running

@@ -20,7 +20,7 @@ use Rattle.fv_aggregate.specs.Asking.{IsShort}
 use Rattle.fv_aggregate.specs.Calls.{IsPlain, IsUntouched, IsWithinLimit, KeepsRoot, MakesNoHoles}
 use Rattle.fv_aggregate.specs.Causes.{IsOpenFault, IsUnwritten}
 use Rattle.fv_aggregate.specs.Commands.{asked_by, Asked, AsksNothing, AsksPoint, changes_volume, dirty_limit, most_room, reaches_disk, reads_files, room_by, room_of, takes_steps, volume_asked, is_refusal, removes_volume}
-use Rattle.fv_aggregate.specs.Damages.{HasBadCopies, HasDamageBehind, HasDamageIn, HasDamageLater, PassesLimit}
+use Rattle.fv_aggregate.specs.Damages.{HasBadCopies, HasBadCopiesBehind, HasDamageBehind, HasDamageIn, HasDamageLater, PassesLimit}
 use Rattle.fv_aggregate.specs.Opening.{IsOpened}
 use Rattle.fv_aggregate.specs.Reading.{IsAsRead}
 use Rattle.fv_aggregate.specs.Reclaiming.{HasPointed}
@@ -30,15 +30,19 @@ use Rattle.fv_run.specs.declared.ending.Fault.{Fault}
 use Rattle.fv_run.specs.declared.ending.Fault.TheVariants.{Usage, Unsound, NotAggregate, Source, Sink, Disk, Memory, Damaged, Limit}
 use Rattle.fv_run.specs.Endings.{EndsWith, IsWholeFault, raised_by}
 use Rattle.fv_run.specs.Built.{lines_built}
+use Rattle.fv_run.specs.Left.{AllKeepTodo, FallsByWorks}
+use Rattle.fv_run.specs.Probes.{AnswersProbes}
 use Rattle.fv_run.specs.Promises.{AreGuaranteed, AreIsolated, line_at}
 
 -- ---- replies
 
--- what this call gave is a prefix of the machine's replies to the lines, and of `done` with their number
+-- What this call gave is a prefix of the machine's replies to the lines, and of `done` with their number. While no line before a probe has
+-- changed anything, the reply to it is told by the image at entry.
 pub record HasFollowed (m : Machine) (lines : List Line) (old new : Shown) : Type 0 where
   pub output : List ℕ
   pub given : new.given ≡ old.given ++ output
   pub follows : Follows m lines output
+  pub probes : AnswersProbes m lines old.reads output
 
 -- All replies and `done` were given, and the aggregate on the disk is the machine after all lines.
 pub record HasAnsweredAll (m : Machine) (lines : List Line) (old new : Shown) : Type 0 where
@@ -214,6 +218,8 @@ pub record EndsInPoint (lines : List Line) (old new : Shown) : Type 0 where
   pub left : IsPointed new last next
   pub stands : StandsReady new next
   pub machine : (m : Machine) → machine_of old.reads ≡ Some m → IsLastFor m lines old.reads before last new next
+  -- where each line only asks, is a `cp` or a `work`, or is refused, what is left to do fell by the steps of the `work` lines, or is none
+  pub lowered : (m : Machine) → machine_of old.reads ≡ Some m → AllKeepTodo m lines → FallsByWorks lines old.reads new.reads
 
 -- ---- what is read
 
@@ -358,14 +364,16 @@ IsSessionDamage lines first old end = IsLacking lines end.reads ⊎ (IsFileDamag
 -- A call of a session that may add `room` blocks, and asks for this, met damage, by what the disk shows at the end, and left the session
 -- so: blocks are lacking, or the files of a volume couldn't be placed, where the call comes to a point or to placing; or a leaf of a container
 -- isn't there, where it comes to that; or the table that it asks for isn't as it has to be, with room that passes the dirty limit also behind a point.
--- Or it asks for copies that couldn't be made of what stood in the image `over` before the call.
+-- Or it asks for copies, for a mirror that the session admits, which couldn't be made of what stood in the image `over` before the call;
+-- or, with room that passes the dirty limit, can't be made of what stands at the end, behind a point.
 pub record IsHurt (room : ℕ) (asked : Asked) (over : Image) (session : Session) (end : Shown) (left : Session) : Type 0 where
   pub at : ℕ
   pub want : ℕ
   pub found : ℕ
   pub damage : (HasDamageIn room asked end session left at want found ⊎ HasDamageLater room asked end session left at want found)
       ⊎ ((PassesLimit session.pending room × HasDamageBehind asked end session left at want found)
-      ⊎ (IsTrue end.tells → HasBadCopies room asked (still_disk over) session))
+      ⊎ ((IsTrue end.tells → HasBadCopies asked session (still_disk over) session)
+      ⊎ (PassesLimit session.pending room × HasBadCopiesBehind asked end session left)))
 
 -- background steps met damage, by what the disk shows at the end, and left the session so
 abbrev pub IsHurtInSteps : Shown → Session → Type 0

@@ -1,15 +1,15 @@
 -- A volume that is removed: the blocks that it gives back, and what the machine says of it.
-use Rattle.std.proofs.Common.{◌≡◌, ◌≢◌, inl, inr, ⊎_elim, ℕ, ◌+◌, ◌<◌, ◌≤◌, Bool, true, false, not, ◌&&◌, ◌||◌, cond, List, [], ◌∷◌, length, Option, Some, None, true≢false, refl, sym, ap, subst, ◌∙◌, arith}
-use Rattle.std.specs.Prelude.{Result, Ok, Err, IfSome, nat_lt, ◌==◌}
+use Rattle.std.proofs.Common.{◌≡◌, inl, inr, ⊎_elim, ℕ, ◌+◌, ◌<◌, ◌≤◌, Bool, true, false, not, ◌&&◌, ◌||◌, cond, List, [], ◌∷◌, length, Option, Some, None, true≢false, refl, sym, ap, subst, ◌∙◌, arith}
+use Rattle.std.specs.Prelude.{Result, Ok, Err, IfSome, ◌==◌}
 use Rattle.std.specs.Option.{is_none}
 use Rattle.std.specs.FinMap as fin
 use Rattle.std.specs.Ordering.{nat_cmp, eq_by_cmp}
 use Rattle.std.specs.Cmp.{nat_cmp_total}
 use Rattle.std.proofs.Math.Seq.{take-length}
-use Rattle.std.proofs.lemmas.Bool.{cases_eq, cases_lt}
+use Rattle.std.proofs.lemmas.Bool.{cases_lt}
 use Rattle.std.proofs.Math.Bool.{or_comm}
 use Rattle.std.proofs.lemmas.Bool.Decides.{nat_tests}
-use Rattle.fv_bits.specs.Members.{is_member, HasNoneFrom, IsFirstMember}
+use Rattle.fv_bits.specs.Members.{is_member}
 use Rattle.fv_model.specs.declared.answers.Refusal.{Refusal}
 use Rattle.fv_model.specs.declared.answers.Refusal.TheVariants.{NoVolume, VolumeInUse}
 use Rattle.fv_model.specs.declared.commands.Command.TheVariants.{VolDestroy}
@@ -26,6 +26,7 @@ use Rattle.fv_container.specs.Mapped.{Mapped}
 use Rattle.fv_container.specs.Spelled.{is_at, names}
 use Rattle.fv_container.specs.Written.{HasReleased}
 use Rattle.fv_image.specs.Views.{entry_count}
+use Rattle.fv_copies.proofs.Marking.{below_more, marked_below}
 use Rattle.fv_pool.specs.declared.pool.Pool.{Pool}
 use Rattle.fv_disk.specs.Shown.{Shown as Disk}
 use Rattle.fv_disk.specs.declared.fault.BlockFault.{BlockFault}
@@ -78,75 +79,7 @@ volume_forgotten x map count old new same = subst (λ (n : ℕ). HasForgotten ol
 
 -- ---- marks
 
--- the blocks below one that are marked
-abbrev pub marked_below : List Bool → ℕ → ℕ → Bool
-marked_below marks n b = nat_lt b n && is_member marks b
-
-and_off : (t : Bool) → (t && false) ≡ false
-and_off true = refl
-and_off false = refl
-
-pub below_none : (marks : List Bool) (b : ℕ) → marked_below marks 0 b ≡ false
-below_none marks b = let none : nat_lt b 0 ≡ false = grind (arith, nat_tests) in ap (λ (t : Bool). t && is_member marks b) none
-
--- another block lies below the next one where it lies below this one
-same_below : (b n : ℕ) → b ≢ n → nat_lt b (n + 1) ≡ nat_lt b n
-same_below b n other = ⊎_elim
-    (λ (low : b < n). (let one : nat_lt b (n + 1) ≡ true = grind (arith, nat_tests, low) in one) ∙ sym (let two : nat_lt b n ≡ true = grind (arith, nat_tests, low) in two))
-    (λ (high : n ≤ b). (let one : nat_lt b (n + 1) ≡ false = grind (arith, nat_tests, high, other) in one) ∙ sym (let two : nat_lt b n ≡ false = grind (arith, nat_tests, high) in two))
-    (cases_lt b n)
-
--- one that is marked more
-pub below_more : (marks : List Bool) (n b : ℕ) → is_member marks n ≡ true → marked_below marks (n + 1) b ≡ (marked_below marks n b || (b == n))
-below_more marks n b on = ⊎_elim
-    (λ (same : b ≡ n).
-    let low : nat_lt b (n + 1) ≡ true = grind (arith, nat_tests, same) in
-    let test : (b == n) ≡ true = grind (arith, nat_tests, same) in
-    (λ j. low j && (ap (is_member marks) same ∙ on) j) ∙ sym (ap (λ (t : Bool). marked_below marks n b || t) test ∙ or_comm (marked_below marks n b) true))
-    (λ (other : b ≢ n).
-    let test : (b == n) ≡ false = grind (arith, nat_tests, other) in
-    ap (λ (t : Bool). t && is_member marks b) (same_below b n other) ∙ sym (ap (λ (t : Bool). marked_below marks n b || t) test ∙ or_comm (marked_below marks n b) false))
-    (cases_eq b n)
-
--- between a place and the next one that is marked none is
-pub below_next : (marks : List Bool) (n next b : ℕ) → IsFirstMember marks n next → marked_below marks next b ≡ marked_below marks n b
-below_next marks n next b first = ⊎_elim
-    (λ (low : b < n).
-    let far : b < next = omega (arith, low, first.after) in
-    let under : nat_lt b next ≡ true = grind (arith, nat_tests, far) in
-    let test : nat_lt b n ≡ true = grind (arith, nat_tests, low) in
-    ap (λ (t : Bool). t && is_member marks b) (under ∙ sym test))
-    (λ (high : n ≤ b).
-    let test : nat_lt b n ≡ false = grind (arith, nat_tests, high) in
-    ⊎_elim
-    (λ (near : b < next). ap (λ (t : Bool). nat_lt b next && t) (first.before b high near) ∙ and_off (nat_lt b next) ∙ sym (ap (λ (t : Bool). t && is_member marks b) test))
-    (λ (past : next ≤ b).
-    let over : nat_lt b next ≡ false = grind (arith, nat_tests, past) in
-    ap (λ (t : Bool). t && is_member marks b) (over ∙ sym test))
-    (cases_lt b next))
-    (cases_lt b n)
-
--- and behind the last one there is none
-pub below_last : (marks : List Bool) (n b : ℕ) → HasNoneFrom marks n → is_member marks b ≡ marked_below marks n b
-below_last marks n b last = ⊎_elim
-    (λ (low : b < n).
-    let test : nat_lt b n ≡ true = grind (arith, nat_tests, low) in
-    sym (ap (λ (t : Bool). t && is_member marks b) test))
-    (λ (high : n ≤ b).
-    let off : is_member marks b ≡ false = last.none b high in
-    off ∙ sym (ap (λ (t : Bool). nat_lt b n && t) off ∙ and_off (nat_lt b n)))
-    (cases_lt b n)
-
--- it is given back, as the first places that are marked were
-pub marked_given : (marks : List Bool) (n : ℕ) (old mid new : Space) → is_member marks 0 ≡ false → is_member marks n ≡ true → HasGiven old (marked_below marks n) mid → HasGiven mid (λ b. is_at b n) new → HasGiven old (marked_below marks (n + 1)) new
-marked_given marks n old mid new none on before gave =
-    let some : n ≢ 0 = λ first. true≢false (sym on ∙ ap (is_member marks) first ∙ none) in
-    given_then old mid new (marked_below marks n) (λ b. is_at b n) (marked_below marks (n + 1))
-    (λ b. below_more marks n b on ∙ ap (λ (t : Bool). marked_below marks n b || t) (at_same b n some)) before gave
-  where
-    at_same : (b n : ℕ) → n ≢ 0 → (b == n) ≡ is_at b n
-    at_same b n some = grind (arith, nat_tests, some)
-
+-- it is forgotten, as the first places that are marked were
 pub marked_forgotten : (marks : List Bool) (n : ℕ) (old mid new : Blocks) → is_member marks n ≡ true → HasForgotten old (marked_below marks n) mid → new ≡ fin.remove mid n → HasForgotten old (marked_below marks (n + 1)) new
 marked_forgotten marks n old mid new on before gone =
     forgotten_then old mid new (marked_below marks n) (λ b. b == n) (marked_below marks (n + 1)) (λ b. below_more marks n b on) before (forgotten_one mid new n gone)

@@ -75,6 +75,7 @@ pub mod PlacedFooted
 pub mod SnapFooted
 pub mod SettledFooted
 pub mod AddedClone
+pub mod Added
 pub mod AddedView
 pub mod MadeFooted
 pub mod NamedBases

@@ -4,7 +4,7 @@ use crate::answers::{look_at, settled, start};
 use crate::bench::Bench;
 use crate::cause::{Cause, because, unread};
 use crate::lines::{number, split_lines};
-use crate::walking::{TEARS, see, unseen};
+use crate::walking::{see, unseen, with_tears};
 use fv_disk::Disk;
 use fv_memdisk::{Call, MemHost};
 
@@ -60,6 +60,8 @@ struct Failing {
     /// Which call of its kind it is, from 1.
     nth: u64,
     status: u64,
+    /// With how many tears the disk is looked at.
+    tears: u32,
     /// How many lines are given, where that is told.
     replies: Option<u64>,
     /// For how many first lines the disk stands then, where that is told.
@@ -68,14 +70,16 @@ struct Failing {
 
 /// A call fails, or each call of each kind in turn.
 pub fn try_failing(bench: &Bench, text: &str) -> Result<(), Cause> {
-    let words: Vec<&str> = text.split(' ').collect(bench.alloc)?;
+    let (walk, tears) = with_tears(text)?;
+    let words: Vec<&str> = walk.split(' ').collect(bench.alloc)?;
     match words.as_slice() {
-        ["each", counts @ ..] => each_fails(bench, counts),
+        ["each", counts @ ..] => each_fails(bench, counts, tears),
         [call, nth, status, wanted @ ..] => {
             let failing = Failing {
                 kind: kind_of(call)?,
                 nth: number(nth)?,
                 status: number(status)?,
+                tears,
                 replies: None,
                 stands: None,
             };
@@ -107,9 +111,9 @@ fn one_fails(bench: &Bench, failing: Failing) -> Result<(), Cause> {
 }
 
 /// Each call of each kind fails in turn, until a run in which none does. There are so many calls of some kinds, as `5 reads 1 barrier`.
-fn each_fails(bench: &Bench, counts: &[&str]) -> Result<(), Cause> {
+fn each_fails(bench: &Bench, counts: &[&str], tears: u32) -> Result<(), Cause> {
     for kind in kinds() {
-        let calls = calls_of(bench, kind)?;
+        let calls = calls_of(bench, kind, tears)?;
         for pair in counts.chunks(2) {
             let [count, name] = pair else {
                 return Err(unread());
@@ -124,12 +128,13 @@ fn each_fails(bench: &Bench, counts: &[&str]) -> Result<(), Cause> {
 }
 
 /// How many calls of a kind the run makes, each of which ends it where it fails.
-fn calls_of(bench: &Bench, kind: Kind) -> Result<u64, Cause> {
+fn calls_of(bench: &Bench, kind: Kind, tears: u32) -> Result<u64, Cause> {
     for nth in 1..MOST_CALLS {
         let failing = Failing {
             kind,
             nth,
             status: kind.status,
+            tears,
             replies: None,
             stands: None,
         };
@@ -176,7 +181,7 @@ fn judge(bench: &Bench, failing: Failing, host: &mut MemHost) -> Result<(), Caus
         bench,
         host,
         host.moments().saturating_sub(1),
-        TEARS,
+        failing.tears,
         &mut unseen(bench)?,
     )?;
     match failing.stands {

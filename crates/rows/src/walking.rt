@@ -10,13 +10,18 @@ use std::alloc::AllocError;
 
 /// The run is stopped at each moment with each tear, or with the first so many as `3 with 2 tears` says; at least so many answers are seen.
 pub fn stopped(bench: &Bench, text: &str) -> Result<(), Cause> {
-    let (least, tears) = match text.split_once(" with ") {
-        Some((least, rest)) => (number(least)?, tears_in(rest)?),
-        None => (number(text)?, TEARS),
-    };
+    let (least, tears) = with_tears(text)?;
+    let least = number(least)?;
     let mut seen = unseen(bench)?;
+    let mut before: usize = 0;
     for moment in 0..bench.host.moments() {
-        see(bench, &bench.host, moment, tears, &mut seen)?;
+        let waiting = waiting_at(&bench.host, moment)?;
+        let (first, last) = new_tears(before, waiting);
+        for number in first..last.min(tears) {
+            let state = see_torn(bench, &bench.host, moment, number)?;
+            mark(&mut seen, state);
+        }
+        before = waiting;
     }
     let count = bench.course.count_seen(seen.as_slice());
     if count < least || count == 0 {
@@ -44,6 +49,14 @@ pub fn pointed(bench: &Bench, least: u64) -> Result<(), Cause> {
     Ok(())
 }
 
+/// What a walk says, and how many tears it tries, as `each with 2 tears` does; all of them where it doesn't say.
+pub fn with_tears(text: &str) -> Result<(&str, u32), Cause> {
+    match text.split_once(" with ") {
+        Some((walk, tears)) => Ok((walk, tears_in(tears)?)),
+        None => Ok((text, TEARS)),
+    }
+}
+
 /// How many tears a text says, as `2 tears` does.
 fn tears_in(text: &str) -> Result<u32, Cause> {
     let tears = number(text.strip_suffix(" tears").ok_or(unread())?)?;
@@ -60,7 +73,7 @@ pub fn unseen(bench: &Bench) -> Result<Vec<bool>, AllocError> {
 }
 
 /// At most so many tears are told apart, of which the first four tear all blocks in one way.
-pub const TEARS: u32 = 67;
+const TEARS: u32 = 67;
 
 /// What the tear of a number does to the blocks that wait for a barrier.
 fn tear_of(number: u32) -> Tear {
@@ -75,11 +88,22 @@ fn tear_of(number: u32) -> Tear {
 
 /// How many tears leave different images where so many blocks wait for a barrier: without any, none does anything; and the first so many
 /// of all of them are `Tear::New`.
-fn tears_of(waiting: usize) -> usize {
+fn tears_of(waiting: usize) -> u32 {
     if waiting == 0 {
         1
     } else {
-        waiting.saturating_add(3)
+        u32::try_from(waiting).unwrap_or(TEARS).saturating_add(3)
+    }
+}
+
+/// The tears that leave other images than those of the moment before, as the number of the first one and that behind the last one. Where
+/// one block more waits, the call between wrote it. Then the tears that leave it as it was, `Tear::Old` and the first so many of those
+/// before, leave what they left: so where 40 blocks wait and then 41, all images but 3 are those of before.
+fn new_tears(before: usize, waiting: usize) -> (u32, u32) {
+    if waiting == before.saturating_add(1) {
+        (1, 4)
+    } else {
+        (0, tears_of(waiting))
     }
 }
 
@@ -92,10 +116,7 @@ pub fn see(
     seen: &mut Vec<bool>,
 ) -> Result<(), Cause> {
     let apart = tears_of(waiting_at(host, moment)?);
-    for number in 0..tears {
-        if number as usize >= apart {
-            return Ok(());
-        }
+    for number in 0..apart.min(tears) {
         let state = see_torn(bench, host, moment, number)?;
         mark(seen, state);
     }

@@ -11,29 +11,26 @@ use Rattle.fv_cleaner.specs.Stepping.{CleansVolume, PlacesRoots, SearchesRoots, 
 use Rattle.fv_cleaner.proofs.Lying.{leaves_then}
 use Rattle.fv_cleaner.proofs.Stepped.{cleaned, cleaned_roots, found_leads, if_ok, moves_undamaged, on_ok, roots_lead, roots_step, still_outside, still_unled, taken_low, tells_after}
 use Rattle.fv_cleaner.proofs.Unled.{moves_outside, moves_unled}
+use Rattle.fv_cleaner.proofs.stepping.clean_volume.Given as given
 use Rattle.fv_cleaner.proofs.stepping.clean_volume.Goals as goal
 
 pub move_block-requires-clause-within : goal.move_block-requires-clause-within
 move_block-requires-clause-within g c =
-    let disk = g.D.Disk.shown c.args.disk.now in
     let pool = c.args.pool.now in
     let x = c.args.state.now in
-    let mid = g.D.Disk.shown c.find_in.new.disk in
     let held = c.find_in.new.pool in
     let leaves = c.find_in.ensures.leaves in
-    let reads = c.find_in.ensures.only_reads in
-    let at = lies_in x.map pool x.slot disk.reads in
     let b = c.find_in.new.into in
     let f = c.in-Some.found in
-    let searches = λ (tells : TellsEntries disk pool.containers). subst (SearchesRoots at (roots_of x) b) c.in-Some.is (c.in_ok-found.ensures.searches tells) in
     let found = subst (λ (o : Option Found). IfSome o (λ (n : Found). IsFoundIn x.map n b)) c.in-Some.is c.in_ok-found.ensures.found in
     let low = taken_low x.map f.vvbn c.known_maps.ensures found.taken in
     let same = leaves_then pool held c.fill_all.new.pool leaves c.fill_all.ensures.leaves in
     let long = ap (λ s. length (entries_in (container_at s x.slot))) same.containers in
     omega (arith, low, long, c.requires.ready.lent.entries)
 
-pub returns-in_ok-move_block-in-Some-clause-cleans : goal.returns-in_ok-move_block-in-Some-clause-cleans
-returns-in_ok-move_block-in-Some-clause-cleans g c =
+-- the step that moved a block
+moved : (g : given.Over) (c : goal.After-mark g) → CleansVolume (g.D.Disk.shown c.args.disk.now) c.args.pool.now c.args.state.now c.move_block.new.pool c.mark.new.self true
+moved g c =
     let disk = g.D.Disk.shown c.args.disk.now in
     let pool = c.args.pool.now in
     let x = c.args.state.now in
@@ -50,50 +47,16 @@ returns-in_ok-move_block-in-Some-clause-cleans g c =
     let left = c.move_block.new.pool in
     let block = cleaned disk mid pool held x leaves reads later c.fill_all.new.pool left f b c.fill_all.new.block c.fill_all.ensures.leaves c.fill_all.ensures.only_reads c.known_maps.ensures
     found searches c.in_ok-fill_all-in-Some.ensures.fills c.in_ok-fill_all-in-Some.ensures.places c.in_ok-move_block-in-Some.ensures.moved in
-    let cleans : CleansVolume disk pool x left c.mark.new.self true = subst (λ (y : VolumeState). CleansVolume disk pool x left y true) (sym c.mark.ensures) (inl block) in
-    cleans
+    subst (λ (y : VolumeState). CleansVolume disk pool x left y true) (sym c.mark.ensures) (inl block)
+
+pub returns-in_ok-move_block-in-Some-clause-cleans : goal.returns-in_ok-move_block-in-Some-clause-cleans
+returns-in_ok-move_block-in-Some-clause-cleans g c = moved g c
 
 pub returns-in_ok-move_block-in-Some-clause-unled : goal.returns-in_ok-move_block-in-Some-clause-unled
-returns-in_ok-move_block-in-Some-clause-unled g c =
-    let disk = g.D.Disk.shown c.args.disk.now in
-    let pool = c.args.pool.now in
-    let x = c.args.state.now in
-    let mid = g.D.Disk.shown c.find_in.new.disk in
-    let held = c.find_in.new.pool in
-    let leaves = c.find_in.ensures.leaves in
-    let reads = c.find_in.ensures.only_reads in
-    let at = lies_in x.map pool x.slot disk.reads in
-    let b = c.find_in.new.into in
-    let f = c.in-Some.found in
-    let searches = λ (tells : TellsEntries disk pool.containers). subst (SearchesRoots at (roots_of x) b) c.in-Some.is (c.in_ok-found.ensures.searches tells) in
-    let found = subst (λ (o : Option Found). IfSome o (λ (n : Found). IsFoundIn x.map n b)) c.in-Some.is c.in_ok-found.ensures.found in
-    let later = g.D.Disk.shown c.fill_all.new.disk in
-    let left = c.move_block.new.pool in
-    let block = cleaned disk mid pool held x leaves reads later c.fill_all.new.pool left f b c.fill_all.new.block c.fill_all.ensures.leaves c.fill_all.ensures.only_reads c.known_maps.ensures
-    found searches c.in_ok-fill_all-in-Some.ensures.fills c.in_ok-fill_all-in-Some.ensures.places c.in_ok-move_block-in-Some.ensures.moved in
-    let cleans : CleansVolume disk pool x left c.mark.new.self true = subst (λ (y : VolumeState). CleansVolume disk pool x left y true) (sym c.mark.ensures) (inl block) in
-    moves_unled disk pool x left c.mark.new.self true cleans
+returns-in_ok-move_block-in-Some-clause-unled g c = moves_unled (g.D.Disk.shown c.args.disk.now) c.args.pool.now c.args.state.now c.move_block.new.pool c.mark.new.self true (moved g c)
 
 pub returns-in_ok-move_block-in-Some-clause-outside : goal.returns-in_ok-move_block-in-Some-clause-outside
-returns-in_ok-move_block-in-Some-clause-outside g c =
-    let disk = g.D.Disk.shown c.args.disk.now in
-    let pool = c.args.pool.now in
-    let x = c.args.state.now in
-    let mid = g.D.Disk.shown c.find_in.new.disk in
-    let held = c.find_in.new.pool in
-    let leaves = c.find_in.ensures.leaves in
-    let reads = c.find_in.ensures.only_reads in
-    let at = lies_in x.map pool x.slot disk.reads in
-    let b = c.find_in.new.into in
-    let f = c.in-Some.found in
-    let searches = λ (tells : TellsEntries disk pool.containers). subst (SearchesRoots at (roots_of x) b) c.in-Some.is (c.in_ok-found.ensures.searches tells) in
-    let found = subst (λ (o : Option Found). IfSome o (λ (n : Found). IsFoundIn x.map n b)) c.in-Some.is c.in_ok-found.ensures.found in
-    let later = g.D.Disk.shown c.fill_all.new.disk in
-    let left = c.move_block.new.pool in
-    let block = cleaned disk mid pool held x leaves reads later c.fill_all.new.pool left f b c.fill_all.new.block c.fill_all.ensures.leaves c.fill_all.ensures.only_reads c.known_maps.ensures
-    found searches c.in_ok-fill_all-in-Some.ensures.fills c.in_ok-fill_all-in-Some.ensures.places c.in_ok-move_block-in-Some.ensures.moved in
-    let cleans : CleansVolume disk pool x left c.mark.new.self true = subst (λ (y : VolumeState). CleansVolume disk pool x left y true) (sym c.mark.ensures) (inl block) in
-    moves_outside disk pool x left c.mark.new.self true cleans
+returns-in_ok-move_block-in-Some-clause-outside g c = moves_outside (g.D.Disk.shown c.args.disk.now) c.args.pool.now c.args.state.now c.move_block.new.pool c.mark.new.self true (moved g c)
 
 pub returns-in-None-clause-cleans : goal.returns-in-None-clause-cleans
 returns-in-None-clause-cleans g c =
@@ -117,12 +80,8 @@ returns-in-None-clause-unled g c =
     let disk = g.D.Disk.shown c.args.disk.now in
     let pool = c.args.pool.now in
     let x = c.args.state.now in
-    let mid = g.D.Disk.shown c.find_in.new.disk in
     let held = c.find_in.new.pool in
     let leaves = c.find_in.ensures.leaves in
-    let reads = c.find_in.ensures.only_reads in
-    let at = lies_in x.map pool x.slot disk.reads in
-    let b = c.find_in.new.into in
     on_ok _ c.place_roots.result (still_unled disk pool x c.place_roots.new.pool (leaves_then pool held c.place_roots.new.pool leaves c.place_roots.ensures.leaves))
 
 pub returns-in-None-clause-outside : goal.returns-in-None-clause-outside
@@ -130,12 +89,8 @@ returns-in-None-clause-outside g c =
     let disk = g.D.Disk.shown c.args.disk.now in
     let pool = c.args.pool.now in
     let x = c.args.state.now in
-    let mid = g.D.Disk.shown c.find_in.new.disk in
     let held = c.find_in.new.pool in
     let leaves = c.find_in.ensures.leaves in
-    let reads = c.find_in.ensures.only_reads in
-    let at = lies_in x.map pool x.slot disk.reads in
-    let b = c.find_in.new.into in
     on_ok _ c.place_roots.result (still_outside disk pool x c.place_roots.new.pool (leaves_then pool held c.place_roots.new.pool leaves c.place_roots.ensures.leaves))
 
 pub returns-in-None-clause-undamaged : goal.returns-in-None-clause-undamaged
@@ -147,8 +102,6 @@ returns-in-None-clause-undamaged g c = λ can.
     let held = c.find_in.new.pool in
     let leaves = c.find_in.ensures.leaves in
     let reads = c.find_in.ensures.only_reads in
-    let at = lies_in x.map pool x.slot disk.reads in
-    let b = c.find_in.new.into in
     c.place_roots.ensures.undamaged (tells_after disk mid pool held x leaves reads can) (roots_lead disk mid pool held x leaves reads can)
 
 pub returns-in_err-fill_all-in-Some-clause-undamaged : goal.returns-in_err-fill_all-in-Some-clause-undamaged
@@ -177,10 +130,6 @@ returns-in_err-move_block-in-Some-clause-undamaged g c = λ can.
     let held = c.find_in.new.pool in
     let leaves = c.find_in.ensures.leaves in
     let reads = c.find_in.ensures.only_reads in
-    let at = lies_in x.map pool x.slot disk.reads in
-    let b = c.find_in.new.into in
-    let f = c.in-Some.found in
-    let searches = λ (tells : TellsEntries disk pool.containers). subst (SearchesRoots at (roots_of x) b) c.in-Some.is (c.in_ok-found.ensures.searches tells) in
     let later = g.D.Disk.shown c.fill_all.new.disk in
     let fault = moves_undamaged x.map x.slot disk later pool c.fill_all.new.pool (leaves_then pool held c.fill_all.new.pool leaves c.fill_all.ensures.leaves) (reads_then disk mid later reads c.fill_all.ensures.only_reads)
     _ c.in_err-move_block-in-Some.field-0.0 can.told can.free c.in_err-move_block-in-Some.ensures.fault in

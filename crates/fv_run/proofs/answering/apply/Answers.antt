@@ -14,6 +14,8 @@ use Rattle.fv_run.proofs.Applied.{cp_reads_none, said, said_none, said_range, ap
 use Rattle.fv_run.proofs.StepsApplied.{applied_as, unapplied_as}
 use Rattle.fv_aggregate.proofs.Damages.{as_read}
 use Rattle.fv_run.proofs.Courses.{command_over}
+use Rattle.fv_run.proofs.LeftAlong.{less_said}
+use Rattle.fv_run.proofs.ProbesAlong.{paths_said}
 use Rattle.fv_run.proofs.answering.apply.Goals as goal
 
 pub returns-in_err-apply_into-in-Ok : goal.returns-in_err-apply_into-in-Ok
@@ -28,6 +30,8 @@ returns-in-Ok g c =
     let done = c.in_ok-apply_into-in-Ok.ensures in
     applied_as _ _ (line_of c.args.line.now) c.read_into.new.into _ _ (said _ _ (sym (ap (λ (r : Result Unit LineFault). handed r c.read_into.new.into) c.in-Ok.is) ∙ c.read_into.ensures)) c.requires _ (λ other once few. (done.calm other once few).stays.reads) done.goes done.asks done.files done.goes_for done.reply (λ tells last m stands cp. (done.point tells last m stands cp).stands) (λ cp. ((done.plain (cp_reads_none c.read_into.new.into cp)).pointed cp).pending)
     (λ files asks. as_read _ _ _ _ ((done.on_files files).asked asks)) (command_over g.H.Disk.shown _ _ _ _ _ _ _ _ done)
+    (less_said g.H.Disk.shown _ _ _ _ _ _ _ (line_of c.args.line.now) c.read_into.new.into (said _ _ (sym (ap (λ (r : Result Unit LineFault). handed r c.read_into.new.into) c.in-Ok.is) ∙ c.read_into.ensures)) c.requires.unfailed done)
+    (paths_said g.H.Disk.shown _ _ _ _ _ _ _ (line_of c.args.line.now) c.read_into.new.into (said _ _ (sym (ap (λ (r : Result Unit LineFault). handed r c.read_into.new.into) c.in-Ok.is) ∙ c.read_into.ensures)) done)
 
 pub returns-in-Err-Syntax : goal.returns-in-Err-Syntax
 returns-in-Err-Syntax g c =

@@ -12,6 +12,8 @@ use Rattle.fv_run.proofs.Applied.{cp_reads_none}
 use Rattle.fv_run.proofs.StepsApplied.{applied_as, unapplied_as}
 use Rattle.fv_aggregate.proofs.Damages.{as_read}
 use Rattle.fv_run.proofs.Courses.{command_over}
+use Rattle.fv_run.proofs.LeftAlong.{less_said}
+use Rattle.fv_run.proofs.ProbesAlong.{paths_said}
 use Rattle.fv_run.proofs.generating.apply.Goals as goal
 
 pub returns-in_err-apply_into : goal.returns-in_err-apply_into
@@ -26,3 +28,5 @@ returns g c =
     let done = c.in_ok-apply_into.ensures in
     applied_as _ _ (Says c.args.command.now) c.args.command.now _ _ refl c.requires _ (λ other once few. (done.calm other once few).stays.reads) done.goes done.asks done.files done.goes_for done.reply (λ tells last m stands cp. (done.point tells last m stands cp).stands) (λ cp. ((done.plain (cp_reads_none c.args.command.now cp)).pointed cp).pending)
     (λ files asks. as_read _ _ _ _ ((done.on_files files).asked asks)) (command_over g.H.Disk.shown _ _ _ _ _ _ _ _ done)
+    (less_said g.H.Disk.shown _ _ _ _ _ _ _ (Says c.args.command.now) c.args.command.now refl c.requires.unfailed done)
+    (paths_said g.H.Disk.shown _ _ _ _ _ _ _ (Says c.args.command.now) c.args.command.now refl done)

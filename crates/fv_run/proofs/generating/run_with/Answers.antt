@@ -20,7 +20,7 @@ returns-in_err-tally g c =
     let failed : c.from_residual-in_err-tally.result ≡ Err c.in_err-tally.field-0.0 = search rules in
     let opened = c.in_ok-session.ensures in
     subst (λ (r : Result Unit Fault). Generates (lines_said c.args.script.now) (g.H.Disk.shown c.args.host.now) (g.H.Disk.shown c.apply_all.new.host) r) (sym failed)
-    (generates (lines_said c.args.script.now) _ _ (g.met.H.Disk.laws c.args.host.now) opened.unwritten c.in_ok-session.session _ opened.stands opened.machine opened.counts opened.loaded opened.fresh.pending _
+    (generates (lines_said c.args.script.now) _ _ (g.met.H.Disk.laws c.args.host.now) opened.unwritten c.in_ok-session.session _ opened.stands opened.machine opened.counts opened.loaded opened.fresh.pending opened.paths _
     (cut_open (lines_said c.args.script.now) c.in_ok-session.session _ _ _ c.in_err-tally.ensures))
 
 pub returns-in_err-consistency_point : goal.returns-in_err-consistency_point
@@ -30,7 +30,7 @@ returns-in_err-consistency_point g c =
     let point = c.in_err-consistency_point.ensures in
     let all = c.in_ok-tally.ensures in
     subst (λ (r : Result Unit Fault). Generates (lines_said c.args.script.now) (g.H.Disk.shown c.args.host.now) (g.H.Disk.shown c.consistency_point.new.disk) r) (sym failed)
-    (generates (lines_said c.args.script.now) _ _ (g.met.H.Disk.laws c.args.host.now) opened.unwritten c.in_ok-session.session _ opened.stands opened.machine opened.counts opened.loaded opened.fresh.pending _
+    (generates (lines_said c.args.script.now) _ _ (g.met.H.Disk.laws c.args.host.now) opened.unwritten c.in_ok-session.session _ opened.stands opened.machine opened.counts opened.loaded opened.fresh.pending opened.paths _
     (cut_open (lines_said c.args.script.now) c.in_ok-session.session _ _ _
     (point_failed (lines_said c.args.script.now) c.in_ok-session.session _ _ _ c.in_ok-tally.tally all.0 all.1 c.consistency_point.new.self _ _ point.runs.goes point.runs.goes_for point.kept)))
 
@@ -39,7 +39,7 @@ returns g c =
     let opened = c.in_ok-session.ensures in
     let point = c.in_ok-consistency_point.ensures in
     let all = c.in_ok-tally.ensures in
-    generates (lines_said c.args.script.now) _ _ (g.met.H.Disk.laws c.args.host.now) opened.unwritten c.in_ok-session.session _ opened.stands opened.machine opened.counts opened.loaded opened.fresh.pending _
+    generates (lines_said c.args.script.now) _ _ (g.met.H.Disk.laws c.args.host.now) opened.unwritten c.in_ok-session.session _ opened.stands opened.machine opened.counts opened.loaded opened.fresh.pending opened.paths _
     (generated_whole (lines_said c.args.script.now) c.in_ok-session.session _ _ _ c.in_ok-tally.tally all.0 all.1 c.consistency_point.new.self _ point.runs.goes point.runs.goes_for (λ tells last m stands. (point.points.point tells last m stands).stands)
     c.charged.result (λ last m stands. c.charged.ensures.slots ∙ charges_for _ _ last m stands) _ _ c.tell_all.ensures)
 

@@ -24,7 +24,7 @@ returns-in_err-count g c =
     let failed : c.from_residual-in_err-count.result ≡ Err c.in_err-count.field-0.0 = search rules in
     let opened = c.in_ok-session.ensures in
     subst (λ (r : Result Unit Fault). Ran c.args.limit (g.H.Disk.shown c.args.host.now) (g.H.Disk.shown c.answer_lines.new.host) r) (sym failed)
-    (ran c.args.limit c.in_ok-session.session _ _ _ (g.met.H.Disk.laws c.args.host.now) opened.unwritten opened.stands opened.machine opened.asks opened.none opened.counts opened.loaded opened.fresh.pending _
+    (ran c.args.limit c.in_ok-session.session _ _ _ (g.met.H.Disk.laws c.args.host.now) opened.unwritten opened.stands opened.machine opened.asks opened.none opened.counts opened.loaded opened.fresh.pending opened.left opened.paths _
     (stopped_open c.args.limit c.in_ok-session.session _ _ _ c.in_err-count.ensures) (λ tells none. tt))
 
 pub returns-in_err-consistency_point : goal.returns-in_err-consistency_point
@@ -33,7 +33,7 @@ returns-in_err-consistency_point g c =
     let opened = c.in_ok-session.ensures in
     let point = c.in_err-consistency_point.ensures in
     subst (λ (r : Result Unit Fault). Ran c.args.limit (g.H.Disk.shown c.args.host.now) (g.H.Disk.shown c.consistency_point.new.disk) r) (sym failed)
-    (ran c.args.limit c.in_ok-session.session _ _ _ (g.met.H.Disk.laws c.args.host.now) opened.unwritten opened.stands opened.machine opened.asks opened.none opened.counts opened.loaded opened.fresh.pending _
+    (ran c.args.limit c.in_ok-session.session _ _ _ (g.met.H.Disk.laws c.args.host.now) opened.unwritten opened.stands opened.machine opened.asks opened.none opened.counts opened.loaded opened.fresh.pending opened.left opened.paths _
     (point_failed c.args.limit c.in_ok-session.session _ _ _ _ c.in_ok-count.ensures c.consistency_point.new.self _ _ point.runs.goes point.runs.goes_for point.kept point.runs.damage) (λ tells none. tt))
 
 -- what the line of `done` leaves is told where it was given
@@ -45,6 +45,6 @@ pub returns : goal.returns
 returns g c =
     let opened = c.in_ok-session.ensures in
     let point = c.in_ok-consistency_point.ensures in
-    ran c.args.limit c.in_ok-session.session _ _ _ (g.met.H.Disk.laws c.args.host.now) opened.unwritten opened.stands opened.machine opened.asks opened.none opened.counts opened.loaded opened.fresh.pending _
+    ran c.args.limit c.in_ok-session.session _ _ _ (g.met.H.Disk.laws c.args.host.now) opened.unwritten opened.stands opened.machine opened.asks opened.none opened.counts opened.loaded opened.fresh.pending opened.left opened.paths _
     (ran_whole c.args.limit c.in_ok-session.session _ _ _ _ c.in_ok-count.ensures c.consistency_point.new.self _ point.runs.goes point.runs.goes_for (λ tells last m stands. (point.points.point tells last m stands).stands) _ _ c.tell_count.ensures)
-    (λ tells none. ended c.tell_count.result (λ told. pointed_open c.args.limit c.in_ok-session.session _ _ _ _ c.in_ok-count.ensures (g.met.H.Disk.laws c.answer_lines.new.host) c.consistency_point.new.self _ point.runs.goes point.points _ told tells none) c.tell_count.ensures)
+    (λ tells none. ended c.tell_count.result (λ told. pointed_open c.args.limit c.in_ok-session.session _ _ _ _ c.in_ok-count.ensures (g.met.H.Disk.laws c.answer_lines.new.host) c.consistency_point.new.self _ point.runs.goes point.points point.left point.shown _ told tells none) c.tell_count.ensures)

@@ -1,7 +1,8 @@
 use Rattle.std.proofs.Common.{ℕ, arith}
 use Rattle.fv_container.specs.Spelled.{is_at}
 use Rattle.fv_delay.proofs.Reclaimed.{some_none, some_then}
-use Rattle.fv_volumes.proofs.Destroyed.{below_last, below_next, below_none, forgotten_same, forgotten_start, marked_below, marked_forgotten, marked_given}
+use Rattle.fv_copies.proofs.Marking.{below_last, below_next, below_none, marked_below, marked_given}
+use Rattle.fv_volumes.proofs.Destroyed.{forgotten_same, forgotten_start, marked_forgotten}
 use Rattle.fv_volumes.proofs.Drawing.{given_none, given_same}
 use Rattle.fv_volumes.proofs.destroying.give_back_marked.Goals as goal
 

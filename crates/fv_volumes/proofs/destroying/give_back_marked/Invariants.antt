@@ -3,7 +3,7 @@ use Rattle.fv_bits.specs.Members.{is_member}
 use Rattle.fv_delay.specs.Reclaims.{HasGivenSome}
 use Rattle.fv_volume.specs.Writing.{HasGiven}
 use Rattle.fv_volumes.specs.Destroying.{HasForgotten}
-use Rattle.fv_volumes.proofs.Destroyed.{marked_below}
+use Rattle.fv_copies.proofs.Marking.{marked_below}
 use Rattle.fv_volumes.proofs.destroying.give_back_marked.Given as goal
 
 abbrev pub invariant-loop-place : goal.invariant-loop-place

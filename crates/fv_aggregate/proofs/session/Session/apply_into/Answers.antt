@@ -1,16 +1,15 @@
-use Rattle.std.proofs.Common.{◌≡◌, ◌≤◌, ◌+◌, ◌⊎◌, ℕ, Ok, length, rules, refl, sym, ap, subst, ◌∙◌, ⊎_elim}
+use Rattle.std.proofs.Common.{◌≡◌, Ok, length, rules, refl, sym, ap, subst}
 use Rattle.std.specs.Prelude.{IsNone, Some}
 use Rattle.fv_aggregate.specs.Applying.{HasApplied}
 use Rattle.fv_model.specs.declared.answers.Reply.{Reply}
 use Rattle.fv_model.specs.declared.commands.Command.{Command}
-use Rattle.fv_model.specs.Space.{overhead, span_of}
 use Rattle.fv_aggregate.specs.Answers.{answer}
 use Rattle.fv_aggregate.specs.declared.fault.Fault.TheVariants.{Memory}
 use Rattle.fv_aggregate.specs.Telling.{names_from}
 use Rattle.fv_aggregate.specs.declared.session.Session.{Session}
 use Rattle.fv_model.specs.declared.answers.Reply.TheVariants.{Names}
-use Rattle.fv_model.specs.declared.commands.Command.TheVariants.{VolCreate, VolGuarantee, VolResize, VolStat, CloneCreate, Mirror}
-use Rattle.fv_aggregate.specs.Commands.{changed_by, dirty_limit, managed_by, room_by, takes_steps, volume_asked}
+use Rattle.fv_model.specs.declared.commands.Command.TheVariants.{VolCreate, VolGuarantee, VolResize, VolStat, CloneCreate}
+use Rattle.fv_aggregate.specs.Commands.{changed_by, managed_by, room_by, takes_steps, volume_asked}
 use Rattle.fv_aggregate.proofs.Answered.{fails}
 use Rattle.fv_aggregate.proofs.Added.{not_refused}
 use Rattle.fv_aggregate.proofs.Applied.{cp_asks, cp_built, cp_goes, cp_goes_for, cp_no_files, cp_no_list, cp_no_names, cp_no_snap, cp_no_steps, cp_no_whole, cp_replies, list_no_point, list_after, list_done, list_fails, list_replies, no_files}
@@ -18,9 +17,9 @@ use Rattle.fv_aggregate.proofs.Applying.{asks_none, booked_each, no_step, not_de
 use Rattle.fv_aggregate.specs.Deciding.{makes_volume}
 use Rattle.fv_aggregate.proofs.Decided.{undecided}
 use Rattle.fv_aggregate.proofs.Keeping.{keeps_but}
+use Rattle.fv_aggregate.proofs.LeftByCalls.{left_by_point}
 use Rattle.fv_aggregate.proofs.Making.{create_makes, made_applied, making_clone, making_create}
 use Rattle.fv_aggregate.proofs.MirrorApplied.{mirror_applied}
-use Rattle.fv_aggregate.specs.Reclaiming.{MakesRoom}
 use Rattle.fv_aggregate.proofs.MadeRoom.{cp_room, list_room, none_roomy, snaps_room}
 use Rattle.fv_aggregate.proofs.Ready.{stands_ready}
 use Rattle.fv_aggregate.proofs.Removed.{removed_applied}
@@ -80,7 +79,7 @@ returns-in-Clean g c =
     let d = g.D.Disk.shown c.args.disk.now in let e = g.D.Disk.shown c.clean_volume.new.disk in
     let fresh : IsNone s.failed = subst (λ (k : Session). IsNone k.failed) c.self.view_is (subst IsNone (sym c.in_default.is) refl) in
     subst (λ (k : Command). HasApplied k d c.args.disk.now s c.args.steps.now e c.clean_volume.new.disk n c.args.steps.now r) (sym c.in-Clean.is)
-    (clean_applied d c.args.disk.now s fresh e c.clean_volume.new.disk n r c.args.steps.now c.in-Clean.volume c.clean_volume.ensures)
+    (clean_applied d c.args.disk.now s fresh e c.clean_volume.new.disk n r (rests_as g.D.Disk.shown c.args.disk.now c.clean_volume.new.disk) c.args.steps.now c.in-Clean.volume c.clean_volume.ensures)
 
 pub work_steps-requires-clause-stands : goal.work_steps-requires-clause-stands
 work_steps-requires-clause-stands g c =
@@ -93,7 +92,7 @@ returns-in-Work g c =
     let d = g.D.Disk.shown c.args.disk.now in let e = g.D.Disk.shown c.work_steps.new.disk in
     let fresh : IsNone s.failed = subst (λ (k : Session). IsNone k.failed) c.self.view_is (subst IsNone (sym c.in_default.is) refl) in
     subst (λ (k : Command). HasApplied k d c.args.disk.now s c.args.steps.now e c.work_steps.new.disk n c.args.steps.now r) (sym c.in-Work.is)
-    (work_applied d c.args.disk.now s fresh e c.work_steps.new.disk n r c.args.steps.now c.in-Work.steps c.work_steps.ensures)
+    (work_applied d c.args.disk.now s fresh e c.work_steps.new.disk n r (rests_as g.D.Disk.shown c.args.disk.now c.work_steps.new.disk) c.args.steps.now c.in-Work.steps c.work_steps.ensures)
 
 pub returns-in-Cp : goal.returns-in-Cp
 returns-in-Cp g c =
@@ -130,6 +129,8 @@ returns-in-Cp g c =
       calm = λ other. absurd (other c.in-Cp.is);
       entries = λ other. absurd (other c.in-Cp.is);
       stepped = λ takes. cp_no_steps _ command c.in-Cp.is takes;
+      left = λ tells last m stands bare. left_by_point command d s e n (answer c.reclaim.new.into c.reclaim.result) (c.reclaim.ensures.left tells last m stands bare)
+          (c.reclaim.ensures.tables tells last m stands bare) c.reclaim.ensures.points.left;
       files = λ tells none once without. c.reclaim.ensures.files tells;
       same = λ tells none once stays places same. pointed_same d s n (answer c.reclaim.new.into c.reclaim.result) c.reclaim.ensures.points.left tells;
       steps = record { other = λ none. refl; known = λ tells last m stands knows. no_step (answer c.reclaim.new.into c.reclaim.result) c.args.steps.now; path = λ tells last m stands name of. asks_none _ command name (no_files command (ap volume_asked c.in-Cp.is) (ap changed_by c.in-Cp.is)) of; dead = λ failed. refl };

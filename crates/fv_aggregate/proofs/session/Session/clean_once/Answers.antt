@@ -1,6 +1,7 @@
-use Rattle.std.proofs.Common.{◌≡◌, Result, Err, rules, sym, ap, subst, ◌∙◌, arith}
-use Rattle.fv_aggregate.proofs.CleanedOnce.{cleaned_once, roomy_backs, unclean_placed, uncleaned, unplaced_clean}
+use Rattle.std.proofs.Common.{◌≡◌, Err, rules, sym, subst, arith}
+use Rattle.fv_aggregate.proofs.CleanedOnce.{cleaned_once, unclean_placed, uncleaned, unplaced_clean}
 use Rattle.fv_aggregate.proofs.WorkedCalls.{backs_room, backs_unroomed}
+use Rattle.fv_aggregate.proofs.WorkedSince.{left_unpointed, still_reads, MadeRoom}
 use Rattle.fv_aggregate.specs.Cleaning.{CleansOnce}
 use Rattle.fv_aggregate.proofs.session.Session.clean_once.Goals as goal
 
@@ -9,31 +10,52 @@ returns-in_err-make_room g c =
     let d = g.D.Disk.shown c.args.disk.now in let e = g.D.Disk.shown c.make_room.new.disk in let s = c.args.self.now in let n = c.make_room.new.self in
     let f = c.in_err-make_room.field-0.0 in
     let failed : c.from_residual.result ≡ Err f = search rules in
-    subst (CleansOnce c.args.slot d s e n) (sym failed) (uncleaned c.args.slot d s e n f (backs_unroomed d s c.requires.fresh e n f c.in_err-make_room.ensures.pending c.in_err-make_room.ensures.runs))
+    let made = c.in_err-make_room.ensures in
+    subst (CleansOnce c.args.slot d s e n) (sym failed) (uncleaned c.args.slot d s e n f (backs_unroomed d s c.requires.fresh e n f made.pending made.runs)
+    (λ none still. left_unpointed d s e n (made.undone still) none)
+    (λ within. still_reads g.D.Disk.shown c.args.disk.now c.make_room.new.disk (made.calm within).0))
 
 pub returns-in_err-place_all : goal.returns-in_err-place_all
 returns-in_err-place_all g c =
     let s = c.args.self.now in let n = c.make_room.new.self in let o = c.place_all.new.self in
-    let made = c.in_ok-make_room.ensures in
+    let did = c.in_ok-make_room.ensures in
     let f = c.in_err-place_all.field-0.0 in
     let failed : c.from_residual-in_err-place_all.result ≡ Err f = search rules in
-    let room = backs_room (g.D.Disk.shown c.args.disk.now) s c.requires.fresh (g.D.Disk.shown c.make_room.new.disk) n c.in_ok-make_room.field-0 made.pending made.runs in
+    let made : MadeRoom g.D.Disk.shown c.args.disk.now s c.make_room.new.disk n = record {
+      backs = backs_room (g.D.Disk.shown c.args.disk.now) s c.requires.fresh (g.D.Disk.shown c.make_room.new.disk) n c.in_ok-make_room.field-0 did.pending did.runs;
+      left = did.left;
+      files = did.files;
+      cores = did.cores;
+      calm = did.calm;
+      none = λ past. (did.pointed past).none;
+      point = did.reclaimed;
+      shows = did.shown;
+    } in
     subst (CleansOnce c.args.slot (g.D.Disk.shown c.args.disk.now) s (g.D.Disk.shown c.place_all.new.disk) o) (sym failed)
-    (unplaced_clean g.D.Disk.shown c.args.slot c.args.disk.now c.make_room.new.disk c.place_all.new.disk s n o f room c.in_err-place_all.ensures)
+    (unplaced_clean g.D.Disk.shown c.args.slot c.args.disk.now c.make_room.new.disk c.place_all.new.disk s n o f made c.in_err-place_all.ensures)
 
 pub clean_at-requires : goal.clean_at-requires
 clean_at-requires g c =
     let s = c.args.self.now in let n = c.make_room.new.self in let o = c.place_all.new.self in
-    let made = c.in_ok-make_room.ensures in
+    let did = c.in_ok-make_room.ensures in
     let placed = c.in_ok-place_all.ensures in
-    let room = backs_room (g.D.Disk.shown c.args.disk.now) s c.requires.fresh (g.D.Disk.shown c.make_room.new.disk) n c.in_ok-make_room.field-0 made.pending made.runs in
-    let few = made.few in
+    let made : MadeRoom g.D.Disk.shown c.args.disk.now s c.make_room.new.disk n = record {
+      backs = backs_room (g.D.Disk.shown c.args.disk.now) s c.requires.fresh (g.D.Disk.shown c.make_room.new.disk) n c.in_ok-make_room.field-0 did.pending did.runs;
+      left = did.left;
+      files = did.files;
+      cores = did.cores;
+      calm = did.calm;
+      none = λ past. (did.pointed past).none;
+      point = did.reclaimed;
+      shows = did.shown;
+    } in
+    let few = did.few in
     let more = placed.backs.pending in
     record {
       fresh = placed.backs.done.0;
       stands = placed.backs.stands placed.backs.done.0;
       slot = c.requires.slot;
-      unclean = unclean_placed g.D.Disk.shown c.args.slot c.args.disk.now c.make_room.new.disk c.place_all.new.disk s n o c.requires.unclean room made.cores made.files made.left placed;
+      unclean = unclean_placed g.D.Disk.shown c.args.slot c.args.disk.now c.make_room.new.disk c.place_all.new.disk s n o c.requires.unclean made placed;
       none = placed.none;
       few = omega (arith, few, more);
     }
@@ -41,7 +63,16 @@ clean_at-requires g c =
 pub returns : goal.returns
 returns g c =
     let s = c.args.self.now in let n = c.make_room.new.self in let o = c.place_all.new.self in
-    let made = c.in_ok-make_room.ensures in
-    let room = backs_room (g.D.Disk.shown c.args.disk.now) s c.requires.fresh (g.D.Disk.shown c.make_room.new.disk) n c.in_ok-make_room.field-0 made.pending made.runs in
-    cleaned_once g.D.Disk.shown c.args.slot c.args.disk.now c.make_room.new.disk c.place_all.new.disk s n o c.requires.unclean room made.cores made.files made.left c.in_ok-place_all.ensures
+    let did = c.in_ok-make_room.ensures in
+    let made : MadeRoom g.D.Disk.shown c.args.disk.now s c.make_room.new.disk n = record {
+      backs = backs_room (g.D.Disk.shown c.args.disk.now) s c.requires.fresh (g.D.Disk.shown c.make_room.new.disk) n c.in_ok-make_room.field-0 did.pending did.runs;
+      left = did.left;
+      files = did.files;
+      cores = did.cores;
+      calm = did.calm;
+      none = λ past. (did.pointed past).none;
+      point = did.reclaimed;
+      shows = did.shown;
+    } in
+    cleaned_once g.D.Disk.shown c.args.slot c.args.disk.now c.make_room.new.disk c.place_all.new.disk s n o c.requires.unclean made c.in_ok-place_all.ensures
     c.clean_at.new.disk c.clean_at.new.self c.clean_at.result c.clean_at.ensures

@@ -1,11 +1,10 @@
-use Rattle.std.proofs.Common.{◌≡◌, ◌≤◌, ◌+◌, ℕ, Bool, true, false, not, Ok, Err, rules, refl, sym, ap, subst, ◌∙◌, arith}
-use Rattle.fv_model.specs.Machines.{Machine}
+use Rattle.std.proofs.Common.{◌≡◌, ◌≤◌, Bool, false, Ok, Err, rules, sym, subst, ◌∙◌, arith}
 use Rattle.fv_model.specs.Refusals.{next}
 use Rattle.fv_model.specs.declared.commands.Command.TheVariants.{Clean}
 use Rattle.fv_aggregate.specs.declared.session.Session.{Session}
 use Rattle.fv_aggregate.specs.Cleaning.{CleansOnce, Learns}
 use Rattle.fv_aggregate.specs.Parts.{silent}
-use Rattle.fv_aggregate.proofs.CleanedLoop.{all_backs, cleaned_more, cleaned_none, finished_commits, finished_fit, finished_ready, learns_endless, learns_fault, learns_finished}
+use Rattle.fv_aggregate.proofs.CleanedLoop.{cleaned_more, cleaned_none, finished_commits, finished_fit, finished_ready, learns_endless, learns_fault, learns_finished}
 use Rattle.fv_aggregate.proofs.session.Session.learn.Goals as goal
 
 pub loop-init : goal.loop-init
@@ -18,7 +17,7 @@ returns-in_err-clean_once g c name has =
     let f = c.in_err-clean_once.field-0.0 in
     let failed : c.from_residual.result ≡ Err f = search rules in
     subst (Learns (λ m. next m (Clean name)) c.args.slot d s h p) (sym failed)
-    (learns_fault c.args.slot d s c.requires.fresh name has (c.loop.counter + 1) h p f (all_backs c.args.slot d s c.loop.counter e n c.loop.invariant.cleaned h p (Err f) c.in_err-clean_once.ensures.backs))
+    (learns_fault c.args.slot d s c.requires.fresh name has c.loop.counter e n c.loop.invariant.cleaned h p f c.in_err-clean_once.ensures)
 
 pub invariant_of-self : goal.invariant_of-self
 invariant_of-self g c =

@@ -12,6 +12,7 @@ use Rattle.fv_aggregate.proofs.Answered.{fails}
 use Rattle.fv_aggregate.proofs.Applied.{own_room}
 use Rattle.fv_aggregate.proofs.Mirrored.{mirror_accepted, mirror_count, mirror_room}
 use Rattle.fv_aggregate.proofs.MirroredMade.{can_be_copied, made_stands, still_stands}
+use Rattle.fv_aggregate.proofs.MirroredRoom.{room_behind}
 use Rattle.fv_aggregate.proofs.MirroredSteps.{mirrored, said, unmirrored, unroomed}
 use Rattle.fv_aggregate.proofs.StillAdmitted.{mirrors_still}
 use Rattle.fv_mirror.proofs.Made.{can_make}
@@ -64,7 +65,8 @@ returns-in_err-add_mirror-clause-made g c =
     (made.room tells last m stood (let most = mirror_room (g.D.Disk.shown c.args.disk.now) s last m c.requires.long stood c.args.name.now c.args.size c.args.kind a c.requires.admitted in let room = c.room_of-room.ensures in omega (arith, most, room))))
     (λ point m tells there alive. let told = subst IsTrue (sym made.runs.goes.ends.tells) tells in
     still_stands (g.D.Disk.shown c.make_room.new.disk) n c.args.name.now c.args.size c.args.kind a c.room_of-room.result (g.D.Disk.shown c.add_mirror.new.disk) c.add_mirror.new.self c.add_mirror.ensures.leaves point m there f c.in_err-add_mirror.ensures.added can
-    (g.met.D.Disk.laws c.make_room.new.disk) told alive (c.add_mirror.ensures.settled told alive)))
+    (g.met.D.Disk.laws c.make_room.new.disk) told alive (c.add_mirror.ensures.settled told alive))
+    made.pointed)
 
 pub returns-clause-made : goal.returns-clause-made
 returns-clause-made g c =
@@ -82,4 +84,7 @@ returns-clause-made g c =
     (g.met.D.Disk.laws c.make_room.new.disk) told (record { is = mirror_count (g.D.Disk.shown c.args.disk.now) s last m c.requires.long stood c.args.name.now c.args.size c.args.kind a c.requires.admitted })
     (c.add_mirror.ensures.settled told added.goes_on)
     (made.room tells last m stood (let most = mirror_room (g.D.Disk.shown c.args.disk.now) s last m c.requires.long stood c.args.name.now c.args.size c.args.kind a c.requires.admitted in let room = c.room_of-room.ensures in omega (arith, most, room)))
-    (mirror_accepted (g.D.Disk.shown c.args.disk.now) s last m c.requires.long stood c.args.name.now c.args.size c.args.kind a c.requires.admitted)))
+    (mirror_accepted (g.D.Disk.shown c.args.disk.now) s last m c.requires.long stood c.args.name.now c.args.size c.args.kind a c.requires.admitted))
+    (λ tells last m stood past. let told = subst IsTrue (sym made.runs.goes.ends.tells) tells in
+    room_behind (g.D.Disk.shown c.make_room.new.disk) n c.args.name.now c.args.size c.args.kind a c.room_of-room.result (g.D.Disk.shown c.add_mirror.new.disk) c.add_mirror.new.self c.add_mirror.ensures.leaves added
+    (g.met.D.Disk.laws c.make_room.new.disk) told (c.add_mirror.ensures.settled told added.goes_on) c.room_of-room.result s m (made.reclaimed tells last m stood past)))

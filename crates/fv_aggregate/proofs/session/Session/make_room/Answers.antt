@@ -43,3 +43,9 @@ returns-then-has_room-clause-cores g c = λ s. refl
 
 pub returns-else-has_room-clause-reclaimed : goal.returns-else-has_room-clause-reclaimed
 returns-else-has_room-clause-reclaimed g c = λ tells last m stands past. c.point.ensures.points.point tells last m stands
+
+pub returns-else-has_room-clause-shown : goal.returns-else-has_room-clause-shown
+returns-else-has_room-clause-shown g c = λ tells last m stands past. c.point.ensures.shown tells last m stands
+
+pub returns-else-has_room-clause-undone : goal.returns-else-has_room-clause-undone
+returns-else-has_room-clause-undone g c = λ alive. c.point.ensures.points.undone alive

@@ -5,8 +5,10 @@ use Rattle.fv_image.specs.WholeMachine.{machine_of}
 use Rattle.fv_aggregate.specs.Causes.{OpenFails}
 use Rattle.fv_aggregate.specs.LeftOver.{todo_under}
 use Rattle.fv_aggregate.specs.Opening.{TellsDelayed}
+use Rattle.fv_aggregate.specs.PathShown.{HasPathsOf}
 use Rattle.fv_aggregate.specs.Working.{todo}
 use Rattle.fv_aggregate.proofs.LeftShown.{left_result}
+use Rattle.fv_aggregate.proofs.PathShown.{paths_opened}
 use Rattle.fv_aggregate.proofs.Opened.{asks_result, delays_result, opened_result, stands_result, without_files}
 use Rattle.fv_disk.proofs.Reading.{reads_whole}
 use Rattle.fv_aggregate.proofs.Whole.{fails_result, whole_result}
@@ -25,6 +27,14 @@ returns-clause-left g c = λ tells m is.
     let told = subst IsTrue (sym c.barrier.ensures.tells) tells in
     subst (λ (i : Image). IfOk c.load.result (λ session. todo new session ≡ todo_under session.pool.found i)) c.barrier.ensures.reads
     (left_result mid new m c.load.result c.load.ensures.only_reads (c.load.ensures.loaded told) c.load.ensures.each (returns-clause-machine g c tells m is))
+
+pub returns-clause-paths : goal.returns-clause-paths
+returns-clause-paths g c = λ tells m is.
+    let mid = g.D.Disk.shown c.barrier.new.self in
+    let new = g.D.Disk.shown c.load.new.disk in
+    let told = subst IsTrue (sym c.barrier.ensures.tells) tells in
+    subst (λ (i : Image). IfOk c.load.result (HasPathsOf i new.reads)) c.barrier.ensures.reads
+    (paths_opened mid new m c.load.result c.load.ensures.only_reads (c.load.ensures.loaded told) c.load.ensures.each (returns-clause-machine g c tells m is))
 
 pub returns-clause-delays : goal.returns-clause-delays
 returns-clause-delays g c = λ tells m is.

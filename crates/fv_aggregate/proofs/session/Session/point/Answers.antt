@@ -12,6 +12,7 @@ use Rattle.fv_aggregate.proofs.Commits.{commits_kept}
 use Rattle.fv_aggregate.proofs.Keeping.{keeps_core}
 use Rattle.fv_aggregate.proofs.PointEnds.{done_asks, fails_as, has_full_room, point_done, point_is, point_lacks, point_moments, point_sides, point_wanting, pointed_left, room_pointed, stands_pointed, stayed, still_as, still_asks, still_for, still_unpointed, still_wants}
 use Rattle.fv_aggregate.proofs.LeftShown.{todo_at_rest}
+use Rattle.fv_aggregate.proofs.PathShown.{tables_pointed}
 use Rattle.fv_aggregate.proofs.PointLeft.{left_pointed}
 use Rattle.fv_aggregate.proofs.PointFaults.{broken_asks, broken_for, broken_goes, broken_kept, broken_numbers, broken_stays, broken_unpointed}
 use Rattle.fv_aggregate.proofs.Pointed.{entries_behind}
@@ -59,6 +60,16 @@ returns-in-Ok-clause-left g c = λ tells last m stands bare.
     left_pointed (g.D.Disk.shown c.args.disk.now) (g.D.Disk.shown c.full_point.new.disk) _ _ c.self.view_is c.args.want c.full_point.new.pool c.full_point.new.volumes c.full_point.new.delays
     point e.goes_on (c.self.invariant.0 fresh) last m stands bare
 
+-- the active tables stay
+pub returns-in-Ok-clause-tables : goal.returns-in-Ok-clause-tables
+returns-in-Ok-clause-tables g c = λ tells last m stands bare.
+    let e = c.in-Ok.ensures in
+    let fresh = subst (λ (s : Session). IsNone s.failed) (sym c.self.view_is) c.requires.fresh in
+    let point = point_is (g.D.Disk.shown c.args.disk.now) (g.D.Disk.shown c.full_point.new.disk) _ _ c.self.view_is c.args.want c.full_point.new.pool c.full_point.new.volumes c.full_point.new.delays
+    (e.point tells) (e.goes_on.loaded tells) last m stands in
+    tables_pointed (g.D.Disk.shown c.args.disk.now) (g.D.Disk.shown c.full_point.new.disk) _ _ c.self.view_is c.args.want c.full_point.new.pool c.full_point.new.volumes c.full_point.new.delays
+    point e.goes_on (c.self.invariant.0 fresh) last m stands bare
+
 -- and what the image shows
 pub returns-in-Ok-clause-shown : goal.returns-in-Ok-clause-shown
 returns-in-Ok-clause-shown g c = λ tells last m stands.
@@ -98,6 +109,7 @@ returns-in-Err-DiskFault g c =
       kept = λ tells last m stands. broken_kept d s e _ stays last m long stands;
       room = λ tells last m stands fits. tt;
       left = λ tells last m stands bare. tt;
+      tables = λ tells last m stands bare. tt;
       shown = λ tells last m stands. tt;
     }
 

@@ -1,7 +1,7 @@
-use Rattle.std.proofs.Common.{◌≡◌, ◌≤◌, Bool, Ok, Err, Result, rules, sym, subst, arith}
+use Rattle.std.proofs.Common.{◌≡◌, Bool, Ok, Err, Result, rules, sym, subst, arith}
 use Rattle.fv_aggregate.specs.declared.fault.Fault.{Fault}
 use Rattle.fv_aggregate.specs.Working.{SeeksStep, TakesStep}
-use Rattle.fv_aggregate.proofs.WorkedLoops.{sought_all, sought_fault, sought_more, sought_none, sought_step}
+use Rattle.fv_aggregate.proofs.WorkedLoops.{sought_all, sought_fault, sought_more, sought_step}
 use Rattle.fv_aggregate.proofs.session.Session.seek_step.Goals as goal
 
 pub returns-in_err-step_at : goal.returns-in_err-step_at

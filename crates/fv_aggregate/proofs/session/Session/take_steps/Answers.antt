@@ -1,12 +1,12 @@
-use Rattle.std.proofs.Common.{◌≡◌, ◌<◌, ◌+◌, ℕ, Bool, Ok, Err, Result, rules, sym, subst, arith}
+use Rattle.std.proofs.Common.{◌≡◌, ℕ, Bool, Ok, Err, Result, rules, sym, subst, arith}
 use Rattle.fv_aggregate.specs.declared.fault.Fault.{Fault}
 use Rattle.fv_aggregate.specs.Working.{Works, WorksOnce}
-use Rattle.fv_aggregate.proofs.WorkedLoops.{gone_all, gone_early, gone_fault, gone_more, gone_none}
+use Rattle.fv_aggregate.proofs.WorkedLoops.{gone_all, gone_early, gone_fault, gone_more, gone_none, HasGone}
 use Rattle.fv_aggregate.proofs.session.Session.take_steps.Goals as goal
 
 pub loop-taken-init : goal.loop-taken-init
 loop-taken-init g c = record {
-  gone = gone_none (g.D.Disk.shown c.args.disk.now) (g.met.D.Disk.laws c.args.disk.now) c.args.self.now c.requires.fresh c.requires.stands;
+  gone = gone_none g.D.Disk.shown c.args.disk.now (g.met.D.Disk.laws c.args.disk.now) c.args.self.now c.requires.fresh c.requires.stands;
 }
 
 pub returns-in_err-work_step : goal.returns-in_err-work_step
@@ -15,20 +15,28 @@ returns-in_err-work_step g c =
     let d = g.D.Disk.shown c.args.disk.now in let e = g.D.Disk.shown c.work_step.new.disk in
     let failed : c.from_residual.result ≡ Err c.in_err-work_step.field-0.0 = search rules in
     subst (λ (k : Result ℕ Fault). Works c.args.n d c.args.self.now e c.work_step.new.self k) (sym failed)
-    (gone_fault d c.args.self.now l.taken (g.D.Disk.shown l.disk) l.self l.invariant.gone e c.work_step.new.self c.args.n (omega arith)
-    c.in_err-work_step.field-0.0 c.in_err-work_step.ensures)
+    (gone_fault g.D.Disk.shown c.args.disk.now c.args.self.now l.taken l.disk l.self l.invariant.gone c.work_step.new.disk c.work_step.new.self
+    c.args.n (omega arith) c.in_err-work_step.field-0.0 c.in_err-work_step.ensures)
 
 pub returns-then-not-branch : goal.returns-then-not-branch
 returns-then-not-branch g c =
     let l = c.loop-taken in
-    let d = g.D.Disk.shown c.args.disk.now in let e = g.D.Disk.shown c.work_step.new.disk in
-    gone_early d c.args.self.now l.taken (g.D.Disk.shown l.disk) l.self l.invariant.gone e c.work_step.new.self c.args.n (omega arith)
+    let e = g.D.Disk.shown c.work_step.new.disk in
+    gone_early g.D.Disk.shown c.args.disk.now c.args.self.now l.taken l.disk l.self l.invariant.gone c.work_step.new.disk c.work_step.new.self
+    c.args.n (omega arith)
     (subst (λ (b : Bool). WorksOnce (g.D.Disk.shown l.disk) l.self e c.work_step.new.self (Ok b)) c.if-not-branch.true c.in_ok-work_step.ensures)
 
 pub loop-taken-preserved : goal.loop-taken-preserved
 loop-taken-preserved g c =
     let l = c.loop-taken in
-    let d = g.D.Disk.shown c.args.disk.now in let e = g.D.Disk.shown c.work_step.new.disk in record {
-      gone = gone_more d c.args.self.now l.taken (g.D.Disk.shown l.disk) l.self l.invariant.gone e c.work_step.new.self
+    let e = g.D.Disk.shown c.work_step.new.disk in record {
+      gone = gone_more g.D.Disk.shown c.args.disk.now c.args.self.now l.taken l.disk l.self l.invariant.gone c.work_step.new.disk c.work_step.new.self
           (subst (λ (b : Bool). WorksOnce (g.D.Disk.shown l.disk) l.self e c.work_step.new.self (Ok b)) c.if-not-branch.false c.in_ok-work_step.ensures);
     }
+
+pub returns : goal.returns
+returns g c =
+    let l = c.loop-taken in
+    let all : l.taken ≡ c.args.n = grind (arith, c.loop-taken-test.false, l.auto.taken-end) in
+    gone_all g.D.Disk.shown c.args.disk.now c.args.self.now c.args.n l.disk l.self
+    (subst (λ (k : ℕ). HasGone g.D.Disk.shown c.args.disk.now c.args.self.now k l.disk l.self) all l.invariant.gone)

@@ -1,11 +1,9 @@
-use Rattle.std.proofs.Common.{◌≡◌, Ok, Err, Result, Bool, true, false, rules, sym, ap, subst, ◌∙◌}
+use Rattle.std.proofs.Common.{◌≡◌, Ok, Err, Result, true, false, rules, sym, ap, subst, ◌∙◌}
 use Rattle.fv_model.specs.declared.answers.Reply.{Reply}
-use Rattle.fv_model.specs.declared.answers.Reply.TheVariants.{Done, Refused}
 use Rattle.fv_model.specs.Numbers.{is_step_count}
 use Rattle.fv_aggregate.specs.declared.fault.Fault.{Fault}
 use Rattle.fv_aggregate.specs.Answers.{answer}
 use Rattle.fv_aggregate.specs.Cleaning.{TakesAll}
-use Rattle.fv_aggregate.proofs.Answered.{fails}
 use Rattle.fv_aggregate.proofs.SteppedBy.{takes_all, takes_fault, takes_none}
 use Rattle.fv_aggregate.proofs.session.Session.work_steps.Goals as goal
 
