@@ -31,8 +31,9 @@ use fv_volumes::Volumes;
 /// `DiskFault` only where a read failed in this call, and `Memory` where memory ran out. Nothing but leaves in memory and the cache changes then.
 ///
 /// It writes nothing. Costs a look-up and a read for each root, 24 and 1 of them at most; a look-up, a read and two decodes for each child
-/// that the search looks at: a few on average on each of at most six levels, and all 128 of a node twice at most; and a look-up, two decodes
-/// and an encode for each unknown pointer of the block that it cleans.
+/// that the search looks at, on each of at most six levels: a few on average of a node over nodes over cells and of one over inode blocks,
+/// those up to the first that isn't clean of another block, and all of a block twice at most; and a look-up, two decodes and an encode for
+/// each unknown pointer of the block that it cleans.
 pub fn clean_step<D: Disk>(
     volumes: &mut Volumes,
     slot: u8,

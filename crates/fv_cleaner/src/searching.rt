@@ -24,16 +24,18 @@ use fv_volmap::VolMap;
 const DATA: u8 = 1;
 /// The kind of a node over cells, whose children are data.
 const OVER_CELLS: u8 = 2;
+/// The kind of a node over nodes over cells.
+const OVER_NODES: u8 = 3;
+/// The kind of a node over inode blocks.
+const OVER_INODES: u8 = 6;
 /// The kind of the topmost node of an inode file.
 const TOPMOST: u8 = 7;
 /// The most pointers that a block has.
 pub(crate) const POINTERS: u32 = 128;
-/// How many roots an inode block has.
-const RECORDS: u64 = 16;
-/// What steps are spread by. It is odd, so steps that follow each other begin at 128 indices in turn.
-const BY_STEPS: u64 = 0x9e37_79b9_7f4a_7c15;
-/// What points are spread by.
-const BY_POINTS: u64 = 0xc13f_a9a9_02a6_328f;
+/// How far apart of 128 indices steps begin that follow each other: an odd number near to the golden section, which spreads them evenly.
+const BY_STEPS: u64 = 79;
+/// How far apart the steps before a point and those behind it begin.
+const BY_POINTS: u64 = 37;
 
 /// A block that was found, by its number and its entry.
 #[derive(Clone, Copy, Debug, PartialEq, Eq)]
@@ -53,8 +55,9 @@ pub struct Found {
 /// that of the block with the pointer to it; or where a leaf of a container doesn't stand where it has to. `DiskFault` only where a read
 /// failed in this call. `Memory` never comes. At `Err` the content of `into` is open.
 ///
-/// Costs a look-up, a read and two decodes for each child that it looks at. On each of at most six levels these are a few on average, since
-/// it begins at another child in each step; at most they are all children of a node twice, as where all are clean.
+/// Costs a look-up, a read and two decodes for each child that it looks at. Of a node over nodes over cells and of one over inode blocks these
+/// are a few on average, since it begins at another child in each step; of another block those up to the first that isn't clean; at most they
+/// are all children of a block twice, as where all are clean.
 pub fn find_under<D: Disk>(
     pool: &mut Pool,
     disk: &mut D,
@@ -199,24 +202,25 @@ fn look_from<D: Disk>(
     Ok(None)
 }
 
-/// An index at which a look at the pointers of a block of a kind begins. Any index serves. This one is another in each step and behind each
-/// point, since a step takes a free block and a point counts the root's generation on, and another for each kind of block. An example: of
-/// a node's 79 children 40 are clean. A look that begins at the first passes all 40, and one that begins anywhere passes one on average, or
-/// a few where clean ones stand side by side. Costs a decode.
-fn start_in(pool: &Pool, kind: u8, block: &Block) -> u32
-    requires least { 3 ≤ kind }
-    requires greatest { kind ≤ 7 }
-{
+/// An index at which a look at the pointers of a block of a kind begins. Any index serves. On the lowest level of nodes over nodes, and of those
+/// over inode blocks, this one is another in each step and behind each point, since a step takes a free block and a point counts the root's
+/// generation on; above them it is the first, so what lies under one node is cleaned before the next. An example: of a node's 79 children 40
+/// are clean. A look that begins at the first passes all 40, and one that begins anywhere passes one on average, or a few where clean ones
+/// stand side by side. Costs a decode.
+fn start_in(pool: &Pool, kind: u8, block: &Block) -> u32 {
+    if kind != OVER_NODES && kind != OVER_INODES {
+        return 0;
+    }
     let free = u64::from(pool.map.free_count()).wrapping_mul(BY_STEPS);
     let mixed = free.wrapping_add(pool.found.root.generation.wrapping_mul(BY_POINTS));
-    let part = (mixed >> (7 * u32::from(kind - 3))) % u64::from(POINTERS);
+    let part = mixed % u64::from(POINTERS);
     u32::try_from(part.wrapping_mul(width_of(block)) / u64::from(POINTERS)).unwrap_or(0)
 }
 
-/// How many pointers a node has up to the last one that leads somewhere; of another block, which is one of inodes, 16.
+/// How many pointers a node has up to the last one that leads somewhere; none of a block that isn't a node.
 fn width_of(block: &Block) -> u64 {
     let Ok(node) = Node::decode(block) else {
-        return RECORDS;
+        return 0;
     };
     let mut width = 0;
     for index in 0..POINTERS {

@@ -15,7 +15,7 @@ use std::test::Fail;
 
 /// What a command is answered, as far as a row tells it.
 #[derive(Clone, Copy, Debug, PartialEq, Eq)]
-enum Told {
+pub(crate) enum Told {
     Done,
     /// A block with this first byte.
     First(u8),
@@ -23,7 +23,7 @@ enum Told {
     Other,
 }
 
-fn seen(answer: &Result<Reply, Fault>) -> Told {
+pub(crate) fn seen(answer: &Result<Reply, Fault>) -> Told {
     match answer {
         Ok(Reply::Done) => Told::Done,
         Ok(Reply::Content([first, ..])) => Told::First(*first),
@@ -32,7 +32,7 @@ fn seen(answer: &Result<Reply, Fault>) -> Told {
     }
 }
 
-fn make(volume: Name) -> Command {
+pub(crate) fn make(volume: Name) -> Command {
     Command::VolCreate {
         volume,
         size: 300,
@@ -41,7 +41,7 @@ fn make(volume: Name) -> Command {
 }
 
 /// A file gets its volume's name.
-fn new(volume: Name) -> Command {
+pub(crate) fn new(volume: Name) -> Command {
     Command::New {
         volume,
         file: volume,
@@ -49,7 +49,7 @@ fn new(volume: Name) -> Command {
     }
 }
 
-fn put(volume: Name, index: u32, byte: u8) -> Command {
+pub(crate) fn put(volume: Name, index: u32, byte: u8) -> Command {
     Command::Put {
         volume,
         file: volume,
@@ -112,7 +112,7 @@ fn answers<D: Disk, L: Ledger>(
     Ok([seen(&one), seen(&two), seen(&three), seen(&four)])
 }
 
-fn play(
+pub(crate) fn play(
     alloc: Global,
     host: &mut MemHost,
     commands: &[Command; 4],
@@ -121,7 +121,7 @@ fn play(
 }
 
 /// The disk of a host as it reads, of which the read of a number fails.
-fn failing(host: &MemHost, read: u64) -> Result<MemHost, AllocError> {
+pub(crate) fn failing(host: &MemHost, read: u64) -> Result<MemHost, AllocError> {
     let mut image = host.image(host.moments().saturating_sub(1), Tear::New)?;
     image.fail(Call::Read, read)?;
     Ok(image)

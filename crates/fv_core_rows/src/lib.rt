@@ -13,6 +13,8 @@ mod going_on;
 #[cfg(test)]
 mod maps;
 #[cfg(test)]
+mod mirrored;
+#[cfg(test)]
 mod paged;
 #[cfg(test)]
 mod snapshots;
