@@ -63,13 +63,13 @@ some_none v e = cc
 
 -- it takes no steps
 served_at_once : (c : Command) → IsServed c → takes_steps c ≡ false
-served_at_once (Clean v) served = absurd (served.not_clean v refl)
-served_at_once (Work steps) served = absurd (served.not_work steps refl)
+served_at_once (Clean v) served = absurd (served.there.not_clean v refl)
+served_at_once (Work steps) served = absurd (served.there.not_work steps refl)
 served_at_once c served = refl
 
 -- a command that is none of those on volumes isn't built
 unbuilt : (c : Command) → IsServed c → IsAimless c → is_built c ≡ false
-unbuilt c served is = ⊎_elim (λ some. absurd (whole c served some)) (λ none. none) (managed_or_unbuilt c served.not_create served.not_clone served.not_mirror served.not_list served.not_point served.not_names is.asks is.changes is.snaps (served_at_once c served))
+unbuilt c served is = ⊎_elim (λ some. absurd (whole c served some)) (λ none. none) (managed_or_unbuilt c served.there.not_create served.there.not_clone served.there.not_mirror served.not_list served.there.not_point served.not_names is.asks is.changes is.snaps (served_at_once c served))
   where
     whole : (c : Command) → IsServed c → is_some (managed_by c) ≡ true → ⊥
     whole (VolDestroy v) served some = served.not_destroy v refl
@@ -163,7 +163,7 @@ module _ {D : Type 0} (shown : D → Shown) (at : D) (laws : IsDisk (shown at)) 
   pub refused_applied : IsServed c → (r : Refusal) → Aims s.volumes c (Err r) → Refuses r
   refused_applied served r = ⊎_elim
       (λ none. subst Refuses (sym none.0) (managed_applied c d laws at s fit fresh stands steps s (Refused Syntax) (served_stays c served) (inr (unbuilt c served none.1)) (manages_none s c served)
-      (no_files c none.1.asks none.1.changes) none.1.snaps served.not_list served.not_point served.not_names))
+      (no_files c none.1.asks none.1.changes) none.1.snaps served.not_list served.there.not_point served.not_names))
       (λ missed. ⊎_elim
       (λ far. subst Refuses (sym far.0) (refused_far missed.task missed.name missed.suits far.1))
       (λ none. subst Refuses (sym none.0) (refused_none missed.task missed.name missed.suits none.1.0 none.1.1))

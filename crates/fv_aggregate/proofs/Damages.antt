@@ -9,6 +9,7 @@ use Rattle.fv_model.specs.declared.commands.Kind.{Kind}
 use Rattle.fv_tables.specs.Told.{Standing}
 use Rattle.fv_container.specs.Chains.{AreCleanOn}
 use Rattle.fv_volmap.specs.Slots.{Volume}
+use Rattle.fv_pool.specs.BlocksOver.{LeavesPool}
 use Rattle.fv_pool.specs.declared.fault.VolumeFault.TheVariants as volume
 use Rattle.fv_pool.specs.declared.pool.Pool.{Pool}
 use Rattle.fv_pool.specs.Calls.{GivesUp, Reads, TableFails}
@@ -157,9 +158,10 @@ module _ (d e : Shown) (s : Session) (fresh : IsNone s.failed) (slot : ℕ) (x :
   now_found : FindsBad e s.pool x snapshot cell at want found
   now_found = finds_after d e reads.only_reads.stays.tells reads.only_reads.stays.reads calm s.pool x snapshot cell at want found finds
 
-  -- the volume is as it was
-  pub bad_read : HasBadTable (AsksTable slot snapshot cell) e s (record s { pool = q }) at want found
-  bad_read = record {
+  -- the volume and the pool may be others in what is left
+  bad_left : (n : Session) → LeavesPool s.pool n.pool → (y : VolumeState) → state_at n.volumes slot ≡ Some y → y ≡ record x { map = y.map; files = y.files; changed = y.changed } → GivesUp x.map y.map
+      → HasBadTable (AsksTable slot snapshot cell) e s n at want found
+  bad_left n pool y left same maps = record {
     fresh = fresh;
     slot = slot;
     snapshot = snapshot;
@@ -170,33 +172,22 @@ module _ (d e : Shown) (s : Session) (fresh : IsNone s.failed) (slot : ℕ) (x :
     table = now_found.table;
     named = now_found.named;
     fails = now_found.fails;
-    pool = reads.leaves;
-    now = x;
-    left = there;
-    same = refl;
-    maps = keeps_map x.map;
+    pool = pool;
+    now = y;
+    left = left;
+    same = same;
+    maps = maps;
   }
+
+  -- the volume is as it was
+  pub bad_read : HasBadTable (AsksTable slot snapshot cell) e s (record s { pool = q }) at want found
+  bad_read = bad_left (record s { pool = q }) reads.leaves x there refl (keeps_map x.map)
 
   -- its files may have changed in memory
   pub bad_changed : length s.volumes ≡ 64 → (y : VolumeState) → y ≡ record x { map = y.map; files = y.files; changed = y.changed } → GivesUp x.map y.map → (pending : ℕ)
       → HasBadTable (AsksTable slot snapshot cell) e s (record s { volumes = with_state s.volumes slot (Some y); pool = q; pending = pending }) at want found
-  bad_changed long y same maps pending = record {
-    fresh = fresh;
-    slot = slot;
-    snapshot = snapshot;
-    cell = cell;
-    asks = refl;
-    state = x;
-    there = there;
-    table = now_found.table;
-    named = now_found.named;
-    fails = now_found.fails;
-    pool = reads.leaves;
-    now = y;
-    left = get_or-set_same s.volumes slot (Some y) None (let low = is_inside s.volumes slot x long there in omega (arith, low, long));
-    same = same;
-    maps = maps;
-  }
+  bad_changed long y same maps pending = bad_left (record s { volumes = with_state s.volumes slot (Some y); pool = q; pending = pending }) reads.leaves y
+      (get_or-set_same s.volumes slot (Some y) None (let low = is_inside s.volumes slot x long there in omega (arith, low, long))) same maps
 
 -- ---- in a call
 

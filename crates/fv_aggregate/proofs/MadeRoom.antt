@@ -1,10 +1,22 @@
 -- The point that made room for a command, as the command leaves it.
-use Rattle.std.proofs.Common.{◌≡◌, ◌<◌, ◌+◌, ◌⊎◌, ⊎_elim, ℕ, Bool, true, false, List, Result, Ok, Err, true≢false, refl, sym, ap, subst, ◌∙◌, arith}
-use Rattle.std.specs.Prelude.{IfOk, IsTrue, if◌then◌else◌}
+use Rattle.std.proofs.Common.{◌≡◌, ◌<◌, ◌+◌, ◌⊎◌, ⊎_elim, ℕ, Bool, true, false, List, Result, Ok, Err, true≢false, refl, sym, ap, subst, ◌∙◌, arith, Option, Some, None}
+use Rattle.std.specs.Prelude.{IfOk, IsTrue, if◌then◌else◌, ◌==◌}
 use Rattle.std.specs.Option.{is_some}
+use Rattle.std.specs.FinMap as fin
+use Rattle.std.specs.Ordering.{nat_cmp}
 use Rattle.fv_disk.specs.Shown.{Image, Shown}
 use Rattle.fv_disk.specs.DiskCalls.{OnlyReads}
-use Rattle.fv_image.specs.Held.{view_at}
+use Rattle.fv_codec.specs.declared.label.Label.{Label}
+use Rattle.fv_store.specs.declared.store.Store.{Store}
+use Rattle.fv_container.specs.declared.entry.Entry.{Entry}
+use Rattle.fv_container.specs.Mapped.{entry_under}
+use Rattle.fv_delay.specs.Holding.{has_region}
+use Rattle.fv_delay.specs.Reclaims.{goes_with}
+use Rattle.fv_image.specs.Held.{view_at, entry_from, label_in, label_lying}
+use Rattle.fv_image.specs.Containers.{container_entry}
+use Rattle.fv_image.specs.NewerRoot.{Taken}
+use Rattle.fv_image.specs.Views.{entry_count, Placed, View}
+use Rattle.fv_root.specs.Finding.{root_found}
 use Rattle.fv_model.specs.declared.answers.Refusal.{Refusal}
 use Rattle.fv_model.specs.declared.answers.Reply.{Reply}
 use Rattle.fv_model.specs.declared.answers.Reply.TheVariants.{Refused}
@@ -12,9 +24,10 @@ use Rattle.fv_model.specs.declared.commands.Command.{Command}
 use Rattle.fv_model.specs.declared.commands.Command.TheVariants.{Cp, VolCreate, VolList, New, Put, Cut, Remove, SnapCreate, SnapList, CloneCreate, Mirror}
 use Rattle.fv_model.specs.Machines.{Machine}
 use Rattle.fv_pool.specs.Calls.{Reads}
-use Rattle.fv_volume.specs.States.{States}
-use Rattle.fv_root.specs.Finding.{root_found}
-use Rattle.fv_cp.specs.Choosing.{LeavesRoom}
+use Rattle.fv_pool.specs.Keeping.{kept_or, seen}
+use Rattle.fv_volume.specs.States.{States, placed_in}
+use Rattle.fv_volume.specs.Stored.{map_entry}
+use Rattle.fv_cp.specs.Choosing.{LeavesRoom, regions_chosen, CountsMissing}
 use Rattle.fv_aggregate.specs.declared.fault.Fault.{Fault}
 use Rattle.fv_aggregate.specs.declared.session.Session.{Session}
 use Rattle.fv_aggregate.specs.Calls.{WasRead}
@@ -70,11 +83,53 @@ managed_room maps spans wides copies (CloneCreate clone parent snapshot size kin
 managed_room maps spans wides copies (Mirror source snapshot mirror size kind) either = ⊎_elim (λ some. absurd (true≢false (sym some))) (λ none. absurd (true≢false none)) either
 managed_room maps spans wides copies c either = refl
 
+-- ---- entries that are shown
+
+none_some : (p : Placed) → ◌≡◌ {A = Option Placed} None (Some p) → ⊥
+none_some p e = cc
+
+some_same : (q p : Placed) → ◌≡◌ {A = Option Placed} (Some q) (Some p) → q ≡ p
+some_same q p e = cc
+
+-- an entry under a root has the block that stands at its place
+module _ (j : Image) (p : Placed) where
+  of_pair : (place kind : ℕ) (none : Bool) → (if none then None else Some (record { pvbn = place; kind = kind; block = j place })) ≡ Some p → p.block ≡ j p.pvbn
+  of_pair place kind true is = absurd (none_some p is)
+  of_pair place kind false is =
+      let same = some_same (record { pvbn = place; kind = kind; block = j place }) p is in
+      ap (λ (q : Placed). q.block) (sym same) ∙ ap (λ (q : Placed). j q.pvbn) same
+
+  of_label : (o : Option Label) (v : ℕ) → entry_from o j v ≡ Some p → p.block ≡ j p.pvbn
+  unfolding entry_from
+  of_label None v is = absurd (none_some p is)
+  of_label (Some l) v is =
+      let pair = container_entry j l.container l.height (entry_count l.span) v in
+      of_pair pair.0 pair.1 (pair.1 == 0) is
+
+  block_there : (t : Taken) (s v : ℕ) → (view_at t j).entry s v ≡ Some p → p.block ≡ j p.pvbn
+  unfolding view_at
+  block_there t s v is = of_label (label_in (label_lying t j s)) v is
+
+-- so where two images have the same view, an entry that is shown by the one is shown by the other
+module _ (t : Taken) (i j : Image) (same : view_at t j ≡ view_at t i) (s v : ℕ) where
+  seen_there : (b : ℕ) → seen fin.empty j b ≡ j b
+  seen_there b = ap (λ (o : Option (List ℕ)). kept_or o (j b)) (fin.get-empty nat_cmp b)
+
+  shown_then : (o : Option Entry) → (view_at t i).entry s v ≡ placed_in fin.empty i o → (view_at t j).entry s v ≡ placed_in fin.empty j o
+  shown_then o is = by o (ap (λ (w : View). w.entry s v) same ∙ is)
+    where
+      by : (o : Option Entry) → (view_at t j).entry s v ≡ placed_in fin.empty i o → (view_at t j).entry s v ≡ placed_in fin.empty j o
+      by None is = is
+      by (Some e) is =
+          let there = block_there j (record { pvbn = e.pvbn; kind = e.kind; block = seen fin.empty i e.pvbn }) t s v is in
+          is ∙ ap (λ (b : List ℕ). Some (record { pvbn = e.pvbn; kind = e.kind; block = b })) (there ∙ sym (seen_there e.pvbn))
+
 -- ---- what a point left is there still while the disk is only read
 
--- what it made of the entries, by what reads give
-by_reads : (want : ℕ) (first mid : Session) (e k : Shown) → ReclaimsEntries want first e mid → ReclaimsEntries want first (record k { reads = e.reads }) mid
-by_reads want first mid e k is = record {
+-- What it made of the entries is there still where the root shows the same, whatever the cache holds.
+pub entries_over : (want : ℕ) (first mid : Session) (store : Store) (e k : Shown) → view_at (root_found mid.pool.found) k.reads ≡ view_at (root_found mid.pool.found) e.reads
+    → ReclaimsEntries want first e mid → ReclaimsEntries want first k (record mid { pool = record mid.pool { store = store } })
+entries_over want first mid store e k view is = record {
   mid = is.mid;
   between = is.between;
   found = is.found;
@@ -85,14 +140,16 @@ by_reads want first mid e k is = record {
   unused = is.unused;
   rest = is.rest;
   chosen = is.chosen;
-  missing = is.missing;
+  missing = subst (λ (w : View). CountsMissing is.mid is.between w want) (sym view) is.missing;
   there = is.there;
-  written = is.written;
-  others = is.others;
+  written = λ s v x map inside here its writes. let one = is.written s v x map inside here its writes in
+      (one.0, (one.1.0, shown_then (root_found mid.pool.found) e.reads k.reads view s v (Some (map_entry one.0)) one.1.1));
+  others = λ s v x map inside here its stays. shown_then (root_found mid.pool.found) e.reads k.reads view s v
+      (if goes_with x.map map (has_region (regions_chosen is.mid is.between want) s) v then None else entry_under map v) (is.others s v x map inside here its stays);
 }
 
 pub entries_still : (want : ℕ) (first mid : Session) (e k : Shown) → k.reads ≡ e.reads → ReclaimsEntries want first e mid → ReclaimsEntries want first k mid
-entries_still want first mid e k same is = subst (λ (i : Image). ReclaimsEntries want first (record k { reads = i }) mid) (sym same) (by_reads want first mid e k is)
+entries_still want first mid e k same = entries_over want first mid mid.pool.store e k (ap (λ (i : Image). view_at (root_found mid.pool.found) i) same)
 
 pointed_read : (want : ℕ) (first mid : Session) (e k : Shown) (m : Machine) → OnlyReads e k → StandsReady e mid → HasPointed want first e mid m → HasPointed want first k mid m
 pointed_read want first mid e k m reads stands is = record {

@@ -29,7 +29,7 @@ use Rattle.fv_cp.specs.Held.{machine_held, IsHeld}
 use Rattle.fv_cp.specs.Known.{AreKnown}
 use Rattle.fv_cp.specs.Lent.{blocks_asked, maps_waiting, HaveNoneWaiting, IsLentAt}
 use Rattle.fv_pool.specs.BlocksOver.{LacksLeaf}
-use Rattle.fv_cp.specs.Placing.{pending_files, FailsToPlace, HaveNoFiles, KeepCores}
+use Rattle.fv_cp.specs.Placing.{pending_files, FailsToPlace, HaveNoFiles, KeepCores, MayFail}
 use Rattle.fv_cp.specs.Points.{IsNextRoot, LacksRoom}
 use Rattle.fv_cp.proofs.CameIn.{leaf_unmoved}
 use Rattle.fv_cp.proofs.Flushing.{files_there, may_on}
@@ -141,9 +141,10 @@ point_done before old after new was now none counts pool states same goes = reco
 pub done_asks : (before : Shown) (old : Session) (after : Shown) (new : Session) (pool : Pool) (states : States) → new.pending ≡ 0 → GoesOnWhole before pool states after new.pool new.volumes → KeepsAsking 0 before old after new
 done_asks before old after new pool states none goes = λ tells kept asks fresh. record { asked = omega (arith, asked_unchanged new.volumes goes.fit.housed.long goes.unchanged); pending = omega (arith, none) }
 
--- the files of a volume couldn't be placed, over the disk behind the failure
-abbrev pub files_to_place : (disk after : Shown) (session : Session) (at want found : ℕ) → IsNone session.failed → FailsToPlace disk session.pool session.volumes after (cp.Damaged at want found) → HasFilesToPlace after session at want found
-files_to_place disk after session at want found fresh fails = record {
+-- the files of a volume couldn't be placed: so it is over a disk over which placing may end so
+abbrev filed_over : (disk after over : Shown) (session : Session) (at want found : ℕ) → IsNone session.failed → (fails : FailsToPlace disk session.pool session.volumes after (cp.Damaged at want found))
+    → MayFail over fails.mid (Some fails.state) (cp.Damaged at want found) → HasFilesToPlace over session at want found
+filed_over disk after over session at want found fresh fails may = record {
   fresh = fresh;
   files = files_there disk session.pool session.volumes after (cp.Damaged at want found) fails;
   slot = fails.slot;
@@ -161,31 +162,17 @@ files_to_place disk after session at want found fresh fails = record {
   rest = fails.placed.rest;
   done = inl fails.done;
   first = λ none. (fails.first none).0;
-  fails = fails.fails;
+  fails = may;
 }
+
+-- over the disk behind the failure,
+abbrev pub files_to_place : (disk after : Shown) (session : Session) (at want found : ℕ) → IsNone session.failed → FailsToPlace disk session.pool session.volumes after (cp.Damaged at want found) → HasFilesToPlace after session at want found
+files_to_place disk after session at want found fresh fails = filed_over disk after after session at want found fresh fails fails.fails
 
 -- and over that before it
 pub filed_as : (disk : Shown) (session : Session) (after : Shown) → OnlyReads disk after → (at want found : ℕ) → IsNone session.failed → FailsToPlace disk session.pool session.volumes after (cp.Damaged at want found) → HasFilesToPlace disk session at want found
-filed_as disk session after reads at want found fresh fails = record {
-  fresh = fresh;
-  files = files_there disk session.pool session.volumes after (cp.Damaged at want found) fails;
-  slot = fails.slot;
-  state = fails.state;
-  there = fails.own;
-  mid = fails.mid;
-  root = fails.placed.found;
-  committed = fails.placed.committed;
-  placed = fails.placed.entries;
-  shapes = fails.placed.shapes;
-  entries = fails.entries;
-  between = fails.between;
-  ahead = fails.ahead;
-  others = fails.placed.others;
-  rest = fails.placed.rest;
-  done = inl fails.done;
-  first = λ none. (fails.first none).0;
-  fails = may_on after disk fails.mid (Some fails.state) (cp.Damaged at want found) (sym reads.stays.tells) (sym reads.stays.reads) fails.fails;
-}
+filed_as disk session after reads at want found fresh fails = filed_over disk after disk session at want found fresh fails
+    (may_on after disk fails.mid (Some fails.state) (cp.Damaged at want found) (sym reads.stays.tells) (sym reads.stays.reads) fails.fails)
 
 -- A point that came to no end, but by no fault of the disk: some files may have been placed.
 module _ (before : Shown) (old : Session) (after : Shown) (new : Session) (has : HasStayed before old after new) where

@@ -369,13 +369,10 @@ module _ {D : Type 0} (name : List ℕ) (d e : Shown) (at left : D) (s n : Sessi
     dead = λ failed. not_dead _ s fresh failed;
   }
 
--- So it is for the session that the call was lent.
-pub removed_applied : {D : Type 0} (name : List ℕ) (c : Command) → c ≡ VolDestroy name → (d e : Shown) → IsDisk d → (at left : D) (v s : Session) → v ≡ s → v.failed ≡ None → (IsNone v.failed → FitTogether v.pool v.volumes) → (IsNone s.failed → StandsReady d s)
+-- So it is as commands are applied.
+pub removed_applied : {D : Type 0} (name : List ℕ) (c : Command) → c ≡ VolDestroy name → (d e : Shown) → IsDisk d → (at left : D) (s : Session) → FitTogether s.pool s.volumes → IsNone s.failed → StandsReady d s
     → (steps : ℕ) (n : Session) (r : Result Reply Fault) → HasRemoved d at s name e left n r → HasApplied c d at s steps e left n steps r
-removed_applied name c is d e laws at left v s same none fits stands steps n r did =
-    let inside : IsNone v.failed = subst IsNone (sym none) refl in
-    let fresh : IsNone s.failed = subst (λ (k : Session). IsNone k.failed) same inside in
-    let fit = subst (λ (k : Session). FitTogether k.pool k.volumes) same (fits inside) in
-    let dropped = dropped_by d e laws at left s fit did.few fresh (stands fresh) name did.mid.volumes did.mid.pool did.only_reads did.stands did.made did.answers did.cause n r
+removed_applied name c is d e laws at left s fit fresh stands steps n r did =
+    let dropped = dropped_by d e laws at left s fit did.few fresh stands name did.mid.volumes did.mid.pool did.only_reads did.stands did.made did.answers did.cause n r
     (subst (λ (k : Session). Replied e (done_as did.made) k n r) did.rest did.replied) in
     subst (λ (k : Command). HasApplied k d at s steps e left n steps r) (sym is) (dropped_applied name d e at left s n r fresh steps dropped did.only_reads did.refused)

@@ -169,13 +169,11 @@ managed_other : (c : Command) → is_some (managed_by c) ≡ true → (k : Comma
 managed_other c some k none is = true≢false (sym some ∙ ap (λ (z : Command). is_some (managed_by z)) is ∙ ap (λ (o : Option (List ℕ)). is_some o) none)
 
 -- so it is of each that is on the volume of a name as a whole
-pub own_applied : {D : Type 0} (own c : Command) → c ≡ own → (d : Shown) → IsDisk d → (at : D) (v s : Session) → v ≡ s → v.failed ≡ None → (IsNone v.failed → FitTogether v.pool v.volumes) → (IsNone s.failed → StandsReady d s) → (steps : ℕ) (new : Session) (reply : Reply)
+pub own_applied : {D : Type 0} (own c : Command) → c ≡ own → (d : Shown) → IsDisk d → (at : D) (s : Session) → FitTogether s.pool s.volumes → IsNone s.failed → StandsReady d s → (steps : ℕ) (new : Session) (reply : Reply)
     → Manages s own new reply → removes_volume own ≡ false → is_some (managed_by own) ≡ true → volume_asked own ≡ None → changed_by own ≡ None → snapped_by own ≡ None → HasApplied c d at s steps d at new steps (Ok reply)
-own_applied own c is d laws at v s same none fits stands steps new reply manages stays some asks changes snaps =
-    let inside : IsNone v.failed = subst IsNone (sym none) refl in
-    let fresh : IsNone s.failed = subst (λ (k : Session). IsNone k.failed) same inside in
+own_applied own c is d laws at s fit fresh stands steps new reply manages stays some asks changes snaps =
     subst (λ (k : Command). HasApplied k d at s steps d at new steps (Ok reply)) (sym is)
-    (managed_applied own d laws at s (subst (λ (k : Session). FitTogether k.pool k.volumes) same (fits inside)) fresh (stands fresh) steps new reply stays (inl some) manages (no_files own asks changes) snaps
+    (managed_applied own d laws at s fit fresh stands steps new reply stays (inl some) manages (no_files own asks changes) snaps
     (managed_other own some VolList refl) (managed_other own some Cp refl) (λ name. managed_other own some (SnapList name) refl))
 
 -- ---- a command that asks for files

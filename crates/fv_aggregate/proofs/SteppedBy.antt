@@ -14,10 +14,10 @@ use Rattle.fv_model.specs.Replies.{answer, Allows, AllowsBy}
 use Rattle.fv_aggregate.specs.declared.fault.Fault.{Fault}
 use Rattle.fv_aggregate.specs.declared.fault.Fault.TheVariants.{DiskFault, Damaged, Memory, Failed}
 use Rattle.fv_aggregate.specs.declared.session.Session.{Session}
-use Rattle.fv_aggregate.specs.Calls.{GoesFor, SameCounts}
+use Rattle.fv_aggregate.specs.Calls.{GoesFor, IsUntouched, SameCounts}
 use Rattle.fv_aggregate.specs.Cleaning.{GoesInSteps, HasStepsFault, TakesAll}
 use Rattle.fv_aggregate.specs.Standing.{StandsAfter, StandsFor, StandsReady}
-use Rattle.fv_aggregate.specs.Working.{Backs, HasWorkFault, StaysFor, Works}
+use Rattle.fv_aggregate.specs.Working.{AreKnown, Backs, HasWorkFault, StaysFor, Works}
 use Rattle.fv_aggregate.proofs.Calls.{reads_itself}
 use Rattle.fv_aggregate.proofs.Keeping.{keeps_same}
 use Rattle.fv_aggregate.proofs.Worked.{backs_ok}
@@ -100,7 +100,7 @@ module _ {D : Type 0} (steps : ℕ) (shown : D → Shown) (before : D) (laws : I
     numbers = rests.numbers;
     goes_for = goes_for_steps 0 d old fresh d old (Ok (Refused Range)) rests;
     reply = λ tells last m stands. far_allows m steps far;
-    takes = record { far = λ far. (refl, (refl, refl)); taken = λ near. absurd (both near); undone = λ tells last m is none still. tt; calm = λ few. reads_itself d };
+    takes = record { far = λ far. (refl, (refl, refl)); taken = λ near. absurd (both near); idle = λ near. absurd (both near); undone = λ tells last m is none still. tt; calm = λ few. reads_itself d };
   }
     where
       d : Shown
@@ -118,26 +118,28 @@ module _ {D : Type 0} (steps : ℕ) (shown : D → Shown) (before : D) (laws : I
     not_far far = absurd (let wrong : ◌≡◌ {A = Bool} true false = sym near ∙ far in cc)
 
     pub takes_all : (taken : ℕ) → Works steps (shown before) old (shown after) new (Ok taken)
+        → (AreKnown old.volumes → ◌≡◌ {A = Result ℕ Fault} (Ok taken) (Ok 0) × IsUntouched before old after new)
         → TakesAll steps (shown before) before old (shown after) after new (Ok Done)
-    takes_all taken works = record {
+    takes_all taken works idle = record {
       goes = in_steps steps (shown before) old fresh (shown after) new (Ok Done) done;
       numbers = done.numbers;
       goes_for = goes_for_steps steps (shown before) old fresh (shown after) new (Ok Done) done;
       reply = λ tells last m stands. work_allows m steps near;
-      takes = record { far = λ far. not_far far; taken = λ near. (refl, (taken, works.worked)); undone = λ tells last m is none still. tt; calm = works.calm };
+      takes = record { far = λ far. not_far far; taken = λ near. (refl, (taken, works.worked)); idle = λ near known. (refl, (idle known).1); undone = λ tells last m is none still. tt; calm = works.calm };
     }
       where
         done : Backs {T = Reply} steps (shown before) old (shown after) new (Ok Done)
         done = backs_done steps (shown before) old (shown after) new taken Done works.backs
 
     pub takes_fault : (f : Fault) → Works steps (shown before) old (shown after) new (Err f)
+        → (AreKnown old.volumes → ◌≡◌ {A = Result ℕ Fault} (Err f) (Ok 0) × IsUntouched before old after new)
         → TakesAll steps (shown before) before old (shown after) after new (Err f)
-    takes_fault f works = record {
+    takes_fault f works idle = record {
       goes = in_steps steps (shown before) old fresh (shown after) new (Err f) undone;
       numbers = undone.numbers;
       goes_for = goes_for_steps steps (shown before) old fresh (shown after) new (Err f) undone;
       reply = λ tells last m stands. tt;
-      takes = record { far = λ far. not_far far; taken = λ near. tt; undone = works.undone; calm = works.calm };
+      takes = record { far = λ far. not_far far; taken = λ near. tt; idle = λ near known. (let wrong = (idle known).0 in absurd cc); undone = works.undone; calm = works.calm };
     }
       where
         undone : Backs {T = Reply} steps (shown before) old (shown after) new (Err f)

@@ -12,7 +12,7 @@ use Rattle.fv_volume.specs.Slots.{is_named, sum_of, IsFirstFree, NoneHasName}
 use Rattle.fv_volume.specs.States.{States, state_at}
 use Rattle.fv_volumes.specs.Creating.{Admits}
 use Rattle.fv_clone.specs.declared.admitting.Admitted.{Admitted}
-use Rattle.fv_clone.specs.Admitting.{is_split, CanMake}
+use Rattle.fv_clone.specs.Admitting.{is_split, CanMake, IsAsked}
 use Rattle.fv_mirror.specs.declared.admitting.Admitted.{Admitted as Mirror}
 use Rattle.fv_mirror.specs.Admitting.{CanMake as CanMirror}
 use Rattle.fv_cp.specs.Placing.{core_of, KeepCores}
@@ -71,30 +71,36 @@ module _ (states stay : States) (cores : KeepCores states stay) where
       by None e same = absurd cc
       by (Some y) e same = (y, (e, same_Some (core_of y) (core_of x) same))
 
-  -- so a clone can be made still
+  -- so a snapshot that is asked for is there still
+  abbrev asked_still : (source snapshot name : List ℕ) (size : ℕ) → IsAsked states source snapshot name size → IsAsked stay source snapshot name size
+  asked_still source snapshot name size is =
+      let home = is.source.home in
+      let now = core_there home.slot home.volume home.there in
+      record {
+        size_is = is.size_is;
+        source = record {
+          home = record {
+            slot = home.slot;
+            within = home.within;
+            has = record { named = named_still home.slot source ∙ home.has.named; first = λ s low. named_still s source ∙ home.has.first s low };
+            volume = now.0;
+            there = now.1.0;
+          };
+          snap = is.source.snap;
+          found = ap (λ (z : VolumeState). snap_named z.snapshots snapshot) now.1.1 ∙ is.source.found;
+        };
+        name_is = none_still name is.name_is;
+      }
+
+  -- a clone can be made of it
   makes_by_cores : (blocks : ℕ) (name : List ℕ) (size : ℕ) (kind : Kind) (a : Admitted) → CanMake states blocks name size kind a → CanMake stay blocks name size kind a
   makes_by_cores blocks name size kind a is =
       let home = is.asked.source.home in
       let now = core_there home.slot home.volume home.there in
-      let y : VolumeState = now.0 in
-      let same : core_of y ≡ core_of home.volume = now.1.1 in
+      let same : core_of now.0 ≡ core_of home.volume = now.1.1 in
       let sum : sum_of stay ≡ sum_of states = commits_kept states stay cores in
       record {
-        asked = record {
-          size_is = is.asked.size_is;
-          source = record {
-            home = record {
-              slot = home.slot;
-              within = home.within;
-              has = record { named = named_still home.slot a.base.name ∙ home.has.named; first = λ s low. named_still s a.base.name ∙ home.has.first s low };
-              volume = y;
-              there = now.1.0;
-            };
-            snap = is.asked.source.snap;
-            found = ap (λ (z : VolumeState). snap_named z.snapshots a.base.snapshot) same ∙ is.asked.source.found;
-          };
-          name_is = none_still name is.asked.name_is;
-        };
+        asked = asked_still a.base.name a.base.snapshot name size is.asked;
         base_is = is.base_is ∙ sym (ap (λ (z : VolumeState). base_on z is.asked.source.snap) same);
         can = record {
           whole = ap (λ (z : VolumeState). is_split z.base) same ∙ is.can.whole;
@@ -112,25 +118,10 @@ module _ (states stay : States) (cores : KeepCores states stay) where
   mirrors_by_cores blocks name size kind a is =
       let home = is.asked.source.home in
       let now = core_there home.slot home.volume home.there in
-      let y : VolumeState = now.0 in
-      let same : core_of y ≡ core_of home.volume = now.1.1 in
+      let same : core_of now.0 ≡ core_of home.volume = now.1.1 in
       let sum : sum_of stay ≡ sum_of states = commits_kept states stay cores in
       record {
-        asked = record {
-          size_is = is.asked.size_is;
-          source = record {
-            home = record {
-              slot = home.slot;
-              within = home.within;
-              has = record { named = named_still home.slot a.source.name ∙ home.has.named; first = λ s low. named_still s a.source.name ∙ home.has.first s low };
-              volume = y;
-              there = now.1.0;
-            };
-            snap = is.asked.source.snap;
-            found = ap (λ (z : VolumeState). snap_named z.snapshots a.source.snapshot) same ∙ is.asked.source.found;
-          };
-          name_is = none_still name is.asked.name_is;
-        };
+        asked = asked_still a.source.name a.source.snapshot name size is.asked;
         source_is = is.source_is ∙ sym (ap (λ (z : VolumeState). base_on z is.asked.source.snap) same);
         span_is = is.span_is ∙ ap (λ (z : VolumeState). span_of size 0 z.span) (sym same);
         most = is.most;

@@ -2,8 +2,8 @@
 use Rattle.std.proofs.Common.{◌≡◌, ◌≢◌, ◌≤◌, ◌<◌, ◌+◌, ℕ, Bool, true, false, true≢false, cond, length, Option, Some, None, Result, Ok, Err, ⊎_elim, refl, sym, ap, subst, ◌∙◌, arith}
 use Rattle.std.specs.Prelude.{IsNone, IsTrue}
 use Rattle.std.proofs.lemmas.Bool.{cases_eq}
-use Rattle.fv_container.specs.Chains.{Slots, container_at}
-use Rattle.fv_disk.specs.Shown.{IsDisk, Shown}
+use Rattle.fv_container.specs.Chains.{Slots, container_at, slot_count}
+use Rattle.fv_disk.specs.Shown.{Image, IsDisk, Shown}
 use Rattle.fv_disk.specs.DiskCalls.{OnlyReads}
 use Rattle.fv_disk.proofs.Resting.{reads_then}
 use Rattle.fv_model.specs.Machines.{Machine}
@@ -12,12 +12,13 @@ use Rattle.fv_pool.specs.Calls.{Reads}
 use Rattle.fv_volume.specs.declared.state.VolumeState.{VolumeState}
 use Rattle.fv_volume.specs.States.{States, state_at, with_state}
 use Rattle.fv_cleaner.specs.Cleaning.{StepsIn}
+use Rattle.fv_cleaner.specs.Left.{left_in}
 use Rattle.fv_cp.specs.Placing.{HaveNoFiles}
 use Rattle.fv_aggregate.specs.declared.fault.Fault.{Fault}
 use Rattle.fv_aggregate.specs.declared.session.Session.{Session}
 use Rattle.fv_aggregate.specs.Commands.{dirty_limit}
 use Rattle.fv_aggregate.specs.Standing.{StandsAfter, StandsFor, StandsReady}
-use Rattle.fv_aggregate.specs.Working.{step_room, todo, todo_at, Backs, FallsSince, SeeksStep, StepsSince, TakesFirst, TakesStep, Works, WorksOnce}
+use Rattle.fv_aggregate.specs.Working.{step_room, is_unclean, todo, todo_at, Backs, FallsSince, SeeksStep, StepsSince, TakesFirst, AreKnown, TakesStep, Works, WorksOnce}
 use Rattle.fv_aggregate.proofs.Calls.{reads_itself}
 use Rattle.fv_aggregate.proofs.Keeping.{keeps_same}
 use Rattle.fv_aggregate.proofs.Looked.{reads_alone, stands_for_read, stands_read}
@@ -247,7 +248,7 @@ module _ {D : Type 0} (shown : D → Shown) (d : D) (s : Session) (count : ℕ) 
           let at = stood tells last m is in
           let left = once.falls (tells_on tells) at.point m at.stands so_far.0 in
           let all = so_far.1 in let before = left.0 in let after = left.1 in omega (arith, all, before, after);
-      since = λ tells last m is some. since tells last m is;
+      since = λ tells last m is unknown some. since tells last m is;
       none = λ none. once.none;
     };
     undone = λ tells last m is none still. tt;
@@ -292,9 +293,39 @@ gone_all shown d s asked e n was = record {
     most = omega arith;
     fewer = λ tells last m is less. absurd (omega (arith, less));
     falls = λ tells last m is none. (was.falls tells last m is none).1;
-    since = was.since;
+    since = λ tells last m is unknown some. was.since tells last m is some;
     none = was.none;
   };
   undone = λ tells last m is none still. tt;
   calm = was.calm;
 }
+
+-- ---- no step at all
+
+known_left : (i : Image) (pool : Pool) (o : Option VolumeState) → is_unclean o ≡ false → todo_at i pool o ≡ 0
+known_left i pool None known = refl
+known_left i pool (Some x) known = by x.known known
+  where
+    by : (b : Bool) → cond b false true ≡ false → cond b 0 (left_in i pool x) ≡ 0
+    by true known = refl
+    by false wrong = absurd cc
+
+-- All places are known, so nothing is left to do, and nothing is done.
+pub gone_known : {D : Type 0} (shown : D → Shown) (d : D) → IsDisk (shown d) → (s : Session) (asked : ℕ) → IsNone s.failed → StandsReady (shown d) s
+    → length s.volumes ≡ slot_count → AreKnown s.volumes → Works asked (shown d) s (shown d) s (Ok 0)
+gone_known shown d laws s asked fresh ready long known = record {
+  backs = backs_ok (shown d) (shown d) laws s s asked (reads_itself (shown d)) fresh ready (omega arith) (omega arith)
+      (keeps_same s.volumes s.volumes refl) (λ tells last m is. is) 0 refl;
+  worked = record {
+    most = omega arith;
+    fewer = λ tells last m is less. zero;
+    falls = λ tells last m is none. omega arith;
+    since = λ tells last m is unknown some. absurd (unknown known);
+    none = λ none. none;
+  };
+  undone = λ tells last m is none still. tt;
+  calm = λ few. reads_itself (shown d);
+}
+  where
+    zero : todo (shown d) s ≡ 0
+    zero = none_slots (todo_at (shown d).reads s.pool) s.volumes (λ k low. known_left (shown d).reads s.pool (state_at s.volumes k) (known k (omega (arith, low, long))))

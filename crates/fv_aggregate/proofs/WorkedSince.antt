@@ -12,15 +12,16 @@ use Rattle.fv_model.specs.Machines.{Machine}
 use Rattle.fv_cp.specs.Placing.{HaveNoFiles, KeepCores}
 use Rattle.fv_aggregate.specs.declared.fault.Fault.{Fault}
 use Rattle.fv_aggregate.specs.declared.session.Session.{Session}
-use Rattle.fv_aggregate.specs.Calls.{IsUnpointed}
-use Rattle.fv_aggregate.specs.Commands.{dirty_limit}
+use Rattle.fv_aggregate.specs.Adding.{IsPointed}
+use Rattle.fv_aggregate.specs.Calls.{IsUnpointed, Runs}
+use Rattle.fv_aggregate.specs.Commands.{dirty_limit, AsksNothing}
 use Rattle.fv_aggregate.specs.LeftOver.{todo_under}
 use Rattle.fv_aggregate.specs.Reclaiming.{HasPointed}
 use Rattle.fv_aggregate.specs.Standing.{StandsAfter, StandsFor}
 use Rattle.fv_aggregate.specs.Working.{step_room, todo, AreLaid, ArePointed, Backs, Falls, FilesPlaced, NoneLeft, PlacesAll, SeeksStep, StepsSince, TakesFirstIf, WorksOnce}
 use Rattle.fv_aggregate.proofs.Calls.{reads_itself}
 use Rattle.fv_aggregate.proofs.Standing.{stands_for_last}
-use Rattle.fv_aggregate.proofs.WorkedCalls.{backs_err, backs_then}
+use Rattle.fv_aggregate.proofs.WorkedCalls.{backs_err, backs_room, backs_then}
 use Rattle.fv_aggregate.proofs.WorkedOthers.{todo_loaded}
 
 -- What is said of a session for which room for a step was made.
@@ -36,6 +37,26 @@ pub record MadeRoom {D : Type 0} (shown : D → Shown) (first : D) (s : Session)
       → HasPointed step_room s (shown second) n m
   pub shows : IsTrue (shown first).tells → (last m : Machine) → StandsFor (shown first) s last m → dirty_limit < s.pending + step_room
       → todo (shown second) n ≡ todo_under n.pool.found (shown second).reads
+
+-- so it is behind the call that makes room
+pub room_made : {D : Type 0} (shown : D → Shown) (first : D) (s : Session) (second : D) (n : Session) (x : Unit {0}) → IsNone s.failed → n.pending ≤ s.pending
+    → Runs step_room AsksNothing (λ m. m) (shown first) s (shown second) n (Ok x)
+    → (IsTrue (shown first).tells → (last m : Machine) → StandsFor (shown first) s last m → HaveNoFiles s.volumes → todo (shown second) n ≡ todo (shown first) s)
+    → (HaveNoFiles s.volumes → HaveNoFiles n.volumes) → KeepCores s.volumes n.volumes → (s.pending + step_room ≤ dirty_limit → (second ≡ first) × (n ≡ s))
+    → (dirty_limit < s.pending + step_room → IsPointed (shown first) s n)
+    → (IsTrue (shown first).tells → (last m : Machine) → StandsFor (shown first) s last m → dirty_limit < s.pending + step_room → HasPointed step_room s (shown second) n m)
+    → (IsTrue (shown first).tells → (last m : Machine) → StandsFor (shown first) s last m → dirty_limit < s.pending + step_room → todo (shown second) n ≡ todo_under n.pool.found (shown second).reads)
+    → MadeRoom shown first s second n
+room_made shown first s second n x fresh few runs left files cores calm pointed point shows = record {
+  backs = backs_room (shown first) s fresh (shown second) n x few runs;
+  left = left;
+  files = files;
+  cores = cores;
+  calm = calm;
+  none = λ past. (pointed past).none;
+  point = point;
+  shows = shows;
+}
 
 -- where a point wasn't made without a file in memory, as much is left as before
 pub left_unpointed : (d : Shown) (s : Session) (e : Shown) (n : Session) → IsUnpointed d s e n → HaveNoFiles s.volumes → todo e n ≡ todo d s

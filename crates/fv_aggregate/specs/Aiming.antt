@@ -51,17 +51,21 @@ abbrev pub AimsAt : States → List ℕ → Bool → Task → Result Aim Refusal
 AimsAt states name near task (Ok aim) = (near ≡ true) × ((aim.task ≡ task) × ((aim.slot < slot_count) × HasName states aim.slot name))
 AimsAt states name near task (Err r) = ((r ≡ Range) × (near ≡ false)) ⊎ ((r ≡ NoVolume) × ((near ≡ true) × NoneHasName states name))
 
--- what is left for the commands at volumes: it is none of those that a session carries out by all volumes, or by one as a whole
-pub record IsServed (command : Command) : Type 0 where
+-- what is left for the commands on volumes that are there: it makes none, takes no background steps, and is no point
+pub record IsOnVolumes (command : Command) : Type 0 where
   pub not_create : (name : List ℕ) (size : ℕ) (kind : Kind) → command ≢ VolCreate name size kind
   pub not_clone : (clone parent snapshot : List ℕ) (size : ℕ) (kind : Kind) → command ≢ CloneCreate clone parent snapshot size kind
   pub not_mirror : (source snapshot mirror : List ℕ) (size : ℕ) (kind : Kind) → command ≢ Mirror source snapshot mirror size kind
   pub not_clean : (name : List ℕ) → command ≢ Clean name
   pub not_work : (steps : ℕ) → command ≢ Work steps
+  pub not_point : command ≢ Cp
+
+-- what is left of these for the commands at volumes: it is none of those that a session carries out by all volumes, or by one as a whole
+pub record IsServed (command : Command) : Type 0 where
+  pub there : IsOnVolumes command
   pub not_destroy : (name : List ℕ) → command ≢ VolDestroy name
   pub not_resize : (name : List ℕ) (size : ℕ) → command ≢ VolResize name size
   pub not_guarantee : (name : List ℕ) (kind : Kind) → command ≢ VolGuarantee name kind
   pub not_list : command ≢ VolList
   pub not_stat : (name : List ℕ) → command ≢ VolStat name
   pub not_names : (name : List ℕ) → command ≢ SnapList name
-  pub not_point : command ≢ Cp

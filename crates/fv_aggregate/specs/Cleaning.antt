@@ -26,7 +26,7 @@ use Rattle.fv_aggregate.specs.Causes.{KeepsEnds}
 use Rattle.fv_aggregate.specs.Commands.{Asked, dirty_limit}
 use Rattle.fv_aggregate.specs.Known.{KeepsNumbers}
 use Rattle.fv_aggregate.specs.Standing.{StandsFor, StandsReady}
-use Rattle.fv_aggregate.specs.Working.{is_unclean, step_room, todo, todo_at, Backs, HasKnownRoots, HasWorked, HasWorkDamage}
+use Rattle.fv_aggregate.specs.Working.{AreKnown, is_unclean, step_room, todo, todo_at, Backs, HasKnownRoots, HasWorked, HasWorkDamage}
 
 -- ---- a call that takes steps
 
@@ -93,11 +93,12 @@ pub record CleansNamed {D : Type 0} (name : List ℕ) (shown shown_after : Shown
   pub idle : (slot : ℕ) → slot < slot_count → HasName old.volumes slot name → is_unclean (state_at old.volumes slot) ≡ false → (result ≡ Ok Done) × IsUntouched before old after new
   pub keeps : KeepsSteps shown old shown_after new result
 
--- So many steps were taken as a command asks for, or all that were left; or their number is out of range. A fault loses no step, and no consistency
--- point is made where all steps have room.
+-- So many steps were taken as a command asks for, or all that were left; or their number is out of range. Where all places are known nothing is done.
+-- A fault loses no step, and no consistency point is made where all steps have room.
 pub record TakesSteps {D : Type 0} (shown shown_after : Shown) (steps : ℕ) (before : D) (old : Session) (after : D) (new : Session) (result : Result Reply Fault) : Type 0 where
   pub far : is_step_count steps ≡ false → (result ≡ Ok (Refused Range)) × IsUntouched before old after new
   pub taken : is_step_count steps ≡ true → IfOk result (λ reply. (reply ≡ Done) × ((taken : ℕ) × HasWorked steps shown old shown_after new taken))
+  pub idle : is_step_count steps ≡ true → AreKnown old.volumes → (result ≡ Ok Done) × IsUntouched before old after new
   pub undone : IsTrue shown.tells → (last m : Machine) → StandsFor shown old last m → HaveNoFiles old.volumes → IsNone new.failed → OnErr result (todo shown_after new ≤ todo shown old)
   pub calm : old.pending + steps + step_room ≤ dirty_limit + 1 → OnlyReads shown shown_after
 

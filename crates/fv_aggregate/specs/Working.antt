@@ -52,6 +52,10 @@ abbrev pub is_unclean : Option VolumeState → Bool
 is_unclean None = false
 is_unclean (Some x) = cond x.known false true
 
+-- all volumes that are there know all their places
+abbrev pub AreKnown : States → Type 0
+AreKnown states = (s : ℕ) → s < slot_count → is_unclean (state_at states s) ≡ false
+
 -- no root pointer of it is unknown
 abbrev pub HasKnownRoots : Option VolumeState → Type 0
 HasKnownRoots o = IfSome o (λ x. list_any is_unknown (roots_of x) ≡ false)
@@ -262,13 +266,13 @@ pub record FallsSince (before : Shown) (old : Session) (after : Shown) (new : Se
   pub falls : todo after new + taken ≤ todo_in placed.at placed.pool placed.volumes
 
 -- So many steps were asked for, and so many taken. Where those are fewer nothing is left to do. What was left fell by one for each step at
--- least, where no file was in memory, and else once the files were placed.
+-- least, where no file was in memory, and else once the files were placed; where all places are known none is, and nothing is left before.
 pub record HasWorked (asked : ℕ) (before : Shown) (old : Session) (after : Shown) (new : Session) (taken : ℕ) : Type 0 where
   pub most : taken ≤ asked
   pub fewer : IsTrue before.tells → (last m : Machine) → StandsFor before old last m → taken < asked → todo after new ≡ 0
   pub falls : IsTrue before.tells → (last m : Machine) → StandsFor before old last m → HaveNoFiles old.volumes
       → todo after new + taken ≤ todo before old
-  pub since : IsTrue before.tells → (last m : Machine) → StandsFor before old last m → 0 < asked
+  pub since : IsTrue before.tells → (last m : Machine) → StandsFor before old last m → (AreKnown old.volumes → ⊥) → 0 < asked
       → FallsSince before old after new m taken
   -- no file comes into memory
   pub none : HaveNoFiles old.volumes → HaveNoFiles new.volumes

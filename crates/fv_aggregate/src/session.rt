@@ -26,8 +26,7 @@ ghost use Rattle.fv_aggregate.specs.Working.{todo};
 
 use crate::fault::{Fault, OpenFault};
 use crate::opening::load;
-use crate::replies::list;
-use crate::volumes::{names_of, sum_charges};
+use crate::volumes::sum_charges;
 use fv_container::Steps;
 use fv_disk::Disk;
 use fv_model::{Command, Reply};
@@ -218,29 +217,8 @@ impl Session {
             }
             Command::Clean { volume } => return self.clean_volume(disk, volume, into),
             Command::Work { steps } => return self.work_steps(disk, *steps, into),
-            Command::VolList => {
-                list(into, names_of(self.alloc, &self.volumes)?);
-                return Ok(());
-            }
             Command::Cp => return self.reclaim(disk, into),
-            Command::SnapList { volume } => {
-                self.snapshots(volume, into)?;
-                return Ok(());
-            }
-            Command::VolDestroy { volume } => return self.destroy(disk, volume, into),
-            Command::VolResize { volume, size } => {
-                self.resize(volume, *size, into);
-                return Ok(());
-            }
-            Command::VolGuarantee { volume, kind } => {
-                self.guarantee(volume, *kind, into);
-                return Ok(());
-            }
-            Command::VolStat { volume } => {
-                self.stat(volume, into);
-                return Ok(());
-            }
-            _ => return self.serve(disk, command, steps, into),
+            _ => return self.manage(disk, command, steps, into),
         }
     }
 

@@ -1,13 +1,14 @@
 //! Background steps: the places that volumes don't know are filled in, block by block.
 
-ghost use Rattle.std.specs.Prelude.{◌≡◌, ◌<◌, ◌≤◌, ◌+◌, ℕ, length, true, IsNone, Some, Err};
+ghost use Rattle.std.specs.Prelude.{◌≡◌, ◌<◌, ◌≤◌, ◌+◌, ℕ, length, true, false, IsNone, Some, Ok, Err};
 ghost use Rattle.fv_container.specs.Chains.{slot_count};
 ghost use Rattle.fv_volume.specs.States.{state_at};
 ghost use Rattle.fv_cp.specs.Placing.{HaveNoFiles};
 ghost use Rattle.fv_aggregate.specs.declared.fault.Fault.TheVariants.{Failed};
+ghost use Rattle.fv_aggregate.specs.Calls.{IsUntouched};
 ghost use Rattle.fv_aggregate.specs.Commands.{dirty_limit};
 ghost use Rattle.fv_aggregate.specs.Standing.{Stands, StandsReady};
-ghost use Rattle.fv_aggregate.specs.Working.{PlacesAll, SeeksStep, TakesStep, Works, WorksOnce, is_unclean, step_room};
+ghost use Rattle.fv_aggregate.specs.Working.{AreKnown, PlacesAll, SeeksStep, TakesStep, Works, WorksOnce, is_unclean, step_room};
 
 use crate::fault::Fault;
 use crate::session::Session;
@@ -31,11 +32,12 @@ impl Session {
     /// As of `apply`: what fails, what a session does then, and what stays. `Damaged` comes too where a block that a step reads hasn't
     /// the shape of its kind, or leads nowhere. The steps that were taken before stay taken.
     ///
-    /// Costs for each step what `clean_step` does for each slot up to that one, and a consistency point where room for 8 blocks is
-    /// lacking. It places the files in memory before the first one.
+    /// Costs a look at each slot, and where all volumes know their places nothing else is done. Else it places the files in memory, and
+    /// costs for each step what `clean_step` does for each slot up to that one, and a consistency point where room for 8 blocks is lacking.
     pub fn work<D: Disk>(&mut self, disk: &mut D, n: u32) -> Result<u32, Fault>
         requires stands { IsNone self.old.failed → Stands (D.shown disk.old) self.old }
         ensures works { IsNone self.old.failed → Works n (D.shown disk.old) self.old (D.shown disk.new) self.new result }
+        ensures idle { IsNone self.old.failed → AreKnown self.old.volumes → (result ≡ Ok 0) × IsUntouched disk.old self.old disk.new self.new }
         ensures dead { (faults : ℕ) → self.old.failed ≡ Some faults → (result ≡ Err (Failed faults))
             × ((disk.new ≡ disk.old) × (self.new ≡ self.old)) }
     {
@@ -49,8 +51,12 @@ impl Session {
     pub(crate) fn take_steps<D: Disk>(&mut self, disk: &mut D, n: u32) -> Result<u32, Fault>
         requires fresh { IsNone self.old.failed }
         requires stands { StandsReady (D.shown disk.old) self.old }
-        ensures { Works n (D.shown disk.old) self.old (D.shown disk.new) self.new result }
+        ensures works { Works n (D.shown disk.old) self.old (D.shown disk.new) self.new result }
+        ensures idle { AreKnown self.old.volumes → (result ≡ Ok 0) × IsUntouched disk.old self.old disk.new self.new }
     {
+        if !has_unclean(&self.volumes) {
+            return Ok(0);
+        }
         for taken in 0..n {
             if !self.work_step(disk)? {
                 return Ok(taken);
@@ -134,6 +140,19 @@ impl Session {
             Err(fault) => Err(self.fault_of(disk, fault)),
         }
     }
+}
+
+/// Whether a volume is there of which not all places are known. Costs a look at each slot.
+fn has_unclean(volumes: &Volumes) -> bool
+    ensures none { result ≡ false → AreKnown volumes.now }
+    ensures some { result ≡ true → AreKnown volumes.now → ⊥ }
+{
+    for slot in 0..SLOTS {
+        if is_unclean(volumes, slot) {
+            return true;
+        }
+    }
+    false
 }
 
 /// Whether a slot has a volume of which not all places are known. Costs a step.

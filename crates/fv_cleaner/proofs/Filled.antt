@@ -1,153 +1,200 @@
--- A walk that fills in the unknown pointers of a block, one after another.
-use Rattle.std.proofs.Common.{◌≡◌, ◌≢◌, ◌⊎◌, ℕ, ◌+◌, ◌<◌, ◌≤◌, Bool, true, false, List, length, length-set, get_or, Option, Some, None, Ok, refl, sym, ap, subst, ◌∙◌, inl, inr, arith, ⊎_elim}
-use Rattle.std.specs.Prelude.{not, ◌&&◌, ◌==◌, if◌then◌else◌}
-use Rattle.std.proofs.lemmas.Bool.{cases_lt, cases_eq}
-use Rattle.std.proofs.lemmas.List.{get_or-set_same, get_or-set_other}
+-- Pointers that get their places, and the block that has them.
+use Rattle.std.proofs.Common.{◌≡◌, ℕ, ◌<◌, ◌≤◌, Bool, true, false, not, ◌&&◌, List, [], ◌∷◌, length, map, get_or, Result, Ok, refl, sym, ap, subst, ◌∙◌, inl, inr, arith}
+use Rattle.std.specs.Prelude.{Option, Some, ◌==◌, IfOk}
+use Rattle.std.specs.List.{list_any}
+use Rattle.std.proofs.lemmas.Bool.Decides.{nat_tests}
+use Rattle.std.proofs.lemmas.List.{ext_get_or, get_or-map, get_or_default, length-map}
+use Rattle.fv_codec.specs.declared.shape.Shape.{Shape}
 use Rattle.fv_codec.specs.declared.form.Form.{Form}
 use Rattle.fv_codec.specs.declared.form.Form.TheVariants.{Node as OfNode, Inodes as OfInodes}
 use Rattle.fv_codec.specs.declared.pointer.Pointer.{Pointer}
-use Rattle.fv_tables.specs.Spelled.{hole}
+use Rattle.fv_codec.specs.declared.node.Node.{Node}
+use Rattle.fv_codec.specs.declared.inode.InodeRecord.{InodeRecord}
+use Rattle.fv_codec.specs.declared.inode.InodeBlock.{InodeBlock}
+use Rattle.fv_codec.specs.Fields.{up_to}
+use Rattle.fv_codec.specs.Blocks.{greatest_word, pointed, is_used, all_holes, all_free, node_at, inodes_at, IsPointerIf, IsPointer, IsNode, IsInodeRecord, IsInodeBlock}
+use Rattle.fv_tables.specs.Spelled.{hole, pointers_of}
+use Rattle.fv_tables.specs.Told.{free_record, records_of, records_in}
+use Rattle.fv_tables.specs.Alike.{hintless, hintless_record}
 use Rattle.fv_image.specs.HintRules.{is_unknown}
 use Rattle.fv_places.specs.ByKind.{form_of, shape_in, pointers_by}
-use Rattle.fv_places.specs.Changed.{KeepsPosition, placed, placed_at}
-use Rattle.fv_places.specs.Firsts.{NoneUnknown}
-use Rattle.fv_places.proofs.Alikes.{fill_says, says_then}
-use Rattle.fv_places.proofs.Firsts.{filled_first, none_any}
-use Rattle.fv_places.proofs.Holding.{filled_inside}
-use Rattle.fv_places.proofs.Positions.{fills_keep, keeps_fine, keeps_then, said_inodes, said_node}
-use Rattle.fv_cleaner.specs.Filling.{ArePlaced, FillsBlock, FillsFirst, FillsPlaces, FillsUpTo, GetsPlace, IsPlacedAs, LiesBelow}
+use Rattle.fv_places.specs.Changed.{KeepsPosition, with_children, with_files, with_root}
+use Rattle.fv_places.proofs.Firsts.{none_any}
+use Rattle.fv_places.proofs.Forms.{AlikeAs, says_by}
+use Rattle.fv_places.proofs.Positions.{keeps_fine}
+use Rattle.fv_cleaner.specs.Filling.{ArePlaced, AreRooted, FillsBlock, FillsUpTo, IsFilledAs}
 use Rattle.fv_cleaner.specs.Searching.{Lies}
 
--- a test says one or the other
-by_test : (b : Bool) → (b ≡ true) ⊎ (b ≡ false)
-by_test true = inl refl
-by_test false = inr refl
+-- ---- a pointer that got a place
 
--- ---- at first
-
-keeps_itself : (f : Option Form) (b : List ℕ) → KeepsPosition f b b
-keeps_itself None b = refl
-keeps_itself (Some OfNode) b = said_node b _ (λ n at. (n.children, at))
-keeps_itself (Some OfInodes) b = said_inodes b _ (λ n at. (n.files, at))
-
-pub fills_none : (kind : ℕ) (b : List ℕ) → shape_in (form_of kind) b ≡ Ok tt → FillsUpTo kind b 0 b
-fills_none kind b shaped = record {
-  shaped = shaped;
-  position = keeps_itself (form_of kind) b;
-  says = record { cells = λ e. refl; inodes = λ e. refl; nodes = λ one five. refl };
-  count = refl;
-  known = λ i low high. absurd (omega (arith, high));
-  rest = λ i low. refl;
-}
-
-pub places_none : (at : Lies) (kind : ℕ) (ps : List Pointer) → ArePlaced at kind ps 0 ps
-places_none at kind ps i low = absurd (omega (arith, low))
-
--- ---- a step
-
--- an unknown pointer with a place
-placed_is : (place : ℕ) (p : Pointer) → is_unknown p ≡ true → placed place p ≡ record { vvbn = p.vvbn; pvbn = place; stamp = p.stamp }
-placed_is place p unknown = by (p.stamp == 0) refl unknown
+stamp_some : (p : Pointer) → is_unknown p ≡ true → (p.stamp == 0) ≡ false
+stamp_some p unknown = by (p.stamp == 0) unknown
   where
-    by : (z : Bool) → (p.stamp == 0) ≡ z → (not z && (p.pvbn == 0)) ≡ true
-        → (if z then p else record { vvbn = p.vvbn; pvbn = place; stamp = p.stamp }) ≡ record { vvbn = p.vvbn; pvbn = place; stamp = p.stamp }
-    by true at wrong = absurd cc
-    by false at is = refl
+    by : (z : Bool) → (not z && (p.pvbn == 0)) ≡ true → z ≡ false
+    by true wrong = absurd cc
+    by false is = refl
 
-module _ (told : Type 0) (at : Lies) (kind : ℕ) (b c d : List ℕ) (from next : ℕ) (so : FillsUpTo kind b from c) (step : FillsFirst told at kind c from d next) where
-  abbrev ps : List Pointer
-  ps = pointers_by (form_of kind) b
+filled_known : (p q : Pointer) → IsFilledAs p q → is_unknown q ≡ false
+filled_known p q (inl same) = ap is_unknown same.1 ∙ same.0
+filled_known p q (inr gets) =
+    let some = gets.some in
+    let test : (gets.place == 0) ≡ false = grind (arith, nat_tests) in
+    ap is_unknown gets.is ∙ (λ i. not (stamp_some p gets.unknown i) && test i)
 
-  abbrev qs : List Pointer
-  qs = pointers_by (form_of kind) c
+filled_alike : (p q : Pointer) → IsFilledAs p q → hintless q ≡ hintless p
+filled_alike p q (inl same) = ap hintless same.1
+filled_alike p q (inr gets) = ap hintless gets.is
 
-  abbrev rs : List Pointer
-  rs = pointers_by (form_of kind) d
+filled_range : (used : Bool) (p q : Pointer) → IsFilledAs p q → IsPointerIf used p → IsPointerIf used q
+filled_range used p q (inl same) is = subst (IsPointerIf used) (sym same.1) is
+filled_range used p q (inr gets) is =
+    subst (IsPointerIf used) (sym gets.is) (record { vvbn = is.vvbn; pvbn = room used is.stamp; stamp = is.stamp })
+  where
+    some : (p.stamp == 0) ≡ false
+    some = stamp_some p gets.unknown
 
-  inside : rs ≡ placed_at step.first.0 step.place qs
-  inside = filled_inside (form_of kind) step.first.0 step.place c d so.shaped step.fills
+    room : (u : Bool) → p.stamp ≤ up_to u greatest_word → gets.place ≤ pointed u p.stamp
+    room true le = rw some gets.fits
+    room false le = absurd (let e : (p.stamp == 0) ≡ true = grind (arith, nat_tests) in cc)
 
-  other_at : (i : ℕ) → i ≢ step.first.0 → get_or rs i hole ≡ get_or qs i hole
-  other_at i other = ap (λ (xs : List Pointer). get_or xs i hole) inside ∙ get_or-set_other qs step.first.0 i (placed step.place (get_or qs step.first.0 hole)) hole other
+-- ---- a list of pointers that got places
 
-  pub fills_more : FillsUpTo kind b next d
-  fills_more = let keeps = fills_keep (form_of kind) step.first.0 step.place c d step.fills in record {
-    shaped = keeps_fine (form_of kind) c d so.shaped keeps;
-    position = keeps_then (form_of kind) b c d so.position keeps;
-    says = says_then kind b c d so.says (fill_says kind step.first.0 step.place c d so.shaped step.fills);
-    count = ap length inside ∙ length-set qs step.first.0 (placed step.place (get_or qs step.first.0 hole)) ∙ so.count;
-    known = subst (λ (n : ℕ). NoneUnknown rs 0 n) (sym step.goes_on)
-        (subst (λ (xs : List Pointer). NoneUnknown xs 0 (step.first.0 + 1)) (sym inside)
-        (filled_first qs from step.first step.place so.known step.is_first step.some));
-    rest = λ i low. other_at i (λ same. absurd (omega (arith, low, same, step.goes_on))) ∙ so.rest i (omega (arith, low, step.goes_on, step.is_first.past));
-  }
+module _ (ps qs : List Pointer) (fills : FillsUpTo ps (length ps) qs) where
+  all_known : list_any is_unknown qs ≡ false
+  all_known = none_any qs (λ i lt. filled_known (get_or ps i hole) (get_or qs i hole) (fills.filled i (omega (arith, lt, fills.count))))
 
-  -- the pointer that was filled
-  filled_at : told → IsPlacedAs at kind (get_or ps step.first.0 hole) (get_or rs step.first.0 hole)
-  filled_at tells =
-      let was : get_or ps step.first.0 hole ≡ step.first.1 = sym (so.rest step.first.0 step.is_first.past) ∙ step.is_first.stands in
-      let now : get_or rs step.first.0 hole ≡ placed step.place step.first.1 =
-      ap (λ (xs : List Pointer). get_or xs step.first.0 hole) inside
-      ∙ get_or-set_same qs step.first.0 (placed step.place (get_or qs step.first.0 hole)) hole step.is_first.within
-      ∙ ap (placed step.place) step.is_first.stands in
-      let lies = step.lies tells in
-      let gets : GetsPlace at kind step.first.1 (placed step.place step.first.1) = record {
-        unknown = step.is_first.unknown;
-        block = lies.block;
-        there = lies.there;
-        lower = lies.lower;
-        is = placed_is step.place step.first.1 step.is_first.unknown ∙ ap (λ (n : ℕ). record { vvbn = step.first.1.vvbn; pvbn = n; stamp = step.first.1.stamp }) lies.is;
-      } in
-      subst (λ (p : Pointer). IsPlacedAs at kind p (get_or rs step.first.0 hole)) (sym was)
-      (subst (λ (q : Pointer). IsPlacedAs at kind step.first.1 q) (sym now) (inr gets))
+  all_alike : map hintless qs ≡ map hintless ps
+  all_alike = ext_get_or hole (map hintless qs) (map hintless ps)
+      (length-map qs hintless ∙ fills.count ∙ sym (length-map ps hintless)) (λ i lt.
+      let low : i < length qs = omega (arith, lt, length-map qs hintless) in
+      let less : i < length ps = omega (arith, low, fills.count) in
+      get_or-map hintless qs i hole hole low ∙ filled_alike (get_or ps i hole) (get_or qs i hole) (fills.filled i less)
+      ∙ sym (get_or-map hintless ps i hole hole less))
 
-  pub places_more : (told → ArePlaced at kind ps from qs) → told → ArePlaced at kind ps next rs
-  places_more before tells i low = ⊎_elim
-      (λ (same : i ≡ step.first.0). subst (λ (k : ℕ). IsPlacedAs at kind (get_or ps k hole) (get_or rs k hole)) (sym same) (filled_at tells))
-      (λ other. ⊎_elim
-      (λ (early : i < from). subst (λ (q : Pointer). IsPlacedAs at kind (get_or ps i hole) q) (sym (other_at i other)) (before tells i early))
-      (λ (late : from ≤ i).
-      let same : get_or qs i hole ≡ get_or ps i hole = so.rest i late in
-      let less : i < step.first.0 = omega (arith, low, other, step.goes_on) in
-      inl (ap is_unknown (sym same) ∙ step.is_first.first i late less, other_at i other ∙ same))
-      (cases_lt i from))
-      (cases_eq i step.first.0)
+-- what doesn't depend on places
+holes_alike : (ps : List Pointer) → all_holes (map hintless ps) ≡ all_holes ps
+holes_alike [] = refl
+holes_alike (p ∷ ps) = ap (λ (b : Bool). (p.stamp == 0) && b) (holes_alike ps)
 
--- ---- at last
+free_alike : (rs : List InodeRecord) → all_free (map hintless_record rs) ≡ all_free rs
+free_alike [] = refl
+free_alike (r ∷ rs) = ap (λ (b : Bool). (r.name_length == 0) && b) (free_alike rs)
 
-module _ (kind : ℕ) (b c : List ℕ) (from : ℕ) (so : FillsUpTo kind b from c)
-    (none : NoneUnknown (pointers_by (form_of kind) c) from (length (pointers_by (form_of kind) c))) where
-  pub fills_all : FillsBlock kind b c
-  fills_all = record {
-    shaped = so.shaped;
-    position = so.position;
-    says = so.says;
-    count = so.count;
-    known = none_any (pointers_by (form_of kind) c) (λ i low. ⊎_elim
-        (λ (early : i < from). so.known i (omega arith) early)
-        (λ (late : from ≤ i). none i late low)
-        (cases_lt i from));
-  }
+-- ---- a block with such pointers, by its form
 
-  pub places_all : (at : Lies) → ArePlaced at kind (pointers_by (form_of kind) b) from (pointers_by (form_of kind) c) → FillsPlaces at kind b c
-  places_all at before i low = ⊎_elim
-      (λ (early : i < from). before i early)
-      (λ (late : from ≤ i).
-      let same = so.rest i late in
-      inl (ap is_unknown (sym same) ∙ none i late (omega (arith, low, so.count)), same))
-      (cases_lt i from)
+record FillsAs (f : Option Form) (b c : List ℕ) : Type 0 where
+  position : KeepsPosition f b c
+  alike : AlikeAs f b c
+  count : length (pointers_by f c) ≡ length (pointers_by f b)
+  known : list_any is_unknown (pointers_by f c) ≡ false
 
--- ---- while blocks are read
+fills_by : (kind : ℕ) (f : Option Form) (b c : List ℕ) → form_of kind ≡ f → shape_in (form_of kind) b ≡ Ok tt → FillsAs f b c → FillsBlock kind b c
+fills_by kind f b c form shaped fills =
+    let is = subst (λ (o : Option Form). FillsAs o b c) (sym form) fills in record {
+      shaped = keeps_fine (form_of kind) b c shaped is.position;
+      position = is.position;
+      says = says_by kind b c is.alike;
+      count = is.count;
+      known = is.known;
+    }
 
--- what a step did over what lies there now, it did over what lay there at first
-pub fills_from : (told now : Type 0) (at after : Lies) (kind : ℕ) (b : List ℕ) (from : ℕ) (c : List ℕ) (next : ℕ) → (told → now) → after ≡ at
-    → FillsFirst now after kind b from c next → FillsFirst told at kind b from c next
-fills_from told now at after kind b from c next carry same step = record {
-  first = step.first;
-  is_first = step.is_first;
-  goes_on = step.goes_on;
-  place = step.place;
-  some = step.some;
-  fills = step.fills;
-  lies = λ tells. subst (λ (a : Lies). LiesBelow a kind step.first.1.vvbn step.place) same (step.lies (carry tells));
+-- ---- a node
+
+pub node_range : (n : Node) (qs : List Pointer) → FillsUpTo n.children (length n.children) qs → IsNode n → IsNode (with_children n qs)
+node_range n qs fills is = record {
+  least = is.least;
+  greatest = is.greatest;
+  children = λ i d lt. let less : i < length n.children = omega (arith, lt, fills.count) in
+      subst IsPointer (get_or_default qs i hole d lt)
+      (filled_range true (get_or n.children i hole) (get_or qs i hole) (fills.filled i less) (is.children i hole less));
+  some = sym (holes_alike qs) ∙ ap all_holes (all_alike n.children qs fills) ∙ holes_alike n.children ∙ is.some;
 }
+
+pub node_fills : (kind : ℕ) (b c : List ℕ) (n : Node) (qs : List Pointer) → form_of kind ≡ Some OfNode → shape_in (form_of kind) b ≡ Ok tt
+    → node_at b ≡ Ok n → node_at c ≡ Ok (with_children n qs) → FillsUpTo n.children (length n.children) qs → FillsBlock kind b c
+node_fills kind b c n qs form shaped was now fills = fills_by kind (Some OfNode) b c form shaped (record {
+  position = subst (λ (r : Result Node Shape). IfOk r (λ m. (ps : List Pointer) × (node_at c ≡ Ok (with_children m ps))))
+      (sym was) (qs, now);
+  alike = ap (λ (r : Result Node Shape). map hintless (pointers_of r)) now ∙ all_alike n.children qs fills
+      ∙ sym (ap (λ (r : Result Node Shape). map hintless (pointers_of r)) was);
+  count = ap (λ (r : Result Node Shape). length (pointers_of r)) now ∙ fills.count
+      ∙ sym (ap (λ (r : Result Node Shape). length (pointers_of r)) was);
+  known = ap (λ (r : Result Node Shape). list_any is_unknown (pointers_of r)) now ∙ all_known n.children qs fills;
+})
+
+-- ---- an inode block
+
+abbrev pub roots : List InodeRecord → List Pointer
+roots rs = map (λ (r : InodeRecord). r.root) rs
+
+-- the pointers of one that was read
+pub roots_by : (kind : ℕ) (b : List ℕ) (n : InodeBlock) → form_of kind ≡ Some OfInodes → inodes_at b ≡ Ok n → pointers_by (form_of kind) b ≡ roots n.files
+unfolding records_in
+roots_by kind b n form at =
+    ap (λ (f : Option Form). pointers_by f b) form ∙ ap (λ (r : Result InodeBlock Shape). roots (records_of r)) at
+
+module _ (rs ss : List InodeRecord) (qs : List Pointer) (fills : FillsUpTo (roots rs) (length (roots rs)) qs) (are : AreRooted rs (length rs) qs ss) where
+  as_many : length qs ≡ length rs
+  as_many = fills.count ∙ length-map rs (λ (r : InodeRecord). r.root)
+
+  filled_root : (i : ℕ) → i < length rs → IsFilledAs (get_or rs i free_record).root (get_or qs i hole)
+  filled_root i lt = subst (λ (p : Pointer). IsFilledAs p (get_or qs i hole))
+      (get_or-map (λ (r : InodeRecord). r.root) rs i free_record hole lt)
+      (fills.filled i (omega (arith, lt, length-map rs (λ (r : InodeRecord). r.root))))
+
+  pub roots_are : roots ss ≡ qs
+  roots_are = ext_get_or hole (roots ss) qs (length-map ss (λ (r : InodeRecord). r.root) ∙ are.count ∙ sym as_many) (λ i lt.
+      let low : i < length ss = omega (arith, lt, length-map ss (λ (r : InodeRecord). r.root)) in
+      get_or-map (λ (r : InodeRecord). r.root) ss i free_record hole low
+      ∙ ap (λ (r : InodeRecord). r.root) (are.rooted i (omega (arith, low, are.count))))
+
+  records_alike : map hintless_record ss ≡ map hintless_record rs
+  records_alike = ext_get_or free_record (map hintless_record ss) (map hintless_record rs)
+      (length-map ss hintless_record ∙ are.count ∙ sym (length-map rs hintless_record)) (λ i lt.
+      let low : i < length ss = omega (arith, lt, length-map ss hintless_record) in
+      let less : i < length rs = omega (arith, low, are.count) in
+      get_or-map hintless_record ss i free_record free_record low ∙ ap hintless_record (are.rooted i less)
+      ∙ ap (with_root (get_or rs i free_record)) (filled_alike (get_or rs i free_record).root (get_or qs i hole) (filled_root i less))
+      ∙ sym (get_or-map hintless_record rs i free_record free_record less))
+
+  record_range : (i : ℕ) → i < length rs → IsInodeRecord (get_or rs i free_record) → IsInodeRecord (get_or ss i free_record)
+  record_range i lt is = let r = get_or rs i free_record in subst IsInodeRecord (sym (are.rooted i lt)) (record {
+    name_length = is.name_length;
+    name_long = is.name_long;
+    name = is.name;
+    length = is.length;
+    reserve = is.reserve;
+    levels = is.levels;
+    root = filled_range (is_used r.name_length) r.root (get_or qs i hole) (filled_root i lt) is.root;
+  })
+
+pub inodes_range : (n : InodeBlock) (ss : List InodeRecord) (qs : List Pointer) → FillsUpTo (roots n.files) (length (roots n.files)) qs
+    → AreRooted n.files (length n.files) qs ss → IsInodeBlock n → IsInodeBlock (with_files n ss)
+inodes_range n ss qs fills are is = record {
+  files = λ i d lt. let less : i < length n.files = omega (arith, lt, are.count) in
+      subst IsInodeRecord (get_or_default ss i free_record d lt)
+      (record_range n.files ss qs fills are i less (is.files i free_record less));
+  some = sym (free_alike ss) ∙ ap all_free (records_alike n.files ss qs fills are) ∙ free_alike n.files ∙ is.some;
+}
+
+pub inodes_fill : (kind : ℕ) (b c : List ℕ) (n : InodeBlock) (ss : List InodeRecord) (qs : List Pointer) → form_of kind ≡ Some OfInodes
+    → shape_in (form_of kind) b ≡ Ok tt → inodes_at b ≡ Ok n → inodes_at c ≡ Ok (with_files n ss)
+    → FillsUpTo (roots n.files) (length (roots n.files)) qs → AreRooted n.files (length n.files) qs ss → FillsBlock kind b c
+unfolding records_in
+inodes_fill kind b c n ss qs form shaped was now fills are = fills_by kind (Some OfInodes) b c form shaped (record {
+  position = subst (λ (r : Result InodeBlock Shape). IfOk r (λ m. (rs : List InodeRecord) × (inodes_at c ≡ Ok (with_files m rs))))
+      (sym was) (ss, now);
+  alike = ap (λ (r : Result InodeBlock Shape). map hintless_record (records_of r)) now ∙ records_alike n.files ss qs fills are
+      ∙ sym (ap (λ (r : Result InodeBlock Shape). map hintless_record (records_of r)) was);
+  count = ap (λ (r : Result InodeBlock Shape). length (roots (records_of r))) now ∙ ap length (roots_are n.files ss qs fills are)
+      ∙ fills.count ∙ sym (ap (λ (r : Result InodeBlock Shape). length (roots (records_of r))) was);
+  known = ap (λ (r : Result InodeBlock Shape). list_any is_unknown (roots (records_of r))) now
+      ∙ ap (list_any is_unknown) (roots_are n.files ss qs fills are) ∙ all_known (roots n.files) qs fills;
+})
+
+-- ---- places of lists that are equal
+
+pub places_as : (at : Lies) (kind : ℕ) (ps qs xs ys : List Pointer) → xs ≡ ps → ys ≡ qs → ArePlaced at kind ps (length ps) qs → ArePlaced at kind xs (length xs) ys
+places_as at kind ps qs xs ys same new placed =
+    subst (λ (zs : List Pointer). ArePlaced at kind zs (length zs) ys) (sym same)
+    (subst (λ (zs : List Pointer). ArePlaced at kind ps (length ps) zs) (sym new) placed)

@@ -32,8 +32,8 @@ use fv_volumes::Volumes;
 ///
 /// It writes nothing. Costs a look-up and a read for each root, 24 and 1 of them at most; a look-up, a read and two decodes for each child
 /// that the search looks at, on each of at most six levels: a few on average of a node over nodes over cells and of one over inode blocks,
-/// those up to the first that isn't clean of another block, and all of a block twice at most; and a look-up, two decodes and an encode for
-/// each unknown pointer of the block that it cleans.
+/// those up to the first that isn't clean of another block, and all of a block twice at most; and a look-up for each unknown pointer of the
+/// block that it cleans, 128 at most, and a decode and an encode of that block.
 pub fn clean_step<D: Disk>(
     volumes: &mut Volumes,
     slot: u8,

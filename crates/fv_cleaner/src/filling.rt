@@ -1,20 +1,24 @@
 //! Filling in the places of one block.
 
-ghost use Rattle.std.specs.Prelude.{◌≡◌, ◌≢◌, ◌<◌, ◌≤◌, Ok, IfErr, IfOk, OnOk};
+ghost use Rattle.std.specs.Prelude.{◌≡◌, ◌≢◌, ◌<◌, ◌≤◌, Ok, Some, length, map, IfErr, IfOk, OnOk};
 ghost use Rattle.fv_codec.specs.Blocks.{last_place};
+ghost use Rattle.fv_codec.specs.declared.form.Form.TheVariants.{Node as OfNode, Inodes as OfInodes};
+ghost use Rattle.fv_codec.specs.declared.inode.InodeRecord.{InodeRecord};
 ghost use Rattle.fv_container.specs.Chains.{slot_count, TellsEntries};
 ghost use Rattle.fv_disk.specs.DiskCalls.{OnlyReads};
 ghost use Rattle.fv_disk.specs.Faults.{HasBlockCause};
+ghost use Rattle.fv_image.specs.HintRules.{is_unknown};
 ghost use Rattle.fv_places.specs.ByKind.{form_of, pointers_by, shape_in};
 ghost use Rattle.fv_pool.specs.BlocksOver.{LeavesPool};
 ghost use Rattle.fv_store.specs.Held.{StandsOn};
-ghost use Rattle.fv_cleaner.specs.Filling.{FillsBlock, FillsNext, FillsPlaces, LiesBelow};
+ghost use Rattle.fv_cleaner.specs.Filling.{ArePlaced, AreRooted, FillsBlock, FillsPlaces, FillsUpTo, LiesBelow};
 ghost use Rattle.fv_cleaner.specs.Searching.{IsUndamaged, LeadBelow, LeadsBelow, lies_in};
 
-use crate::searching::{POINTERS, bad_kind, bad_shape};
+use crate::searching::{bad_kind, bad_shape};
+use fv_codec::{Form, InodeBlock, InodeRecord, Node, Pointer};
 use fv_container::Entry;
 use fv_disk::{Block, BlockFault, Disk};
-use fv_places::{fill, first_unknown};
+use fv_places::{form_of, is_unknown, roots_of};
 use fv_pool::{Home, Pool, find_held};
 use fv_volmap::VolMap;
 
@@ -27,8 +31,7 @@ use fv_volmap::VolMap;
 /// below its own; or where a leaf of a container doesn't stand where it has to. `DiskFault` only where a read failed in this call. `Memory`
 /// never comes. At `Err` the content of `block` is open.
 ///
-/// Costs a look-up, two decodes and an encode for each unknown pointer, 128 at most, and a decode.
-#[tactic(auto, using(crate::proofs::Lying::leaves_then, fv_disk::proofs::Resting::reads_then))]
+/// Costs a look-up for each unknown pointer, 128 at most, and a decode and an encode of the block.
 pub fn fill_all<D: Disk>(
     pool: &mut Pool,
     disk: &mut D,
@@ -49,46 +52,105 @@ pub fn fill_all<D: Disk>(
     ensures cause { HasBlockCause (D.shown disk.old).faults (D.shown disk.new).faults result }
     ensures undamaged { TellsEntries (D.shown disk.old) pool.old.containers → LeadBelow (lies_in map.now pool.old home.now.slot (D.shown disk.old).reads) entry.now.kind (pointers_by (form_of entry.now.kind) block.old) → IfErr result IsUndamaged }
 {
-    let mut from = 0;
-    for _ in 0..POINTERS {
-        let Some(next) = fill_next(pool, disk, map, home, entry, block, from)? else {
-            return Ok(());
-        };
-        from = next;
+    match form_of(entry.kind) {
+        Some(Form::Node) => fill_node(pool, disk, map, home, entry, block),
+        Some(Form::Inodes) => fill_inodes(pool, disk, map, home, entry, block),
+        None => Ok(()),
     }
-    Ok(())
 }
 
-/// Fills in the place of the first unknown pointer of a block from an index on, and answers the index behind it; `None` where there is none.
-fn fill_next<D: Disk>(
+/// Fills in the places of a node.
+fn fill_node<D: Disk>(
     pool: &mut Pool,
     disk: &mut D,
     map: &VolMap,
     home: &Home,
     entry: &Entry,
     block: &mut Block,
-    from: u32,
-) -> Result<Option<u32>, BlockFault>
+) -> Result<(), BlockFault>
     requires slot { home.now.slot < slot_count }
     requires kind { 1 ≤ entry.now.kind }
+    requires form { form_of entry.now.kind ≡ Some OfNode }
+    requires shaped { shape_in (form_of entry.now.kind) block.old ≡ Ok tt }
     requires stands { StandsOn (D.shown disk.old) pool.old.store.pairs }
-    ensures fills { IfOk result (FillsNext (TellsEntries (D.shown disk.old) pool.old.containers) (lies_in map.now pool.old home.now.slot (D.shown disk.old).reads) entry.now.kind block.old from block.new) }
+    ensures fills { OnOk result (FillsBlock entry.now.kind block.old block.new) }
+    ensures places { TellsEntries (D.shown disk.old) pool.old.containers → OnOk result (FillsPlaces (lies_in map.now pool.old home.now.slot (D.shown disk.old).reads) entry.now.kind block.old block.new) }
     ensures leaves { LeavesPool pool.old pool.new }
     ensures stands { StandsOn (D.shown disk.new) pool.new.store.pairs }
     ensures only_reads { OnlyReads (D.shown disk.old) (D.shown disk.new) }
     ensures cause { HasBlockCause (D.shown disk.old).faults (D.shown disk.new).faults result }
-    ensures undamaged { TellsEntries (D.shown disk.old) pool.old.containers → shape_in (form_of entry.now.kind) block.old ≡ Ok tt → LeadBelow (lies_in map.now pool.old home.now.slot (D.shown disk.old).reads) entry.now.kind (pointers_by (form_of entry.now.kind) block.old) → IfErr result IsUndamaged }
+    ensures undamaged { TellsEntries (D.shown disk.old) pool.old.containers → LeadBelow (lies_in map.now pool.old home.now.slot (D.shown disk.old).reads) entry.now.kind (pointers_by (form_of entry.now.kind) block.old) → IfErr result IsUndamaged }
 {
-    let (index, pointer) = match first_unknown(entry.kind, block, from) {
-        Ok(Some(first)) => first,
-        Ok(None) => return Ok(None),
+    let mut node = match Node::decode(block) {
+        Ok(node) => node,
         Err(shape) => return Err(bad_shape(entry, shape)),
     };
-    let place = place_below(pool, disk, map, home, entry, pointer.vvbn)?;
-    match fill(entry.kind, block, index, place) {
-        Ok(()) => Ok(Some(index + 1)),
-        Err(shape) => Err(bad_shape(entry, shape)),
+    fill_each(pool, disk, map, home, entry, &mut node.children)?;
+    node.encode(block);
+    Ok(())
+}
+
+/// Fills in the places of the roots in an inode block.
+fn fill_inodes<D: Disk>(
+    pool: &mut Pool,
+    disk: &mut D,
+    map: &VolMap,
+    home: &Home,
+    entry: &Entry,
+    block: &mut Block,
+) -> Result<(), BlockFault>
+    requires slot { home.now.slot < slot_count }
+    requires kind { 1 ≤ entry.now.kind }
+    requires form { form_of entry.now.kind ≡ Some OfInodes }
+    requires shaped { shape_in (form_of entry.now.kind) block.old ≡ Ok tt }
+    requires stands { StandsOn (D.shown disk.old) pool.old.store.pairs }
+    ensures fills { OnOk result (FillsBlock entry.now.kind block.old block.new) }
+    ensures places { TellsEntries (D.shown disk.old) pool.old.containers → OnOk result (FillsPlaces (lies_in map.now pool.old home.now.slot (D.shown disk.old).reads) entry.now.kind block.old block.new) }
+    ensures leaves { LeavesPool pool.old pool.new }
+    ensures stands { StandsOn (D.shown disk.new) pool.new.store.pairs }
+    ensures only_reads { OnlyReads (D.shown disk.old) (D.shown disk.new) }
+    ensures cause { HasBlockCause (D.shown disk.old).faults (D.shown disk.new).faults result }
+    ensures undamaged { TellsEntries (D.shown disk.old) pool.old.containers → LeadBelow (lies_in map.now pool.old home.now.slot (D.shown disk.old).reads) entry.now.kind (pointers_by (form_of entry.now.kind) block.old) → IfErr result IsUndamaged }
+{
+    let mut inodes = match InodeBlock::decode(block) {
+        Ok(inodes) => inodes,
+        Err(shape) => return Err(bad_shape(entry, shape)),
+    };
+    let mut roots = roots_of(&inodes.files);
+    fill_each(pool, disk, map, home, entry, &mut roots)?;
+    set_roots(&mut inodes.files, &roots);
+    inodes.encode(block);
+    Ok(())
+}
+
+/// Gives each unknown pointer of those in the block of this entry its place, one after another.
+#[tactic(auto, using(crate::proofs::Lying::leaves_then, fv_disk::proofs::Resting::reads_then))]
+fn fill_each<D: Disk>(
+    pool: &mut Pool,
+    disk: &mut D,
+    map: &VolMap,
+    home: &Home,
+    entry: &Entry,
+    pointers: &mut [Pointer],
+) -> Result<(), BlockFault>
+    requires slot { home.now.slot < slot_count }
+    requires kind { 1 ≤ entry.now.kind }
+    requires stands { StandsOn (D.shown disk.old) pool.old.store.pairs }
+    ensures fills { OnOk result (FillsUpTo pointers.old (length pointers.old) pointers.new) }
+    ensures places { TellsEntries (D.shown disk.old) pool.old.containers → OnOk result (ArePlaced (lies_in map.now pool.old home.now.slot (D.shown disk.old).reads) entry.now.kind pointers.old (length pointers.old) pointers.new) }
+    ensures leaves { LeavesPool pool.old pool.new }
+    ensures stands { StandsOn (D.shown disk.new) pool.new.store.pairs }
+    ensures only_reads { OnlyReads (D.shown disk.old) (D.shown disk.new) }
+    ensures cause { HasBlockCause (D.shown disk.old).faults (D.shown disk.new).faults result }
+    ensures undamaged { TellsEntries (D.shown disk.old) pool.old.containers → LeadBelow (lies_in map.now pool.old home.now.slot (D.shown disk.old).reads) entry.now.kind pointers.old → IfErr result IsUndamaged }
+{
+    for i in 0..pointers.len() {
+        if is_unknown(&pointers[i]) {
+            let place = place_below(pool, disk, map, home, entry, pointers[i].vvbn)?;
+            pointers[i].pvbn = u64::from(place);
+        }
     }
+    Ok(())
 }
 
 /// Where the block of a VVBN lies, to which the block of this entry leads.
@@ -118,4 +180,14 @@ fn place_below<D: Disk>(
         return Err(bad_kind(&below, most));
     }
     Ok(below.pvbn)
+}
+
+/// Gives each record the root of its index.
+fn set_roots(files: &mut [InodeRecord], roots: &[Pointer])
+    requires { length roots.now ≡ length files.old }
+    ensures { AreRooted files.old (length files.old) roots.now files.new }
+{
+    for i in 0..files.len() {
+        files[i].root = roots[i];
+    }
 }

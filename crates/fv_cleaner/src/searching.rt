@@ -31,7 +31,7 @@ const OVER_INODES: u8 = 6;
 /// The kind of the topmost node of an inode file.
 const TOPMOST: u8 = 7;
 /// The most pointers that a block has.
-pub(crate) const POINTERS: u32 = 128;
+const POINTERS: u32 = 128;
 /// How far apart of 128 indices steps begin that follow each other: an odd number near to the golden section, which spreads them evenly.
 const BY_STEPS: u64 = 79;
 /// How far apart the steps before a point and those behind it begin.

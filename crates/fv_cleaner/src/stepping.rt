@@ -18,6 +18,7 @@ use crate::filling::fill_all;
 use crate::searching::{Found, find_under};
 use fv_codec::Pointer;
 use fv_disk::{Block, BlockFault, Disk, ZERO};
+use fv_places::is_unknown;
 use fv_pool::{Home, Pool, find_held, known_maps, move_block};
 use fv_volmap::{STORED_SLOTS, VolMap};
 use fv_volume::{Snap, VolumeState};
@@ -215,11 +216,4 @@ fn place_of<D: Disk>(
     }
     let entry = find_held(pool, disk, map, home, root.vvbn)?;
     Ok(entry.pvbn)
-}
-
-/// Whether a pointer leads to a block whose place isn't known.
-fn is_unknown(pointer: &Pointer) -> bool
-    ensures { result ≡ is_unknown pointer.now }
-{
-    pointer.stamp != 0 && pointer.pvbn == 0
 }

@@ -1,6 +1,6 @@
 -- What says the same but for hints is what is equal once the places are out, at one position.
-use Rattle.std.proofs.Common.{◌≡◌, ℕ, zero, suc, Bool, true, false, List, [], ◌∷◌, map, Result, Ok, refl, sym, ap, ◌∙◌}
-use Rattle.std.specs.Prelude.{Option, Some, None, ◌==◌, if◌then◌else◌}
+use Rattle.std.proofs.Common.{◌≡◌, ℕ, List, [], ◌∷◌, map, Result, Ok, refl, sym, ap, ◌∙◌}
+use Rattle.std.specs.Prelude.{Option, Some, None}
 use Rattle.fv_codec.specs.declared.shape.Shape.{Shape}
 use Rattle.fv_codec.specs.declared.form.Form.{Form}
 use Rattle.fv_codec.specs.declared.form.Form.TheVariants.{Node as OfNode, Inodes as OfInodes}
@@ -14,7 +14,7 @@ use Rattle.fv_tables.specs.Spelled.{pointers_of}
 use Rattle.fv_tables.specs.Told.{records_of, records_in}
 use Rattle.fv_tables.specs.Alike.{hintless, hintless_record, SpellAlike, RecordAlike, SaysAlike}
 use Rattle.fv_places.specs.ByKind.{form_of, shape_in}
-use Rattle.fv_places.specs.Changed.{Blanks, Fills, KeepsPosition, with_children, with_files, with_root, hintless_node, hintless_inodes, placed, placed_at, rooted_at}
+use Rattle.fv_places.specs.Changed.{Blanks, KeepsPosition, with_children, with_files, hintless_node, hintless_inodes}
 use Rattle.fv_places.proofs.Forms.{AlikeAs, says_by, node_kind, inode_kind, node_read, inodes_read}
 use Rattle.fv_places.proofs.Positions.{read_node, read_inodes, said_node, said_inodes}
 
@@ -55,7 +55,7 @@ alike_inodes b c n m was now alike =
     sym (ap (λ (r : Result InodeBlock Shape). map hintless_record (records_of r)) now) ∙ alike
     ∙ ap (λ (r : Result InodeBlock Shape). map hintless_record (records_of r)) was
 
--- ---- blank and filled blocks say the same
+-- ---- blank blocks say the same
 
 blank_alike : (f : Option Form) (b c : List ℕ) → shape_in f b ≡ Ok tt → Blanks f b c → AlikeAs f b c
 blank_alike None b c shaped blanks = blanks
@@ -67,36 +67,6 @@ blank_alike (Some OfInodes) b c shaped blanks = let r = inodes_read b shaped in
 -- A blank block says what the block said, but for hints.
 pub blank_says : (kind : ℕ) (b c : List ℕ) → shape_in (form_of kind) b ≡ Ok tt → Blanks (form_of kind) b c → SaysAlike kind b c
 blank_says kind b c shaped blanks = says_by kind b c (blank_alike (form_of kind) b c shaped blanks)
-
-placed_alike : (pvbn : ℕ) (p : Pointer) → hintless (placed pvbn p) ≡ hintless p
-placed_alike pvbn p = by (p.stamp == 0)
-  where
-    by : (z : Bool) → hintless (if z then p else record { vvbn = p.vvbn; pvbn = pvbn; stamp = p.stamp }) ≡ hintless p
-    by true = refl
-    by false = refl
-
-placed_at_alike : (pvbn : ℕ) (ps : List Pointer) (i : ℕ) → map hintless (placed_at i pvbn ps) ≡ map hintless ps
-placed_at_alike pvbn [] zero = refl
-placed_at_alike pvbn [] (suc i) = refl
-placed_at_alike pvbn (p ∷ ps) zero = ap (λ (q : Pointer). q ∷ map hintless ps) (placed_alike pvbn p)
-placed_at_alike pvbn (p ∷ ps) (suc i) = ap (λ (qs : List Pointer). hintless p ∷ qs) (placed_at_alike pvbn ps i)
-
-rooted_at_alike : (pvbn : ℕ) (rs : List InodeRecord) (i : ℕ) → map hintless_record (rooted_at i pvbn rs) ≡ map hintless_record rs
-rooted_at_alike pvbn [] zero = refl
-rooted_at_alike pvbn [] (suc i) = refl
-rooted_at_alike pvbn (r ∷ rs) zero = ap (λ (q : Pointer). with_root r q ∷ map hintless_record rs) (placed_alike pvbn r.root)
-rooted_at_alike pvbn (r ∷ rs) (suc i) = ap (λ (qs : List InodeRecord). hintless_record r ∷ qs) (rooted_at_alike pvbn rs i)
-
-fill_alike : (f : Option Form) (i pvbn : ℕ) (b c : List ℕ) → shape_in f b ≡ Ok tt → Fills f i pvbn b c → AlikeAs f b c
-fill_alike None i pvbn b c shaped fills = fills
-fill_alike (Some OfNode) i pvbn b c shaped fills = let r = node_read b shaped in
-    nodes_alike b c r.0 _ r.1 (read_node b _ r.0 fills r.1) (placed_at_alike pvbn r.0.children i)
-fill_alike (Some OfInodes) i pvbn b c shaped fills = let r = inodes_read b shaped in
-    inodes_alike b c r.0 _ r.1 (read_inodes b _ r.0 fills r.1) (rooted_at_alike pvbn r.0.files i)
-
--- So does a filled one.
-pub fill_says : (kind i pvbn : ℕ) (b c : List ℕ) → shape_in (form_of kind) b ≡ Ok tt → Fills (form_of kind) i pvbn b c → SaysAlike kind b c
-fill_says kind i pvbn b c shaped fills = says_by kind b c (fill_alike (form_of kind) i pvbn b c shaped fills)
 
 -- what says the same as what says the same
 pub says_then : (kind : ℕ) (b c d : List ℕ) → SaysAlike kind b c → SaysAlike kind c d → SaysAlike kind b d

@@ -1,4 +1,4 @@
--- What stands in a block that was made blank or filled, or that was searched, in the words of the laws of places.
+-- What stands in a block that was made blank, or that was searched, in the words of the laws of places.
 use Rattle.std.proofs.Common.{◌≡◌, ◌≢◌, ℕ, zero, suc, ◌<◌, ◌≤◌, Bool, true, false, not, ◌&&◌, List, [], ◌∷◌, map, length, get_or, Result, Ok, refl, sym, ap, subst, ◌∙◌, arith}
 use Rattle.std.specs.Prelude.{Option, Some, None, ◌==◌}
 use Rattle.std.specs.List.{list_any}
@@ -24,7 +24,7 @@ use Rattle.fv_image.specs.HintRules.{is_unknown}
 use Rattle.fv_image.proofs.WellNodes.{length_items}
 use Rattle.fv_places.specs.Inside.{StandsIn, IsBlank, HoldsUnknown}
 use Rattle.fv_places.specs.ByKind.{form_of, shape_in, pointers_by}
-use Rattle.fv_places.specs.Changed.{Blanks, Fills, are_blank, is_blank, placed_at, rooted_at}
+use Rattle.fv_places.specs.Changed.{Blanks, are_blank, is_blank}
 use Rattle.fv_places.specs.Firsts.{IsFirstAt}
 use Rattle.fv_places.proofs.Fitting.{root_got}
 use Rattle.fv_places.proofs.Leaf.{unknown_got}
@@ -40,12 +40,6 @@ roots_blank : (rs : List InodeRecord) → roots (map hintless_record rs) ≡ map
 roots_blank [] = refl
 roots_blank (r ∷ rs) = ap (λ (ps : List Pointer). hintless r.root ∷ ps) (roots_blank rs)
 
-roots_filled : (pvbn : ℕ) (rs : List InodeRecord) (i : ℕ) → roots (rooted_at i pvbn rs) ≡ placed_at i pvbn (roots rs)
-roots_filled pvbn [] zero = refl
-roots_filled pvbn [] (suc i) = refl
-roots_filled pvbn (r ∷ rs) zero = refl
-roots_filled pvbn (r ∷ rs) (suc i) = ap (λ (ps : List Pointer). r.root ∷ ps) (roots_filled pvbn rs i)
-
 -- A blank block has the pointers of the block, each without its place.
 pub blank_inside : (f : Option Form) (b c : List ℕ) → shape_in f b ≡ Ok tt → Blanks f b c → pointers_by f c ≡ map hintless (pointers_by f b)
 unfolding records_in
@@ -55,18 +49,6 @@ blank_inside (Some OfNode) b c shaped blanks = let r = node_read b shaped in
 blank_inside (Some OfInodes) b c shaped blanks = let r = inodes_read b shaped in
     ap (λ (x : Result InodeBlock Shape). roots (records_of x)) (read_inodes b _ r.0 blanks r.1) ∙ roots_blank r.0.files
     ∙ sym (ap (λ (x : Result InodeBlock Shape). map hintless (roots (records_of x))) r.1)
-
--- A filled block has them with the place of one.
-pub filled_inside : (f : Option Form) (i pvbn : ℕ) (b c : List ℕ) → shape_in f b ≡ Ok tt → Fills f i pvbn b c
-    → pointers_by f c ≡ placed_at i pvbn (pointers_by f b)
-unfolding records_in
-filled_inside None zero pvbn b c shaped fills = refl
-filled_inside None (suc i) pvbn b c shaped fills = refl
-filled_inside (Some OfNode) i pvbn b c shaped fills = let r = node_read b shaped in
-    ap pointers_of (read_node b _ r.0 fills r.1) ∙ sym (ap (λ (x : Result Node Shape). placed_at i pvbn (pointers_of x)) r.1)
-filled_inside (Some OfInodes) i pvbn b c shaped fills = let r = inodes_read b shaped in
-    ap (λ (x : Result InodeBlock Shape). roots (records_of x)) (read_inodes b _ r.0 fills r.1) ∙ roots_filled pvbn r.0.files i
-    ∙ sym (ap (λ (x : Result InodeBlock Shape). placed_at i pvbn (roots (records_of x))) r.1)
 
 -- ---- blank
 

@@ -20,7 +20,7 @@ use Rattle.fv_image.specs.BlockRules.{is_fine}
 use Rattle.fv_image.specs.ReachRules.{shape_for, is_of_position, node_is, inodes_are}
 use Rattle.fv_places.specs.Mirrors.{Copies, KeepsForms}
 use Rattle.fv_places.specs.ByKind.{form_of, shape_in}
-use Rattle.fv_places.specs.Changed.{Blanks, Fills, KeepsPosition, with_children, with_files, placed_at, rooted_at}
+use Rattle.fv_places.specs.Changed.{Blanks, KeepsPosition, with_children, with_files}
 use Rattle.fv_places.proofs.Forms.{node_read, inodes_read}
 
 -- the marks
@@ -60,17 +60,12 @@ said_inodes b P holds = by (inodes_at b) refl
     by (Ok n) at = holds n at
     by (Err fault) at = tt
 
--- ---- blank and filled blocks keep their position
+-- ---- blank blocks keep their position
 
 pub blanks_keep : (f : Option Form) (b c : List ℕ) → Blanks f b c → KeepsPosition f b c
 blanks_keep None b c blanks = blanks
 blanks_keep (Some OfNode) b c blanks = said_node b _ (λ n at. (map hintless n.children, read_node b _ n blanks at))
 blanks_keep (Some OfInodes) b c blanks = said_inodes b _ (λ n at. (map hintless_record n.files, read_inodes b _ n blanks at))
-
-pub fills_keep : (f : Option Form) (i pvbn : ℕ) (b c : List ℕ) → Fills f i pvbn b c → KeepsPosition f b c
-fills_keep None i pvbn b c fills = fills
-fills_keep (Some OfNode) i pvbn b c fills = said_node b _ (λ n at. (placed_at i pvbn n.children, read_node b _ n fills at))
-fills_keep (Some OfInodes) i pvbn b c fills = said_inodes b _ (λ n at. (rooted_at i pvbn n.files, read_inodes b _ n fills at))
 
 -- so a block that was changed has its shape, and one change after another is one
 pub keeps_fine : (f : Option Form) (b c : List ℕ) → shape_in f b ≡ Ok tt → KeepsPosition f b c → shape_in f c ≡ Ok tt

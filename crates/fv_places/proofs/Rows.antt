@@ -7,7 +7,7 @@ use Rattle.fv_tables.specs.Spelled.{hole}
 use Rattle.fv_tables.specs.Alike.{hintless}
 use Rattle.fv_image.specs.HintRules.{is_unknown}
 use Rattle.fv_places.specs.ByKind.{form_of}
-use Rattle.fv_places.specs.Changed.{are_blank, placed_at}
+use Rattle.fv_places.specs.Changed.{are_blank}
 
 kinds : map form_of (1 ∷ 2 ∷ 3 ∷ 4 ∷ 5 ∷ 6 ∷ 7 ∷ 8 ∷ [])
     ≡ None ∷ Some Node ∷ Some Node ∷ Some Node ∷ Some Inodes ∷ Some Node ∷ Some Node ∷ None ∷ []
@@ -27,10 +27,3 @@ blank = refl
 
 before_and_after : are_blank three ∷ are_blank (map hintless three) ∷ [] ≡ false ∷ true ∷ []
 before_and_after = refl
-
-filled : placed_at 1 420 three ≡ to 7 300 ∷ to 8 420 ∷ hole ∷ []
-filled = refl
-
--- a hole stays one, and behind the last pointer nothing changes
-not_filled : placed_at 2 420 three ∷ placed_at 3 420 three ∷ [] ≡ three ∷ three ∷ []
-not_filled = refl

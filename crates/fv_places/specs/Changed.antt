@@ -1,6 +1,6 @@
 -- A block in which pointers got other hints, by its form. An example: a node has the pointers 7 (at 300) and 8 (place unknown). Blank, it has
--- 7 and 8, both unknown; filled at its second index with 420 it has 7 (at 300) and 8 (at 420). All else of it is as it was.
-use Rattle.std.specs.Prelude.{◌≡◌, ℕ, Bool, List, map, Option, Some, None, Ok, IfOk, get_or, slice_set, ◌==◌, if◌then◌else◌}
+-- 7 and 8, both unknown. All else of it is as it was.
+use Rattle.std.specs.Prelude.{◌≡◌, ℕ, Bool, List, map, Option, Some, None, Ok, IfOk, ◌==◌}
 use Rattle.std.specs.List.{list_all}
 use Rattle.fv_codec.specs.declared.form.Form.{Form}
 use Rattle.fv_codec.specs.declared.form.Form.TheVariants.{Node as OfNode, Inodes as OfInodes}
@@ -9,8 +9,6 @@ use Rattle.fv_codec.specs.declared.node.Node.{Node}
 use Rattle.fv_codec.specs.declared.inode.InodeRecord.{InodeRecord}
 use Rattle.fv_codec.specs.declared.inode.InodeBlock.{InodeBlock}
 use Rattle.fv_codec.specs.Blocks.{node_at, inodes_at}
-use Rattle.fv_tables.specs.Spelled.{hole}
-use Rattle.fv_tables.specs.Told.{free_record}
 use Rattle.fv_tables.specs.Alike.{hintless, hintless_record}
 use Rattle.fv_places.specs.ByKind.{pointers_by}
 
@@ -52,25 +50,6 @@ are_blank ps = list_all (λ (p : Pointer). p.pvbn == 0) ps
 
 abbrev pub is_blank : Option Form → List ℕ → Bool
 is_blank form b = are_blank (pointers_by form b)
-
--- ---- filled
-
--- a pointer with a place; a hole stays one
-abbrev pub placed : ℕ → Pointer → Pointer
-placed pvbn p = if p.stamp == 0 then p else record { vvbn = p.vvbn; pvbn = pvbn; stamp = p.stamp }
-
--- pointers, and records, of which the one at an index got a place; past the last they stay as they are
-abbrev pub placed_at : ℕ → ℕ → List Pointer → List Pointer
-placed_at i pvbn ps = slice_set ps i (placed pvbn (get_or ps i hole))
-
-abbrev pub rooted_at : ℕ → ℕ → List InodeRecord → List InodeRecord
-rooted_at i pvbn rs = slice_set rs i (with_root (get_or rs i free_record) (placed pvbn (get_or rs i free_record).root))
-
--- c is b with this place in its pointer at an index
-abbrev pub Fills : Option Form → ℕ → ℕ → List ℕ → List ℕ → Type 0
-Fills None i pvbn b c = c ≡ b
-Fills (Some OfNode) i pvbn b c = IfOk (node_at b) (λ n. node_at c ≡ Ok (with_children n (placed_at i pvbn n.children)))
-Fills (Some OfInodes) i pvbn b c = IfOk (inodes_at b) (λ n. inodes_at c ≡ Ok (with_files n (rooted_at i pvbn n.files)))
 
 -- ---- what stays
 

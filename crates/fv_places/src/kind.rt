@@ -6,8 +6,8 @@ ghost use Rattle.fv_places.specs.ByKind.{form_of};
 use fv_codec::Form;
 
 /// What has the pointers in a block of a kind: a node (2 to 4, 6 and 7) or an inode block (5). Data (1), volume maps (8) and numbers that
-/// are no kind have none.
-pub(crate) fn form_of(kind: u8) -> Option<Form>
+/// are no kind have none. Costs a step.
+pub fn form_of(kind: u8) -> Option<Form>
     ensures { result ≡ form_of kind }
 {
     match kind {

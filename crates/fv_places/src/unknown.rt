@@ -56,8 +56,8 @@ fn first_root(block: &[u8; 4096], from: u32) -> Result<Option<(u32, Pointer)>, S
     Ok(first_of(&roots_of(&inodes.files), from))
 }
 
-/// The roots of records.
-pub(crate) fn roots_of(files: &[InodeRecord; 16]) -> [Pointer; 16]
+/// The roots of the records of an inode block, in their order. Costs a copy of each.
+pub fn roots_of(files: &[InodeRecord; 16]) -> [Pointer; 16]
     ensures { result ≡ map (λ (r : InodeRecord). r.root) files.now }
 {
     let mut roots = [Pointer::HOLE; 16];
@@ -80,8 +80,8 @@ fn first_of(pointers: &[Pointer], from: u32) -> Option<(u32, Pointer)>
     None
 }
 
-/// Whether a pointer leads to a block whose place isn't known.
-fn is_unknown(pointer: &Pointer) -> bool
+/// Whether a pointer leads to a block whose place isn't known: it has a stamp, and its PVBN is 0. Costs a step.
+pub fn is_unknown(pointer: &Pointer) -> bool
     ensures { result ≡ is_unknown pointer.now }
 {
     pointer.stamp != 0 && pointer.pvbn == 0

@@ -168,3 +168,6 @@ asks_gen asked seed count old new result some holds = record {
 
     same_count : (x y : ℕ) → asked ≡ Some (Gen x y) → count ≡ y
     same_count x y also = cc
+
+-- every order, and words without one
+pub ruleset order_laws = (has_size, asks_nothing, asks_create, asks_run, asks_check, asks_gen)

@@ -25,6 +25,7 @@ use Rattle.fv_run.specs.Answering.{BeginsFor}
 use Rattle.fv_run.specs.Endings.{count_of, IsWholeFault, of_opening, raised_by}
 use Rattle.fv_run.specs.Generating.{GaveNone, GaveUpTo, Generates, HasGenerated, HasReasonFor, IsHurtWithin, Outlasts, OutlastsFrom, summary_of}
 use Rattle.fv_run.specs.Running.{IsUnopened}
+use Rattle.fv_run.proofs.EndsKept.{counts_kept, counts_rose}
 use Rattle.fv_run.proofs.Sessions.{not_damaged, not_opened}
 use Rattle.fv_run.proofs.Summed.{GeneratesOpen, IsLateFault}
 
@@ -73,18 +74,15 @@ module _ (lines : List Line) (old mid : Shown) (laws : IsDisk old) (unwritten : 
       left = same_left;
     }
 
-    no_count : mid.faults ≡ old.faults → Counts old mid None
-    no_count same = record { tells = unwritten.kept.tells; source = ap (λ (e : Ends). e.source_faults) unwritten.kept.ends; sink = ap (λ (e : Ends). e.sink_faults) unwritten.kept.ends; disk = same }
-
     pub not_open : (fault : OpenFault) → (IsTrue old.tells → (m : Machine) → machine_of old.reads ≡ Some m → (fault ≡ opening.DiskFault) ⊎ (fault ≡ opening.Memory)) → (IsTrue old.tells → IsOpenFault old.reads fault)
         → HasOpenCause {T = Session} old.faults mid.faults (Err fault) → Generates lines old mid (Err (of_opening fault))
-    not_open opening.DiskFault whole is cause = unopened Disk (record { tells = unwritten.kept.tells; source = ap (λ (e : Ends). e.source_faults) unwritten.kept.ends; sink = ap (λ (e : Ends). e.sink_faults) unwritten.kept.ends; disk = cause }) tt (λ tells m stands. tt) (λ tells none. tt) (λ line. unwritten.kept.given) unwritten.kept.given
-    not_open opening.Memory whole is cause = unopened Memory (no_count cause) tt (λ tells m stands. tt) (λ tells none. tt) (λ line. unwritten.kept.given) unwritten.kept.given
-    not_open opening.NotAggregate whole is cause = unopened NotAggregate (no_count cause) (unwritten, is) (λ tells m stands. neither (whole tells m stands)) (λ tells none. tt) (λ line. unwritten.kept.given) unwritten.kept.given
+    not_open opening.DiskFault whole is cause = unopened Disk (counts_rose unwritten.kept cause) tt (λ tells m stands. tt) (λ tells none. tt) (λ line. unwritten.kept.given) unwritten.kept.given
+    not_open opening.Memory whole is cause = unopened Memory (counts_kept unwritten.kept cause) tt (λ tells m stands. tt) (λ tells none. tt) (λ line. unwritten.kept.given) unwritten.kept.given
+    not_open opening.NotAggregate whole is cause = unopened NotAggregate (counts_kept unwritten.kept cause) (unwritten, is) (λ tells m stands. neither (whole tells m stands)) (λ tells none. tt) (λ line. unwritten.kept.given) unwritten.kept.given
       where
         neither : (opening.NotAggregate ≡ opening.DiskFault) ⊎ (opening.NotAggregate ≡ opening.Memory) → ⊥
         neither one = ⊎_elim (λ (e : opening.NotAggregate ≡ opening.DiskFault). cc) (λ (e : opening.NotAggregate ≡ opening.Memory). cc) one
-    not_open (opening.Damaged at want found) whole is cause = unopened Damaged (no_count cause) (λ tells. inl (unwritten, (at, want, found, is tells))) (λ tells m stands. neither (whole tells m stands)) (λ tells none. absurd (not_damaged old.reads at want found none (is tells))) (λ line. unwritten.kept.given) unwritten.kept.given
+    not_open (opening.Damaged at want found) whole is cause = unopened Damaged (counts_kept unwritten.kept cause) (λ tells. inl (unwritten, (at, want, found, is tells))) (λ tells m stands. neither (whole tells m stands)) (λ tells none. absurd (not_damaged old.reads at want found none (is tells))) (λ line. unwritten.kept.given) unwritten.kept.given
       where
         neither : (opening.Damaged at want found ≡ opening.DiskFault) ⊎ (opening.Damaged at want found ≡ opening.Memory) → ⊥
         neither one = ⊎_elim (λ (e : opening.Damaged at want found ≡ opening.DiskFault). cc) (λ (e : opening.Damaged at want found ≡ opening.Memory). cc) one
@@ -114,7 +112,7 @@ module _ (lines : List Line) (old mid : Shown) (laws : IsDisk old) (unwritten : 
     meanwhile m crash = subst (λ (g : List ℕ). Leaves mid new (Outlasts m lines g)) unwritten.kept.given crash
 
     open_counts : Counts old mid None
-    open_counts = record { tells = unwritten.kept.tells; source = ap (λ (e : Ends). e.source_faults) unwritten.kept.ends; sink = ap (λ (e : Ends). e.sink_faults) unwritten.kept.ends; disk = calm.faults }
+    open_counts = counts_kept unwritten.kept calm.faults
 
     done_since : (m : Machine) (result : Result Unit Fault) → OnOk result (HasGenerated m lines mid new) → OnOk result (HasGenerated m lines old new)
     done_since m (Ok done) h = record { settled = h.settled; stands = h.stands; given = since_given (summary_of m lines) h.given }

@@ -33,6 +33,7 @@ use Rattle.fv_run.specs.Endings.{count_of, IsWholeFault, of_session}
 use Rattle.fv_run.specs.Probes.{AnswersProbes}
 use Rattle.fv_run.specs.Running.{HasChanged, IsAtRest, IsHurtBehind, IsOverLimit, KeepsUp, MeetsDamage, most_rooms, rooms_along, Survives, IsQuiet}
 use Rattle.fv_run.specs.Answering.{AsksFor, HasAnswered, IsAtEnd, IsEndOf, IsHurtBy, Lacks, LacksSpace, LosesLeaf, IsLine, TellsLine, BeginsFor}
+use Rattle.fv_run.proofs.EndsKept.{counts_kept, counts_rose}
 use Rattle.fv_run.proofs.Acked.{acked_all, acked_whole, up_to_take}
 use Rattle.fv_run.proofs.Courses.{undergoes_read}
 use Rattle.fv_run.proofs.Following.{follows_part, follows_whole, full}
@@ -145,7 +146,7 @@ module _ (limit : ℕ) (session : Session) (mid : Shown) (last : Session) (end :
 
       point_counts : Counts mid point None
       point_counts = counts_then mid end point None at_end.stands.counts
-          (record { tells = keeps.tells; source = ap (λ (e : Ends). e.source_faults) keeps.ends; sink = ap (λ (e : Ends). e.sink_faults) keeps.ends; disk = calm })
+          (counts_kept keeps calm)
 
       given_at : (tells : IsTrue mid.tells) (m : Machine) (stands : BeginsFor mid session m) (g bytes : List ℕ) → g ≡ point.given ++ bytes → g ≡ mid.given ++ (flat_map text (answers tells m stands).replies ++ bytes)
       given_at tells m stands g bytes is = let a = answers tells m stands in
@@ -315,13 +316,13 @@ module _ (limit : ℕ) (session : Session) (mid : Shown) (last : Session) (end :
       → (IsTrue end.tells → (before m : Machine) → StandsFor end last before m → IsNone next.failed → StandsFor point next before m)
       → calls.IsForWant end last point next fault → RanOpen limit session mid point (Err (of_session fault))
   point_failed next point session_fault.DiskFault goes goes_for kept wants = point_stopped next point (λ tells before m stands. (goes_for tells before m stands).any_moment) goes.ends Disk
-      (record { tells = goes.ends.tells; source = ap (λ (e : Ends). e.source_faults) goes.ends.ends; sink = ap (λ (e : Ends). e.sink_faults) goes.ends.ends; disk = goes.fault.counts.faults })
+      (counts_rose goes.ends goes.fault.counts.faults)
       (λ tells before m stands calm. kept tells before m stands (goes.fault.session.by_read calm)) (λ tells m stands. tt) tt
   point_failed next point session_fault.Memory goes goes_for kept wants = point_stopped next point (λ tells before m stands. (goes_for tells before m stands).any_moment) goes.ends Memory
-      (record { tells = goes.ends.tells; source = ap (λ (e : Ends). e.source_faults) goes.ends.ends; sink = ap (λ (e : Ends). e.sink_faults) goes.ends.ends; disk = goes.fault.counts.faults })
+      (counts_kept goes.ends goes.fault.counts.faults)
       (λ tells before m stands calm. kept tells before m stands goes.fault.session) (λ tells m stands. tt) tt
   point_failed next point (session_fault.Damaged at want found) goes goes_for kept wants = point_stopped next point (λ tells before m stands. (goes_for tells before m stands).any_moment) goes.ends Damaged
-      (record { tells = goes.ends.tells; source = ap (λ (e : Ends). e.source_faults) goes.ends.ends; sink = ap (λ (e : Ends). e.sink_faults) goes.ends.ends; disk = goes.fault.counts.faults })
+      (counts_kept goes.ends goes.fault.counts.faults)
       (λ tells before m stands calm. absurd (goes_for tells before m stands).whole)
       (λ tells m stands. let a = answers tells m stands in absurd (goes_for (end_told tells) (after m (lines_built mid.ends.left) a.applied.point) (after m (lines_built mid.ends.left) count) a.applied.stands).whole)
       (damaged point goes.ends (next, (goes.stands goes.fault.session, hurt_by 0 AsksPoint end last point next at want found goes.ends.tells goes.fault.reason)) (lacks end point last next at want found wants))

@@ -2,8 +2,10 @@ mod Accepted
 mod Acked
 mod Admitted
 mod Answered
+mod Built
 mod Applied
 mod StepsApplied
+mod Unapplied
 mod Applying
 mod Asked
 mod Checked
@@ -11,6 +13,7 @@ mod Created
 mod Digits
 mod Drawn
 mod EndPoint
+mod EndsKept
 mod Following
 mod Generated
 mod KeepingUp
@@ -30,6 +33,8 @@ mod Counted
 mod Copies
 mod Courses
 mod Sessions
+mod SoFar
+mod NoneFound
 mod Stepped
 mod Summed
 mod Surviving

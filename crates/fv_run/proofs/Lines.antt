@@ -159,6 +159,9 @@ pub refused_line : (r : Refusal) → IsLine (text (Refused r))
 unfolding words
 refused_line r = ended (codes "err " ++ (decimal (number_of r) ++ (codes " " ++ reason r))) (join (codes "err ") _ (record { is = refl }) (join (decimal (number_of r)) _ (no_decimal (number_of r)) (join (codes " ") _ (record { is = refl }) (no_reason r))))
 
+-- every reply
+pub ruleset reply_lines = (done_line, content_line, number_line, names_line, stat_line, refused_line)
+
 pub count_line : (count : ℕ) → IsLine (done_text count)
 count_line count = record {
   front = codes "done " ++ decimal count;

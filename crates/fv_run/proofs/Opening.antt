@@ -1,6 +1,6 @@
 -- A run up to its opened session, and a run that isn't opened.
 use Rattle.std.proofs.Common.{◌≡◌, ◌⊎◌, inl, inr, ⊎_elim, ℕ, List, [], length, sym, ap, ◌∙◌, refl, arith, append-nil}
-use Rattle.std.specs.Prelude.{Some, None, Result, Err, IsTrue}
+use Rattle.std.specs.Prelude.{Some, Result, Err, IsTrue}
 use Rattle.fv_disk.specs.Shown.{Ends, Image, Shown, IsDisk, IsSettled, Rose}
 use Rattle.fv_disk.specs.Crash.{Leaves}
 use Rattle.fv_disk.proofs.Moments.{started, goes_on}
@@ -19,6 +19,7 @@ use Rattle.fv_run.specs.declared.ending.Fault.TheVariants.{NotAggregate, Disk, M
 use Rattle.fv_run.specs.Built.{lines_built}
 use Rattle.fv_run.specs.Endings.{count_of, IsWholeFault, of_opening}
 use Rattle.fv_run.specs.Running.{HasFollowed, HasReason, IsAtRest, IsOverLimit, IsUnopened, Ran, Survives, SurvivesFrom}
+use Rattle.fv_run.proofs.EndsKept.{counts_kept, counts_rose}
 use Rattle.fv_run.proofs.ProbesAlong.{probes_answered}
 use Rattle.fv_run.proofs.Admitted.{image_is_admitted}
 use Rattle.fv_run.proofs.Acked.{acked_part, up_to_take}
@@ -94,18 +95,15 @@ module _ (limit : ℕ) (old mid : Shown) (laws : IsDisk old) (unwritten : IsUnwr
       keeps_up = λ tells. keeps_up_unread limit old mid (Err fault) (unwritten.kept.given ∙ sym (append-nil old.given)) (ap (λ (e : Ends). e.left) unwritten.kept.ends);
     }
 
-    no_count : mid.faults ≡ old.faults → Counts old mid None
-    no_count same = record { tells = unwritten.kept.tells; source = ap (λ (e : Ends). e.source_faults) unwritten.kept.ends; sink = ap (λ (e : Ends). e.sink_faults) unwritten.kept.ends; disk = same }
-
     pub not_open : (fault : OpenFault) → (IsTrue old.tells → (m : Machine) → machine_of old.reads ≡ Some m → (fault ≡ opening.DiskFault) ⊎ (fault ≡ opening.Memory)) → (IsTrue old.tells → IsOpenFault old.reads fault)
         → HasOpenCause {T = Session} old.faults mid.faults (Err fault) → Ran limit old mid (Err (of_opening fault))
-    not_open opening.DiskFault whole is cause = unopened Disk (record { tells = unwritten.kept.tells; source = ap (λ (e : Ends). e.source_faults) unwritten.kept.ends; sink = ap (λ (e : Ends). e.sink_faults) unwritten.kept.ends; disk = cause }) tt (λ tells m stands. tt) (λ tells none. tt)
-    not_open opening.Memory whole is cause = unopened Memory (no_count cause) tt (λ tells m stands. tt) (λ tells none. tt)
-    not_open opening.NotAggregate whole is cause = unopened NotAggregate (no_count cause) (unwritten, is) (λ tells m stands. neither (whole tells m stands)) (λ tells none. tt)
+    not_open opening.DiskFault whole is cause = unopened Disk (counts_rose unwritten.kept cause) tt (λ tells m stands. tt) (λ tells none. tt)
+    not_open opening.Memory whole is cause = unopened Memory (counts_kept unwritten.kept cause) tt (λ tells m stands. tt) (λ tells none. tt)
+    not_open opening.NotAggregate whole is cause = unopened NotAggregate (counts_kept unwritten.kept cause) (unwritten, is) (λ tells m stands. neither (whole tells m stands)) (λ tells none. tt)
       where
         neither : (opening.NotAggregate ≡ opening.DiskFault) ⊎ (opening.NotAggregate ≡ opening.Memory) → ⊥
         neither one = ⊎_elim (λ (e : opening.NotAggregate ≡ opening.DiskFault). cc) (λ (e : opening.NotAggregate ≡ opening.Memory). cc) one
-    not_open (opening.Damaged at want found) whole is cause = unopened Damaged (no_count cause) (λ tells. inl (unwritten, (at, want, found, is tells))) (λ tells m stands. neither (whole tells m stands)) (λ tells none. absurd (not_damaged old.reads at want found none (is tells)))
+    not_open (opening.Damaged at want found) whole is cause = unopened Damaged (counts_kept unwritten.kept cause) (λ tells. inl (unwritten, (at, want, found, is tells))) (λ tells m stands. neither (whole tells m stands)) (λ tells none. absurd (not_damaged old.reads at want found none (is tells)))
       where
         neither : (opening.Damaged at want found ≡ opening.DiskFault) ⊎ (opening.Damaged at want found ≡ opening.Memory) → ⊥
         neither one = ⊎_elim (λ (e : opening.Damaged at want found ≡ opening.DiskFault). cc) (λ (e : opening.Damaged at want found ≡ opening.Memory). cc) one

@@ -14,7 +14,7 @@ use Rattle.fv_aggregate.specs.Calls.{IsUntouched}
 use Rattle.fv_aggregate.specs.Commands.{reads_files}
 use Rattle.fv_run.specs.Promises.{line_at}
 use Rattle.fv_run.specs.Running.{cps_behind, takes, UndergoesCommand, UndergoesLine, UndergoesLines, UndergoesSaid}
-use Rattle.fv_run.proofs.Applied.{cp_alone}
+use Rattle.fv_run.proofs.Built.{cp_alone}
 
 -- ---- generations
 

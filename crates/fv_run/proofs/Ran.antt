@@ -31,6 +31,7 @@ use Rattle.fv_run.specs.Promises.{line_at}
 use Rattle.fv_run.specs.Probes.{AnswersProbes}
 use Rattle.fv_run.specs.Running.{asks_behind, cps_behind, takes, CountsPoints, EndsInPoint, HasAnsweredAll, HasChanged, HasFollowed, HasReason, Holds, IsAskedFor, IsAtRest, IsFileDamage, IsHurtBehind, IsLacking, IsLeafLost, IsLastFor, IsOverLimit, IsPastLimit, KeepsUp, MeetsDamage, most_rooms, rooms_along, IsSessionDamage, Ran, reads_blocks, StandsOnImage, Survives, SurvivesFrom, AsksNone, IsQuiet, UndergoesLines}
 use Rattle.fv_run.specs.Answering.{IsEndOf, Stopped, BeginsFor}
+use Rattle.fv_run.proofs.EndsKept.{counts_kept}
 use Rattle.fv_run.proofs.Admitted.{image_is_admitted}
 use Rattle.fv_run.proofs.KeepingUp.{keeps_up_since}
 use Rattle.fv_run.proofs.LeftAlong.{lower_in_run}
@@ -164,7 +165,7 @@ module _ (limit : ℕ) (session : Session) (old mid new : Shown) (laws : IsDisk 
       (weaken mid new (Survives m (lines_built old.ends.left) old.given) (SurvivesFrom m (lines_built old.ends.left) old) (λ (c : Image) (g : List ℕ) s. inr s) (meanwhile m crash))
 
   open_counts : Counts old mid None
-  open_counts = record { tells = unwritten.kept.tells; source = ap (λ (e : Ends). e.source_faults) unwritten.kept.ends; sink = ap (λ (e : Ends). e.sink_faults) unwritten.kept.ends; disk = calm.faults }
+  open_counts = counts_kept unwritten.kept calm.faults
 
   damage_since : IsSessionDamage (lines_built mid.ends.left) session mid new → IsSessionDamage (lines_built old.ends.left) session old new
   damage_since is = ⊎_elim

@@ -1,10 +1,8 @@
--- The loop over the lines of a script: how it goes on, and how it ends.
-use Rattle.std.proofs.Common.{◌≡◌, ◌⊎◌, inl, inr, ⊎_elim, ℕ, ◌+◌, ◌<◌, ◌≤◌, ◌++◌, Bool, true, false, List, [], ◌∷◌, length, map, max, take, drop, refl, sym, ap, subst, ◌∙◌, true≢false, arith, append_assoc, append-nil}
+-- The loop over the lines of a script where it finds a further one: how it goes on, and how the run ends in that line.
+use Rattle.std.proofs.Common.{◌≡◌, ◌⊎◌, inl, inr, ⊎_elim, ℕ, ◌+◌, ◌≤◌, ◌++◌, Bool, true, false, List, [], ◌∷◌, length, map, max, take, drop, refl, sym, ap, subst, ◌∙◌, arith, append_assoc, append-nil}
 use Rattle.std.specs.Prelude.{flat_map, Contains, Ok, Err, None, IsTrue, Result}
 use Rattle.std.proofs.lemmas.List.{length-append}
-use Rattle.fv_disk.specs.declared.Failed.{Failed}
-use Rattle.fv_disk.specs.Shown.{Image, Shown, IsDisk, Rose}
-use Rattle.fv_disk.specs.HostCalls.{Rests}
+use Rattle.fv_disk.specs.Shown.{Image, Shown, Rose}
 use Rattle.fv_disk.specs.Crash.{Leaves}
 use Rattle.fv_model.specs.declared.answers.Reply.{Reply}
 use Rattle.fv_model.specs.declared.commands.Command.{Command}
@@ -14,9 +12,9 @@ use Rattle.fv_model.specs.Runs.{Line, after, whole}
 use Rattle.fv_model.specs.Texts.{text}
 use Rattle.fv_lines.specs.declared.reading.Found.TheVariants as found
 use Rattle.fv_lines.specs.Counts.{Counts}
-use Rattle.fv_lines.specs.Held.{Held, none_taken}
-use Rattle.fv_lines.specs.Reading.{to_come, unread, Finds, IsStill}
-use Rattle.fv_lines.proofs.Counting.{counts_none, counts_then}
+use Rattle.fv_lines.specs.Held.{Held}
+use Rattle.fv_lines.specs.Reading.{to_come, unread, Finds}
+use Rattle.fv_lines.proofs.Counting.{counts_then}
 use Rattle.fv_lines.proofs.Counting as counting
 use Rattle.fv_lines.proofs.Ends.{whole_append}
 use Rattle.fv_aggregate.specs.declared.session.Session.{Session}
@@ -28,171 +26,24 @@ use Rattle.fv_run.specs.declared.ending.Fault.TheVariants.{Usage, Unsound, NotAg
 use Rattle.fv_run.specs.Built.{built, lines_built}
 use Rattle.fv_run.specs.Endings.{count_of, IsWholeFault}
 use Rattle.fv_run.specs.Promises.{line_at}
-use Rattle.fv_run.specs.Running.{begun, changes_volumes, HasChanged, Holds, IsOverLimit, IsHurtBehind, IsPastLimit, IsSessionDamage, KeepsUp, MeetsDamage, most_rooms, reads_blocks, rooms_along, Survives, asks_point, pending_behind, IsQuiet}
-use Rattle.fv_run.specs.Answering.{Applies, AsksFor, BeginsFor, HasAnswered, HasRead, IsAtEnd, IsCounted, IsEndOf, IsHurtLine, Lacks, LacksSpace, LosesLeaf, IsReady, IsSessionFault, StandsAt, Stopped, TellsLine}
+use Rattle.fv_run.specs.Running.{begun, changes_volumes, HasChanged, Holds, IsOverLimit, IsHurtBehind, IsSessionDamage, KeepsUp, MeetsDamage, most_rooms, reads_blocks, rooms_along, Survives, asks_point, pending_behind, IsQuiet}
+use Rattle.fv_run.specs.Answering.{Applies, AsksFor, BeginsFor, HasAnswered, HasRead, IsCounted, IsEndOf, IsHurtLine, Lacks, LacksSpace, LosesLeaf, IsReady, IsSessionFault, StandsAt, Stopped, TellsLine}
 use Rattle.fv_run.proofs.Following.{left_next, line_behind}
-use Rattle.fv_run.proofs.KeepingUp.{keeps_up_source, keeps_up_limit, keeps_up_line, next_most, next_all, end_most, knows_on}
+use Rattle.fv_run.proofs.KeepingUp.{keeps_up_line, next_most, next_all, knows_on}
 use Rattle.fv_run.proofs.Lines.{no_end, one_end}
-use Rattle.fv_run.proofs.Limits.{all_read, ends_before, ends_all, past_limit, same_behind, none_behind, to_come_most}
-use Rattle.fv_run.proofs.Counted.{bound_for, bound_most, calm_next, counted_next, counted_none, counted_still, quiet_next, quiet_still}
+use Rattle.fv_run.proofs.Limits.{all_read, ends_before, same_behind, none_behind}
+use Rattle.fv_run.proofs.Counted.{bound_for, bound_most, calm_next, counted_next, counted_still, quiet_next}
 use Rattle.fv_run.proofs.Rooms.{first_in, later_in, greater_room, room_of_line}
-use Rattle.fv_run.proofs.LeftAlong.{along_line, along_none, along_still}
-use Rattle.fv_run.proofs.Courses.{undergoes_next, undergoes_none, undergoes_read, undergoes_still}
+use Rattle.fv_run.proofs.LeftAlong.{along_line}
+use Rattle.fv_run.proofs.Courses.{undergoes_next, undergoes_read, undergoes_still}
 use Rattle.fv_run.proofs.Sessions.{leaf_lost, hurt_behind, rests_asking, rests_standing}
-use Rattle.fv_run.proofs.Answered.{none_answered, followed, rested_here, asked, crash_asked, left_as, crash_applied, rested_unapplied, crash_told, followed_part, rested_part, answered_one}
-
--- before the first line
-pub starts : (limit : ℕ) (first : Session) (old : Shown) → IsDisk old → IsReady old first → StandsAt limit first old (none_taken limit) first old 0
-starts limit first old laws ready = record {
-  ready = ready;
-  counts = counts_none old;
-  writes = refl;
-  room = omega arith;
-  reads = λ tells. record { output = []; given = sym (append-nil old.given); answered = refl; read = []; front = refl; room = omega arith; ended = inl refl; most = omega arith; all = λ going. refl; piece = omega arith; knows = λ ended. absurd (true≢false (sym ended)) };
-  lines = λ tells line is. is;
-  behind = λ tells. refl;
-  course = λ tells. undergoes_none (lines_built old.ends.left) old.reads first;
-  counted = λ tells none. counted_none most_rooms (lines_built old.ends.left) old first none;
-  asks = λ tells asks none. inl (record { none = none; room = 0; line = inl refl; asks = asks });
-  less = λ tells m stands. along_none m (lines_built old.ends.left) old.reads first;
-  answers = λ tells m stands. none_answered m (lines_built old.ends.left) old first laws stands;
-}
+use Rattle.fv_run.proofs.Answered.{followed, asked, left_as, crash_applied, rested_unapplied, crash_told, followed_part, rested_part, answered_one}
+use Rattle.fv_run.proofs.SoFar.{answered_by, asks_still, told}
 
 module _ (limit : ℕ) (first : Session) (old : Shown) (held : Held) (session : Session) (now : Shown) (count : ℕ) (so_far : StandsAt limit first old held session now count)
     (new_held : Held) (mid : Shown) (bytes : List ℕ) where
   abbrev script : List Line
   script = lines_built old.ends.left
-
-  told : IsTrue old.tells → IsTrue now.tells
-  told tells = rw so_far.counts.tells tells
-
-  -- what was given so far answers the lines so far
-  answered_by : (new : Shown) (tells : IsTrue old.tells) (output : List ℕ) → new.given ≡ now.given → new.given ≡ old.given ++ output → whole output ≡ count
-  answered_by new tells output same given =
-      let read = so_far.reads tells in
-      ap whole (same_behind old.given output read.output (sym given ∙ same ∙ read.given)) ∙ read.answered
-
-  -- while no line is applied
-  quiet_so_far : (rooms : ℕ → Command → ℕ) → IsCounted rooms script old session now count → IsTrue old.tells → (new : Shown) → new.given ≡ now.given → new.reads ≡ now.reads → IsQuiet rooms script old new
-  quiet_so_far rooms counted tells new same reads output given asks = reads ∙ quiet_still rooms script old session now count counted output asks (answered_by new tells output same given)
-
-  -- so a run holds what it has to that ends there
-  asked_holds : Rests now mid → mid.given ≡ now.given → Leaves now mid (IsStill now) → (fault : Fault) → IsTrue old.tells → (m : Machine) → BeginsFor old first m → Holds m (Err fault) old mid
-  asked_holds rests given still fault tells m stands =
-      let answers = so_far.answers tells m stands in
-      record {
-        replies = followed m _ _ old session now count answers mid given;
-        crash = crash_asked m _ _ old session now count answers mid still;
-        at_rest = λ calm. rested_here m _ _ old session now count answers mid rests given (Err fault);
-        quiet = quiet_so_far (rooms_along m script) answers.applied.counted tells mid given rests.stays.reads;
-      }
-
-  -- while the source is asked a session asks for what it did
-  asks_still : Rests now mid → AsksFor script now session ⊎ HasChanged script count → AsksFor script mid session ⊎ HasChanged script count
-  asks_still rests asks = ⊎_elim
-      (λ (few : AsksFor script now session). inl (record { none = few.none; room = few.room; line = few.line; asks = rests_asking now mid session few.room rests few.asks }))
-      (λ (changed : HasChanged script count). inr changed)
-      asks
-
-  -- the source failed
-  module _ (e : Failed) (finds : Finds held now new_held mid bytes (Err e)) where
-    source_holds : IsTrue old.tells → (m : Machine) → BeginsFor old first m → Holds m (Err Source) old mid × IsWholeFault Source
-    source_holds tells m stands = (asked_holds finds.asks.rests finds.asks.given finds.asks.any_moment Source tells m stands, tt)
-
-    source_limit : IsTrue old.tells → IsOverLimit limit old mid → ⊥
-    source_limit tells past =
-        let read = so_far.reads tells in
-        let more = finds.reads (told tells) in
-        let come : List ℕ = to_come new_held.ended mid.ends.left in
-        let is : old.ends.left ≡ read.read ++ (more.read ++ come) = read.front ∙ ap (λ (l : List ℕ). read.read ++ l) (more.front ∙ ap (λ (l : List ℕ). more.read ++ (l ++ come)) finds.none) in
-        all_read limit new_held.room old.ends.left read.read more.read come mid.ends.left is (read.room ∙ ap (λ (n : ℕ). length read.read + n) more.room) (to_come_most new_held.ended mid.ends.left) past.taken
-
-    pub source_failed : Stopped limit first old mid Source
-    source_failed = record {
-      holds = source_holds;
-      counts = counts_then old now mid (count_of Source) so_far.counts (counting.asked_failed now mid e finds.asks);
-      reason = tt;
-      cut_off = λ tells past. absurd (source_limit tells past);
-      keeps_up = λ tells. keeps_up_source limit old held now count (so_far.reads tells) new_held mid bytes e finds (told tells);
-      quiet = λ tells none. quiet_so_far most_rooms (so_far.counted tells none) tells mid finds.asks.given finds.asks.rests.stays.reads;
-    }
-
-  -- a byte past the limit was found
-  module _ (finds : Finds held now new_held mid bytes (Ok found.PastLimit)) where
-    limit_holds : IsTrue old.tells → (m : Machine) → BeginsFor old first m → Holds m (Err Limit) old mid × IsWholeFault Limit
-    limit_holds tells m stands = (asked_holds finds.asks.rests finds.asks.given finds.asks.any_moment Limit tells m stands, tt)
-
-    some_held : (held : List ℕ) → 0 < length held → (left : List ℕ) → held ++ left ≡ [] → ⊥
-    some_held [] some left none = omega arith
-    some_held (b ∷ held) some left none = cc
-
-    is_past : IsTrue old.tells → IsPastLimit limit old mid
-    is_past tells =
-        let read = so_far.reads tells in
-        let more = finds.reads (told tells) in
-        let room_is : limit ≡ length read.read + (length more.read + 0) = read.room ∙ ap (λ (n : ℕ). length read.read + n) (more.room ∙ ap (λ (n : ℕ). length more.read + n) finds.room.1) in
-        let is : old.ends.left ≡ read.read ++ (more.read ++ unread new_held mid) = read.front ∙ ap (λ (l : List ℕ). read.read ++ l) more.front in
-        let counted : whole read.read ≡ count = ⊎_elim (λ (same : whole read.read ≡ count). same)
-        (λ (none : unread held now ≡ []). absurd (some_held new_held.bytes finds.room.0 (to_come new_held.ended mid.ends.left) (none_behind more.read (unread new_held mid) (sym more.front ∙ none)))) read.ended in
-        let still : unread new_held mid ≡ new_held.bytes ++ mid.ends.left = ap (λ (e : Bool). new_held.bytes ++ to_come e mid.ends.left) finds.room.2 in
-        record {
-          output = read.output;
-          given = finds.asks.given ∙ read.given;
-          taken = past_limit limit old.ends.left read.read more.read new_held.bytes mid.ends.left (is ∙ ap (λ (l : List ℕ). read.read ++ (more.read ++ l)) still) room_is finds.room.0;
-          answered = read.answered ∙ sym (ends_all limit old.ends.left read.read more.read (unread new_held mid) is room_is ∙ rw (more.found, counted) (omega arith));
-        }
-
-    pub limit_passed : Stopped limit first old mid Limit
-    limit_passed = record {
-      holds = limit_holds;
-      counts = counts_then old now mid None so_far.counts (counting.asked now mid found.PastLimit finds.asks);
-      reason = is_past;
-      cut_off = λ tells past. refl;
-      keeps_up = λ tells. keeps_up_limit limit old held now count (so_far.reads tells) new_held mid bytes finds (told tells);
-      quiet = λ tells none. quiet_so_far most_rooms (so_far.counted tells none) tells mid finds.asks.given finds.asks.rests.stays.reads;
-    }
-
-  -- no line is left
-  module _ (finds : Finds held now new_held mid bytes (Ok found.End)) where
-    end_reads : IsTrue old.tells → HasRead limit old new_held mid count
-    end_reads tells =
-        let read = so_far.reads tells in
-        let more = finds.reads (told tells) in record {
-          output = read.output;
-          given = finds.asks.given ∙ read.given;
-          answered = read.answered;
-          read = read.read ++ more.read;
-          front = read.front ∙ ap (λ (l : List ℕ). read.read ++ l) more.front ∙ sym (append_assoc read.read more.read (unread new_held mid));
-          room = omega (arith, read.room, more.room, length-append read.read more.read);
-          ended = inr more.found.1;
-          most = end_most limit old held now count read new_held mid bytes finds (told tells);
-          all = λ going. absurd (true≢false (sym finds.over ∙ going));
-          piece = finds.few;
-          knows = finds.knows (told tells) read.knows;
-        }
-
-    pub at_end : IsAtEnd limit first old session mid count
-    at_end = record {
-      held = new_held;
-      stands = record {
-        ready = record { unfailed = so_far.ready.unfailed; stands = rests_standing now mid session finds.asks.rests so_far.ready.stands };
-        counts = counts_then old now mid None so_far.counts (counting.asked now mid found.End finds.asks);
-        writes = finds.asks.rests.write_faults ∙ so_far.writes;
-        room = omega (arith, so_far.room, finds.room);
-        reads = end_reads;
-        lines = λ tells line is. let more = finds.reads (told tells) in so_far.lines tells line (subst (λ (l : List Line). Contains l line) (ap lines_built (more.found.1 ∙ sym more.found.0)) is);
-        behind = λ tells. let more = finds.reads (told tells) in ap lines_built (more.found.1 ∙ sym more.found.0) ∙ so_far.behind tells;
-        course = λ tells. undergoes_still script count old.reads first now.reads mid.reads session finds.asks.rests.stays.reads (so_far.course tells);
-        counted = λ tells none. counted_still most_rooms script old session now count (so_far.counted tells none) mid finds.asks.rests.stays.reads;
-        asks = λ tells within none. asks_still finds.asks.rests (so_far.asks tells within none);
-        less = λ tells m stands. along_still m script old.reads first now.reads mid.reads session count finds.asks.rests.stays.reads (so_far.less tells m stands);
-        answers = λ tells m stands.
-            let more = finds.reads (told tells) in
-            left_as m (lines_built old.ends.left) (lines_built (unread held now)) (lines_built (unread new_held mid)) old session mid count (ap lines_built (more.found.0 ∙ sym more.found.1))
-            (asked m (lines_built old.ends.left) (lines_built (unread held now)) old session now count (so_far.answers tells m stands) mid finds.asks.rests finds.asks.given finds.asks.any_moment);
-      };
-      none = λ tells. (finds.reads (told tells)).found.1;
-    }
 
   -- a line was found
   module _ (finds : Finds held now new_held mid bytes (Ok found.Line)) where
@@ -206,17 +57,17 @@ module _ (limit : ℕ) (first : Session) (old : Shown) (held : Held) (session : 
     mid_writes = finds.asks.rests.write_faults ∙ so_far.writes
 
     mid_asks : IsTrue old.tells → AsksWithin old first 0 → IsWithoutFiles first → AsksFor script mid session ⊎ HasChanged script count
-    mid_asks tells within none = asks_still finds.asks.rests (so_far.asks tells within none)
+    mid_asks tells within none = asks_still script session now mid count finds.asks.rests (so_far.asks tells within none)
 
     mid_told : IsTrue old.tells → IsTrue mid.tells
     mid_told tells = rw mid_counts.tells tells
 
     -- the line and those behind it are lines of the script
     all_lines : IsTrue old.tells → (line : Line) → Contains (built (line_of bytes) ∷ lines_built (unread new_held mid)) line → Contains (lines_built old.ends.left) line
-    all_lines tells line is = so_far.lines tells line (subst (λ (l : List Line). Contains l line) (sym (ap (λ (l : List Line). map built l) (finds.reads (told tells)).found.0)) is)
+    all_lines tells line is = so_far.lines tells line (subst (λ (l : List Line). Contains l line) (sym (ap (λ (l : List Line). map built l) (finds.reads (told so_far tells)).found.0)) is)
 
     mid_behind : IsTrue old.tells → built (line_of bytes) ∷ lines_built (unread new_held mid) ≡ drop count script
-    mid_behind tells = sym (ap (λ (l : List Line). map built l) (finds.reads (told tells)).found.0) ∙ so_far.behind tells
+    mid_behind tells = sym (ap (λ (l : List Line). map built l) (finds.reads (told so_far tells)).found.0) ∙ so_far.behind tells
 
     line_is : IsTrue old.tells → line_at script count ≡ built (line_of bytes)
     line_is tells = line_behind count script (lines_built (unread new_held mid)) (built (line_of bytes)) (mid_behind tells)
@@ -229,7 +80,7 @@ module _ (limit : ℕ) (first : Session) (old : Shown) (held : Held) (session : 
 
     found_next : IsTrue old.tells → (m : Machine) → BeginsFor old first m → HasAnswered m (lines_built old.ends.left) (built (line_of bytes) ∷ lines_built (unread new_held mid)) old session mid count
     found_next tells m stands =
-        let more = finds.reads (told tells) in
+        let more = finds.reads (told so_far tells) in
         left_as m (lines_built old.ends.left) (lines_built (unread held now)) (built (line_of bytes) ∷ lines_built (unread new_held mid)) old session mid count (ap (λ (l : List Line). map built l) more.found.0)
         (asked m (lines_built old.ends.left) (lines_built (unread held now)) old session now count (so_far.answers tells m stands) mid finds.asks.rests finds.asks.given finds.asks.any_moment)
 
@@ -261,15 +112,15 @@ module _ (limit : ℕ) (first : Session) (old : Shown) (held : Held) (session : 
       none_past : (new : Shown) (tells : IsTrue old.tells) → IsOverLimit limit old new → unread new_held mid ≡ [] → ⊥
       none_past new tells past none =
           let read = so_far.reads tells in
-          let more = finds.reads (told tells) in
+          let more = finds.reads (told so_far tells) in
           let is : old.ends.left ≡ read.read ++ (more.read ++ []) = read.front ∙ ap (λ (l : List ℕ). read.read ++ l) (more.front ∙ ap (λ (l : List ℕ). more.read ++ l) none) in
           all_read limit new_held.room old.ends.left read.read more.read [] new.ends.left is (read.room ∙ ap (λ (n : ℕ). length read.read + n) more.room) (omega arith) past.taken
 
       -- the line that was found ends before the limit, and isn't answered
-      one_past : (new : Shown) (tells : IsTrue old.tells) (past : IsOverLimit limit old new) → whole past.output ≡ count → whole (so_far.reads tells).read ≡ count → whole (finds.reads (told tells)).read ≡ 1 → ⊥
+      one_past : (new : Shown) (tells : IsTrue old.tells) (past : IsOverLimit limit old new) → whole past.output ≡ count → whole (so_far.reads tells).read ≡ count → whole (finds.reads (told so_far tells)).read ≡ 1 → ⊥
       one_past new tells past answered counted one =
           let read = so_far.reads tells in
-          let more = finds.reads (told tells) in
+          let more = finds.reads (told so_far tells) in
           let is : old.ends.left ≡ read.read ++ (more.read ++ unread new_held mid) = read.front ∙ ap (λ (l : List ℕ). read.read ++ l) more.front in
           let before : whole read.read + whole more.read ≤ whole (take limit old.ends.left) = ends_before limit new_held.room old.ends.left read.read more.read (unread new_held mid) is (read.room ∙ ap (λ (n : ℕ). length read.read + n) more.room) in
           let all = past.answered in
@@ -278,7 +129,7 @@ module _ (limit : ℕ) (first : Session) (old : Shown) (held : Held) (session : 
       not_past : (new : Shown) (tells : IsTrue old.tells) (past : IsOverLimit limit old new) → whole past.output ≡ count → ⊥
       not_past new tells past answered =
           let read = so_far.reads tells in
-          let more = finds.reads (told tells) in
+          let more = finds.reads (told so_far tells) in
           ⊎_elim
           (λ (one : whole more.read ≡ 1). ⊎_elim
           (λ (counted : whole read.read ≡ count). one_past new tells past answered counted one)
@@ -345,7 +196,7 @@ module _ (limit : ℕ) (first : Session) (old : Shown) (held : Held) (session : 
       in_line fault is output = refl
 
       unanswered : IsTrue old.tells → end.given ≡ mid.given → (output : List ℕ) → end.given ≡ old.given ++ output → whole output ≡ count
-      unanswered tells same output given = answered_by end tells output (same ∙ finds.asks.given) given
+      unanswered tells same output given = answered_by so_far end tells output (same ∙ finds.asks.given) given
 
       -- the line wasn't applied
       pub apply_failed : (fault : Fault) → Applies session (built (line_of bytes)) mid next_session end (Err fault) → Stopped limit first old end fault
@@ -366,7 +217,7 @@ module _ (limit : ℕ) (first : Session) (old : Shown) (held : Held) (session : 
         reason = ends_so applies.given fault applies.ends;
         quiet = λ tells none. stays_quiet most_rooms (mid_counted tells none) mid_bound (Err fault) applies tells end refl (unanswered tells applies.given);
         cut_off = λ tells past. absurd (not_past end tells past (output_since end tells [] past.output (applies.given ∙ sym (append-nil mid.given)) past.given ∙ omega arith));
-        keeps_up = λ tells. keeps_up_line limit old held now count (so_far.reads tells) new_held mid bytes finds (told tells) end fault [] (applies.given ∙ sym (append-nil mid.given)) applies.left (in_line fault applies.ends);
+        keeps_up = λ tells. keeps_up_line limit old held now count (so_far.reads tells) new_held mid bytes finds (told so_far tells) end fault [] (applies.given ∙ sym (append-nil mid.given)) applies.left (in_line fault applies.ends);
       }
 
       -- it was applied
@@ -407,7 +258,7 @@ module _ (limit : ℕ) (first : Session) (old : Shown) (held : Held) (session : 
         keeps_up_part : (fault : Fault) → TellsLine end (text reply) new (Err fault) → IsTrue old.tells → KeepsUp limit old new (Err Sink)
         keeps_up_part fault tells_it tells =
             let part = tells_it.tells.gives.part (end_told tells) in
-            keeps_up_line limit old held now count (so_far.reads tells) new_held mid bytes finds (told tells) new Sink (take part.0 (text reply)) (part.2 ∙ ap (λ (l : List ℕ). l ++ take part.0 (text reply)) applies.given)
+            keeps_up_line limit old held now count (so_far.reads tells) new_held mid bytes finds (told so_far tells) new Sink (take part.0 (text reply)) (part.2 ∙ ap (λ (l : List ℕ). l ++ take part.0 (text reply)) applies.given)
             (tells_it.tells.gives.left ∙ applies.left) (λ output. refl)
 
         -- the sink failed
@@ -427,7 +278,7 @@ module _ (limit : ℕ) (first : Session) (old : Shown) (held : Held) (session : 
         reads_next : TellsLine end (text reply) new (Ok tt) → IsTrue old.tells → HasRead limit old new_held new (count + 1)
         reads_next tells_it tells =
             let read = so_far.reads tells in
-            let more = finds.reads (told tells) in record {
+            let more = finds.reads (told so_far tells) in record {
               output = read.output ++ text reply;
               given = tells_it.tells.gives.all (end_told tells) ∙ ap (λ (l : List ℕ). l ++ text reply) (applies.given ∙ finds.asks.given ∙ read.given) ∙ append_assoc old.given read.output (text reply);
               answered = whole_append read.output (text reply) ∙ rw (read.answered, one_end (text reply) tells_it.line) refl;
@@ -441,10 +292,10 @@ module _ (limit : ℕ) (first : Session) (old : Shown) (held : Held) (session : 
                   read.ended)
                   (λ (none : unread new_held mid ≡ []). inr (same_left tells_it ∙ none))
                   more.found.1;
-              most = next_most limit old held now count read new_held mid bytes (Ok found.Line) finds (told tells);
-              all = next_all limit old held now count read new_held mid bytes finds (told tells);
+              most = next_most limit old held now count read new_held mid bytes (Ok found.Line) finds (told so_far tells);
+              all = next_all limit old held now count read new_held mid bytes finds (told so_far tells);
               piece = finds.few;
-              knows = knows_on new_held mid new (tells_it.tells.gives.left ∙ applies.left) (finds.knows (told tells) read.knows);
+              knows = knows_on new_held mid new (tells_it.tells.gives.left ∙ applies.left) (finds.knows (told so_far tells) read.knows);
             }
 
         asks_next : TellsLine end (text reply) new (Ok tt) → IsTrue old.tells → AsksWithin old first 0 → IsWithoutFiles first → AsksFor script new next_session ⊎ HasChanged script (count + 1)

@@ -1,14 +1,13 @@
 -- A line is applied that may take background steps.
 use Rattle.std.proofs.Common.{◌≡◌, ◌≢◌, ◌⊎◌, ◌≤◌, ◌+◌, ℕ, List, inl, inr, Bool, true, false, true≢false, refl, sym, subst, ap, ◌∙◌, arith}
-use Rattle.std.specs.Prelude.{None, Ok, Err, IsTrue, IsNone, IsSome}
-use Rattle.fv_disk.specs.Shown.{Shown, Ends, Rose}
+use Rattle.std.specs.Prelude.{None, Ok, Err, IsTrue, IsSome}
+use Rattle.fv_disk.specs.Shown.{Shown, Ends}
 use Rattle.fv_disk.specs.Crash.{Leaves}
 use Rattle.fv_model.specs.declared.answers.Reply.{Reply}
 use Rattle.fv_model.specs.declared.commands.Command.{Command}
 use Rattle.fv_model.specs.declared.commands.Command.TheVariants.{Clean, Cp, Work}
 use Rattle.fv_model.specs.Machines.{Machine}
-use Rattle.fv_model.specs.Runs.{Line, Says, after_line, AllowsAt, is_cp}
-use Rattle.fv_lines.specs.Counts.{Counts}
+use Rattle.fv_model.specs.Runs.{Line, Says, AllowsAt, is_cp}
 use Rattle.fv_aggregate.specs.declared.fault.Fault.{Fault as SessionFault}
 use Rattle.fv_aggregate.specs.declared.fault.Fault.TheVariants as session_fault
 use Rattle.fv_aggregate.specs.declared.session.Session.{Session}
@@ -18,17 +17,18 @@ use Rattle.fv_aggregate.specs.Cleaning.{GoesAs, GoesInSteps}
 use Rattle.fv_aggregate.specs.Commands.{asked_by, changed_by, changes_volume, dirty_limit, is_built, machine_after, reaches_disk, reads_files, room_by, takes_steps, volume_asked, Replies}
 use Rattle.fv_aggregate.specs.Reading.{IsAsRead}
 use Rattle.fv_aggregate.specs.Standing.{IsWithoutFiles, OneOf, StandsAfter, StandsFor}
-use Rattle.fv_run.specs.declared.ending.Fault.{Fault}
-use Rattle.fv_run.specs.declared.ending.Fault.TheVariants.{Disk, Memory, Damaged}
-use Rattle.fv_run.specs.Endings.{count_of, of_session, IsWholeFault}
+use Rattle.fv_run.specs.Endings.{of_session}
 use Rattle.fv_run.specs.Built.{built}
 use Rattle.fv_run.specs.Left.{LessByLine}
 use Rattle.fv_run.specs.Probes.{PathsByLine}
 use Rattle.fv_run.specs.Running.{asks_point, changes_volumes, left_by, only_asks, reads_blocks, takes, UndergoesCommand, UndergoesSaid}
-use Rattle.fv_run.specs.Answering.{Applies, IsReady, IsSessionFault}
-use Rattle.fv_run.proofs.Applied.{allowed_built, after_built, applied, unapplied}
+use Rattle.fv_run.specs.Answering.{Applies, IsReady}
+use Rattle.fv_run.proofs.Applied.{applied, unapplied}
+use Rattle.fv_run.proofs.Built.{after_said, allowed_built}
 use Rattle.fv_run.proofs.Courses.{stands_on}
+use Rattle.fv_run.proofs.EndsKept.{counts_kept, counts_rose}
 use Rattle.fv_run.proofs.Sessions.{never_failed}
+use Rattle.fv_run.proofs.Unapplied.{stopped_by}
 
 -- what holds of each command that takes steps
 steps_cases : (P : Command → Type 0) → ((v : List ℕ) → P (Clean v)) → ((n : ℕ) → P (Work n)) → (c : Command) → takes_steps c ≡ true → P c
@@ -70,15 +70,17 @@ module _ (session new_session : Session) (line : Line) (command : Command) (old 
   as_line : (P : Line → Type 0) → P (built (Says command)) → P (built line)
   as_line P holds = subst (λ (l : Line). P (built l)) (sym says) holds
 
-  after_is : (m : Machine) → machine_after m command ≡ after_line m (built line)
-  after_is m = after_built m command ∙ ap (λ (l : Line). after_line m (built l)) (sym says)
-
   pending_steps : new_session.pending ≤ session.pending + dirty_limit → new_session.pending ≤ left_by (room_by session.volumes) session.pending (built line)
   pending_steps few = as_line (λ (l : Line). new_session.pending ≤ left_by (room_by session.volumes) session.pending l)
       (subst (λ (l : Line). new_session.pending ≤ left_by (room_by session.volumes) session.pending l) (sym (said_so command is)) (few_of command is))
     where
       few_of : (k : Command) → takes_steps k ≡ true → new_session.pending ≤ left_by (room_by session.volumes) session.pending (Says k)
       few_of k steps = steps_cases (λ (k : Command). new_session.pending ≤ left_by (room_by session.volumes) session.pending (Says k)) (λ v. few) (λ n. few) k steps
+
+  -- its line asks for a point, whatever is pending
+  asks : (X : Type 0) (pending : ℕ) → asks_point (room_by session.volumes) pending (built line) ≡ false → X
+  asks X pending none = never X (asks_point (room_by session.volumes) pending (built line))
+      (as_line (λ (l : Line). asks_point (room_by session.volumes) pending l ≡ true) (said_point command is (room_by session.volumes) pending)) none
 
   -- the steps were taken, or the command is refused
   pub steps_applied : (reply : Reply) → GoesInSteps {T = Reply} old session new new_session (Ok reply)
@@ -92,11 +94,14 @@ module _ (session new_session : Session) (line : Line) (command : Command) (old 
     done = λ tells last m so_far. (
       as_line (λ (l : Line). AllowsAt m l reply) (allowed_built m command reply (replies tells last m so_far)),
       record {
-        after = subst (λ (x : Machine). StandsAfter new new_session last m x) (after_is m) (goes_for tells last m so_far).done;
+        after = subst (λ (x : Machine). StandsAfter new new_session last m x) (after_said line command says m)
+            (goes_for tells last m so_far).done;
         point = λ cp. never _ (is_cp (built line)) cp (as_line (λ (l : Line). is_cp l ≡ false) (said_other command is));
       },
     );
-    any_moment = λ tells last m so_far. subst (λ (x : Machine). Leaves old new (λ c g. OneOf last m x c × (g ≡ old.given))) (after_is m) (goes_for tells last m so_far).any_moment;
+    any_moment = λ tells last m so_far.
+        subst (λ (x : Machine). Leaves old new (λ c g. OneOf last m x c × (g ≡ old.given))) (after_said line command says m)
+        (goes_for tells last m so_far).any_moment;
     still = λ tells last m so_far calm. tt;
     no_damage = λ tells last m so_far. tt;
     ready = record { unfailed = goes.done.1.0; stands = goes.stands goes.done.1.0 };
@@ -116,7 +121,7 @@ module _ (session new_session : Session) (line : Line) (command : Command) (old 
     asks = λ tells same room asks. changes _ same;
     given = goes.ends.given;
     left = ap (λ (e : Ends). e.left) goes.ends.ends;
-    counts = record { tells = goes.ends.tells; source = ap (λ (e : Ends). e.source_faults) goes.ends.ends; sink = ap (λ (e : Ends). e.sink_faults) goes.ends.ends; disk = goes.done.1.1.faults };
+    counts = counts_kept goes.ends goes.done.1.1.faults;
     writes = goes.done.1.1.write_faults;
     less = less;
     paths = paths;
@@ -129,49 +134,19 @@ module _ (session new_session : Session) (line : Line) (command : Command) (old 
       changes : (X : Type 0) → changes_volumes (built line) ≡ false → X
       changes X none = never X (changes_volumes (built line)) (as_line (λ (l : Line). changes_volumes l ≡ true) (said_changes command is)) none
 
-      asks : (X : Type 0) (pending : ℕ) → asks_point (room_by session.volumes) pending (built line) ≡ false → X
-      asks X pending none = never X (asks_point (room_by session.volumes) pending (built line))
-          (as_line (λ (l : Line). asks_point (room_by session.volumes) pending l ≡ true) (said_point command is (room_by session.volumes) pending)) none
-
   -- they weren't, or not all of them
-  module _ (fault : SessionFault) (goes : GoesInSteps {T = Reply} old session new new_session (Err fault))
-      (goes_for : IsTrue old.tells → (last m : Machine) → StandsFor old session last m → GoesFor {T = Reply} old last m (machine_after m command) new new_session (Err fault)) where
-    stopped_by : (end : Fault) → Counts old new (count_of end) → (¬ Rose old.write_faults new.write_faults → IsNone new_session.failed)
-        → (IsTrue old.tells → (last m : Machine) → StandsFor old session last m → IsWholeFault end) → IsSessionFault (built line) old session new end → Applies session (built line) old new_session new (Err end)
-    stopped_by end counts lives no_damage ends = record {
-      done = λ tells last m so_far. tt;
-      any_moment = λ tells last m so_far. subst (λ (x : Machine). Leaves old new (λ c g. OneOf last m x c × (g ≡ old.given))) (after_is m) (goes_for tells last m so_far).any_moment;
-      still = λ tells last m so_far calm. (goes_for tells last m so_far).still (lives calm);
-      no_damage = no_damage;
-      ready = tt;
-      ends = ends;
-      read = tt;
-      led = λ tells. tt;
-      asks = λ tells same room asks. tt;
-      given = goes.ends.given;
-      left = ap (λ (e : Ends). e.left) goes.ends.ends;
-      counts = counts;
-      writes = tt;
-      less = λ tells last m so_far none. tt;
-      paths = λ tells last m so_far. tt;
-      calm = λ pending few none. never _ (asks_point (room_by session.volumes) pending (built line))
-          (as_line (λ (l : Line). asks_point (room_by session.volumes) pending l ≡ true) (said_point command is (room_by session.volumes) pending)) none;
-    }
-
-    no_count : new.faults ≡ old.faults → Counts old new None
-    no_count same = record { tells = goes.ends.tells; source = ap (λ (e : Ends). e.source_faults) goes.ends.ends; sink = ap (λ (e : Ends). e.sink_faults) goes.ends.ends; disk = same }
-
   pub steps_unapplied : (fault : SessionFault) → GoesInSteps {T = Reply} old session new new_session (Err fault)
       → (IsTrue old.tells → (last m : Machine) → StandsFor old session last m → GoesFor {T = Reply} old last m (machine_after m command) new new_session (Err fault))
       → Applies session (built line) old new_session new (Err (of_session fault))
-  steps_unapplied session_fault.DiskFault goes goes_for = stopped_by session_fault.DiskFault goes goes_for Disk
-      (record { tells = goes.ends.tells; source = ap (λ (e : Ends). e.source_faults) goes.ends.ends; sink = ap (λ (e : Ends). e.sink_faults) goes.ends.ends; disk = goes.fault.counts.faults })
-      goes.fault.session.by_read (λ tells last m so_far. tt) tt
-  steps_unapplied session_fault.Memory goes goes_for = stopped_by session_fault.Memory goes goes_for Memory
-      (no_count session_fault.Memory goes goes_for goes.fault.counts.faults) (λ calm. goes.fault.session) (λ tells last m so_far. tt) tt
-  steps_unapplied (session_fault.Damaged at want found) goes goes_for = stopped_by (session_fault.Damaged at want found) goes goes_for Damaged
-      (no_count (session_fault.Damaged at want found) goes goes_for goes.fault.counts.faults) (λ calm. goes.fault.session)
-      (λ tells last m so_far. absurd (goes_for tells last m so_far).whole) (
+  steps_unapplied session_fault.DiskFault goes goes_for =
+      stopped_by session new_session line command old new says goes.ends (λ pending few none. asks _ pending none) session_fault.DiskFault goes_for
+      (counts_rose goes.ends goes.fault.counts.faults) goes.fault.session.by_read tt
+  steps_unapplied session_fault.Memory goes goes_for =
+      stopped_by session new_session line command old new says goes.ends (λ pending few none. asks _ pending none) session_fault.Memory goes_for
+      (counts_kept goes.ends goes.fault.counts.faults) (λ calm. goes.fault.session) tt
+  steps_unapplied (session_fault.Damaged at want found) goes goes_for =
+      stopped_by session new_session line command old new says goes.ends (λ pending few none. asks _ pending none) (session_fault.Damaged at want found)
+      goes_for (counts_kept goes.ends goes.fault.counts.faults) (λ calm. goes.fault.session) (
         (new_session, (goes.stands goes.fault.session, inr (as_line (λ (l : Line). takes l ≡ true) (said_takes command is), (at, want, found, goes.fault.reason)))),
         inl (as_line (λ (l : Line). reads_blocks l ≡ true) (said_reads command is)),
       )

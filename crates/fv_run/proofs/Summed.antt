@@ -26,6 +26,7 @@ use Rattle.fv_run.specs.declared.generating.Tally.{Tally}
 use Rattle.fv_run.specs.Answering.{BeginsFor, HasApplied}
 use Rattle.fv_run.specs.Endings.{count_of, IsWholeFault, of_session, raised_by}
 use Rattle.fv_run.specs.Generating.{accepted, AppliedAt, GaveNone, GaveUpTo, HasGenerated, IsAfterFirst, IsAtRestAfter, IsCallFault, IsHurtWithin, Outlasts, Silent, summary_of, TellsSummary, WasCut}
+use Rattle.fv_run.proofs.EndsKept.{counts_kept, counts_rose}
 use Rattle.fv_run.proofs.Sessions.{hurt_by, hurt_last, images_stand, never_failed, reads_stand, rests_standing_for}
 
 -- a fault that a run may end with once its session is open
@@ -158,7 +159,7 @@ module _ (lines : List Line) (first : Session) (mid : Shown) (session : Session)
       point_told tells = rw keeps.tells (end_told tells)
 
       point_counts : Counts mid point None
-      point_counts = counts_then mid end point None s.counts (record { tells = keeps.tells; source = ap (λ (e : Ends). e.source_faults) keeps.ends; sink = ap (λ (e : Ends). e.sink_faults) keeps.ends; disk = calm })
+      point_counts = counts_then mid end point None s.counts (counts_kept keeps calm)
 
       point_given : point.given ≡ mid.given
       point_given = keeps.given ∙ s.given
@@ -252,13 +253,13 @@ module _ (lines : List Line) (first : Session) (mid : Shown) (session : Session)
       → (IsTrue end.tells → (before m : Machine) → StandsFor end session before m → IsNone next.failed → StandsFor point next before m)
       → WasCut lines first mid point (of_session fault)
   point_failed next point session_fault.DiskFault goes goes_for kept = point_cut next point (λ tells before m stands. (goes_for tells before m stands).any_moment) goes.ends Disk
-      (record { tells = goes.ends.tells; source = ap (λ (e : Ends). e.source_faults) goes.ends.ends; sink = ap (λ (e : Ends). e.sink_faults) goes.ends.ends; disk = goes.fault.counts.faults })
+      (counts_rose goes.ends goes.fault.counts.faults)
       (λ tells before m stands calm. kept tells before m stands (goes.fault.session.by_read calm)) (λ tells m begins. tt) tt
   point_failed next point session_fault.Memory goes goes_for kept = point_cut next point (λ tells before m stands. (goes_for tells before m stands).any_moment) goes.ends Memory
-      (record { tells = goes.ends.tells; source = ap (λ (e : Ends). e.source_faults) goes.ends.ends; sink = ap (λ (e : Ends). e.sink_faults) goes.ends.ends; disk = goes.fault.counts.faults })
+      (counts_kept goes.ends goes.fault.counts.faults)
       (λ tells before m stands calm. kept tells before m stands goes.fault.session) (λ tells m begins. tt) tt
   point_failed next point (session_fault.Damaged at want found) goes goes_for kept = point_cut next point (λ tells before m stands. (goes_for tells before m stands).any_moment) goes.ends Damaged
-      (record { tells = goes.ends.tells; source = ap (λ (e : Ends). e.source_faults) goes.ends.ends; sink = ap (λ (e : Ends). e.sink_faults) goes.ends.ends; disk = goes.fault.counts.faults })
+      (counts_kept goes.ends goes.fault.counts.faults)
       (λ tells before m stands calm. absurd (goes_for tells before m stands).whole)
       (λ tells m begins. let a = s.applied tells m begins in absurd (goes_for (end_told tells) (after m lines a.point) (after m lines tally.lines) a.stands).whole)
       (record {

@@ -18,9 +18,9 @@ use fv_model::{Command, Name, Refusal, Reply};
 use fv_script::{LineFault, read_into, write_reply};
 use std::sync::ledger::Ledger;
 
-/// Answers each line of the script that the host's source has, of at most `limit` bytes, and tells how many
-/// there were. Each reply is given before the next line is applied. A command and a reply have the size of a block, so each line is read into
-/// the same command and answered in the same reply, and neither is moved.
+/// Answers each line of the script that the host's source has, of at most `limit` bytes, and tells how many there were. Each reply is given
+/// before the next line is applied. A command and a reply have the size of a block, so each line is read into the same command and answered
+/// in the same reply, and neither is moved.
 pub(crate) fn answer_lines<H: Host, L: Ledger>(
     session: &mut Session,
     steps: &mut Steps<L>,
@@ -98,7 +98,7 @@ fn tell<H: Host>(reply: &Reply, host: &mut H) -> Result<(), Fault>
 }
 
 /// Whether a reply's line ends once, with its last byte: each does, since no name has a byte that ends a line.
-#[tactic(auto, using(crate::proofs::Lines::done_line, crate::proofs::Lines::content_line, crate::proofs::Lines::number_line, crate::proofs::Lines::names_line, crate::proofs::Lines::stat_line, crate::proofs::Lines::refused_line))]
+#[tactic(auto, using(crate::proofs::Lines::reply_lines))]
 fn ends_once(reply: &Reply) -> bool
     ensures is_so { result ≡ true }
     ensures line { IsLine (text reply.now) }

@@ -34,9 +34,9 @@ const MOST_BYTES: u64 = 4_294_967_296;
 /// `check` reads the aggregate that the disk has, whatever it holds, and writes nothing. Where it is sound it gives
 /// `valid volumes N charged C`, with the sum of what the volumes are charged, in blocks; otherwise a line `fault RULE BLOCK WANT FOUND` for
 /// each fault, in their order, BLOCK decimal, WANT and FOUND in 16 hexadecimal digits. The status is 0 or 1 then, 2 where block 0 is no
-/// superblock or neither gate is open, 4 where the sink failed, 5 where a read failed, and 6 where memory ran out; at 2, 5 and 6 it has given
-/// nothing. It costs three walks along the pointers of each table, and takes memory by the blocks of the aggregate and the numbers of its
-/// volumes.
+/// superblock or neither gate is open, 4 where the sink failed, 5 where a read failed, and 6 where memory ran out; at 2, 5 and 6 it has
+/// given nothing. It costs three walks along the pointers of each table, and takes memory by the blocks of the aggregate and the numbers of
+/// its volumes.
 ///
 /// `gen SEED COUNT` is `run_generated`, with a seed below 2^64 and at most 1,000,000 drawn commands.
 ///
@@ -69,7 +69,7 @@ pub fn flexvol<H: Host>(alloc: Global, words: &[String], host: &mut H) -> u8
     }
 }
 
-#[tactic(auto, using(crate::proofs::Asked::has_size, crate::proofs::Asked::asks_nothing, crate::proofs::Asked::asks_create, crate::proofs::Asked::asks_run, crate::proofs::Asked::asks_check, crate::proofs::Asked::asks_gen))]
+#[tactic(auto, using(crate::proofs::Asked::order_laws))]
 fn obey<H: Host>(alloc: Global, words: &[String], host: &mut H) -> Result<(), Fault>
     ensures runs { Runs (meaning (map string_bytes words.now)) (H.shown host.old) (H.shown host.new) result }
     ensures untouched { meaning (map string_bytes words.now) ≡ None → host.new ≡ host.old }

@@ -17,10 +17,10 @@ use std::sync::ledger::{Blank, Ledger};
 
 /// Runs the script of the host's source on the aggregate of its disk: opens it, applies one line after another and gives their replies in
 /// this order, makes a consistency point, and gives `done` with the number of replies. The reply to `cp` and the last line come after the
-/// last barrier of their point. Where all was done a point stands behind all lines, also where there is none, and the generation of the root
-/// has risen by as many as were made. A `probe` before which each line only asks, is a `cp` or is refused answers by the image at entry how many
-/// pointers on the path to its cell are unknown. Where each line only asks, is a `cp` or a `work`, or is refused, background steps have less to do behind a run
-/// that did all: less by as many steps at least as its `work` lines ask for, or nothing at all.
+/// last barrier of their point. Where all was done a point stands behind all lines, also where there is none, and the generation of the
+/// root has risen by as many as were made. A `probe` before which each line only asks, is a `cp` or is refused answers by the image at
+/// entry how many pointers on the path to its cell are unknown. Where each line only asks, is a `cp` or a `work`, or is refused, background
+/// steps have less to do behind a run that did all: less by as many steps at least as its `work` lines ask for, or nothing at all.
 ///
 /// The status is 0 where all was done, 2 where block 0 is no superblock or neither gate is open, 3, 4 or 5
 /// where the source, the sink or the disk failed, 6 where memory ran out, 8 where a block isn't as it has to

@@ -7,7 +7,9 @@ use Rattle.fv_lines.specs.Held.{Held}
 use Rattle.fv_run.specs.declared.ending.Fault.{Fault}
 use Rattle.fv_run.specs.Built.{built}
 use Rattle.fv_run.specs.Answering.{AnswersLines, Applies, StandsAt}
-use Rattle.fv_run.proofs.Stepped.{starts, source_failed, limit_passed, at_end, apply_failed, tell_failed, goes_on, mid_ready}
+use Rattle.fv_run.proofs.NoneFound.{source_failed, limit_passed, at_end}
+use Rattle.fv_run.proofs.SoFar.{starts}
+use Rattle.fv_run.proofs.Stepped.{apply_failed, tell_failed, goes_on, mid_ready}
 use Rattle.fv_run.proofs.answering.answer_lines.Goals as goal
 
 pub loop-found-init : goal.loop-found-init

@@ -10,7 +10,8 @@ use Rattle.fv_run.specs.declared.ending.Fault.{Fault}
 use Rattle.fv_run.specs.Endings.{of_session}
 use Rattle.fv_run.specs.Built.{built}
 use Rattle.fv_run.specs.Answering.{Applies}
-use Rattle.fv_run.proofs.Applied.{cp_reads_none, said, said_none, said_range, applied_none, applied_range}
+use Rattle.fv_run.proofs.Applied.{said, said_none, said_range, applied_none, applied_range}
+use Rattle.fv_run.proofs.Built.{cp_reads_none}
 use Rattle.fv_run.proofs.StepsApplied.{applied_as, unapplied_as}
 use Rattle.fv_aggregate.proofs.Damages.{as_read}
 use Rattle.fv_run.proofs.Courses.{command_over}

@@ -1,31 +1,25 @@
-use Rattle.std.proofs.Common.{◌≡◌, Ok, length, rules, refl, sym, ap, subst}
+use Rattle.std.proofs.Common.{◌≡◌, length, refl, sym, ap, subst}
 use Rattle.std.specs.Prelude.{IsNone, Some}
 use Rattle.fv_aggregate.specs.Applying.{HasApplied}
-use Rattle.fv_model.specs.declared.answers.Reply.{Reply}
 use Rattle.fv_model.specs.declared.commands.Command.{Command}
 use Rattle.fv_aggregate.specs.Answers.{answer}
-use Rattle.fv_aggregate.specs.declared.fault.Fault.TheVariants.{Memory}
-use Rattle.fv_aggregate.specs.Telling.{names_from}
 use Rattle.fv_aggregate.specs.declared.session.Session.{Session}
-use Rattle.fv_model.specs.declared.answers.Reply.TheVariants.{Names}
-use Rattle.fv_model.specs.declared.commands.Command.TheVariants.{VolCreate, VolGuarantee, VolResize, VolStat, CloneCreate}
-use Rattle.fv_aggregate.specs.Commands.{changed_by, managed_by, room_by, takes_steps, volume_asked}
-use Rattle.fv_aggregate.proofs.Answered.{fails}
+use Rattle.fv_model.specs.declared.commands.Command.TheVariants.{VolCreate, CloneCreate}
+use Rattle.fv_aggregate.specs.Commands.{changed_by, managed_by, room_by, volume_asked}
+use Rattle.fv_aggregate.proofs.Aimed.{fits_over}
 use Rattle.fv_aggregate.proofs.Added.{not_refused}
-use Rattle.fv_aggregate.proofs.Applied.{cp_asks, cp_built, cp_goes, cp_goes_for, cp_no_files, cp_no_list, cp_no_names, cp_no_snap, cp_no_steps, cp_no_whole, cp_replies, list_no_point, list_after, list_done, list_fails, list_replies, no_files}
-use Rattle.fv_aggregate.proofs.Applying.{asks_none, booked_each, no_step, not_dead, pointed_same, rests_as}
+use Rattle.fv_aggregate.proofs.Applied.{cp_asks, cp_built, cp_goes, cp_goes_for, cp_no_files, cp_no_list, cp_no_names, cp_no_snap, cp_no_steps, cp_no_whole, cp_replies, no_files}
+use Rattle.fv_aggregate.proofs.Applying.{asks_none, no_step, not_dead, pointed_same, rests_as}
 use Rattle.fv_aggregate.specs.Deciding.{makes_volume}
 use Rattle.fv_aggregate.proofs.Decided.{undecided}
 use Rattle.fv_aggregate.proofs.Keeping.{keeps_but}
 use Rattle.fv_aggregate.proofs.LeftByCalls.{left_by_point}
 use Rattle.fv_aggregate.proofs.Making.{create_makes, made_applied, making_clone, making_create}
 use Rattle.fv_aggregate.proofs.MirrorApplied.{mirror_applied}
-use Rattle.fv_aggregate.proofs.MadeRoom.{cp_room, list_room, none_roomy, snaps_room}
+use Rattle.fv_aggregate.proofs.MadeRoom.{cp_room, none_roomy}
 use Rattle.fv_aggregate.proofs.Ready.{stands_ready}
-use Rattle.fv_aggregate.proofs.Removed.{removed_applied}
-use Rattle.fv_aggregate.proofs.Serving.{failed_applied, own_applied, rests_answers, rests_lacks}
+use Rattle.fv_aggregate.proofs.Serving.{failed_applied}
 use Rattle.fv_aggregate.proofs.StepsApplied.{clean_applied, work_applied}
-use Rattle.fv_aggregate.proofs.SnapListed.{snaps_after, snaps_done, snaps_fail, snaps_no_point, snaps_replies}
 use Rattle.fv_aggregate.proofs.session.Session.apply_into.Goals as goal
 
 pub returns-in-Some : goal.returns-in-Some
@@ -138,74 +132,6 @@ returns-in-Cp g c =
       dead = λ failed. not_dead _ s fresh failed;
     }
 
-pub returns-in_err-names_of-in-VolList : goal.returns-in_err-names_of-in-VolList
-returns-in_err-names_of-in-VolList g c =
-    let d = g.D.Disk.shown c.args.disk.now in
-    let fresh : IsNone c.args.self.now.failed = subst (λ (k : Session). IsNone k.failed) c.self.view_is (subst IsNone (sym c.in_default.is) refl) in
-    rests_lacks c.args.command.now d c.args.disk.now c.args.self.now c.args.steps.now (g.met.D.Disk.laws c.args.disk.now) fresh (stands_ready (g.D.Disk.shown c.args.disk.now) _ _ c.self.view_is c.self.invariant.2 c.requires.stands fresh) (no_files c.args.command.now (ap volume_asked c.in-VolList.is) (ap changed_by c.in-VolList.is)) (ap takes_steps c.in-VolList.is) (list_no_point _ c.args.command.now c.in-VolList.is) (list_room c.args.self.now.volumes c.args.command.now c.in-VolList.is)
-    (list_fails c.args.command.now c.in-VolList.is d c.args.disk.now c.args.self.now) (answer c.args.into.now c.from_residual.result) (fails c.args.into.now c.from_residual.result Memory (search rules))
-
-pub returns-in-VolList : goal.returns-in-VolList
-returns-in-VolList g c =
-    let d = g.D.Disk.shown c.args.disk.now in
-    let fresh : IsNone c.args.self.now.failed = subst (λ (k : Session). IsNone k.failed) c.self.view_is (subst IsNone (sym c.in_default.is) refl) in
-    let listed = subst (λ (k : Session). c.in_ok-names_of-in-VolList.field-0 ≡ names_from k.volumes 0 64) c.self.view_is c.in_ok-names_of-in-VolList.ensures in
-    subst (λ (z : Reply). HasApplied c.args.command.now d c.args.disk.now c.args.self.now c.args.steps.now d c.args.disk.now c.args.self.now c.args.steps.now (Ok z)) (sym c.list.ensures)
-    (rests_answers c.args.command.now d c.args.disk.now c.args.self.now c.args.steps.now (g.met.D.Disk.laws c.args.disk.now) (Names c.in_ok-names_of-in-VolList.field-0) fresh (stands_ready (g.D.Disk.shown c.args.disk.now) _ _ c.self.view_is c.self.invariant.2 c.requires.stands fresh) (no_files c.args.command.now (ap volume_asked c.in-VolList.is) (ap changed_by c.in-VolList.is)) (ap takes_steps c.in-VolList.is) (list_no_point _ c.args.command.now c.in-VolList.is) (list_room c.args.self.now.volumes c.args.command.now c.in-VolList.is)
-    (λ m. list_after c.args.command.now m c.in-VolList.is) (λ tells last m stands. list_replies c.args.command.now c.in-VolList.is d c.args.self.now last m stands c.in_ok-names_of-in-VolList.field-0 listed)
-    (list_done c.args.command.now c.in-VolList.is d c.args.disk.now c.args.self.now c.in_ok-names_of-in-VolList.field-0 listed))
-
-pub returns-in_err-snapshots-in-SnapList : goal.returns-in_err-snapshots-in-SnapList
-returns-in_err-snapshots-in-SnapList g c =
-    let d = g.D.Disk.shown c.args.disk.now in
-    let fresh : IsNone c.args.self.now.failed = subst (λ (k : Session). IsNone k.failed) c.self.view_is (subst IsNone (sym c.in_default.is) refl) in
-    rests_lacks c.args.command.now d c.args.disk.now c.args.self.now c.args.steps.now (g.met.D.Disk.laws c.args.disk.now) fresh (stands_ready (g.D.Disk.shown c.args.disk.now) _ _ c.self.view_is c.self.invariant.2 c.requires.stands fresh) (no_files c.args.command.now (ap volume_asked c.in-SnapList.is) (ap changed_by c.in-SnapList.is)) (ap takes_steps c.in-SnapList.is) (snaps_no_point c.args.command.now c.in-SnapList.volume c.in-SnapList.is _) (snaps_room c.args.self.now.volumes c.args.command.now c.in-SnapList.volume c.in-SnapList.is)
-    (snaps_fail c.args.command.now c.in-SnapList.volume c.in-SnapList.is d c.args.disk.now c.args.self.now) (answer c.snapshots.new.into c.from_residual-in_err-snapshots-in-SnapList.result) (fails c.snapshots.new.into c.from_residual-in_err-snapshots-in-SnapList.result Memory (search rules))
-
-pub returns-in-SnapList : goal.returns-in-SnapList
-returns-in-SnapList g c =
-    let d = g.D.Disk.shown c.args.disk.now in
-    let fresh : IsNone c.args.self.now.failed = subst (λ (k : Session). IsNone k.failed) c.self.view_is (subst IsNone (sym c.in_default.is) refl) in
-    let reply = c.snapshots.new.into in
-    let long = subst (λ (k : Session). length k.volumes ≡ 64) c.self.view_is (c.self.invariant.0 (subst IsNone (sym c.in_default.is) refl)).housed.long in
-    rests_answers c.args.command.now d c.args.disk.now c.args.self.now c.args.steps.now (g.met.D.Disk.laws c.args.disk.now) reply fresh (stands_ready (g.D.Disk.shown c.args.disk.now) _ _ c.self.view_is c.self.invariant.2 c.requires.stands fresh) (no_files c.args.command.now (ap volume_asked c.in-SnapList.is) (ap changed_by c.in-SnapList.is)) (ap takes_steps c.in-SnapList.is) (snaps_no_point c.args.command.now c.in-SnapList.volume c.in-SnapList.is _) (snaps_room c.args.self.now.volumes c.args.command.now c.in-SnapList.volume c.in-SnapList.is)
-    (snaps_after c.args.command.now c.in-SnapList.volume c.in-SnapList.is) (λ tells last m stands. snaps_replies c.args.command.now c.in-SnapList.volume c.in-SnapList.is d c.args.self.now long last m stands reply c.in_ok-snapshots-in-SnapList.ensures)
-    (snaps_done c.args.command.now c.in-SnapList.volume c.in-SnapList.is d c.args.disk.now c.args.self.now reply c.in_ok-snapshots-in-SnapList.ensures)
-
-pub returns-in-VolDestroy : goal.returns-in-VolDestroy
-returns-in-VolDestroy g c =
-    removed_applied c.in-VolDestroy.volume c.args.command.now c.in-VolDestroy.is (g.D.Disk.shown c.args.disk.now) (g.D.Disk.shown c.destroy.new.disk) (g.met.D.Disk.laws c.args.disk.now) c.args.disk.now c.destroy.new.disk _ c.args.self.now c.self.view_is c.in_default.is c.self.invariant.0
-    (stands_ready (g.D.Disk.shown c.args.disk.now) _ _ c.self.view_is c.self.invariant.2 c.requires.stands)
-    c.args.steps.now c.destroy.new.self _ c.destroy.ensures
-
-pub returns-in-VolResize : goal.returns-in-VolResize
-returns-in-VolResize g c =
-    own_applied (VolResize c.in-VolResize.volume c.in-VolResize.size) c.args.command.now c.in-VolResize.is (g.D.Disk.shown c.args.disk.now) (g.met.D.Disk.laws c.args.disk.now) c.args.disk.now _ c.args.self.now c.self.view_is c.in_default.is c.self.invariant.0
-    (stands_ready (g.D.Disk.shown c.args.disk.now) _ _ c.self.view_is c.self.invariant.2 c.requires.stands)
-    c.args.steps.now c.resize.new.self c.resize.new.into c.resize.ensures refl refl refl refl refl
-
-pub returns-in-VolGuarantee : goal.returns-in-VolGuarantee
-returns-in-VolGuarantee g c =
-    own_applied (VolGuarantee c.in-VolGuarantee.volume c.in-VolGuarantee.kind) c.args.command.now c.in-VolGuarantee.is (g.D.Disk.shown c.args.disk.now) (g.met.D.Disk.laws c.args.disk.now) c.args.disk.now _ c.args.self.now c.self.view_is c.in_default.is c.self.invariant.0
-    (stands_ready (g.D.Disk.shown c.args.disk.now) _ _ c.self.view_is c.self.invariant.2 c.requires.stands)
-    c.args.steps.now c.guarantee.new.self c.guarantee.new.into c.guarantee.ensures refl refl refl refl refl
-
-pub returns-in-VolStat : goal.returns-in-VolStat
-returns-in-VolStat g c =
-    own_applied (VolStat c.in-VolStat.volume) c.args.command.now c.in-VolStat.is (g.D.Disk.shown c.args.disk.now) (g.met.D.Disk.laws c.args.disk.now) c.args.disk.now _ c.args.self.now c.self.view_is c.in_default.is c.self.invariant.0
-    (stands_ready (g.D.Disk.shown c.args.disk.now) _ _ c.self.view_is c.self.invariant.2 c.requires.stands)
-    c.args.steps.now c.args.self.now c.stat.new.into c.stat.ensures refl refl refl refl refl
-
-pub resize-requires-clause-booked : goal.resize-requires-clause-booked
-resize-requires-clause-booked g c =
-    let fresh : IsNone c.args.self.now.failed = subst (λ (s : Session). IsNone s.failed) c.self.view_is (subst IsNone (sym c.in_default.is) refl) in
-    booked_each (g.D.Disk.shown c.args.disk.now) c.args.self.now (stands_ready (g.D.Disk.shown c.args.disk.now) _ _ c.self.view_is c.self.invariant.2 c.requires.stands fresh)
-
-pub guarantee-requires-clause-booked : goal.guarantee-requires-clause-booked
-guarantee-requires-clause-booked g c =
-    let fresh : IsNone c.args.self.now.failed = subst (λ (s : Session). IsNone s.failed) c.self.view_is (subst IsNone (sym c.in_default.is) refl) in
-    booked_each (g.D.Disk.shown c.args.disk.now) c.args.self.now (stands_ready (g.D.Disk.shown c.args.disk.now) _ _ c.self.view_is c.self.invariant.2 c.requires.stands fresh)
-
 pub create-requires-clause-stands : goal.create-requires-clause-stands
 create-requires-clause-stands g c =
     let fresh : IsNone c.args.self.now.failed = subst (λ (s : Session). IsNone s.failed) c.self.view_is (subst IsNone (sym c.in_default.is) refl) in
@@ -216,13 +142,18 @@ reclaim-requires-clause-stands g c =
     let fresh : IsNone c.args.self.now.failed = subst (λ (s : Session). IsNone s.failed) c.self.view_is (subst IsNone (sym c.in_default.is) refl) in
     stands_ready (g.D.Disk.shown c.args.disk.now) _ _ c.self.view_is c.self.invariant.2 c.requires.stands fresh
 
-pub serve-requires-clause-stands : goal.serve-requires-clause-stands
-serve-requires-clause-stands g c =
+pub manage-requires-clause-stands : goal.manage-requires-clause-stands
+manage-requires-clause-stands g c =
     let fresh : IsNone c.args.self.now.failed = subst (λ (s : Session). IsNone s.failed) c.self.view_is (subst IsNone (sym c.in_default.is) refl) in
     stands_ready (g.D.Disk.shown c.args.disk.now) _ _ c.self.view_is c.self.invariant.2 c.requires.stands fresh
 
-pub serve-requires-clause-served : goal.serve-requires-clause-served
-serve-requires-clause-served g c =
+pub manage-requires-clause-fits : goal.manage-requires-clause-fits
+manage-requires-clause-fits g c =
+    let fresh : IsNone c.args.self.now.failed = subst (λ (s : Session). IsNone s.failed) c.self.view_is (subst IsNone (sym c.in_default.is) refl) in
+    fits_over _ _ c.self.view_is fresh c.self.invariant.0
+
+pub manage-requires-clause-there : goal.manage-requires-clause-there
+manage-requires-clause-there g c =
     let at = c.in_default-command in
     record {
       not_create = at.not-VolCreate;
@@ -230,14 +161,8 @@ serve-requires-clause-served g c =
       not_mirror = at.not-Mirror;
       not_clean = at.not-Clean;
       not_work = at.not-Work;
-      not_destroy = at.not-VolDestroy;
-      not_resize = at.not-VolResize;
-      not_guarantee = at.not-VolGuarantee;
-      not_list = at.not-VolList;
-      not_stat = at.not-VolStat;
-      not_names = at.not-SnapList;
       not_point = at.not-Cp;
     }
 
 pub returns-in_default-command : goal.returns-in_default-command
-returns-in_default-command g c = c.serve.ensures
+returns-in_default-command g c = c.manage.ensures

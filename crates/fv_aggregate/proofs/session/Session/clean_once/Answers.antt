@@ -1,7 +1,7 @@
 use Rattle.std.proofs.Common.{◌≡◌, Err, rules, sym, subst, arith}
 use Rattle.fv_aggregate.proofs.CleanedOnce.{cleaned_once, unclean_placed, uncleaned, unplaced_clean}
-use Rattle.fv_aggregate.proofs.WorkedCalls.{backs_room, backs_unroomed}
-use Rattle.fv_aggregate.proofs.WorkedSince.{left_unpointed, still_reads, MadeRoom}
+use Rattle.fv_aggregate.proofs.WorkedCalls.{backs_unroomed}
+use Rattle.fv_aggregate.proofs.WorkedSince.{left_unpointed, room_made, still_reads}
 use Rattle.fv_aggregate.specs.Cleaning.{CleansOnce}
 use Rattle.fv_aggregate.proofs.session.Session.clean_once.Goals as goal
 
@@ -21,16 +21,7 @@ returns-in_err-place_all g c =
     let did = c.in_ok-make_room.ensures in
     let f = c.in_err-place_all.field-0.0 in
     let failed : c.from_residual-in_err-place_all.result ≡ Err f = search rules in
-    let made : MadeRoom g.D.Disk.shown c.args.disk.now s c.make_room.new.disk n = record {
-      backs = backs_room (g.D.Disk.shown c.args.disk.now) s c.requires.fresh (g.D.Disk.shown c.make_room.new.disk) n c.in_ok-make_room.field-0 did.pending did.runs;
-      left = did.left;
-      files = did.files;
-      cores = did.cores;
-      calm = did.calm;
-      none = λ past. (did.pointed past).none;
-      point = did.reclaimed;
-      shows = did.shown;
-    } in
+    let made = room_made g.D.Disk.shown c.args.disk.now s c.make_room.new.disk n c.in_ok-make_room.field-0 c.requires.fresh did.pending did.runs did.left did.files did.cores did.calm did.pointed did.reclaimed did.shown in
     subst (CleansOnce c.args.slot (g.D.Disk.shown c.args.disk.now) s (g.D.Disk.shown c.place_all.new.disk) o) (sym failed)
     (unplaced_clean g.D.Disk.shown c.args.slot c.args.disk.now c.make_room.new.disk c.place_all.new.disk s n o f made c.in_err-place_all.ensures)
 
@@ -39,16 +30,7 @@ clean_at-requires g c =
     let s = c.args.self.now in let n = c.make_room.new.self in let o = c.place_all.new.self in
     let did = c.in_ok-make_room.ensures in
     let placed = c.in_ok-place_all.ensures in
-    let made : MadeRoom g.D.Disk.shown c.args.disk.now s c.make_room.new.disk n = record {
-      backs = backs_room (g.D.Disk.shown c.args.disk.now) s c.requires.fresh (g.D.Disk.shown c.make_room.new.disk) n c.in_ok-make_room.field-0 did.pending did.runs;
-      left = did.left;
-      files = did.files;
-      cores = did.cores;
-      calm = did.calm;
-      none = λ past. (did.pointed past).none;
-      point = did.reclaimed;
-      shows = did.shown;
-    } in
+    let made = room_made g.D.Disk.shown c.args.disk.now s c.make_room.new.disk n c.in_ok-make_room.field-0 c.requires.fresh did.pending did.runs did.left did.files did.cores did.calm did.pointed did.reclaimed did.shown in
     let few = did.few in
     let more = placed.backs.pending in
     record {
@@ -64,15 +46,6 @@ pub returns : goal.returns
 returns g c =
     let s = c.args.self.now in let n = c.make_room.new.self in let o = c.place_all.new.self in
     let did = c.in_ok-make_room.ensures in
-    let made : MadeRoom g.D.Disk.shown c.args.disk.now s c.make_room.new.disk n = record {
-      backs = backs_room (g.D.Disk.shown c.args.disk.now) s c.requires.fresh (g.D.Disk.shown c.make_room.new.disk) n c.in_ok-make_room.field-0 did.pending did.runs;
-      left = did.left;
-      files = did.files;
-      cores = did.cores;
-      calm = did.calm;
-      none = λ past. (did.pointed past).none;
-      point = did.reclaimed;
-      shows = did.shown;
-    } in
+    let made = room_made g.D.Disk.shown c.args.disk.now s c.make_room.new.disk n c.in_ok-make_room.field-0 c.requires.fresh did.pending did.runs did.left did.files did.cores did.calm did.pointed did.reclaimed did.shown in
     cleaned_once g.D.Disk.shown c.args.slot c.args.disk.now c.make_room.new.disk c.place_all.new.disk s n o c.requires.unclean made c.in_ok-place_all.ensures
     c.clean_at.new.disk c.clean_at.new.self c.clean_at.result c.clean_at.ensures

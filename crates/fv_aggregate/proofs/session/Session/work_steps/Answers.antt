@@ -21,7 +21,7 @@ returns-in_err-take_steps g c =
     let failed : c.from_residual.result ≡ Err c.in_err-take_steps.field-0.0 = search rules in
     subst (λ (k : Result Unit Fault). TakesAll c.args.steps d c.args.disk.now c.args.self.now e c.take_steps.new.disk c.take_steps.new.self (answer c.args.into.now k)) (sym failed)
     (takes_fault c.args.steps g.D.Disk.shown c.args.disk.now (g.met.D.Disk.laws c.args.disk.now) c.args.self.now c.requires.fresh c.requires.stands near
-    c.take_steps.new.disk c.take_steps.new.self c.in_err-take_steps.field-0.0 c.in_err-take_steps.ensures)
+    c.take_steps.new.disk c.take_steps.new.self c.in_err-take_steps.field-0.0 c.in_err-take_steps.ensures.works c.in_err-take_steps.ensures.idle)
 
 pub returns : goal.returns
 returns g c =
@@ -29,4 +29,4 @@ returns g c =
     let near : is_step_count c.args.steps ≡ true = ap is_step_count (sym c.from.ensures) ∙ sym c.in_steps.ensures ∙ c.if-not-in_steps.false in
     subst (λ (r : Reply). TakesAll c.args.steps d c.args.disk.now c.args.self.now e c.take_steps.new.disk c.take_steps.new.self (Ok r)) (sym c.done.ensures)
     (takes_all c.args.steps g.D.Disk.shown c.args.disk.now (g.met.D.Disk.laws c.args.disk.now) c.args.self.now c.requires.fresh c.requires.stands near
-    c.take_steps.new.disk c.take_steps.new.self c.in_ok-take_steps.field-0 c.in_ok-take_steps.ensures)
+    c.take_steps.new.disk c.take_steps.new.self c.in_ok-take_steps.field-0 c.in_ok-take_steps.ensures.works c.in_ok-take_steps.ensures.idle)
